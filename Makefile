@@ -1,0 +1,23 @@
+# The program and its tests. A machine needs the proof kit's command `rt`, GNU make and nothing else.
+
+.PHONY: run build test bench install
+
+# Builds `wagons` and checks the example. The first build proves all that the program stands on.
+run: build
+	@echo "== wagons check < examples/tables.jsonl"
+	@crates/wagons/out/wagons check < examples/tables.jsonl || test $$? -eq 1
+
+build:
+	@echo "== proving and building wagons (the first time some five to ten minutes, later seconds)"
+	@cd crates/wagons && rt run < /dev/null > /dev/null
+
+# Proves every crate from nothing, tries the edits that must fail, runs every test and the stored run.
+test:
+	@echo "== rt ci: every proof from nothing (see docs/PROOFS.md for its time)"
+	@rt ci
+
+bench: build
+	@bench/check/run
+
+install: build
+	install -D crates/wagons/out/wagons $(DESTDIR)/usr/local/bin/wagons

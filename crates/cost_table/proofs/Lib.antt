@@ -1,0 +1,6 @@
+pub mod RowLemmas
+pub mod TableLemmas
+pub mod Sums
+pub mod CostLemmas
+pub mod NameLemmas
+pub mod Search

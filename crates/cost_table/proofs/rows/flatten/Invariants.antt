@@ -1,0 +1,7 @@
+use Rattle.std.proofs.Common.{take, map}
+use Rattle.cost_table.specs.Rows.{cells_of}
+use Rattle.cost_table.specs.Flat.{HoldRows}
+use Rattle.cost_table.proofs.rows.flatten.Given as goal
+
+abbrev pub invariant-loop-row : goal.invariant-loop-row
+invariant-loop-row l = HoldRows l.entries.items l.ends.items (map (λ row. cells_of 0 row.items) (take l.row-index l.rows))

@@ -1,0 +1,6 @@
+pub mod Table
+pub mod Plan
+pub mod Flat
+pub mod Rows
+pub mod Names
+pub mod TableFault

@@ -1,0 +1,46 @@
+use Rattle.std.specs.Prelude.{ℕ, if◌then◌else◌, nat_eq, nat_lt, ◌||◌, Bool, List, [], ◌∷◌, ◌++◌, length, Option, Some, None, Result, Ok, Err, position}
+use Rattle.std.specs.List.{list_any}
+use Rattle.std.specs.Cmp.Lexicographic.{pointwise}
+use Rattle.cost_table.specs.declared.limits.TheConstants.{MAX_WAGONS, MAX_ORDERS}
+use Rattle.cost_table.specs.declared.table_fault.TableFault.{TableFault}
+use Rattle.cost_table.specs.declared.table_fault.TableFault.TheVariants.{DuplicateWagon, DuplicateOrder, TooLarge}
+
+-- the names of a table's wagons and orders, each by its characters, in the table's order
+pub record NameLists : Type 0 where
+  pub wagons : List (List ℕ)
+  pub orders : List (List ℕ)
+
+abbrev pub is_name : List ℕ → List ℕ → Bool
+is_name name other = pointwise nat_eq other name
+
+abbrev pub is_among : List (List ℕ) → List ℕ → Bool
+is_among names name = list_any (is_name name) names
+
+-- the first of the names that stands before it too, where `before` stands before them all
+abbrev pub repeated_after : List (List ℕ) → List (List ℕ) → Option (List ℕ)
+repeated_after before [] = None
+repeated_after before (name ∷ names) =
+    if is_among before name then Some name else repeated_after (before ++ name ∷ []) names
+
+abbrev pub first_repeated : List (List ℕ) → Option (List ℕ)
+first_repeated names = repeated_after [] names
+
+abbrev pub unrepeated : NameLists → Option (List ℕ) → Option (List ℕ) → Result NameLists TableFault
+unrepeated names (Some number) id = Err (DuplicateWagon number)
+unrepeated names None (Some id) = Err (DuplicateOrder id)
+unrepeated names None None = Ok names
+
+-- the names of a table, or what is wrong with them
+abbrev pub names_of : List (List ℕ) → List (List ℕ) → Result NameLists TableFault
+names_of wagons orders =
+    if nat_lt MAX_WAGONS (length wagons) || nat_lt MAX_ORDERS (length orders) then Err TooLarge
+    else unrepeated (record { wagons = wagons; orders = orders }) (first_repeated wagons) (first_repeated orders)
+
+abbrev pub both : Option ℕ → Option ℕ → Option (ℕ × ℕ)
+both None j = None
+both (Some i) None = None
+both (Some i) (Some j) = Some (i, j)
+
+-- where a wagon and an order stand, if both are named
+abbrev pub pair_of : NameLists → List ℕ → List ℕ → Option (ℕ × ℕ)
+pair_of names number id = both (position (is_name number) names.wagons) (position (is_name id) names.orders)

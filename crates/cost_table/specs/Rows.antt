@@ -1,0 +1,44 @@
+use Rattle.std.specs.Prelude.{◌≤◌, ◌+◌, ℕ, if◌then◌else◌, ◌==◌, nat_lt, ◌||◌, ◌&&◌, Bool, List, [], ◌∷◌, length, map, Option, Some, None, sum, slice_index_or, Vec}
+use Rattle.std.specs.List.{list_all}
+use Rattle.std.specs.declared.alloc.Global.{Global}
+use Rattle.cost_table.specs.declared.limits.TheConstants.{MAX_WAGONS, MAX_ORDERS, MAX_COST, MAX_LACK_IN_ALL}
+use Rattle.cost_table.specs.declared.table_fault.TableFault.{TableFault}
+use Rattle.cost_table.specs.declared.table_fault.TableFault.TheVariants.{TooLarge, UnevenRows}
+use Rattle.cost_table.specs.Table.{Table}
+
+-- rows as they are handed in: for each order a cost, or none where the pair is not allowed
+abbrev pub Rows : Type 0
+Rows = List (Vec (Option ℕ) Global)
+
+-- the number handed in for wagon i and order j; out of range there is none
+abbrev pub number_at : Rows → ℕ → ℕ → Option ℕ
+number_at rows i j = slice_index_or (slice_index_or (map (λ row. row.items) rows) i []) j None
+
+abbrev pub IsNumber : Option ℕ → Type 0
+IsNumber None = Unit {0}
+IsNumber (Some n) = n ≤ MAX_COST
+
+-- the orders from j on that have a number, each with it
+abbrev pub cells_of : ℕ → List (Option ℕ) → List (ℕ × ℕ)
+cells_of j [] = []
+cells_of j (None ∷ numbers) = cells_of (j + 1) numbers
+cells_of j (Some n ∷ numbers) = (j, n) ∷ cells_of (j + 1) numbers
+
+abbrev pub table_of : Rows → List ℕ → List ℕ → Table
+table_of rows penalties lacks =
+    record { rows = map (λ row. cells_of 0 row.items) rows; penalties = penalties; lacks = lacks }
+
+abbrev pub is_too_large : Rows → List ℕ → List ℕ → Bool
+is_too_large rows penalties lacks =
+    nat_lt MAX_WAGONS (length rows) || nat_lt MAX_ORDERS (length penalties) || nat_lt MAX_LACK_IN_ALL (sum lacks)
+
+-- each row and the lacks are as long as the penalties
+abbrev pub is_even : Rows → List ℕ → List ℕ → Bool
+is_even rows penalties lacks =
+    list_all (λ row. length row.items == length penalties) rows && (length lacks == length penalties)
+
+-- what is wrong with rows, before any memory is asked for
+abbrev pub rows_fault : Rows → List ℕ → List ℕ → Option TableFault
+rows_fault rows penalties lacks =
+    if is_too_large rows penalties lacks then Some TooLarge
+    else (if is_even rows penalties lacks then None else Some UnevenRows)

@@ -1,0 +1,60 @@
+use Rattle.std.specs.Prelude.{◌≡◌, ◌≤◌, ◌<◌, ◌+◌, ℕ, if◌then◌else◌, ◌==◌, List, [], ◌∷◌, length, Option, Some, None, All, sum, slice_index, slice_index_or}
+use Rattle.cost_table.specs.declared.limits.TheConstants.{MAX_WAGONS, MAX_ORDERS, MAX_COST, MAX_LACK, MAX_LACK_IN_ALL}
+
+-- What is distributed. Each wagon has the orders that it may serve, each with its cost. Each order has the
+-- penalty of a wagon that it misses, and how many wagons it lacks.
+pub record Table : Type 0 where
+  pub rows : List (List (ℕ × ℕ))
+  pub penalties : List ℕ
+  pub lacks : List ℕ
+
+-- the cost that a row has for an order, if the pair is allowed
+abbrev pub cost_in : List (ℕ × ℕ) → ℕ → Option ℕ
+cost_in [] j = None
+cost_in (cell ∷ row) j = if cell.0 == j then Some cell.1 else cost_in row j
+
+-- the row of wagon i; out of range it has no order
+abbrev pub row_at : Table → ℕ → List (ℕ × ℕ)
+row_at t i = slice_index_or t.rows i []
+
+-- the cost of wagon i for order j, if the pair is allowed
+abbrev pub cost_at : Table → ℕ → ℕ → Option ℕ
+cost_at t i j = cost_in (row_at t i) j
+
+abbrev pub penalty_at : Table → ℕ → ℕ
+penalty_at t j = slice_index t.penalties j
+
+abbrev pub lack_at : Table → ℕ → ℕ
+lack_at t j = slice_index t.lacks j
+
+abbrev pub wagon_count : Table → ℕ
+wagon_count t = length t.rows
+
+abbrev pub order_count : Table → ℕ
+order_count t = length t.lacks
+
+-- a row from order `low` on: ascending by order, each order one of the table's, each cost within its limit
+abbrev pub IsRow : ℕ → ℕ → List (ℕ × ℕ) → Type 0
+IsRow orders low [] = Unit {0}
+IsRow orders low (cell ∷ row) =
+    (low ≤ cell.0) × (cell.0 < orders) × (cell.1 ≤ MAX_COST) × IsRow orders (cell.0 + 1) row
+
+-- the order of the cell at place k of a row
+abbrev pub order_in : List (ℕ × ℕ) → ℕ → ℕ
+order_in row k = (slice_index_or row k (0, 0)).0
+
+abbrev pub IsAscendingRow : List (ℕ × ℕ) → Type 0
+IsAscendingRow row = (i j : ℕ) → i < j → j < length row → order_in row i < order_in row j
+
+abbrev pub IsLack : ℕ → Type 0
+IsLack lack = (1 ≤ lack) × (lack ≤ MAX_LACK)
+
+-- what each table of the program keeps
+pub record IsTable (t : Table) : Type 0 where
+  pub wagons : wagon_count t ≤ MAX_WAGONS
+  pub orders : order_count t ≤ MAX_ORDERS
+  pub penalty_count : length t.penalties ≡ order_count t
+  pub rows : All (IsRow (order_count t) 0) t.rows
+  pub penalties : All (λ penalty. penalty ≤ MAX_COST) t.penalties
+  pub lacks : All IsLack t.lacks
+  pub lack_in_all : sum t.lacks ≤ MAX_LACK_IN_ALL

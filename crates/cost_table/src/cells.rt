@@ -1,0 +1,170 @@
+ghost use Rattle.std.specs.Prelude.{◌≡◌, ◌<◌, ◌≤◌, ℕ, [], ◌∷◌, length, slice_index, slice_index_or, All, IfOk, OnOk, IfSome, OnSome, IfErr, unwrap_or};
+ghost use Rattle.cost_table.specs.Rows.{IsNumber, table_of, number_at, rows_fault};
+ghost use Rattle.cost_table.specs.declared.table_fault.TableFault.TheVariants.{OutOfMemory};
+ghost use Rattle.cost_table.specs.Table.{IsTable, IsLack, IsRow, IsAscendingRow, row_at, cost_in, cost_at, penalty_at, lack_at, wagon_count, order_count};
+ghost use Rattle.cost_table.specs.Flat.{rows_of, AreEnds};
+
+use crate::limits::MAX_COST;
+use crate::rows::{are_even, are_too_large, flatten};
+use crate::table_fault::TableFault;
+use std::alloc::Global;
+use std::marker::Model;
+
+/// The table of a distribution: per wagon the orders that it may serve with their costs, per order the penalty of
+/// a missed wagon and how many wagons it lacks. Costs and penalties are in kilometres, each at most 1,000,000,000;
+/// each lack is 1 to 20; at most 1,000 wagons, 500 orders, and 500 lacking wagons in all.
+#[derive(Debug, Drop)]
+pub struct Cells {
+    entries: Vec<(usize, u64)>,
+    ends: Vec<usize>,
+    penalties: Vec<u64>,
+    lacks: Vec<u32>,
+}
+
+impl Model for Cells {
+    ghost use Rattle.std.specs.Prelude.{length};
+    ghost use Rattle.cost_table.specs.Table.{Table, IsTable};
+    ghost use Rattle.cost_table.specs.Flat.{rows_of, AreEnds};
+
+    ghost Value = { Table };
+
+    ghost view = { λ c. record { rows = rows_of c.entries.items 0 c.ends.items; penalties = c.penalties.items; lacks = c.lacks.items } };
+
+    ghost invariant = { λ c. AreEnds (length c.entries.items) 0 c.ends.items × IsTable (record { rows = rows_of c.entries.items 0 c.ends.items; penalties = c.penalties.items; lacks = c.lacks.items }) };
+}
+
+impl Cells {
+    /// The table of these rows: `rows[i][j]` is the cost of wagon `i` for order `j` in kilometres, `None` where it
+    /// may not serve it.
+    ///
+    /// The first of these is answered: `TooLarge` (53) for over 1,000 rows, over 500 penalties or lacks over 500 in
+    /// all; `UnevenRows` (54) where a row or the lacks are not as long as the penalties; `OutOfMemory` (1).
+    pub fn from_rows(
+        alloc: Global,
+        rows: &[Vec<Option<u64>>],
+        penalties: &[u64],
+        lacks: &[u32],
+    ) -> Result<Cells, TableFault>
+        requires numbers { All (λ row. All IsNumber row.items) rows.now }
+        requires penalties { All (λ penalty. penalty ≤ MAX_COST) penalties.now }
+        requires lacks { All IsLack lacks.now }
+        ensures ok { IfOk result (λ cells. cells ≡ table_of rows.now penalties.now lacks.now) }
+        ensures numbers { IfOk result (λ cells. (i j : ℕ) → cost_at cells i j ≡ number_at rows.now i j) }
+        ensures no_fault { OnOk result (rows_fault rows.now penalties.now lacks.now ≡ None) }
+        ensures fault { IfErr result (λ fault. fault ≡ unwrap_or (rows_fault rows.now penalties.now lacks.now) OutOfMemory) }
+    {
+        if are_too_large(rows, penalties, lacks) {
+            return Err(TableFault::TooLarge);
+        }
+        if !are_even(rows, penalties, lacks) {
+            return Err(TableFault::UnevenRows);
+        }
+        let (entries, ends) = flatten(alloc, rows)?;
+        let penalties = Vec::from_slice(alloc, penalties)?;
+        let lacks = Vec::from_slice(alloc, lacks)?;
+        Ok(Cells {
+            entries,
+            ends,
+            penalties,
+            lacks,
+        })
+    }
+
+    /// How many wagons the table has.
+    pub fn wagons(&self) -> usize
+        ensures count { result ≡ wagon_count self.now }
+        ensures table { IsTable self.now }
+    {
+        self.ends.len()
+    }
+
+    /// How many orders the table has.
+    pub fn orders(&self) -> usize
+        ensures count { result ≡ order_count self.now }
+        ensures table { IsTable self.now }
+    {
+        self.lacks.len()
+    }
+
+    /// The penalty of each wagon that order `j` misses, in kilometres.
+    pub fn penalty(&self, j: usize) -> u64
+        requires { j < order_count self.now }
+        ensures value { result ≡ penalty_at self.now j }
+        ensures limit { result ≤ MAX_COST }
+    {
+        self.penalties[j]
+    }
+
+    /// How many wagons order `j` lacks, 1 to 20.
+    pub fn lack(&self, j: usize) -> u32
+        requires { j < order_count self.now }
+        ensures value { result ≡ lack_at self.now j }
+        ensures limit { IsLack result }
+    {
+        self.lacks[j]
+    }
+
+    /// The orders that wagon `i` may serve, ascending, each with its cost in kilometres.
+    pub fn row(&self, i: usize) -> &[(usize, u64)]
+        requires { i < wagon_count self.now }
+        ensures row { result.now ≡ row_at self.now i }
+        ensures cells { IsRow (order_count self.now) 0 result.now }
+    {
+        row_of(&self.entries, &self.ends, i)
+    }
+
+    /// The cost of wagon `i` for order `j` in kilometres, `None` where it may not serve it or one is out of range.
+    pub fn cell(&self, i: usize, j: usize) -> Option<u64>
+        ensures value { result ≡ cost_at self.now i j }
+        ensures in_range { OnSome result ((i < wagon_count self.now) × (j < order_count self.now)) }
+        ensures limit { IfSome result (λ cost. cost ≤ MAX_COST) }
+    {
+        if i >= self.wagons() {
+            return None;
+        }
+        find_cost(self.row(i), j)
+    }
+}
+
+/// Where row `i` begins.
+fn start_of(ends: &[usize], i: usize) -> usize
+    requires { i ≤ length ends.now }
+    ensures { result ≡ slice_index (0 ∷ ends.now) i }
+{
+    if i == 0 { 0 } else { ends[i - 1] }
+}
+
+/// Where row `i` begins and where it ends, within `limit` entries.
+fn bounds_of(ends: &[usize], limit: usize, i: usize) -> (usize, usize)
+    requires ends { AreEnds limit 0 ends.now }
+    requires wagon { i < length ends.now }
+    ensures start { result.0 ≡ slice_index (0 ∷ ends.now) i }
+    ensures end { result.1 ≡ slice_index ends.now i }
+    ensures ordered { result.0 ≤ result.1 }
+    ensures within { result.1 ≤ limit }
+{
+    let start = start_of(ends, i);
+    (start, ends[i])
+}
+
+/// Row `i` of the rows that lie one after another in `entries`.
+#[tactic(auto, using(crate::proofs::RowLemmas::row_lookups))]
+fn row_of<'a>(entries: &'a [(usize, u64)], ends: &[usize], i: usize) -> &'a [(usize, u64)]
+    requires ends { AreEnds (length entries.now) 0 ends.now }
+    requires wagon { i < length ends.now }
+    ensures { result.now ≡ slice_index_or (rows_of entries.now 0 ends.now) i [] }
+{
+    let (start, end) = bounds_of(ends, entries.len(), i);
+    &entries[start..end]
+}
+
+/// The cost that a row has for an order.
+fn find_cost(row: &[(usize, u64)], order: usize) -> Option<u64>
+    requires { IsAscendingRow row.now }
+    ensures { result ≡ cost_in row.now order }
+{
+    match row.binary_search_by_key(&order, |cell| cell.0) {
+        Ok(at) => Some(row[at].1),
+        Err(_) => None,
+    }
+}

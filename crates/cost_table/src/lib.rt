@@ -1,0 +1,17 @@
+//! Cost tables: which wagon may serve which order at which cost, what a missed wagon costs, and the cost of a plan.
+#![tactic(auto)]
+
+mod cells;
+mod limits;
+mod names;
+mod plan;
+mod plan_cost;
+mod rows;
+mod table_fault;
+
+pub use cells::Cells;
+pub use limits::{MAX_COST, MAX_LACK, MAX_LACK_IN_ALL, MAX_ORDERS, MAX_WAGONS};
+pub use names::Names;
+pub use plan::Plan;
+pub use plan_cost::cost;
+pub use table_fault::TableFault;

@@ -1,0 +1,108 @@
+ghost use Rattle.std.specs.Prelude.{◌≡◌, ℕ, Some, IfSome, position, slice_get};
+ghost use Rattle.cost_table.specs.Names.{is_name, first_repeated, names_of, pair_of};
+
+use crate::limits::{MAX_ORDERS, MAX_WAGONS};
+use crate::table_fault::TableFault;
+use rail_codes::{OrderId, WagonNumber};
+use std::marker::Model;
+
+/// The names of a table's wagons and orders, in the table's order. A contract sees them as two lists of texts.
+#[derive(Debug, Drop)]
+pub struct Names {
+    wagons: Vec<WagonNumber>,
+    orders: Vec<OrderId>,
+}
+
+impl Model for Names {
+    ghost use Rattle.std.specs.Prelude.{◌≡◌, None};
+    ghost use Rattle.cost_table.specs.Names.{NameLists, first_repeated};
+
+    ghost Value = { NameLists };
+
+    ghost view = { λ names. record { wagons = names.wagons.items; orders = names.orders.items } };
+
+    ghost invariant = { λ names. (first_repeated names.wagons.items ≡ None) × (first_repeated names.orders.items ≡ None) };
+}
+
+impl Names {
+    /// The names of a table. They are dropped where they are refused: with `TooLarge` (53) for over 1,000 wagons
+    /// or over 500 orders, else `DuplicateWagon` (51) with the first wagon that stands before it too, else
+    /// `DuplicateOrder` (52) likewise.
+    pub fn new(wagons: Vec<WagonNumber>, orders: Vec<OrderId>) -> Result<Names, TableFault>
+        ensures { result ≡ names_of wagons.items orders.items }
+    {
+        if wagons.len() > MAX_WAGONS || orders.len() > MAX_ORDERS {
+            return Err(TableFault::TooLarge);
+        }
+        if let Some(number) = repeated_wagon(&wagons) {
+            return Err(TableFault::DuplicateWagon(number));
+        }
+        if let Some(id) = repeated_order(&orders) {
+            return Err(TableFault::DuplicateOrder(id));
+        }
+        Ok(Names { wagons, orders })
+    }
+
+    /// The wagon at a position, `None` past the end.
+    pub fn wagon_at(&self, i: usize) -> Option<WagonNumber>
+        ensures { result ≡ slice_get self.now.wagons i }
+    {
+        self.wagons.get(i).copied()
+    }
+
+    /// The order at a position, `None` past the end.
+    pub fn order_at(&self, j: usize) -> Option<OrderId>
+        ensures { result ≡ slice_get self.now.orders j }
+    {
+        self.orders.get(j).copied()
+    }
+
+    /// Where a wagon and an order stand, `None` where one of them is not named.
+    pub fn pair_of(&self, number: WagonNumber, id: OrderId) -> Option<(usize, usize)>
+        ensures value { result ≡ pair_of self.now number id }
+        ensures found { IfSome result (λ p. (slice_get self.now.wagons p.0 ≡ Some number) × (slice_get self.now.orders p.1 ≡ Some id)) }
+        ensures held { (i j : ℕ) → slice_get self.now.wagons i ≡ Some number → slice_get self.now.orders j ≡ Some id → result ≡ Some (i, j) }
+    {
+        let i = position_of_wagon(&self.wagons, number)?;
+        let j = position_of_order(&self.orders, id)?;
+        Some((i, j))
+    }
+}
+
+/// The first wagon that stands before it too.
+fn repeated_wagon(wagons: &[WagonNumber]) -> Option<WagonNumber>
+    ensures { result ≡ first_repeated wagons.now }
+{
+    for (k, wagon) in wagons.iter().enumerate() {
+        if wagons[..k].contains(wagon) {
+            return Some(*wagon);
+        }
+    }
+    None
+}
+
+/// The first order that stands before it too.
+fn repeated_order(orders: &[OrderId]) -> Option<OrderId>
+    ensures { result ≡ first_repeated orders.now }
+{
+    for (k, id) in orders.iter().enumerate() {
+        if orders[..k].contains(id) {
+            return Some(*id);
+        }
+    }
+    None
+}
+
+/// Where a wagon first stands.
+fn position_of_wagon(wagons: &[WagonNumber], number: WagonNumber) -> Option<usize>
+    ensures { result ≡ position (is_name number) wagons.now }
+{
+    wagons.iter().position(|wagon| *wagon == number)
+}
+
+/// Where an order first stands.
+fn position_of_order(orders: &[OrderId], id: OrderId) -> Option<usize>
+    ensures { result ≡ position (is_name id) orders.now }
+{
+    orders.iter().position(|order| *order == id)
+}

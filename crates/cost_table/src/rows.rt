@@ -1,0 +1,75 @@
+ghost use Rattle.std.specs.Prelude.{◌≡◌, ◌≤◌, ◌++◌, All, IfOk, OnOk, IsTrue, ◌↔◌, length, map, sum, ◌==◌};
+ghost use Rattle.std.specs.List.{list_all};
+ghost use Rattle.cost_table.specs.Table.{IsLack};
+ghost use Rattle.cost_table.specs.Flat.{HoldRows};
+ghost use Rattle.cost_table.specs.Rows.{cells_of, is_too_large, is_even};
+
+use crate::limits::{MAX_LACK_IN_ALL, MAX_ORDERS, MAX_WAGONS};
+use std::alloc::{AllocError, Global};
+
+/// All numbers of a short list together.
+fn total(lacks: &[u32]) -> u64
+    requires { length lacks.now ≤ 500 }
+    ensures { result ≡ sum lacks.now }
+{
+    let mut total: u64 = 0;
+    for lack in lacks {
+        total += u64::from(*lack);
+    }
+    total
+}
+
+/// Whether rows, penalties or lacks pass the limits of a table.
+pub(crate) fn are_too_large(rows: &[Vec<Option<u64>>], penalties: &[u64], lacks: &[u32]) -> bool
+    requires { All IsLack lacks.now }
+    ensures { result ≡ is_too_large rows.now penalties.now lacks.now }
+{
+    // Each lacks one or more, so that many orders lack too much.
+    if lacks.len() > MAX_ORDERS {
+        return true;
+    }
+    rows.len() > MAX_WAGONS || penalties.len() > MAX_ORDERS || total(lacks) > MAX_LACK_IN_ALL
+}
+
+/// Whether each row has this length.
+fn have_length(rows: &[Vec<Option<u64>>], orders: usize) -> bool
+    ensures { result ≡ list_all (λ row. length row.items == orders) rows.now }
+{
+    rows.iter().all(|row| row.len() == orders)
+}
+
+/// Whether rows, penalties and lacks have one length.
+pub(crate) fn are_even(rows: &[Vec<Option<u64>>], penalties: &[u64], lacks: &[u32]) -> bool
+    ensures { result ≡ is_even rows.now penalties.now lacks.now }
+{
+    have_length(rows, penalties.len()) && lacks.len() == penalties.len()
+}
+
+/// Appends the cells of one row.
+fn push_row(entries: &mut Vec<(usize, u64)>, numbers: &[Option<u64>]) -> Result<(), AllocError>
+    ensures { OnOk result (entries.new.items ≡ entries.old.items ++ cells_of 0 numbers.now) }
+{
+    for (order, number) in numbers.iter().enumerate() {
+        if let Some(cost) = number {
+            entries.push((order, *cost))?;
+        }
+    }
+    Ok(())
+}
+
+/// The cells of all rows one after another, and where each row ends.
+pub(crate) fn flatten(
+    alloc: Global,
+    rows: &[Vec<Option<u64>>],
+) -> Result<(Vec<(usize, u64)>, Vec<usize>), AllocError>
+    ensures { IfOk result (λ r. HoldRows r.0.items r.1.items (map (λ row. cells_of 0 row.items) rows.now)) }
+{
+    let orders = rows.first().map_or(0, Vec::len);
+    let mut entries = Vec::with_capacity(alloc, rows.len().saturating_mul(orders))?;
+    let mut ends = Vec::with_capacity(alloc, rows.len())?;
+    for row in rows {
+        push_row(&mut entries, row)?;
+        ends.push(entries.len())?;
+    }
+    Ok((entries, ends))
+}

@@ -1,0 +1,7 @@
+pub mod Labels
+pub mod Lines
+pub mod Paths
+pub mod Relaxing
+pub mod Searching
+pub mod Totals
+pub mod Walks

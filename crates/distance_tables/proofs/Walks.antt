@@ -1,0 +1,97 @@
+use Rattle.std.proofs.Common.{◌≡◌, ℕ, ◌+◌, ◌<◌, List, [], ◌∷◌, ◌++◌, length, sym, ◌∙◌, ap, subst, arith, inl, inr, get_or, Some, None, Option}
+use Rattle.std.specs.List.{Contains}
+use Rattle.std.specs.declared.alloc.Global.{Global}
+use Rattle.std.specs.declared.vec.Vec.{Vec}
+use Rattle.std.proofs.lemmas.Bool.{cases_lt}
+use Rattle.std.proofs.lemmas.List.{get_or_append_left, get_or_push, get_or_read}
+use Rattle.std.proofs.lemmas.List.Sorted.{Contains-permutation, IsPermutation-sym}
+use Rattle.std.specs.List.Sorted.{IsPermutation}
+use Rattle.std.proofs.lemmas.List.Sums.{sum_by-append}
+use Rattle.std.proofs.lemmas.Option.{same_Some}
+use Rattle.line_network.specs.declared.line.Line.{Line}
+use Rattle.line_network.specs.Network.{NetworkValue, place_index}
+use Rattle.distance_tables.specs.declared.distance.Distance.{Distance}
+use Rattle.distance_tables.specs.Walk.{IsPath, IsWalk, km_of, minutes_of}
+use Rattle.distance_tables.specs.Distance.{AtMost, IsDistance}
+use Rattle.distance_tables.specs.Rows.{IsLeast, IsAnswer, IsRow, AreRows}
+use Rattle.distance_tables.specs.Laws.{TriangleHolds}
+use Rattle.distance_tables.proofs.Paths.{IsPath-append}
+
+-- a walk is a path between the numbers of its places
+pub path_of_walk : (net : NetworkValue) (a b : List ℕ) (i j : ℕ) (walk : List Line) → place_index net.places a ≡ Some i → place_index net.places b ≡ Some j → IsWalk net a walk b → IsPath net.lines i walk j
+path_of_walk net a b i j walk at to h =
+    let P : ℕ → Type 0 = λ n. IsPath net.lines n walk j in
+    let Q : ℕ → Type 0 = λ n. IsPath net.lines h.first walk n in
+    subst P (same_Some h.first i (sym h.begins ∙ at)) (subst Q (same_Some h.last j (sym h.ends ∙ to)) h.path)
+
+-- the least pair between two numbers is the distance of their places
+pub IsDistance-least : (net : NetworkValue) (a b : List ℕ) (i j : ℕ) (d : Distance) → place_index net.places a ≡ Some i → place_index net.places b ≡ Some j → IsLeast net.lines i j d → IsDistance net a b (d.km, d.minutes)
+IsDistance-least net a b i j d at to h = record {
+  walk = h.some.path;
+  leads = record { first = i; last = j; begins = at; ends = to; path = h.some.leads };
+  km = h.some.km;
+  minutes = h.some.minutes;
+  least = λ other w. h.least other (path_of_walk net a b i j other at to w);
+}
+
+-- a walk goes on with a walk
+pub IsWalk-append : (net : NetworkValue) (a b c : List ℕ) (one two : List Line) → IsWalk net a one b → IsWalk net b two c → IsWalk net a (one ++ two) c
+IsWalk-append net a b c one two h k =
+    let P : ℕ → Type 0 = λ n. IsPath net.lines n two k.last in
+    record {
+      first = h.first;
+      last = k.last;
+      begins = h.begins;
+      ends = k.ends;
+      path = IsPath-append net.lines h.first h.last k.last one two h.path (subst P (same_Some k.first h.last (sym k.begins ∙ h.ends)) k.path);
+    }
+
+pub triangle : TriangleHolds
+triangle net a b c p q r h k s =
+    let least : AtMost r (km_of (h.walk ++ k.walk), minutes_of (h.walk ++ k.walk)) = s.least (h.walk ++ k.walk) (IsWalk-append net a b c h.walk k.walk h.leads k.leads) in
+    let km : km_of (h.walk ++ k.walk) ≡ p.0 + q.0 = sum_by-append (λ (l : Line). l.km) h.walk k.walk ∙ (ap (λ n. n + km_of k.walk) h.km ∙ ap (λ n. p.0 + n) k.km) in
+    let minutes : minutes_of (h.walk ++ k.walk) ≡ p.1 + q.1 = sum_by-append (λ (l : Line). l.minutes) h.walk k.walk ∙ (ap (λ n. n + minutes_of k.walk) h.minutes ∙ ap (λ n. p.1 + n) k.minutes) in
+    (omega arith, λ same. omega (arith, least.1 (omega arith)))
+
+-- a path by some lines is one by all lines among which they are
+pub IsPath-among : (xs ys : List Line) (a b : ℕ) (path : List Line) → ((l : Line) → Contains xs l → Contains ys l) → IsPath xs a path b → IsPath ys a path b
+IsPath-among xs ys a b [] among h = h
+IsPath-among xs ys a b (l ∷ path) among h = (among l h.0, h.1, IsPath-among xs ys l.to b path among h.2)
+
+IsAnswer-same : (xs ys : List Line) (a b : ℕ) (o : Option Distance) → ((l : Line) → Contains xs l → Contains ys l) → ((l : Line) → Contains ys l → Contains xs l) → IsAnswer xs a b o → IsAnswer ys a b o
+IsAnswer-same xs ys a b None there back h = λ path leads. h path (IsPath-among ys xs a b path back leads)
+IsAnswer-same xs ys a b (Some d) there back h = record {
+  some = record { path = h.some.path; leads = IsPath-among xs ys a b h.some.path there h.some.leads; km = h.some.km; minutes = h.some.minutes };
+  least = λ path leads. h.least path (IsPath-among ys xs a b path back leads);
+}
+
+-- rows don't depend on the order of the lines
+pub AreRows-permutation : (xs ys : List Line) (places : ℕ) (rows : List (Vec (Option Distance) Global)) → IsPermutation xs ys → AreRows ys places rows → AreRows xs places rows
+AreRows-permutation xs ys places rows moved h = record {
+  full = h.full;
+  each = λ a d within. record {
+    full = (h.each a d within).full;
+    answers = λ b known. IsAnswer-same ys xs a b _ (λ l. Contains-permutation ys xs l (IsPermutation-sym xs ys moved)) (λ l. Contains-permutation xs ys l moved) ((h.each a d within).answers b known);
+  };
+}
+
+-- the rows of the first so many places
+abbrev pub AreFirstRows : List Line → ℕ → ℕ → List (Vec (Option Distance) Global) → Type 0
+AreFirstRows lines places count rows = (a : ℕ) (d : Vec (Option Distance) Global) → a < count → IsRow lines places a (get_or rows a d).items
+
+-- one row more
+pub AreFirstRows-push : (lines : List Line) (places count : ℕ) (rows : List (Vec (Option Distance) Global)) (row : Vec (Option Distance) Global) → length rows ≡ count → AreFirstRows lines places count rows → IsRow lines places count row.items → AreFirstRows lines places (count + 1) (rows ++ row ∷ [])
+AreFirstRows-push lines places count rows row same each last a d below = elim (cases_lt a count) [
+  | inl before ↦ (let P : Vec (Option Distance) Global → Type 0 = λ r. IsRow lines places a r.items in subst P (sym (get_or_append_left rows (row ∷ []) d a (omega arith))) (each a d before))
+  | inr past ↦ (let here : a ≡ count = omega arith in
+      let P : Vec (Option Distance) Global → Type 0 = λ r. IsRow lines places count r.items in
+      let Q : ℕ → Type 0 = λ n. IsRow lines places n (get_or (rows ++ row ∷ []) n d).items in
+      subst Q (sym here) (subst P (sym (get_or_push rows row d count same)) last))
+]
+
+-- what a row has for a place, as it is read
+pub answer_read : (lines : List Line) (places a b : ℕ) (rows : List (Vec (Option Distance) Global)) (row : Vec (Option Distance) Global) (o : Option Distance) → AreRows lines places rows → a < places → b < places → row ≡ get_or rows a row → o ≡ get_or row.items b o → IsAnswer lines a b o
+answer_read lines places a b rows row o h from to at here =
+    let P : Vec (Option Distance) Global → Type 0 = λ r. IsRow lines places a r.items in
+    let is : IsRow lines places a row.items = subst P (sym at) (h.each a row from) in
+    subst (IsAnswer lines a b) (sym (get_or_read row.items b o (omega (arith, is.full)) here None)) (is.answers b to)

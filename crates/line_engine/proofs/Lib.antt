@@ -1,0 +1,5 @@
+pub mod Feeds
+pub mod Reading
+pub mod Writing
+pub mod Answering
+pub mod Running

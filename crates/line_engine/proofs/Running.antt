@@ -1,0 +1,229 @@
+-- How a run goes on from line to line.
+use Rattle.std.proofs.Common.{◌≡◌, ℕ, ◌+◌, ◌<◌, ◌≤◌, Bool, true, false, List, [], ◌∷◌, ◌++◌, length, refl, sym, ap, ◌∙◌, subst, arith, append_assoc}
+use Rattle.std.specs.Prelude.{Option}
+use mir.Val.{bool_byte}
+use Rattle.std.specs.List.{AllByRecursion}
+use Rattle.std.proofs.lemmas.List.{length-append, append-nil}
+use Rattle.std.proofs.lemmas.List.Concat.{flat_map-cons, flat_map-append}
+use Rattle.std.specs.Io.KnownBytes.{Consumes, Appends, IsAtEnd}
+use Rattle.std.proofs.KnownBytes.{Consumes-nil, Consumes-trans, Appends-nil, Appends-trans}
+use Rattle.line_engine.specs.Lines.{line_feed, has_feed, lines_of, first_line, with_feeds}
+use Rattle.line_engine.specs.Cutting.{CutsLine, StopsLine}
+use Rattle.line_engine.specs.Replies.{Answering, Starving, AnswersLine, Replies, refusal_count}
+use Rattle.line_engine.specs.Runs.{Ends, StandsAt, Stops}
+use Rattle.line_engine.specs.RunFault.{fault_at}
+use Rattle.line_engine.specs.declared.line_buffer.TheConstants.{MAX_LINE}
+use Rattle.line_engine.specs.declared.run.RunCount.{RunCount}
+use Rattle.line_engine.specs.declared.run.RunFault.TheVariants.{WriteFailed}
+use Rattle.line_engine.specs.declared.window.LineEnd.{LineEnd}
+use Rattle.line_engine.specs.declared.window.LineEnd.TheVariants.{Feed, Input}
+use Rattle.line_engine.specs.declared.window.LineStop.{LineStop}
+use Rattle.line_engine.specs.declared.window.LineStop.TheVariants as stop
+use Rattle.line_engine.proofs.Feeds.{lines_of-feed, lines_of-last}
+use Rattle.line_engine.proofs.Answering.{Replies-push}
+
+-- ---- lines at the front of an input
+
+with_feeds-cons : (line : List ℕ) (lines : List (List ℕ)) (rest : List ℕ) → with_feeds (line ∷ lines) ++ rest ≡ line ++ line_feed ∷ (with_feeds lines ++ rest)
+with_feeds-cons line lines rest =
+    ap (λ (xs : List ℕ). xs ++ rest) (flat_map-cons (λ (l : List ℕ). l ++ line_feed ∷ []) line lines)
+    ∙ append_assoc (line ++ line_feed ∷ []) (with_feeds lines) rest ∙ append_assoc line (line_feed ∷ []) (with_feeds lines ++ rest)
+
+-- the lines of an input that begins with these
+pub lines_of-with_feeds : (lines : List (List ℕ)) (rest : List ℕ) → AllByRecursion (λ line. has_feed line ≡ false) lines → lines_of (with_feeds lines ++ rest) ≡ lines ++ lines_of rest
+lines_of-with_feeds [] rest free = refl
+lines_of-with_feeds (line ∷ lines) rest free =
+    ap lines_of (with_feeds-cons line lines rest) ∙ lines_of-feed line (with_feeds lines ++ rest) free.0
+    ∙ ap (λ (ls : List (List ℕ)). line ∷ ls) (lines_of-with_feeds lines rest free.1)
+
+with_feeds-push : (lines : List (List ℕ)) (line rest : List ℕ) → with_feeds (lines ++ line ∷ []) ++ rest ≡ with_feeds lines ++ (line ++ line_feed ∷ rest)
+with_feeds-push lines line rest =
+    ap (λ (xs : List ℕ). xs ++ rest) (flat_map-append (λ (l : List ℕ). l ++ line_feed ∷ []) lines (line ∷ []))
+    ∙ append_assoc (with_feeds lines) (with_feeds (line ∷ [])) rest
+    ∙ ap (λ (xs : List ℕ). with_feeds lines ++ xs) (with_feeds-cons line [] rest)
+
+free-push : (lines : List (List ℕ)) (line : List ℕ) → AllByRecursion (λ line. has_feed line ≡ false) lines → has_feed line ≡ false → AllByRecursion (λ line. has_feed line ≡ false) (lines ++ line ∷ [])
+free-push [] line free one = (one, tt)
+free-push (first ∷ lines) line free one = (free.0, free-push lines line free.1 one)
+
+-- ---- a run before a line
+
+-- The run stands before line n, and what it read behind the lines before it is in the window.
+pub record StandsHere {H : Type 0} (answers : Answering H) (starves : Starving H) (from to held holds : Option (List ℕ)) (old new : H) (n : ℕ) (window : List ℕ) (refused : ℕ) : Type 0 where
+  pub at : StandsAt answers starves from to held holds old new n
+  pub here : at.rest ≡ window
+  pub counted : at.refusals ≡ refused
+
+module _ {H : Type 0} (answers : Answering H) (starves : Starving H) where
+  pub begins_run : (from held : Option (List ℕ)) (old : H) → StandsHere answers starves from from held held old old 1 [] 0
+  begins_run from held old = record {
+    at = record {
+      input = [];
+      lines = [];
+      rest = [];
+      output = [];
+      refusals = 0;
+      consumed = Consumes-nil from;
+      begins = record { bytes = refl; free = tt };
+      number = refl;
+      replies = (refl, refl, refl);
+      written = Appends-nil held;
+    };
+    here = refl;
+    counted = refl;
+  }
+
+  -- more was read
+  pub reads_more : (from to then held holds : Option (List ℕ)) (old new : H) (n : ℕ) (window more filled : List ℕ) (refused : ℕ) → StandsHere answers starves from to held holds old new n window refused
+      → filled ≡ window ++ more → Consumes to then more → StandsHere answers starves from then held holds old new n filled refused
+  reads_more from to then held holds old new n window more filled refused so is consumed =
+      let at = so.at in
+      record {
+        at = record {
+          input = at.input ++ more;
+          lines = at.lines;
+          rest = filled;
+          output = at.output;
+          refusals = at.refusals;
+          consumed = Consumes-trans from to then at.input more at.consumed consumed;
+          begins = record {
+            bytes = ap (λ (xs : List ℕ). xs ++ more) at.begins.bytes ∙ append_assoc (with_feeds at.lines) at.rest more
+                ∙ ap (λ (xs : List ℕ). with_feeds at.lines ++ xs) (ap (λ (xs : List ℕ). xs ++ more) so.here ∙ sym is);
+            free = at.begins.free;
+          };
+          number = at.number;
+          replies = at.replies;
+          written = at.written;
+        };
+        here = refl;
+        counted = so.counted;
+      }
+
+  replied : (from to held holds : Option (List ℕ)) (old mid new : H) (n : ℕ) (window line text : List ℕ) (refused : ℕ) (flag : Bool) → (so : StandsHere answers starves from to held holds old mid n window refused)
+      → AnswersLine answers starves n mid line text flag new
+      → Replies answers starves 1 old (so.at.lines ++ line ∷ []) (so.at.output ++ text) (refused + refusal_count flag) new
+  replied from to held holds old mid new n window line text refused flag so reply =
+      let at = so.at in
+      let number : n ≡ 1 + length at.lines = omega (arith, at.number) in
+      let one = subst (λ (k : ℕ). AnswersLine answers starves k mid line text flag new) number reply in
+      let all = Replies-push answers starves 1 old at.lines line at.output text at.refusals flag mid new at.replies one in
+      subst (λ (k : ℕ). Replies answers starves 1 old (at.lines ++ line ∷ []) (at.output ++ text) (k + refusal_count flag) new) so.counted all
+
+  -- a line that a line feed ends was read and answered
+  pub passes_line : (from to then held holds holding : Option (List ℕ)) (old mid new : H) (n : ℕ) (window taken line left text : List ℕ) (refused : ℕ) (flag : Bool)
+      → StandsHere answers starves from to held holds old mid n window refused → Consumes to then taken → CutsLine window taken line left Feed
+      → AnswersLine answers starves n mid line text flag new → Appends holds holding text
+      → StandsHere answers starves from then held holding old new (n + 1) left (refused + refusal_count flag)
+  passes_line from to then held holds holding old mid new n window taken line left text refused flag so consumed cut reply wrote =
+      let more = reads_more from to then held holds old mid n window taken (window ++ taken) refused so refl consumed in
+      let at = more.at in
+      record {
+        at = record {
+          input = at.input;
+          lines = at.lines ++ line ∷ [];
+          rest = left;
+          output = at.output ++ text;
+          refusals = refused + refusal_count flag;
+          consumed = at.consumed;
+          begins = record {
+            bytes = at.begins.bytes ∙ ap (λ (xs : List ℕ). with_feeds at.lines ++ xs) (more.here ∙ cut.0) ∙ sym (with_feeds-push at.lines line left);
+            free = free-push at.lines line at.begins.free cut.1;
+          };
+          number = omega (arith, at.number, length-append at.lines (line ∷ []));
+          replies = replied from then held holds old mid new n (window ++ taken) line text refused flag more reply;
+          written = Appends-trans held holds holding at.output text at.written wrote;
+        };
+        here = refl;
+        counted = refl;
+      }
+
+  -- the reader was at its end behind a line feed, or before anything
+  pub ends_run : (from to held holds : Option (List ℕ)) (old new : H) (n : ℕ) (window : List ℕ) (count : RunCount) → StandsHere answers starves from to held holds old new n window count.refused
+      → n ≡ count.lines + 1 → window ≡ [] → IsAtEnd to → Ends answers starves from to held holds old new count
+  ends_run from to held holds old new n window count so number none ended =
+      let at = so.at in
+      let input : at.input ≡ with_feeds at.lines ++ [] = at.begins.bytes ∙ ap (λ (xs : List ℕ). with_feeds at.lines ++ xs) (so.here ∙ none) in
+      let lines : lines_of at.input ≡ at.lines = ap lines_of input ∙ lines_of-with_feeds at.lines [] at.begins.free ∙ append-nil at.lines in
+      record {
+        input = at.input;
+        output = at.output;
+        consumed = at.consumed;
+        ended = ended;
+        replies = subst (λ (ls : List (List ℕ)). Replies answers starves 1 old ls at.output count.refused new) (sym lines)
+            (subst (λ (k : ℕ). Replies answers starves 1 old at.lines at.output k new) so.counted at.replies);
+        lines = omega (arith, number, at.number, ap length lines);
+        written = at.written;
+      }
+
+  -- the last line was ended by the input
+  pub ends_line : (from to then held holds holding : Option (List ℕ)) (old mid new : H) (n : ℕ) (window taken line left text : List ℕ) (refused : ℕ) (flag : Bool) (count : RunCount)
+      → StandsHere answers starves from to held holds old mid n window refused → Consumes to then taken → CutsLine window taken line left Input
+      → AnswersLine answers starves n mid line text flag new → Appends holds holding text → IsAtEnd then
+      → count.lines ≡ n → count.refused ≡ refused + refusal_count flag → Ends answers starves from then held holding old new count
+  ends_line from to then held holds holding old mid new n window taken line left text refused flag count so consumed cut reply wrote ended number counted =
+      let more = reads_more from to then held holds old mid n window taken (window ++ taken) refused so refl consumed in
+      let at = more.at in
+      let input : at.input ≡ with_feeds at.lines ++ line = at.begins.bytes ∙ ap (λ (xs : List ℕ). with_feeds at.lines ++ xs) (more.here ∙ cut.0) in
+      let lines : lines_of at.input ≡ at.lines ++ line ∷ [] = ap lines_of input ∙ lines_of-with_feeds at.lines line at.begins.free ∙ ap (λ (ls : List (List ℕ)). at.lines ++ ls) (lines_of-last line cut.2 cut.3) in
+      record {
+        input = at.input;
+        output = at.output ++ text;
+        consumed = at.consumed;
+        ended = ended;
+        replies = subst (λ (ls : List (List ℕ)). Replies answers starves 1 old ls (at.output ++ text) count.refused new) (sym lines)
+            (subst (λ (k : ℕ). Replies answers starves 1 old (at.lines ++ line ∷ []) (at.output ++ text) k new) (sym counted)
+            (replied from then held holds old mid new n (window ++ taken) line text refused flag more reply));
+        lines = omega (arith, number, at.number, ap length lines, length-append at.lines (line ∷ []));
+        written = Appends-trans held holds holding at.output text at.written wrote;
+      }
+
+  -- a line was too long, or the reader failed in it
+  pub stops_reading : (from to then held holds : Option (List ℕ)) (read_failed write_failed : Bool) (old new : H) (n : ℕ) (window taken : List ℕ) (refused : ℕ) (s : LineStop)
+      → StandsHere answers starves from to held holds old new n window refused → Consumes to then taken → StopsLine (window ++ taken) read_failed s
+      → Stops answers starves from then held holds read_failed write_failed old new (fault_at s n)
+  stops_reading from to then held holds read_failed write_failed old new n window taken refused stop.TooLong so consumed stopped =
+      let more = reads_more from to then held holds old new n window taken (window ++ taken) refused so refl consumed in
+      (more.at, subst (λ (xs : List ℕ). MAX_LINE < length (first_line xs)) (sym more.here) stopped)
+  stops_reading from to then held holds read_failed write_failed old new n window taken refused stop.ReadFailed so consumed stopped =
+      let more = reads_more from to then held holds old new n window taken (window ++ taken) refused so refl consumed in
+      (more.at, ap has_feed more.here ∙ stopped.0, stopped.1)
+
+  -- the writer failed in the reply to a line
+  pub stops_writing : (from to then held holds holding : Option (List ℕ)) (read_failed write_failed : Bool) (old mid new : H) (n : ℕ) (window taken line text part unwritten : List ℕ) (refused : ℕ) (flag : Bool)
+      → StandsHere answers starves from to held holds old mid n window refused → Consumes to then taken
+      → (after : List ℕ) → lines_of (window ++ taken) ≡ line ∷ lines_of after
+      → AnswersLine answers starves n mid line text flag new → text ≡ part ++ unwritten → Appends holds holding part → write_failed ≡ true
+      → Stops answers starves from then held holding read_failed write_failed old new (WriteFailed n)
+  stops_writing from to then held holds holding read_failed write_failed old mid new n window taken line text part unwritten refused flag so consumed after front reply parts wrote failed =
+      let more = reads_more from to then held holds old mid n window taken (window ++ taken) refused so refl consumed in (
+        mid,
+        holds,
+        more.at,
+        record {
+          line = line;
+          after = after;
+          front = ap lines_of more.here ∙ front;
+          text = text;
+          refused = flag;
+          reply = reply;
+          part = part;
+          unwritten = unwritten;
+          parts = parts;
+          written = wrote;
+        },
+        failed,
+      )
+
+-- the line that was cut off stands at the front
+pub front_line : (window taken line left : List ℕ) (end : LineEnd) → CutsLine window taken line left end → (after : List ℕ) × (lines_of (window ++ taken) ≡ line ∷ lines_of after)
+front_line window taken line left Feed cut = (left, ap lines_of cut.0 ∙ lines_of-feed line left cut.1)
+front_line window taken line left Input cut = ([], ap lines_of cut.0 ∙ lines_of-last line cut.2 cut.3)
+
+-- a mark as a number
+pub bool_byte_count : (b : Bool) → bool_byte b ≡ refusal_count b
+bool_byte_count true = refl
+bool_byte_count false = refl
+
+pub at_most_one : (b : Bool) → refusal_count b ≤ 1
+at_most_one true = omega arith
+at_most_one false = omega arith

@@ -1,0 +1,6 @@
+pub mod Lines
+pub mod Cutting
+pub mod Outcome
+pub mod Replies
+pub mod Runs
+pub mod RunFault

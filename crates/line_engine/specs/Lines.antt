@@ -1,0 +1,38 @@
+-- How an input is cut into lines.
+use Rattle.std.specs.Prelude.{◌≡◌, ℕ, ◌==◌, ◌||◌, Bool, false, List, [], ◌∷◌, ◌++◌, if◌then◌else◌}
+use Rattle.std.specs.List.{list_all, list_any, flat_map, AllByRecursion}
+
+abbrev pub line_feed : ℕ
+line_feed = 10
+
+abbrev pub has_feed : List ℕ → Bool
+has_feed bytes = list_any (λ c. c == line_feed) bytes
+
+-- a byte at the front of the first line
+abbrev pub begin_with : ℕ → List (List ℕ) → List (List ℕ)
+begin_with c [] = (c ∷ []) ∷ []
+begin_with c (line ∷ lines) = (c ∷ line) ∷ lines
+
+-- The lines of an input, each without its line feed. A last piece that no line feed ends is a line where
+-- it isn't empty.
+abbrev pub lines_of : List ℕ → List (List ℕ)
+lines_of [] = []
+lines_of (c ∷ bytes) = if c == line_feed then [] ∷ lines_of bytes else begin_with c (lines_of bytes)
+
+-- the bytes before the first line feed, or all of them
+abbrev pub first_line : List ℕ → List ℕ
+first_line [] = []
+first_line (c ∷ bytes) = if c == line_feed then [] else c ∷ first_line bytes
+
+-- lines, each with its line feed
+abbrev pub with_feeds : List (List ℕ) → List ℕ
+with_feeds lines = flat_map (λ line. line ++ line_feed ∷ []) lines
+
+-- The input is these lines, each of them ended by a line feed, and then the rest.
+pub record BeginsWith (input : List ℕ) (lines : List (List ℕ)) (rest : List ℕ) : Type 0 where
+  pub bytes : input ≡ with_feeds lines ++ rest
+  pub free : AllByRecursion (λ line. has_feed line ≡ false) lines
+
+-- spaces, tabs and carriage returns alone
+abbrev pub is_blank : List ℕ → Bool
+is_blank line = list_all (λ c. c == 32 || c == 9 || c == 13) line

@@ -1,0 +1,19 @@
+//! Lines in and replies out: the one loop that each run of the office goes through.
+#![tactic(auto)]
+
+mod device;
+mod from_read;
+mod handler;
+mod line_buffer;
+mod reply_text;
+mod run;
+mod to_write;
+mod window;
+
+pub use device::{DeviceFailed, Sink, Source};
+pub use from_read::FromRead;
+pub use handler::{Handler, Outcome};
+pub use line_buffer::MAX_LINE;
+pub use reply_text::ReplyText;
+pub use run::{MAX_LINES, RunCount, RunFault, run_lines};
+pub use to_write::ToWrite;

@@ -1,0 +1,84 @@
+ghost use Rattle.std.specs.Prelude.{◌≡◌, ◌+◌, ◌<◌, ◌≤◌, ◌^◌, ◌++◌, [], ◌∷◌, length, decimal, OnOk, IfOk};
+ghost use Rattle.line_engine.specs.Replies.{starved_body};
+
+use itoa::Buffer;
+use std::alloc::{AllocError, Global};
+use std::marker::Model;
+
+/// Room for the number of a line and the reply that memory was wanted, got once.
+const LEAST_ROOM: usize = 64;
+
+/// A reply while it is put together.
+#[derive(Drop)]
+pub struct ReplyText {
+    bytes: Vec<u8>,
+}
+
+impl Model for ReplyText {
+    ghost use Rattle.std.specs.Prelude.{ℕ, List, ◌≤◌, vec_capacity};
+    ghost use Rattle.line_engine.specs.declared.reply_text.TheConstants.{LEAST_ROOM};
+
+    ghost Value = { List ℕ };
+
+    ghost view = { λ t. t.bytes.items };
+
+    ghost invariant = { λ t. LEAST_ROOM ≤ vec_capacity t.bytes };
+}
+
+impl ReplyText {
+    pub(crate) fn new(alloc: Global) -> Result<ReplyText, AllocError>
+        ensures { IfOk result (λ text. text ≡ []) }
+    {
+        Ok(ReplyText {
+            bytes: Vec::with_capacity(alloc, LEAST_ROOM)?,
+        })
+    }
+
+    /// Begins the reply to this line anew: its number and a space. Takes no memory.
+    pub(crate) fn begin(&mut self, number: u64)
+        ensures text { self.new ≡ decimal number ++ 32 ∷ [] }
+        ensures short { length self.new ≤ 41 }
+    {
+        let mut digits = Buffer::new();
+        let text = digits.format(number);
+        self.bytes.clear();
+        let _ = self.bytes.extend_from_slice(text.as_bytes());
+        let _ = self.bytes.push(b' ');
+    }
+
+    /// Replies to this line that memory was wanted, whatever stood here. Takes no memory.
+    pub(crate) fn starve(&mut self, number: u64)
+        ensures { self.new ≡ decimal number ++ 32 ∷ starved_body }
+    {
+        self.begin(number);
+        let _ = self.bytes.extend_from_slice(b"refused 1\n");
+    }
+
+    pub fn as_slice(&self) -> &[u8]
+        ensures { result.now ≡ self.now }
+    {
+        self.bytes.as_slice()
+    }
+
+    /// Adds text at the end.
+    pub fn push_str(&mut self, text: &str) -> Result<(), AllocError>
+        ensures ok { OnOk result (self.new ≡ self.old ++ text.now) }
+    {
+        self.bytes.extend_from_slice(text.as_bytes())
+    }
+
+    /// Adds bytes at the end.
+    pub fn push_bytes(&mut self, bytes: &[u8]) -> Result<(), AllocError>
+        ensures ok { OnOk result (self.new ≡ self.old ++ bytes.now) }
+    {
+        self.bytes.extend_from_slice(bytes)
+    }
+
+    /// Adds a whole number in decimal digits at the end.
+    pub fn push_number(&mut self, number: u128) -> Result<(), AllocError>
+        ensures ok { OnOk result (self.new ≡ self.old ++ decimal number) }
+    {
+        let mut digits = Buffer::new();
+        self.push_str(digits.format(number))
+    }
+}

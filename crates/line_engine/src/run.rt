@@ -1,0 +1,212 @@
+ghost use Rattle.std.specs.Prelude.{◌≡◌, ℕ, ◌+◌, ◌++◌, List, [], ◌∷◌, Bool, false, true, decimal, IsOk, IfOk, IfErr, OnOk, OnErr};
+ghost use Rattle.std.specs.Io.KnownBytes.{Appends};
+ghost use Rattle.line_engine.specs.Lines.{is_blank as is_blank_line};
+ghost use Rattle.line_engine.specs.Replies.{AnswersLine, Responds};
+ghost use Rattle.line_engine.specs.Runs.{Ends, Stops};
+
+use crate::device::{DeviceFailed, Sink, Source};
+use crate::handler::{Handler, Outcome};
+use crate::line_buffer::LineBuffer;
+use crate::reply_text::ReplyText;
+use crate::window::{LineEnd, LineStop, Window};
+use std::alloc::{AllocError, Global};
+use thiserror::Error;
+
+/// The most lines of an input.
+pub const MAX_LINES: u64 = 1_000_000;
+
+/// How many lines a run has read, skipped ones too, and how many of its replies are refusals.
+#[derive(Clone, Copy, Debug, PartialEq, Eq)]
+pub struct RunCount {
+    pub lines: u64,
+    pub refused: u64,
+}
+
+/// Why a run stopped before the end of its input, with the number of the line, counted from 1.
+#[derive(Clone, Copy, Debug, PartialEq, Eq, Error)]
+pub enum RunFault {
+    /// Memory for the lines was wanted, before any of them (1).
+    #[error("OutOfMemory")]
+    OutOfMemory,
+    /// A byte of a line past the most was read (91).
+    #[error("TooManyLines")]
+    TooManyLines(u64),
+    /// The line has more bytes than it may (92).
+    #[error("LineTooLong")]
+    LineTooLong(u64),
+    /// The reader failed before this line's end (93).
+    #[error("ReadFailed")]
+    ReadFailed(u64),
+    /// The writer failed in this line's reply (94).
+    #[error("WriteFailed")]
+    WriteFailed(u64),
+}
+
+impl RunFault {
+    ghost use Rattle.line_engine.specs.RunFault.{number_of, line_of, fault_at};
+
+    /// The refusal's number.
+    pub fn number(self) -> u32
+        ensures { result ≡ number_of self }
+    {
+        match self {
+            RunFault::OutOfMemory => 1,
+            RunFault::TooManyLines(_) => 91,
+            RunFault::LineTooLong(_) => 92,
+            RunFault::ReadFailed(_) => 93,
+            RunFault::WriteFailed(_) => 94,
+        }
+    }
+
+    /// The number of the line at which the run stopped; none where no line was begun.
+    pub fn line(self) -> Option<u64>
+        ensures { result ≡ line_of self }
+    {
+        match self {
+            RunFault::OutOfMemory => None,
+            RunFault::TooManyLines(line)
+            | RunFault::LineTooLong(line)
+            | RunFault::ReadFailed(line)
+            | RunFault::WriteFailed(line) => Some(line),
+        }
+    }
+
+    fn at_line(stop: LineStop, number: u64) -> RunFault
+        ensures { result ≡ fault_at stop number }
+    {
+        match stop {
+            LineStop::TooLong => RunFault::LineTooLong(number),
+            LineStop::ReadFailed => RunFault::ReadFailed(number),
+        }
+    }
+}
+
+impl From<AllocError> for RunFault {
+    ghost use Rattle.std.specs.Prelude.{◌≡◌};
+    ghost use Rattle.line_engine.specs.declared.run.RunFault.TheVariants.{OutOfMemory};
+
+    ghost from_gives = { λ _ e. e ≡ OutOfMemory };
+
+    fn from(_e: AllocError) -> RunFault {
+        RunFault::OutOfMemory
+    }
+}
+
+/// Whether a line is spaces, tabs and carriage returns alone.
+fn is_blank(line: &[u8]) -> bool
+    ensures { result ≡ is_blank_line line.now }
+{
+    line.iter().all(|c| matches!(*c, b' ' | b'\t' | b'\r'))
+}
+
+/// Writes all the bytes.
+fn write_all<W: Sink>(writer: &mut W, bytes: &[u8]) -> Result<(), DeviceFailed>
+    ensures ok { OnOk result (Appends (W.contents writer.old) (W.contents writer.new) bytes.now) }
+    ensures err { OnErr result ((part : List ℕ) × (rest : List ℕ) × (bytes.now ≡ part ++ rest)
+        × Appends (W.contents writer.old) (W.contents writer.new) part × (W.has_failed writer.new ≡ true)) }
+{
+    let mut rest = bytes;
+    while !rest.is_empty() {
+        let count = writer.write(rest)?;
+        let (_, unwritten) = rest.split_at(count);
+        rest = unwritten;
+    }
+    Ok(())
+}
+
+/// Puts the reply to a line that isn't blank together, and answers whether it is a refusal.
+fn respond<H: Handler>(
+    alloc: Global,
+    handler: &mut H,
+    number: u64,
+    line: &[u8],
+    reply: &mut ReplyText,
+) -> bool
+    ensures { (body : List ℕ) × (reply.new ≡ decimal number ++ 32 ∷ body) × Responds H.answers H.starves handler.old line.now body result handler.new }
+{
+    reply.begin(number);
+    match handler.answer(alloc, line, reply) {
+        Ok(outcome) => outcome.is_refusal(),
+        Err(_) => {
+            reply.starve(number);
+            true
+        }
+    }
+}
+
+/// Answers one line, in one write, and tells whether it was refused. A blank line gets no reply.
+fn serve<W: Sink, H: Handler>(
+    alloc: Global,
+    handler: &mut H,
+    writer: &mut W,
+    number: u64,
+    line: &[u8],
+    reply: &mut ReplyText,
+) -> Result<bool, DeviceFailed>
+    ensures ok { IfOk result (λ refused. (text : List ℕ) × AnswersLine H.answers H.starves number handler.old line.now text refused handler.new
+        × Appends (W.contents writer.old) (W.contents writer.new) text) }
+    ensures err { OnErr result ((text : List ℕ) × (refused : Bool) × AnswersLine H.answers H.starves number handler.old line.now text refused handler.new
+        × (part : List ℕ) × (unwritten : List ℕ) × (text ≡ part ++ unwritten)
+        × Appends (W.contents writer.old) (W.contents writer.new) part × (W.has_failed writer.new ≡ true)) }
+{
+    if is_blank(line) {
+        return Ok(false);
+    }
+    let refused = respond(alloc, handler, number, line, reply);
+    write_all(writer, reply.as_slice())?;
+    Ok(refused)
+}
+
+/// Answers all lines of a reader, each by one write to a writer.
+///
+/// A line ends with a line feed or, where it isn't empty, at the end; lines are numbered from 1. Blank
+/// lines are skipped. Memory for the lines is got first (1). Else the run stops only where a byte of a
+/// line past `MAX_LINES` was read (91), a line has over `MAX_LINE` bytes (92), or the reader (93) or the
+/// writer (94) failed in this call; replies to the lines before are then written.
+pub fn run_lines<R: Source, W: Sink, H: Handler>(
+    alloc: Global,
+    reader: &mut R,
+    writer: &mut W,
+    handler: &mut H,
+) -> Result<RunCount, RunFault>
+    requires reader { R.has_failed reader.old ≡ false }
+    requires writer { W.has_failed writer.old ≡ false }
+    ensures ok { IfOk result (λ count. Ends H.answers H.starves (R.remaining reader.old) (R.remaining reader.new)
+        (W.contents writer.old) (W.contents writer.new) handler.old handler.new count) }
+    ensures err { IfErr result (λ fault. Stops H.answers H.starves (R.remaining reader.old) (R.remaining reader.new)
+        (W.contents writer.old) (W.contents writer.new) (R.has_failed reader.new) (W.has_failed writer.new) handler.old handler.new fault) }
+{
+    let mut window = Window::new(alloc)?;
+    let mut line = LineBuffer::new(alloc)?;
+    let mut reply = ReplyText::new(alloc)?;
+    let mut count = RunCount {
+        lines: 0,
+        refused: 0,
+    };
+    'lines: loop {
+        let number = count.lines + 1;
+        match window.fill(reader) {
+            Ok(true) => {}
+            Ok(false) => return Ok(count),
+            Err(stop) => return Err(RunFault::at_line(stop, number)),
+        }
+        if number > MAX_LINES {
+            return Err(RunFault::TooManyLines(number));
+        }
+        let end = match window.read_line(reader, &mut line) {
+            Ok(end) => end,
+            Err(stop) => return Err(RunFault::at_line(stop, number)),
+        };
+        let served = serve(alloc, handler, writer, number, line.as_slice(), &mut reply);
+        let refused = match served {
+            Ok(refused) => refused,
+            Err(_) => return Err(RunFault::WriteFailed(number)),
+        };
+        count.lines = number;
+        count.refused += u64::from(refused);
+        match end {
+            LineEnd::Feed => {}
+            LineEnd::Input => return Ok(count),
+        }
+    }
+}

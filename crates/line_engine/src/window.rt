@@ -1,0 +1,131 @@
+ghost use Rattle.std.specs.Prelude.{◌≡◌, ℕ, ◌+◌, ◌<◌, ◌≤◌, ◌++◌, ◌||◌, List, [], ◌∷◌, length, true, false, IsOk, IfOk, IfErr, OnOk, MatchResult, Ok, is_err};
+ghost use Rattle.std.specs.Io.KnownBytes.{Consumes, IsAtEnd};
+ghost use Rattle.line_engine.specs.Lines.{line_feed, has_feed};
+ghost use Rattle.line_engine.specs.Cutting.{Moves, CutsLine, StopsLine};
+ghost use Rattle.line_engine.specs.declared.line_buffer.TheConstants.{MAX_LINE};
+
+use crate::device::Source;
+use crate::line_buffer::LineBuffer;
+use memchr::memchr;
+use std::alloc::{AllocError, Global};
+use std::marker::Model;
+
+/// How many bytes are asked for at once.
+const PIECE_LEN: usize = 16_384;
+
+/// What ended a line.
+#[derive(Clone, Copy, Debug, PartialEq, Eq)]
+pub enum LineEnd {
+    Feed,
+    Input,
+}
+
+/// Why no line could be cut.
+#[derive(Clone, Copy, Debug, PartialEq, Eq)]
+pub enum LineStop {
+    TooLong,
+    ReadFailed,
+}
+
+/// The bytes that were read and not yet cut into lines.
+#[derive(Drop)]
+pub struct Window {
+    piece: Vec<u8>,
+    start: usize,
+    end: usize,
+}
+
+impl Model for Window {
+    ghost use Rattle.std.specs.Prelude.{ℕ, List, ◌-◌, ◌<◌, ◌≤◌, vec_len, slice_range};
+
+    ghost Value = { List ℕ };
+
+    ghost view = { λ w. slice_range w.piece.items w.start w.end };
+
+    ghost invariant = { λ w. (w.start ≤ w.end) × (w.end ≤ vec_len w.piece) × (0 < vec_len w.piece) };
+}
+
+/// The bytes before the next line feed, all of them where there is none, and whether there is one.
+fn before_feed(bytes: &[u8]) -> (&[u8], bool)
+    ensures free { has_feed result.0.now ≡ false }
+    ensures feed { result.1 ≡ true → (rest : List ℕ) × (bytes.now ≡ result.0.now ++ line_feed ∷ rest) }
+    ensures none { result.1 ≡ false → result.0.now ≡ bytes.now }
+{
+    match memchr(b'\n', bytes) {
+        Some(at) => (&bytes[..at], true),
+        None => (bytes, false),
+    }
+}
+
+impl Window {
+    pub fn new(alloc: Global) -> Result<Window, AllocError>
+        ensures { IfOk result (λ window. window ≡ []) }
+    {
+        Ok(Window {
+            piece: vec![in alloc; 0; PIECE_LEN]?,
+            start: 0,
+            end: 0,
+        })
+    }
+
+    /// Reads on where nothing is left, and answers whether there is a byte.
+    pub fn fill<R: Source>(&mut self, reader: &mut R) -> Result<bool, LineStop>
+        ensures taken { (taken : List ℕ) × (self.new ≡ self.old ++ taken) × Consumes (R.remaining reader.old) (R.remaining reader.new) taken }
+        ensures more { result ≡ Ok true → 0 < length self.new }
+        ensures end { result ≡ Ok false → (self.new ≡ []) × IsAtEnd (R.remaining reader.new) }
+        ensures err { IfErr result (λ stop. (stop ≡ LineStop.ReadFailed) × (self.old ≡ []) × (self.new ≡ [])) }
+        ensures failure { R.has_failed reader.new ≡ (is_err result || R.has_failed reader.old) }
+    {
+        if self.start < self.end {
+            return Ok(true);
+        }
+        let count = reader
+            .read(self.piece.as_mut_slice())
+            .map_err(|_| LineStop::ReadFailed)?;
+        self.start = 0;
+        self.end = count;
+        Ok(count > 0)
+    }
+
+    /// Moves the bytes before the next line feed to the line's end, and answers whether there is one.
+    pub fn cut(&mut self, line: &mut LineBuffer) -> Result<bool, LineStop>
+        ensures within { OnOk result (length line.new ≤ MAX_LINE) }
+        ensures ok { IfOk result (λ ended. Moves self.old self.new line.old line.new ended) }
+        ensures err { IfErr result (λ stop. (stop ≡ LineStop.TooLong) × (front : List ℕ) × (rest : List ℕ) × (self.old ≡ front ++ rest)
+            × (has_feed front ≡ false) × (MAX_LINE < length line.old + length front)) }
+    {
+        let (front, is_ended) = before_feed(&self.piece[self.start..self.end]);
+        if line.push(front).is_err() {
+            return Err(LineStop::TooLong);
+        }
+        if !is_ended {
+            self.start = self.end;
+            return Ok(false);
+        }
+        self.start += front.len() + 1;
+        Ok(true)
+    }
+
+    /// Reads one line without what ended it.
+    pub fn read_line<R: Source>(
+        &mut self,
+        reader: &mut R,
+        line: &mut LineBuffer,
+    ) -> Result<LineEnd, LineStop>
+        requires { 0 < length self.old }
+        ensures cut { (taken : List ℕ) × Consumes (R.remaining reader.old) (R.remaining reader.new) taken
+            × MatchResult result (λ end. CutsLine self.old taken line.new self.new end × (end ≡ LineEnd.Input → IsAtEnd (R.remaining reader.new)))
+            (λ stop. StopsLine (self.old ++ taken) (R.has_failed reader.new) stop) }
+        ensures failure { R.has_failed reader.old ≡ false → IsOk result → R.has_failed reader.new ≡ false }
+    {
+        line.clear();
+        loop {
+            if self.cut(line)? {
+                return Ok(LineEnd::Feed);
+            }
+            if !self.fill(reader)? {
+                return Ok(LineEnd::Input);
+            }
+        }
+    }
+}

@@ -1,0 +1,4 @@
+pub mod NetworkLemmas
+pub mod NetworkOfLemmas
+pub mod ReadingLemmas
+pub mod RecordLemmas

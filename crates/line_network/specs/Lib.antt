@@ -1,0 +1,5 @@
+pub mod Network
+pub mod NetworkFault
+pub mod NetworkOf
+pub mod Reading
+pub mod Records

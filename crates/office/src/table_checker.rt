@@ -1,0 +1,55 @@
+ghost use Rattle.std.specs.Prelude.{◌≡◌, false, IfOk, IfErr};
+ghost use Rattle.line_engine.specs.Runs.{Ends, Stops};
+ghost use Rattle.office.specs.Replies.{ChecksLine};
+
+use crate::refusal::Refusal;
+use crate::reply::push_reply;
+use crate::table_answer::table_cost;
+use line_engine::{Handler, Outcome, ReplyText, RunCount, RunFault, Sink, Source, run_lines};
+use std::alloc::{AllocError, Global};
+
+/// Answers table lines, each by itself.
+#[derive(Clone, Copy, Debug, PartialEq, Eq)]
+pub struct TableChecker;
+
+impl Handler for TableChecker {
+    ghost answers = { ChecksLine };
+
+    ghost starves = { λ _ _ _. Unit {0} };
+
+    fn answer(
+        &mut self,
+        alloc: Global,
+        line: &[u8],
+        reply: &mut ReplyText,
+    ) -> Result<Outcome, AllocError> {
+        let answer = table_cost(alloc, line);
+        if let Err(Refusal::OutOfMemory) = answer {
+            return Err(AllocError);
+        }
+        push_reply(reply, &answer)?;
+        match answer {
+            Ok(_) => Ok(Outcome::Answered),
+            Err(_) => Ok(Outcome::Refused),
+        }
+    }
+}
+
+/// Answers each table line of a reader by one reply line, written at once.
+///
+/// `N optimal COST` where the line's pairs and prices are a certificate of its table, else `N refused CODE` and its
+/// details; blank lines get no reply. It stops as `run_lines` says: 1, and 91 to 94 with the line's number.
+pub fn check_run<R: Source, W: Sink>(
+    alloc: Global,
+    reader: &mut R,
+    writer: &mut W,
+) -> Result<RunCount, RunFault>
+    requires reader { R.has_failed reader.old ≡ false }
+    requires writer { W.has_failed writer.old ≡ false }
+    ensures ok { IfOk result (λ count. Ends {H = TableChecker} ChecksLine (λ _ _ _. Unit {0}) (R.remaining reader.old) (R.remaining reader.new)
+        (W.contents writer.old) (W.contents writer.new) (record {}) (record {}) count) }
+    ensures err { IfErr result (λ fault. Stops {H = TableChecker} ChecksLine (λ _ _ _. Unit {0}) (R.remaining reader.old) (R.remaining reader.new)
+        (W.contents writer.old) (W.contents writer.new) (R.has_failed reader.new) (W.has_failed writer.new) (record {}) (record {}) fault) }
+{
+    run_lines(alloc, reader, writer, &mut TableChecker)
+}

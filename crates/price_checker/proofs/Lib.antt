@@ -1,0 +1,5 @@
+pub mod FirstBelow
+pub mod RowWalk
+pub mod Duality
+pub mod FaultFree
+pub mod Verdict

@@ -1,0 +1,12 @@
+//! Checks a plan against its dual prices: a yes shows that no plan of the table costs less, whoever made the prices.
+#![tactic(auto)]
+
+mod certified;
+mod check_fault;
+mod checker;
+mod prices;
+
+pub use certified::Certified;
+pub use check_fault::CheckFault;
+pub use checker::check;
+pub use prices::Prices;

@@ -1,0 +1,8 @@
+/// Dual prices of a table, in kilometres.
+#[derive(Debug, Drop)]
+pub struct Prices {
+    /// One price per wagon, in the table's order.
+    pub u: Vec<u64>,
+    /// One price per order, in the table's order.
+    pub v: Vec<u64>,
+}

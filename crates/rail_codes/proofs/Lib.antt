@@ -1,0 +1,2 @@
+pub mod WagonNumbers
+pub mod Moments

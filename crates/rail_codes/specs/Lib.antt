@@ -1,0 +1,8 @@
+pub mod ClassCode
+pub mod CodeFault
+pub mod Company
+pub mod Moment
+pub mod OrderId
+pub mod Place
+pub mod ShortText
+pub mod WagonNumber

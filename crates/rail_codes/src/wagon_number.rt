@@ -1,0 +1,97 @@
+//! Wagon numbers.
+ghost use Rattle.std.specs.Prelude.{◌≡◌, ℕ, ◌%◌, ◌==◌, ◌↔◌, IsTrue, if◌then◌else◌, Some, None, Ok, IsOk, IfOk, IfSome, List, slice_index, string_bytes};
+ghost use Rattle.rail_codes.specs.WagonNumber.{kept_characters, are_twelve_digits, value_of_digit, weighted_digit_sum, wagon_number_of, IsWagonNumber};
+
+use crate::CodeFault;
+use crate::ascii_text::ascii_text;
+use std::alloc::{AllocError, Global};
+use std::marker::Model;
+
+/// A wagon's twelve-digit number: two digits of interoperability code, two of country, four of
+/// technical characteristics, three of serial number and a check digit. Only the length and the
+/// check digit are judged. A contract sees the twelve ASCII digits.
+#[derive(Clone, Copy, Debug, PartialEq, Eq, PartialOrd, Ord, Hash)]
+pub struct WagonNumber {
+    digits: [u8; 12],
+}
+
+impl Model for WagonNumber {
+    ghost Value = { List ℕ };
+
+    ghost view = { λ n. n.digits };
+
+    ghost invariant = { λ n. IsWagonNumber n.digits };
+
+    ghost inverse = { λ text. record { digits = text } };
+}
+
+impl WagonNumber {
+    /// Reads a number. Spaces and hyphens are ignored wherever they stand.
+    ///
+    /// Refused with `NotTwelveDigits` (11) where the other characters are not twelve ASCII digits,
+    /// else with `CheckDigit` (12) where the check digit is wrong.
+    pub fn read(text: &str) -> Result<WagonNumber, CodeFault>
+        ensures meaning { result ≡ wagon_number_of text.now }
+        ensures accepts { IsOk result ↔ IsWagonNumber (kept_characters text.now) }
+        ensures kept { IfOk result (λ number. number ≡ kept_characters text.now) }
+    {
+        let Some(digits) = twelve_digits(text.as_bytes()) else {
+            return Err(CodeFault::NotTwelveDigits);
+        };
+        if digits[11] - b'0' != check_digit(&digits) {
+            return Err(CodeFault::CheckDigit);
+        }
+        Ok(WagonNumber { digits })
+    }
+
+    /// The twelve ASCII digits.
+    pub fn digits(&self) -> &[u8; 12]
+        ensures value { result.now ≡ self.now }
+        ensures valid { IsWagonNumber result.now }
+    {
+        &self.digits
+    }
+
+    /// The number as text: its twelve digits.
+    pub fn text(self, alloc: Global) -> Result<String, AllocError>
+        ensures printed { IfOk result (λ s. string_bytes s ≡ self) }
+        ensures reads_back { wagon_number_of self ≡ Ok self }
+    {
+        ascii_text(alloc, self.digits())
+    }
+}
+
+/// The characters of a text that are neither spaces nor hyphens, where they are twelve digits.
+fn twelve_digits(text: &[u8]) -> Option<[u8; 12]>
+    ensures meaning { result ≡ (if are_twelve_digits (kept_characters text.now) then Some (kept_characters text.now) else None) }
+    ensures digits { IfSome result (λ digits. IsTrue (are_twelve_digits digits)) }
+{
+    let mut digits = [b'0'; 12];
+    let mut count = 0;
+    for byte in text {
+        if *byte == b' ' || *byte == b'-' {
+            continue;
+        }
+        if count == 12 || !byte.is_ascii_digit() {
+            return None;
+        }
+        digits[count] = *byte;
+        count += 1;
+    }
+    if count == 12 { Some(digits) } else { None }
+}
+
+/// The digit that brings the weighted digit sum of the first eleven digits to a multiple of ten.
+fn check_digit(digits: &[u8; 12]) -> u8
+    requires { IsTrue (are_twelve_digits digits.now) }
+    ensures { IsTrue (result == value_of_digit (slice_index digits.now 11)) ↔ (weighted_digit_sum digits.now % 10 ≡ 0) }
+{
+    let mut sum = 0;
+    let mut weight = 2;
+    for digit in &digits[..11] {
+        let product = weight * (*digit - b'0');
+        sum += product / 10 + product % 10;
+        weight = 3 - weight;
+    }
+    (10 - sum % 10) % 10
+}

@@ -1,0 +1,65 @@
+-- What a line is read as: a table, a plan and its prices, or the first fault.
+use Rattle.std.specs.Prelude.{ℕ, ◌^◌, ◌-◌, List, map, if◌then◌else◌, Option, Some, None, option_map, is_some, Result, Ok}
+use Rattle.serde_json.specs.Data.{Data}
+use Rattle.serde_json.specs.Find.{as_null}
+use Rattle.move_messages.specs.declared.field.Field.{Field}
+use Rattle.move_messages.specs.declared.field.Field.TheVariants.{Wagons, Orders, Cells, Penalties, Lacks, Pairs, WagonPrices, OrderPrices}
+use Rattle.move_messages.specs.declared.fault.FieldFault.{FieldFault}
+use Rattle.move_messages.specs.declared.fault.LineFault.{LineFault}
+use Rattle.move_messages.specs.Values.{◌>>=◌, number_within, wagon_number_from, order_id_from, list_of_each, pair_of}
+use Rattle.move_messages.specs.Fields.{list_at, optional_list_at}
+use Rattle.move_messages.specs.Line.{object_of}
+use Rattle.table_lines.specs.declared.limits.TheConstants.{MAX_COST, MAX_LACK}
+use Rattle.table_lines.specs.declared.table_line.TableLine.{TableLine}
+
+-- a table line without where it lies in memory; numbers and names of codes are texts
+pub record TableText : Type 0 where
+  pub wagons : List (List ℕ)
+  pub orders : List (List ℕ)
+  pub cells : List (List (Option ℕ))
+  pub penalties : List ℕ
+  pub lacks : Option (List ℕ)
+  pub pairs : List (List ℕ × List ℕ)
+  pub u : List ℕ
+  pub v : List ℕ
+
+abbrev pub table_text : TableLine → TableText
+table_text line =
+    record { wagons = line.wagons.items; orders = line.orders.items; cells = map (λ row. row.items) line.cells.items; penalties = line.penalties.items; lacks = option_map (λ list. list.items) line.lacks; pairs = line.pairs.items; u = line.u.items; v = line.v.items }
+
+-- ---- fields
+
+-- null where the pair is not allowed
+unfoldable pub cell_of : Data → Result (Option ℕ) FieldFault
+cell_of d = if is_some (as_null d) then Ok None else number_within 0 MAX_COST d >>= λ cost. Ok (Some cost)
+
+abbrev pub row_of : Data → Result (List (Option ℕ)) FieldFault
+row_of d = list_of_each cell_of d
+
+abbrev pub cells_of : Data → Result (List (List (Option ℕ))) LineFault
+cells_of d = list_at row_of Cells d
+
+abbrev pub lacks_of : Data → Result (Option (List ℕ)) LineFault
+lacks_of d = optional_list_at (number_within 1 MAX_LACK) Lacks d
+
+-- the dual prices of the wagons, or those of the orders
+abbrev pub prices_of : Field → Data → Result (List ℕ) LineFault
+prices_of field d = list_at (number_within 0 (2 ^ 64 - 1)) field d
+
+-- ---- the whole line
+
+-- the fields of an object, each tried in turn
+unfoldable pub table_text_of : Data → Result TableText LineFault
+table_text_of d = do
+  wagons ← list_at wagon_number_from Wagons d
+  orders ← list_at order_id_from Orders d
+  cells ← cells_of d
+  penalties ← list_at (number_within 0 MAX_COST) Penalties d
+  lacks ← lacks_of d
+  pairs ← list_at pair_of Pairs d
+  u ← prices_of WagonPrices d
+  v ← prices_of OrderPrices d
+  Ok (record { wagons = wagons; orders = orders; cells = cells; penalties = penalties; lacks = lacks; pairs = pairs; u = u; v = v })
+
+unfoldable pub table_line_of : List ℕ → Result TableText LineFault
+table_line_of bytes = object_of bytes >>= table_text_of

@@ -1,0 +1,60 @@
+ghost use Rattle.std.specs.Prelude.{◌≤◌, All, IfOk, IfSome};
+ghost use Rattle.serde_json.specs.View.{view};
+ghost use Rattle.move_messages.specs.Fields.{Gives};
+ghost use Rattle.table_lines.specs.TableLine.{table_text, table_text_of, table_line_of};
+ghost use Rattle.table_lines.specs.Limits.{IsCell, IsLack};
+
+use crate::cells::cells_at;
+use crate::lacks::lacks_at;
+use crate::limits::MAX_COST;
+use crate::table_line::TableLine;
+use move_messages::{
+    Field, LineFault, numbers_at, object_of, order_ids_at, pairs_at, wagon_numbers_at,
+};
+use serde_json::Value;
+use std::alloc::Global;
+
+/// The table that a line gives.
+///
+/// The bytes are no JSON value (21), or no object (22); else the fields are tried in the order
+/// wagons, orders, cells, penalties, lacks, pairs, u, v, and the first that is missing (24) or bad
+/// (25) is the answer. `lacks` may be missing. `OutOfMemory` (1) may come in place of any answer.
+#[tactic(auto, unfolding(crate::specs::TableLine::table_line_of))]
+pub fn read_table_line(alloc: Global, bytes: &[u8]) -> Result<TableLine, LineFault>
+    ensures meaning { Gives table_text result (table_line_of bytes.now) }
+    ensures costs { IfOk result (λ line. All (λ row. All IsCell row.items) line.cells.items) }
+    ensures penalties { IfOk result
+        (λ line. All (λ penalty. penalty ≤ MAX_COST) line.penalties.items) }
+    ensures lacks { IfOk result (λ line. IfSome line.lacks (λ lacks. All IsLack lacks.items)) }
+{
+    let object = object_of(alloc, bytes)?;
+    table_of(alloc, &object)
+}
+
+#[tactic(auto, unfolding(crate::specs::TableLine::table_text_of))]
+fn table_of(alloc: Global, object: &Value) -> Result<TableLine, LineFault>
+    ensures meaning { Gives table_text result (table_text_of (view object.now)) }
+    ensures costs { IfOk result (λ line. All (λ row. All IsCell row.items) line.cells.items) }
+    ensures penalties { IfOk result
+        (λ line. All (λ penalty. penalty ≤ MAX_COST) line.penalties.items) }
+    ensures lacks { IfOk result (λ line. IfSome line.lacks (λ lacks. All IsLack lacks.items)) }
+{
+    let wagons = wagon_numbers_at(alloc, object, Field::Wagons)?;
+    let orders = order_ids_at(alloc, object, Field::Orders)?;
+    let cells = cells_at(alloc, object)?;
+    let penalties = numbers_at(alloc, object, Field::Penalties, 0, MAX_COST)?;
+    let lacks = lacks_at(alloc, object)?;
+    let pairs = pairs_at(alloc, object, Field::Pairs)?;
+    let u = numbers_at(alloc, object, Field::WagonPrices, 0, u64::MAX)?;
+    let v = numbers_at(alloc, object, Field::OrderPrices, 0, u64::MAX)?;
+    Ok(TableLine {
+        wagons,
+        orders,
+        cells,
+        penalties,
+        lacks,
+        pairs,
+        u,
+        v,
+    })
+}
