@@ -1,3 +1,4 @@
+//! Pairs of kilometres and minutes.
 ghost use Rattle.std.specs.Prelude.{◌≡◌, ◌+◌, ◌^◌, ◌<◌, ◌≤◌, ◌↔◌, IsTrue};
 
 use line_network::Line;

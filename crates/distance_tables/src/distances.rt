@@ -1,3 +1,4 @@
+//! The distances of a network.
 ghost use Rattle.std.specs.Prelude.{IfSome, IfNone};
 ghost use Rattle.distance_tables.specs.Distance.{IsDistance, HasNoWalk};
 

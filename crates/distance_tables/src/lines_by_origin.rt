@@ -1,3 +1,4 @@
+//! Lines in the order of the places where they begin.
 ghost use Rattle.std.specs.Prelude.{◌≡◌, ◌+◌, ◌^◌, ◌<◌, IfOk, All, Contains, length, vec_len};
 ghost use Rattle.std.specs.List.Sorted.{IsPermutation, IsNonDecreasingBy};
 ghost use Rattle.distance_tables.specs.Starts.{AreStarts};

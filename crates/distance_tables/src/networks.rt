@@ -1,3 +1,4 @@
+//! Several networks, by their numbers.
 ghost use Rattle.std.specs.Prelude.{◌≡◌, ◌↔◌, length, vec_len, IsOk, IfOk, Err};
 ghost use Rattle.std.specs.Option.{option_copied};
 ghost use Rattle.distance_tables.specs.Networks.{IsNetworkCount, network_at};

@@ -1,3 +1,4 @@
+//! Why no networks were put together.
 ghost use Rattle.std.specs.Prelude.{◌≡◌};
 
 use thiserror::Error;

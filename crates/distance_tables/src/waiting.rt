@@ -1,3 +1,4 @@
+//! Places that wait in a search.
 use crate::distance::Distance;
 
 /// A place whose lines are still to be relaxed, and its label when it was put there.
