@@ -10,6 +10,7 @@ mod kind;
 mod line;
 mod lists;
 mod members;
+mod message;
 mod values;
 
 pub use fault::{FieldFault, LineFault};
@@ -24,6 +25,7 @@ pub use members::{
     boolean_at, in_field, member, number_at, optional_member, optional_number_at, order_id_at,
     text_at, wagon_number_at,
 };
+pub use message::{Message, MessageKind};
 pub use values::{
     boolean_of, list_of, list_within, number_within, order_id_from, text_of, wagon_number_from,
 };

@@ -1,0 +1,37 @@
+//! Movement messages: what a railway says of a wagon.
+
+use rail_codes::{MessageId, Moment, Place, WagonNumber};
+
+/// What has happened to the wagon.
+#[derive(Clone, Copy, Debug, PartialEq, Eq, Hash)]
+pub enum MessageKind {
+    /// It is ready for pull.
+    Release,
+    /// It has been pulled from the place.
+    Departure,
+    /// It has come to a yard.
+    YardArrival,
+    /// It has left a yard.
+    YardDeparture,
+    /// Something unexpected has happened to it: true holds it, false lets it go.
+    Exception(bool),
+    /// It is in the yard of the last railway.
+    Arrival,
+    /// It has been placed at the consignee's siding.
+    Delivery,
+}
+
+/// A movement message.
+#[derive(Clone, Copy, Debug, PartialEq, Eq, Hash)]
+pub struct Message {
+    /// The name that its sender gave it.
+    pub id: MessageId,
+    /// What has happened.
+    pub kind: MessageKind,
+    /// To which wagon.
+    pub wagon: WagonNumber,
+    /// Where.
+    pub place: Place,
+    /// When, in seconds since 1970.
+    pub moment: Moment,
+}
