@@ -12,8 +12,9 @@ use Rattle.move_messages.specs.declared.fault.LineFault.{LineFault}
 use Rattle.move_messages.specs.Values.{◌>>=◌, number_within, list_of_each}
 use Rattle.move_messages.specs.Fields.{Gives}
 use Rattle.move_messages.proofs.Bounds.{bind_ok, number_is_within, HoldsOfRead, list_holds, field_holds, optional_field_holds}
-use Rattle.table_lines.specs.declared.limits.TheConstants.{MAX_COST, MAX_LACK}
-use Rattle.table_lines.specs.Limits.{IsCell, IsLack}
+use Rattle.cost_table.specs.declared.limits.TheConstants.{MAX_COST, MAX_LACK}
+use Rattle.cost_table.specs.Rows.{IsNumber}
+use Rattle.cost_table.specs.Table.{IsLack}
 use Rattle.table_lines.specs.TableLine.{cell_of, row_of, cells_of, lacks_of}
 
 abbrev done : Option ℕ → Result (Option ℕ) FieldFault
@@ -22,13 +23,13 @@ done x = Ok x
 ok_is : (x y : Option ℕ) → done x ≡ done y → x ≡ y
 ok_is x y e = cc
 
-cell_by : (b : Bool) (d : Data) (x : Option ℕ) → cond b (done None) (number_within 0 MAX_COST d >>= λ cost. done (Some cost)) ≡ Ok x → IsCell x
-cell_by true d x e = subst IsCell (ok_is None x e) tt
+cell_by : (b : Bool) (d : Data) (x : Option ℕ) → cond b (done None) (number_within 0 MAX_COST d >>= λ cost. done (Some cost)) ≡ Ok x → IsNumber x
+cell_by true d x e = subst IsNumber (ok_is None x e) tt
 cell_by false d x e =
     let a = bind_ok (number_within 0 MAX_COST d) (λ cost. done (Some cost)) x e in
-    subst IsCell (ok_is (Some a.0) x a.2) ((number_is_within 0 MAX_COST d a.0 a.1).1)
+    subst IsNumber (ok_is (Some a.0) x a.2) ((number_is_within 0 MAX_COST d a.0 a.1).1)
 
-cell_is : HoldsOfRead cell_of IsCell
+cell_is : HoldsOfRead cell_of IsNumber
 unfolding cell_of
 cell_is d x e = cell_by (is_some (as_null d)) d x e
 
@@ -36,10 +37,10 @@ all_under : {X Y : Type 0} (P : Y → Type 0) (f : X → Y) (xs : List X) → Al
 all_under P f [] h = tt
 all_under P f (x ∷ xs) h = (h.0, all_under P f xs h.1)
 
-pub cells_are : (d : Data) (r : Result (Vec (Vec (Option ℕ))) LineFault) → Gives (λ rows. map (λ row. row.items) rows.items) r (cells_of d) → IfOk r (λ rows. All (λ row. All IsCell row.items) rows.items)
+pub cells_are : (d : Data) (r : Result (Vec (Vec (Option ℕ))) LineFault) → Gives (λ rows. map (λ row. row.items) rows.items) r (cells_of d) → IfOk r (λ rows. All (λ row. All IsNumber row.items) rows.items)
 cells_are d (Ok rows) given =
-    let whole = field_holds (list_of_each row_of) (All (All IsCell)) (list_holds row_of (All IsCell) (list_holds cell_of IsCell cell_is)) Cells d (map (λ row. row.items) rows.items) given in
-    All-from_recursion (λ row. All IsCell row.items) rows.items (all_under (All IsCell) (λ row. row.items) rows.items (recursion_from_All (All IsCell) (map (λ row. row.items) rows.items) whole))
+    let whole = field_holds (list_of_each row_of) (All (All IsNumber)) (list_holds row_of (All IsNumber) (list_holds cell_of IsNumber cell_is)) Cells d (map (λ row. row.items) rows.items) given in
+    All-from_recursion (λ row. All IsNumber row.items) rows.items (all_under (All IsNumber) (λ row. row.items) rows.items (recursion_from_All (All IsNumber) (map (λ row. row.items) rows.items) whole))
 cells_are d (Err e) given = tt
 
 pub lacks_are : (d : Data) (r : Result (Option (Vec ℕ)) LineFault) → Gives (λ lacks. option_map (λ list. list.items) lacks) r (lacks_of d) → IfOk r (λ lacks. IfSome lacks (λ list. All IsLack list.items))

@@ -9,7 +9,7 @@ use Rattle.move_messages.specs.declared.fault.LineFault.{LineFault}
 use Rattle.move_messages.specs.Values.{◌>>=◌, number_within, wagon_number_from, order_id_from, list_of_each, pair_of}
 use Rattle.move_messages.specs.Fields.{list_at, optional_list_at}
 use Rattle.move_messages.specs.Line.{object_of}
-use Rattle.table_lines.specs.declared.limits.TheConstants.{MAX_COST, MAX_LACK}
+use Rattle.cost_table.specs.declared.limits.TheConstants.{MAX_COST, MAX_LACK}
 use Rattle.table_lines.specs.declared.table_line.TableLine.{TableLine}
 
 -- a table line without where it lies in memory; numbers and names of codes are texts

@@ -5,9 +5,9 @@ ghost use Rattle.move_messages.specs.declared.fault.FieldFault.{FieldFault};
 ghost use Rattle.move_messages.specs.Values.{each};
 ghost use Rattle.move_messages.specs.Fields.{Gives, in_field};
 ghost use Rattle.table_lines.specs.TableLine as meaning;
-ghost use Rattle.table_lines.specs.Limits.{IsCell};
+ghost use Rattle.cost_table.specs.Rows.{IsNumber};
 
-use crate::limits::MAX_COST;
+use cost_table::MAX_COST;
 use move_messages::{
     Field, FieldFault, ItemKind, LineFault, in_field, list_of, list_of_each, member, number_within,
 };
@@ -51,7 +51,7 @@ fn rows_of(alloc: Global, rows: &[Value]) -> Result<Vec<Vec<Option<u64>>>, LineF
 pub(crate) fn cells_at(alloc: Global, object: &Value) -> Result<Vec<Vec<Option<u64>>>, LineFault>
     ensures meaning { Gives (λ rows. map (λ row. row.items) rows.items) result
         (meaning.cells_of (view object.now)) }
-    ensures limits { IfOk result (λ rows. All (λ row. All IsCell row.items) rows.items) }
+    ensures limits { IfOk result (λ rows. All (λ row. All IsNumber row.items) rows.items) }
 {
     let value = member(object, Field::Cells)?;
     let rows = in_field(Field::Cells, list_of(value))?;

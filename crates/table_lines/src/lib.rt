@@ -3,10 +3,8 @@
 
 mod cells;
 mod lacks;
-mod limits;
 mod table_line;
 mod table_reading;
 
-pub use limits::{MAX_COST, MAX_LACK};
 pub use table_line::TableLine;
 pub use table_reading::read_table_line;

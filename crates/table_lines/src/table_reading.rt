@@ -2,12 +2,13 @@ ghost use Rattle.std.specs.Prelude.{◌≤◌, All, IfOk, IfSome};
 ghost use Rattle.serde_json.specs.View.{view};
 ghost use Rattle.move_messages.specs.Fields.{Gives};
 ghost use Rattle.table_lines.specs.TableLine.{table_text, table_text_of, table_line_of};
-ghost use Rattle.table_lines.specs.Limits.{IsCell, IsLack};
+ghost use Rattle.cost_table.specs.Rows.{IsNumber};
+ghost use Rattle.cost_table.specs.Table.{IsLack};
 
 use crate::cells::cells_at;
 use crate::lacks::lacks_at;
-use crate::limits::MAX_COST;
 use crate::table_line::TableLine;
+use cost_table::MAX_COST;
 use move_messages::{
     Field, LineFault, numbers_at, object_of, order_ids_at, pairs_at, wagon_numbers_at,
 };
@@ -22,7 +23,7 @@ use std::alloc::Global;
 #[tactic(auto, unfolding(crate::specs::TableLine::table_line_of))]
 pub fn read_table_line(alloc: Global, bytes: &[u8]) -> Result<TableLine, LineFault>
     ensures meaning { Gives table_text result (table_line_of bytes.now) }
-    ensures costs { IfOk result (λ line. All (λ row. All IsCell row.items) line.cells.items) }
+    ensures costs { IfOk result (λ line. All (λ row. All IsNumber row.items) line.cells.items) }
     ensures penalties { IfOk result
         (λ line. All (λ penalty. penalty ≤ MAX_COST) line.penalties.items) }
     ensures lacks { IfOk result (λ line. IfSome line.lacks (λ lacks. All IsLack lacks.items)) }
@@ -34,7 +35,7 @@ pub fn read_table_line(alloc: Global, bytes: &[u8]) -> Result<TableLine, LineFau
 #[tactic(auto, unfolding(crate::specs::TableLine::table_text_of))]
 fn table_of(alloc: Global, object: &Value) -> Result<TableLine, LineFault>
     ensures meaning { Gives table_text result (table_text_of (view object.now)) }
-    ensures costs { IfOk result (λ line. All (λ row. All IsCell row.items) line.cells.items) }
+    ensures costs { IfOk result (λ line. All (λ row. All IsNumber row.items) line.cells.items) }
     ensures penalties { IfOk result
         (λ line. All (λ penalty. penalty ≤ MAX_COST) line.penalties.items) }
     ensures lacks { IfOk result (λ line. IfSome line.lacks (λ lacks. All IsLack lacks.items)) }
