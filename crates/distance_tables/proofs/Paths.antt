@@ -5,7 +5,7 @@ use Rattle.line_network.specs.declared.line.Line.{Line}
 use Rattle.distance_tables.specs.declared.distance.Distance.{Distance}
 use Rattle.distance_tables.specs.Walk.{IsPath, km_of, minutes_of}
 use Rattle.distance_tables.specs.Distance.{AtMost}
-use Rattle.distance_tables.specs.Rows.{IsPathPair, IsAnswer, IsRow}
+use Rattle.distance_tables.specs.Rows.{IsPathPair, IsAnswer, IsNear, IsRow}
 use Rattle.distance_tables.specs.Search.{plus_line, label_at, LabelAtMost, AreLabels, IsRelaxed}
 
 -- a path goes on with a path
@@ -51,10 +51,11 @@ path_leads lines labels relaxed a b d (l ∷ path) at leads =
     (path_leads lines labels relaxed l.to b end.0 path end.1 leads.2)
 
 -- where each reached place is relaxed, the labels are the distances
-pub IsRow-relaxed : (lines : List Line) (places origin : ℕ) (labels : List (Option Distance)) → length labels ≡ places → AreLabels lines origin labels → ((k : ℕ) (d : Distance) → label_at labels k ≡ Some d → IsRelaxed lines labels k d) → IsRow lines places origin labels
-IsRow-relaxed lines places origin labels full are relaxed = record {
+pub IsRow-relaxed : (lines : List Line) (places origin : ℕ) (labels : List (Option Distance)) → length labels ≡ places → AreLabels lines origin labels → ((k : ℕ) (d : Distance) → label_at labels k ≡ Some d → IsRelaxed lines labels k d) → ((k : ℕ) → IsNear places (label_at labels k)) → IsRow lines places origin labels
+IsRow-relaxed lines places origin labels full are relaxed near = record {
   full = full;
   answers = λ b within. answer b (label_at labels b) refl;
+  near = λ b within. near b;
 } where
   least : (b : ℕ) (path : List Line) → IsPath lines origin path b → LabelAtMost (label_at labels b) (record { km = km_of path; minutes = minutes_of path })
   least b path leads =

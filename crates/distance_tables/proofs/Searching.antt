@@ -7,11 +7,12 @@ use Rattle.std.proofs.lemmas.Bool.{cases_eq}
 use Rattle.std.proofs.lemmas.Option.{none-some, same_Some}
 use Rattle.std.proofs.lemmas.List.Elements.{All-cons, All-nil, All-tail}
 use Rattle.std.proofs.lemmas.List.Sorted.{All-permutation, Contains-permutation}
+use Rattle.std.proofs.lemmas.List.Sums.{count_by-le-length}
 use Rattle.line_network.specs.declared.line.Line.{Line}
 use Rattle.distance_tables.specs.declared.distance.Distance.{Distance}
 use Rattle.distance_tables.specs.declared.waiting.Waiting.{Waiting}
-use Rattle.distance_tables.specs.Rows.{IsPathPair, IsRow}
-use Rattle.distance_tables.specs.Search.{label_at, LabelAtMost, LabelAbove, below_count, AreBounded, AreLabels, IsRelaxed, IsSettled, AreInRange, entry, Improves}
+use Rattle.distance_tables.specs.Rows.{IsPathPair, IsNear, IsRow}
+use Rattle.distance_tables.specs.Search.{label_at, LabelAtMost, LabelAbove, is_label_below, below_count, AreBounded, AreLabels, IsRelaxed, IsSettled, AreInRange, entry, Improves}
 use Rattle.distance_tables.proofs.Paths.{IsRow-relaxed}
 use Rattle.distance_tables.proofs.Relaxing.{each_label, fallen}
 
@@ -118,10 +119,18 @@ place_in_range places waited waits d u h moved =
     let InRange : Reverse Waiting → Type 0 = λ e. e.0.place < places in
     All-permutation InRange _ _ moved h 0 (entry d u) (omega arith)
 
+-- a label is of no more lines than there are places
+near : (places : ℕ) (labels : List (Option Distance)) → length labels ≡ places → AreBounded labels → (k : ℕ) (o : Option Distance) → label_at labels k ≡ o → IsNear places o
+near places labels full bounded k None at = tt
+near places labels full bounded k (Some d) at =
+    let few : below_count labels d ≤ length labels = count_by-le-length (is_label_below d) labels in
+    (omega (arith, bounded.km k d at), omega (arith, bounded.minutes k d at))
+
 -- where none waits, the labels are the distances
 pub IsRow-search : (lines : List Line) (places origin : ℕ) (labels : List (Option Distance)) (waiting : List (Reverse Waiting)) → IsSearch lines places origin labels waiting → length waiting ≡ 0 → IsRow lines places origin labels
 IsRow-search lines places origin labels waiting h none =
     IsRow-relaxed lines places origin labels h.full h.are (λ k d at. elim (h.settled k d at) [ inl waits ↦ absurd (omega (arith, waits.1)) | inr relaxed ↦ relaxed ])
+    (λ k. near places labels h.full h.bounded k (label_at labels k) refl)
 
 -- what a slice of a whole vector gives back
 pub whole_slice : (n : ℕ) (xs ys : List (Option Distance)) → length xs ≡ n → length ys ≡ n → take n (ys ++ drop (length ys) xs) ≡ ys

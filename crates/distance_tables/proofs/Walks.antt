@@ -12,8 +12,8 @@ use Rattle.line_network.specs.declared.line.Line.{Line}
 use Rattle.line_network.specs.Network.{NetworkValue, place_index}
 use Rattle.distance_tables.specs.declared.distance.Distance.{Distance}
 use Rattle.distance_tables.specs.Walk.{IsPath, IsWalk, km_of, minutes_of}
-use Rattle.distance_tables.specs.Distance.{AtMost, IsDistance}
-use Rattle.distance_tables.specs.Rows.{IsLeast, IsAnswer, IsRow, AreRows}
+use Rattle.distance_tables.specs.Distance.{AtMost, IsDistance, IsAnswered}
+use Rattle.distance_tables.specs.Rows.{IsLeast, IsAnswer, IsNear, IsRow, AreRows}
 use Rattle.distance_tables.specs.Laws.{TriangleHolds}
 use Rattle.distance_tables.proofs.Paths.{IsPath-append}
 
@@ -72,6 +72,7 @@ AreRows-permutation xs ys places rows moved h = record {
   each = λ a d within. record {
     full = (h.each a d within).full;
     answers = λ b known. IsAnswer-same ys xs a b _ (λ l. Contains-permutation ys xs l (IsPermutation-sym xs ys moved)) (λ l. Contains-permutation xs ys l moved) ((h.each a d within).answers b known);
+    near = (h.each a d within).near;
   };
 }
 
@@ -95,3 +96,19 @@ answer_read lines places a b rows row o h from to at here =
     let P : Vec (Option Distance) Global → Type 0 = λ r. IsRow lines places a r.items in
     let is : IsRow lines places a row.items = subst P (sym at) (h.each a row from) in
     subst (IsAnswer lines a b) (sym (get_or_read row.items b o (omega (arith, is.full)) here None)) (is.answers b to)
+
+pub near_read : (lines : List Line) (places a b : ℕ) (rows : List (Vec (Option Distance) Global)) (row : Vec (Option Distance) Global) (o : Option Distance) → AreRows lines places rows → a < places → b < places → row ≡ get_or rows a row → o ≡ get_or row.items b o → IsNear places o
+near_read lines places a b rows row o h from to at here =
+    let P : Vec (Option Distance) Global → Type 0 = λ r. IsRow lines places a r.items in
+    let is : IsRow lines places a row.items = subst P (sym at) (h.each a row from) in
+    subst (IsNear places) (sym (get_or_read row.items b o (omega (arith, is.full)) here None)) (is.near b to)
+
+-- as kilometres and minutes
+abbrev pub pair_of : Option Distance → Option (ℕ × ℕ)
+pair_of None = None
+pair_of (Some d) = Some (d.km, d.minutes)
+
+-- what a row has for a place is what is to be answered
+pub IsAnswered-answer : (net : NetworkValue) (a b : List ℕ) (i j : ℕ) (o : Option Distance) → place_index net.places a ≡ Some i → place_index net.places b ≡ Some j → IsAnswer net.lines i j o → IsAnswered net a b (pair_of o)
+IsAnswered-answer net a b i j None at to h = λ walk leads. h walk (path_of_walk net a b i j walk at to leads)
+IsAnswered-answer net a b i j (Some d) at to h = IsDistance-least net a b i j d at to h

@@ -1,4 +1,4 @@
-use Rattle.std.specs.Prelude.{◌≡◌, ℕ, ◌≤◌, List}
+use Rattle.std.specs.Prelude.{◌≡◌, ℕ, ◌≤◌, List, Option, Some, None}
 use Rattle.line_network.specs.declared.line.Line.{Line}
 use Rattle.line_network.specs.Network.{NetworkValue}
 use Rattle.distance_tables.specs.Walk.{IsWalk, km_of, minutes_of}
@@ -17,3 +17,8 @@ pub record IsDistance (net : NetworkValue) (a b : List ℕ) (distance : ℕ × �
 
 abbrev pub HasNoWalk : NetworkValue → List ℕ → List ℕ → Type 0
 HasNoWalk net a b = (walk : List Line) → IsWalk net a walk b → ⊥
+
+-- what is to be answered of two places: their distance, none where no walk leads
+abbrev pub IsAnswered : NetworkValue → List ℕ → List ℕ → Option (ℕ × ℕ) → Type 0
+IsAnswered net a b None = HasNoWalk net a b
+IsAnswered net a b (Some distance) = IsDistance net a b distance

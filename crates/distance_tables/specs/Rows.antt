@@ -1,6 +1,7 @@
-use Rattle.std.specs.Prelude.{◌≡◌, ℕ, ◌<◌, List, length, Option, Some, None, slice_index_or}
+use Rattle.std.specs.Prelude.{◌≡◌, ℕ, ◌*◌, ◌<◌, ◌≤◌, List, length, Option, Some, None, slice_index_or}
 use Rattle.std.specs.declared.alloc.Global.{Global}
 use Rattle.std.specs.declared.vec.Vec.{Vec}
+use Rattle.line_network.specs.declared.limits.TheConstants.{MAX_LENGTH}
 use Rattle.line_network.specs.declared.line.Line.{Line}
 use Rattle.distance_tables.specs.declared.distance.Distance.{Distance}
 use Rattle.distance_tables.specs.Walk.{IsPath, km_of, minutes_of}
@@ -23,10 +24,16 @@ abbrev pub IsAnswer : List Line → ℕ → ℕ → Option Distance → Type 0
 IsAnswer lines a b None = (path : List Line) → IsPath lines a path b → ⊥
 IsAnswer lines a b (Some d) = IsLeast lines a b d
 
+-- no longer than as many lines of the greatest length as there are places
+abbrev pub IsNear : ℕ → Option Distance → Type 0
+IsNear places None = Unit {0}
+IsNear places (Some d) = (d.km ≤ MAX_LENGTH * places) × (d.minutes ≤ MAX_LENGTH * places)
+
 -- the distances from one place to each of so many
 pub record IsRow (lines : List Line) (places a : ℕ) (row : List (Option Distance)) : Type 0 where
   pub full : length row ≡ places
   pub answers : (b : ℕ) → b < places → IsAnswer lines a b (slice_index_or row b None)
+  pub near : (b : ℕ) → b < places → IsNear places (slice_index_or row b None)
 
 -- a row for each of so many places
 pub record AreRows (lines : List Line) (places : ℕ) (rows : List (Vec (Option Distance) Global)) : Type 0 where

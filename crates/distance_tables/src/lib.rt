@@ -11,7 +11,7 @@ mod one_thread;
 mod search;
 mod waiting;
 
-pub use distances::Tables;
+pub use distances::{MAX_DISTANCE, Tables};
 pub use laws::{distance_is_unique, place_is_at_itself, triangle_holds};
 pub use networks::{MAX_NETWORKS, Networks};
 pub use networks_fault::NetworksFault;

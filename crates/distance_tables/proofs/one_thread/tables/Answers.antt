@@ -9,4 +9,4 @@ rows_of_origins-requires-clause-lines c =
     All-permutation (IsLine c.places-places.result) _ _ c.in_ok-lines.ensures.lines all
 
 pub invariant_of-result : goal.invariant_of-result
-invariant_of-result c = rw (c.in_ok-network.ensures, ← c.lines.ensures.lines, ← c.places-places.ensures.count) (AreRows-permutation _ _ _ _ c.in_ok-lines.ensures.lines c.in_ok-rows.ensures)
+invariant_of-result c = rw (c.in_ok-network.ensures, ← c.lines.ensures.lines, ← c.places-places.ensures.count) (rw (← c.places-places.ensures.count) at c.places-places.ensures.network.few_places, AreRows-permutation _ _ _ _ c.in_ok-lines.ensures.lines c.in_ok-rows.ensures)
