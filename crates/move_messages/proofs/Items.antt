@@ -11,15 +11,11 @@ use Rattle.move_messages.specs.declared.field.Field.{Field}
 use Rattle.move_messages.specs.declared.fault.FieldFault.{FieldFault}
 use Rattle.move_messages.specs.declared.fault.FieldFault.TheVariants.{OutOfRange}
 use Rattle.move_messages.specs.declared.fault.LineFault.{LineFault}
-use Rattle.move_messages.specs.Values.{◌>>=◌, each, list_of, both, wagon_number_from, order_id_from, pair_of}
+use Rattle.move_messages.specs.Values.{◌>>=◌, after, each, list_of, both, wagon_number_from, order_id_from, pair_of}
 use Rattle.move_messages.specs.Fields.{in_field}
 
 pub items_len_is_length : (vs : List Value) → items_len (items_view vs) ≡ length vs
 items_len_is_length vs = items_len-items_view vs
-
--- the items that were read before, and those that are still read
-abbrev pub after : {A E : Type 0} → List A → Result (List A) E → Result (List A) E
-after front rest = rest >>= λ xs. Ok (front ++ xs)
 
 -- ---- faults in their field
 

@@ -1,11 +1,15 @@
 -- What a JSON value is read as, or why it is refused.
-use Rattle.std.specs.Prelude.{ℕ, List, [], ◌∷◌, Bool, nat_le, ◌&&◌, if◌then◌else◌, option_and_then, Result, Ok, Err}
+use Rattle.std.specs.Prelude.{ℕ, List, [], ◌∷◌, ◌++◌, Bool, nat_le, ◌&&◌, if◌then◌else◌, option_and_then, Result, Ok, Err}
 use Rattle.std.specs.Option.{ok_or}
 use Rattle.serde_json.specs.Data.{Data, Items, no_items, item}
 use Rattle.serde_json.specs.Find.{as_bool, as_number, as_u64, as_str, as_array}
 use Rattle.serde_json.specs.Events.{items_len}
 use Rattle.rail_codes.specs.WagonNumber.{wagon_number_of}
 use Rattle.rail_codes.specs.OrderId.{order_id_of}
+use Rattle.rail_codes.specs.Company.{company_of}
+use Rattle.rail_codes.specs.Place.{place_of}
+use Rattle.rail_codes.specs.ClassCode.{class_code_of}
+use Rattle.rail_codes.specs.Moment.{moment_of}
 use Rattle.rail_codes.specs.declared.code_fault.CodeFault.{CodeFault}
 use Rattle.move_messages.specs.declared.fault.FieldFault.{FieldFault}
 use Rattle.move_messages.specs.declared.fault.FieldFault.TheVariants.{Code, WrongKind, OutOfRange}
@@ -43,6 +47,18 @@ wagon_number_from d = text_of d >>= λ text. with_code (wagon_number_of text)
 unfoldable pub order_id_from : Data → Result (List ℕ) FieldFault
 order_id_from d = text_of d >>= λ text. with_code (order_id_of text)
 
+unfoldable pub company_from : Data → Result (List ℕ) FieldFault
+company_from d = text_of d >>= λ text. with_code (company_of text)
+
+unfoldable pub place_from : Data → Result (List ℕ) FieldFault
+place_from d = text_of d >>= λ text. with_code (place_of text)
+
+unfoldable pub class_from : Data → Result (List ℕ) FieldFault
+class_from d = text_of d >>= λ text. with_code (class_code_of text)
+
+unfoldable pub moment_from : Data → Result ℕ FieldFault
+moment_from d = text_of d >>= λ text. with_code (moment_of text)
+
 -- ---- lists
 
 unfoldable pub list_of : Data → Result Items FieldFault
@@ -61,6 +77,14 @@ each read (item d ds) = do
   x ← read d
   xs ← each read ds
   Ok (x ∷ xs)
+
+-- the items so far, and what is still read behind them
+abbrev pub after : {A E : Type 0} → List A → Result (List A) E → Result (List A) E
+after front rest = rest >>= λ xs. Ok (front ++ xs)
+
+-- 1 to 8 classes
+unfoldable pub classes_from : Data → Result (List (List ℕ)) FieldFault
+classes_from d = list_within 1 8 d >>= each class_from
 
 -- a list of any length
 unfoldable pub list_of_each : {A : Type 0} → (Data → Result A FieldFault) → Data → Result (List A) FieldFault

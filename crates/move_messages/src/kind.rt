@@ -7,7 +7,7 @@ ghost use Rattle.move_messages.specs.declared.fault.FieldFault.{FieldFault};
 ghost use Rattle.move_messages.specs.Values as values;
 
 use crate::fault::FieldFault;
-use crate::values::{list_of, number_within, order_id_from, wagon_number_from};
+use crate::values::{count_within, list_of, number_within, order_id_from, wagon_number_from};
 use rail_codes::{OrderId, WagonNumber};
 use serde_json::Value;
 
@@ -24,7 +24,7 @@ pub trait ItemKind {
 
 /// Wagon numbers.
 #[derive(Clone, Copy, Debug)]
-pub struct WagonNumberKind;
+pub(crate) struct WagonNumberKind;
 
 impl ItemKind for WagonNumberKind {
     type Item = WagonNumber;
@@ -38,7 +38,7 @@ impl ItemKind for WagonNumberKind {
 
 /// Names of orders.
 #[derive(Clone, Copy, Debug)]
-pub struct OrderIdKind;
+pub(crate) struct OrderIdKind;
 
 impl ItemKind for OrderIdKind {
     type Item = OrderId;
@@ -52,7 +52,7 @@ impl ItemKind for OrderIdKind {
 
 /// Whole numbers from `low` to `high`.
 #[derive(Clone, Copy, Debug)]
-pub struct NumberKind {
+pub(crate) struct NumberKind {
     pub low: u64,
     pub high: u64,
 }
@@ -79,16 +79,14 @@ impl ItemKind for CountKind {
 
     ghost meaning = { λ k. values.number_within k.low k.high };
 
-    #[tactic(auto, unfolding(crate::specs::Values::number_within))]
     fn read(&self, value: &Value) -> Result<u32, FieldFault> {
-        let number = number_within(value, u64::from(self.low), u64::from(self.high))?;
-        u32::try_from(number).map_err(|_| FieldFault::OutOfRange)
+        count_within(value, self.low, self.high)
     }
 }
 
 /// Pairs of a wagon number and the name of an order, each a list of two texts.
 #[derive(Clone, Copy, Debug)]
-pub struct PairKind;
+pub(crate) struct PairKind;
 
 impl ItemKind for PairKind {
     type Item = (WagonNumber, OrderId);

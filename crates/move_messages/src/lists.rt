@@ -18,7 +18,7 @@ use serde_json::Value;
 use std::alloc::Global;
 
 /// Each of the items, up to the first that is refused: `BadField` (25).
-pub fn each<K: ItemKind>(
+pub(crate) fn each<K: ItemKind>(
     alloc: Global,
     field: Field,
     kind: &K,
@@ -56,7 +56,7 @@ pub fn list_of_each<K: ItemKind>(
 
 /// A field that is a list of any length: `MissingField` (24) or `BadField` (25) where it is not.
 #[tactic(auto, unfolding(crate::specs::Fields::field_of))]
-pub fn list_at<K: ItemKind>(
+pub(crate) fn list_at<K: ItemKind>(
     alloc: Global,
     object: &Value,
     field: Field,

@@ -1,6 +1,6 @@
 //! The fields of an object. No reader here takes memory.
 
-ghost use Rattle.std.specs.Prelude.{◌≡◌, option_map};
+ghost use Rattle.std.specs.Prelude.{◌≡◌, ◌≤◌, IfOk, IfSome, option_map};
 ghost use Rattle.serde_json.specs.View.{view};
 ghost use Rattle.serde_json.specs.Find.{get};
 ghost use Rattle.move_messages.specs.Field.{field_name};
@@ -8,14 +8,18 @@ ghost use Rattle.move_messages.specs.Fields.{seen_by};
 ghost use Rattle.move_messages.specs.Fields as meaning;
 ghost use Rattle.move_messages.specs.Values as values;
 
+use crate::classes::Classes;
 use crate::fault::{FieldFault, LineFault};
 use crate::field::Field;
-use crate::values::{boolean_of, number_within, order_id_from, text_of, wagon_number_from};
-use rail_codes::{OrderId, WagonNumber};
+use crate::values::{
+    boolean_of, classes_from, company_from, count_within, moment_from, number_within,
+    order_id_from, place_from, text_of, wagon_number_from,
+};
+use rail_codes::{Company, Moment, OrderId, Place, WagonNumber};
 use serde_json::Value;
 
 /// The member of an object, where it is there.
-pub fn optional_member(object: &Value, field: Field) -> Option<&Value>
+pub(crate) fn optional_member(object: &Value, field: Field) -> Option<&Value>
     ensures { option_map (λ value. view value.now) result
         ≡ get (field_name field) (view object.now) }
 {
@@ -42,7 +46,7 @@ pub fn in_field<T>(field: Field, read: Result<T, FieldFault>) -> Result<T, LineF
 
 /// A field that is a text.
 #[tactic(auto, unfolding(crate::specs::Fields::field_of))]
-pub fn text_at(object: &Value, field: Field) -> Result<&str, LineFault>
+pub(crate) fn text_at(object: &Value, field: Field) -> Result<&str, LineFault>
     ensures { seen_by (λ text. text.now) result
         ≡ meaning.field_of values.text_of field (view object.now) }
 {
@@ -51,7 +55,7 @@ pub fn text_at(object: &Value, field: Field) -> Result<&str, LineFault>
 
 /// A field that is true or false.
 #[tactic(auto, unfolding(crate::specs::Fields::field_of))]
-pub fn boolean_at(object: &Value, field: Field) -> Result<bool, LineFault>
+pub(crate) fn boolean_at(object: &Value, field: Field) -> Result<bool, LineFault>
     ensures { result ≡ meaning.field_of values.boolean_of field (view object.now) }
 {
     in_field(field, boolean_of(member(object, field)?))
@@ -59,35 +63,48 @@ pub fn boolean_at(object: &Value, field: Field) -> Result<bool, LineFault>
 
 /// A field that is a whole number from `low` to `high`.
 #[tactic(auto, unfolding(crate::specs::Fields::field_of))]
-pub fn number_at(object: &Value, field: Field, low: u64, high: u64) -> Result<u64, LineFault>
-    ensures { result ≡ meaning.field_of (values.number_within low high) field (view object.now) }
+pub(crate) fn number_at(object: &Value, field: Field, low: u64, high: u64) -> Result<u64, LineFault>
+    ensures meaning { result
+        ≡ meaning.field_of (values.number_within low high) field (view object.now) }
+    ensures limits { IfOk result (λ number. (low ≤ number) × (number ≤ high)) }
 {
     in_field(field, number_within(member(object, field)?, low, high))
 }
 
-/// A field that may be missing, and is else a whole number from `low` to `high`.
+/// A field that is a small whole number from `low` to `high`.
+#[tactic(auto, unfolding(crate::specs::Fields::field_of))]
+pub(crate) fn count_at(object: &Value, field: Field, low: u32, high: u32) -> Result<u32, LineFault>
+    ensures meaning { result
+        ≡ meaning.field_of (values.number_within low high) field (view object.now) }
+    ensures limits { IfOk result (λ count. (low ≤ count) × (count ≤ high)) }
+{
+    in_field(field, count_within(member(object, field)?, low, high))
+}
+
+/// A field that may be missing, and is else a small whole number from `low` to `high`.
 #[tactic(auto, unfolding(crate::specs::Fields::optional_field_of))]
-pub fn optional_number_at(
+pub(crate) fn optional_count_at(
     object: &Value,
     field: Field,
-    low: u64,
-    high: u64,
-) -> Result<Option<u64>, LineFault>
-    ensures { result
+    low: u32,
+    high: u32,
+) -> Result<Option<u32>, LineFault>
+    ensures meaning { result
         ≡ meaning.optional_field_of (values.number_within low high) field (view object.now) }
+    ensures limits { IfOk result (λ o. IfSome o (λ count. (low ≤ count) × (count ≤ high))) }
 {
     match optional_member(object, field) {
         None => Ok(None),
         Some(value) => {
-            let number = in_field(field, number_within(value, low, high))?;
-            Ok(Some(number))
+            let count = in_field(field, count_within(value, low, high))?;
+            Ok(Some(count))
         }
     }
 }
 
 /// A field that is a wagon number.
 #[tactic(auto, unfolding(crate::specs::Fields::field_of))]
-pub fn wagon_number_at(object: &Value, field: Field) -> Result<WagonNumber, LineFault>
+pub(crate) fn wagon_number_at(object: &Value, field: Field) -> Result<WagonNumber, LineFault>
     ensures { result ≡ meaning.field_of values.wagon_number_from field (view object.now) }
 {
     in_field(field, wagon_number_from(member(object, field)?))
@@ -95,8 +112,46 @@ pub fn wagon_number_at(object: &Value, field: Field) -> Result<WagonNumber, Line
 
 /// A field that is an order's name.
 #[tactic(auto, unfolding(crate::specs::Fields::field_of))]
-pub fn order_id_at(object: &Value, field: Field) -> Result<OrderId, LineFault>
+pub(crate) fn order_id_at(object: &Value, field: Field) -> Result<OrderId, LineFault>
     ensures { result ≡ meaning.field_of values.order_id_from field (view object.now) }
 {
     in_field(field, order_id_from(member(object, field)?))
+}
+
+/// The company, in the field of that name.
+#[tactic(auto, unfolding(crate::specs::Fields::field_of))]
+pub(crate) fn company_at(object: &Value) -> Result<Company, LineFault>
+    ensures { result ≡ meaning.field_of values.company_from Field.Company (view object.now) }
+{
+    in_field(
+        Field::Company,
+        company_from(member(object, Field::Company)?),
+    )
+}
+
+/// The place, in the field of that name.
+#[tactic(auto, unfolding(crate::specs::Fields::field_of))]
+pub(crate) fn place_at(object: &Value) -> Result<Place, LineFault>
+    ensures { result ≡ meaning.field_of values.place_from Field.Place (view object.now) }
+{
+    in_field(Field::Place, place_from(member(object, Field::Place)?))
+}
+
+/// The classes, in the field of that name.
+#[tactic(auto, unfolding(crate::specs::Fields::field_of))]
+pub(crate) fn classes_at(object: &Value) -> Result<Classes, LineFault>
+    ensures { result ≡ meaning.field_of values.classes_from Field.Classes (view object.now) }
+{
+    in_field(
+        Field::Classes,
+        classes_from(member(object, Field::Classes)?),
+    )
+}
+
+/// A field that is a moment.
+#[tactic(auto, unfolding(crate::specs::Fields::field_of))]
+pub(crate) fn moment_at(object: &Value, field: Field) -> Result<Moment, LineFault>
+    ensures { result ≡ meaning.field_of values.moment_from field (view object.now) }
+{
+    in_field(field, moment_from(member(object, field)?))
 }

@@ -1,17 +1,20 @@
 //! What one JSON value is read as. No reader here takes memory.
 
-ghost use Rattle.std.specs.Prelude.{◌≡◌};
+ghost use Rattle.std.specs.Prelude.{◌≡◌, ◌<◌, ◌≤◌, [], ◌∷◌, IfOk, length};
 ghost use Rattle.serde_json.specs.View.{view, items_view};
 ghost use Rattle.move_messages.specs.Fields.{seen_by};
 ghost use Rattle.move_messages.specs.Values as meaning;
+ghost use Rattle.move_messages.specs.Values.{after};
 
+use crate::classes::Classes;
 use crate::fault::FieldFault;
-use rail_codes::{OrderId, WagonNumber};
+use crate::limits::MAX_CLASSES;
+use rail_codes::{ClassCode, Company, Moment, OrderId, Place, WagonNumber};
 use serde_json::Value;
 
 /// A text. Any other value, null among them, is `WrongKind` (19).
 #[tactic(auto, unfolding(crate::specs::Values::text_of))]
-pub fn text_of(value: &Value) -> Result<&str, FieldFault>
+pub(crate) fn text_of(value: &Value) -> Result<&str, FieldFault>
     ensures { seen_by (λ text. text.now) result ≡ meaning.text_of (view value.now) }
 {
     value.as_str().ok_or(FieldFault::WrongKind)
@@ -19,7 +22,7 @@ pub fn text_of(value: &Value) -> Result<&str, FieldFault>
 
 /// True or false. Any other value is `WrongKind` (19).
 #[tactic(auto, unfolding(crate::specs::Values::boolean_of))]
-pub fn boolean_of(value: &Value) -> Result<bool, FieldFault>
+pub(crate) fn boolean_of(value: &Value) -> Result<bool, FieldFault>
     ensures { result ≡ meaning.boolean_of (view value.now) }
 {
     value.as_bool().ok_or(FieldFault::WrongKind)
@@ -29,7 +32,8 @@ pub fn boolean_of(value: &Value) -> Result<bool, FieldFault>
 /// (19), and one outside the limits `OutOfRange` (20).
 #[tactic(auto, unfolding(crate::specs::Values::number_within))]
 pub fn number_within(value: &Value, low: u64, high: u64) -> Result<u64, FieldFault>
-    ensures { result ≡ meaning.number_within low high (view value.now) }
+    ensures meaning { result ≡ meaning.number_within low high (view value.now) }
+    ensures limits { IfOk result (λ number. (low ≤ number) × (number ≤ high)) }
 {
     let number = value.as_u64().ok_or(FieldFault::WrongKind)?;
     if low <= number && number <= high {
@@ -41,20 +45,66 @@ pub fn number_within(value: &Value, low: u64, high: u64) -> Result<u64, FieldFau
 
 /// A wagon number. What is no text is `WrongKind` (19), and another text has its own fault (11, 12).
 #[tactic(auto, unfolding(crate::specs::Values::wagon_number_from))]
-pub fn wagon_number_from(value: &Value) -> Result<WagonNumber, FieldFault>
+pub(crate) fn wagon_number_from(value: &Value) -> Result<WagonNumber, FieldFault>
     ensures { result ≡ meaning.wagon_number_from (view value.now) }
 {
     let text = text_of(value)?;
     WagonNumber::read(text).map_err(FieldFault::Code)
 }
 
+/// A whole number from `low` to `high`, as `number_within` reads it.
+#[tactic(auto, unfolding(crate::specs::Values::number_within))]
+pub(crate) fn count_within(value: &Value, low: u32, high: u32) -> Result<u32, FieldFault>
+    ensures meaning { result ≡ meaning.number_within low high (view value.now) }
+    ensures limits { IfOk result (λ count. (low ≤ count) × (count ≤ high)) }
+{
+    let number = number_within(value, u64::from(low), u64::from(high))?;
+    u32::try_from(number).map_err(|_| FieldFault::OutOfRange)
+}
+
 /// An order's name. What is no text is `WrongKind` (19), and another text has its own fault (16).
 #[tactic(auto, unfolding(crate::specs::Values::order_id_from))]
-pub fn order_id_from(value: &Value) -> Result<OrderId, FieldFault>
+pub(crate) fn order_id_from(value: &Value) -> Result<OrderId, FieldFault>
     ensures { result ≡ meaning.order_id_from (view value.now) }
 {
     let text = text_of(value)?;
     OrderId::read(text).map_err(FieldFault::Code)
+}
+
+/// A company. What is no text is `WrongKind` (19), and another text has its own fault (15).
+#[tactic(auto, unfolding(crate::specs::Values::company_from))]
+pub(crate) fn company_from(value: &Value) -> Result<Company, FieldFault>
+    ensures { result ≡ meaning.company_from (view value.now) }
+{
+    let text = text_of(value)?;
+    Company::read(text).map_err(FieldFault::Code)
+}
+
+/// A place. What is no text is `WrongKind` (19), and another text has its own fault (13).
+#[tactic(auto, unfolding(crate::specs::Values::place_from))]
+pub(crate) fn place_from(value: &Value) -> Result<Place, FieldFault>
+    ensures { result ≡ meaning.place_from (view value.now) }
+{
+    let text = text_of(value)?;
+    Place::read(text).map_err(FieldFault::Code)
+}
+
+/// A class. What is no text is `WrongKind` (19), and another text has its own fault (14).
+#[tactic(auto, unfolding(crate::specs::Values::class_from))]
+pub(crate) fn class_from(value: &Value) -> Result<ClassCode, FieldFault>
+    ensures { result ≡ meaning.class_from (view value.now) }
+{
+    let text = text_of(value)?;
+    ClassCode::read(text).map_err(FieldFault::Code)
+}
+
+/// A moment. What is no text is `WrongKind` (19), and another text has its own fault (17, 18).
+#[tactic(auto, unfolding(crate::specs::Values::moment_from))]
+pub(crate) fn moment_from(value: &Value) -> Result<Moment, FieldFault>
+    ensures { result ≡ meaning.moment_from (view value.now) }
+{
+    let text = text_of(value)?;
+    Moment::read(text).map_err(FieldFault::Code)
 }
 
 /// The items of a list. Any other value is `WrongKind` (19).
@@ -69,9 +119,10 @@ pub fn list_of(value: &Value) -> Result<&[Value], FieldFault>
 /// The items of a list of `low` to `high` items. What is no list is `WrongKind` (19), and a list of
 /// another count `OutOfRange` (20).
 #[tactic(auto, using(crate::proofs::Items::items_len_is_length), unfolding(crate::specs::Values::list_within))]
-pub fn list_within(value: &Value, low: usize, high: usize) -> Result<&[Value], FieldFault>
-    ensures { seen_by (λ items. items_view items.now) result
+pub(crate) fn list_within(value: &Value, low: usize, high: usize) -> Result<&[Value], FieldFault>
+    ensures meaning { seen_by (λ items. items_view items.now) result
         ≡ meaning.list_within low high (view value.now) }
+    ensures count { IfOk result (λ items. (low ≤ length items.now) × (length items.now ≤ high)) }
 {
     let items = list_of(value)?;
     if low <= items.len() && items.len() <= high {
@@ -79,4 +130,31 @@ pub fn list_within(value: &Value, low: usize, high: usize) -> Result<&[Value], F
     } else {
         Err(FieldFault::OutOfRange)
     }
+}
+
+/// 1 to 8 classes. What is no list is `WrongKind` (19), a list of another count `OutOfRange` (20),
+/// and the first item that is refused has its own fault.
+#[tactic(auto, unfolding(crate::specs::Values::classes_from, crate::specs::Values::list_within, crate::specs::Values::each))]
+pub(crate) fn classes_from(value: &Value) -> Result<Classes, FieldFault>
+    ensures { result ≡ meaning.classes_from (view value.now) }
+{
+    let items = list_within(value, 1, MAX_CLASSES)?;
+    let [first, rest @ ..] = items else {
+        return Err(FieldFault::OutOfRange);
+    };
+    let first = class_from(first)?;
+    with_more_classes(first, rest)
+}
+
+/// The class and those behind it, up to the first that is refused.
+fn with_more_classes(first: ClassCode, rest: &[Value]) -> Result<Classes, FieldFault>
+    requires { length rest.now < 8 }
+    ensures { result ≡ after (first ∷ []) (meaning.each meaning.class_from (items_view rest.now)) }
+{
+    let mut classes = Classes::one(first);
+    for item in rest {
+        let class = class_from(item)?;
+        classes.push(class);
+    }
+    Ok(classes)
 }

@@ -6,9 +6,9 @@ use Rattle.serde_json.specs.declared.value.Value.{Value}
 use Rattle.move_messages.specs.declared.field.Field.{Field}
 use Rattle.move_messages.specs.declared.fault.FieldFault.{FieldFault}
 use Rattle.move_messages.specs.declared.fault.LineFault.{LineFault}
-use Rattle.move_messages.specs.Values.{each}
+use Rattle.move_messages.specs.Values.{after, each}
 use Rattle.move_messages.specs.Fields.{Fails, in_field}
-use Rattle.move_messages.proofs.Items.{after, in_field_err, stops}
+use Rattle.move_messages.proofs.Items.{in_field_err, stops}
 
 -- the first row that fails gives the fault of all
 pub row_fails : {A : Type 0} (field : Field) (read : Data → Result A FieldFault) (vs : List Value) (i : ℕ) (v : Value) (front : List A) (e : LineFault) (total : Result (List A) FieldFault) → i < length vs → v ≡ get_or vs i v → Fails e (in_field field (read (view v)))

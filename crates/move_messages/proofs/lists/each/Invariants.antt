@@ -1,7 +1,6 @@
 use Rattle.std.proofs.Common.{◌≡◌, drop}
 use Rattle.serde_json.specs.View.{items_view}
-use Rattle.move_messages.specs.Values.{each}
-use Rattle.move_messages.proofs.Items.{after}
+use Rattle.move_messages.specs.Values.{after, each}
 use Rattle.move_messages.proofs.lists.each.Given as goal
 
 abbrev pub invariant-loop-item : goal.invariant-loop-item

@@ -1,7 +1,6 @@
 use Rattle.std.proofs.Common.{◌≡◌, map, drop}
 use Rattle.serde_json.specs.View.{items_view}
-use Rattle.move_messages.specs.Values.{each}
-use Rattle.move_messages.proofs.Items.{after}
+use Rattle.move_messages.specs.Values.{after, each}
 use Rattle.table_lines.specs.TableLine.{row_of}
 use Rattle.table_lines.proofs.cells.rows_of.Given as goal
 

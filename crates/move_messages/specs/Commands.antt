@@ -1,0 +1,80 @@
+-- What a line is as a command: its type, and the fields of that type in the order in which they are tried.
+use Rattle.std.specs.Prelude.{ℕ, ◌^◌, ◌-◌, false, List, unwrap_or, Result, Ok}
+use Rattle.serde_json.specs.Data.{Data}
+use Rattle.move_messages.specs.declared.field.Field.TheVariants as field
+use Rattle.move_messages.specs.declared.fault.LineFault.{LineFault}
+use Rattle.move_messages.specs.declared.line_type.LineType.{LineType}
+use Rattle.move_messages.specs.declared.line_type.LineType.TheVariants as of_type
+use Rattle.move_messages.specs.declared.message.MessageKind.{MessageKind}
+use Rattle.move_messages.specs.declared.message.MessageKind.TheVariants.{Release, Departure, YardArrival, YardDeparture, Exception, Arrival, Delivery}
+use Rattle.move_messages.specs.declared.message.Message as message
+use Rattle.move_messages.specs.declared.commit_text.CommitText.{CommitText}
+use Rattle.move_messages.specs.declared.command.Command.{Command}
+use Rattle.move_messages.specs.declared.command.Command.TheVariants.{Message, Place, Withdraw, Begin, Plan, Commit, Sheet, Revise}
+use Rattle.move_messages.specs.Order.{Order}
+use Rattle.move_messages.specs.Values.{◌>>=◌, number_within, boolean_of, company_from, wagon_number_from, place_from, moment_from, order_id_from, classes_from, text_of, pair_of}
+use Rattle.move_messages.specs.Fields.{field_of, optional_field_of, list_at}
+use Rattle.move_messages.specs.Line.{object_of}
+use Rattle.move_messages.specs.LineType.{line_type_of}
+
+-- a movement message
+unfoldable pub message_of : MessageKind → Data → Result message.Message LineFault
+message_of kind d = do
+  company ← field_of company_from field.Company d
+  number ← field_of (number_within 0 (2 ^ 32 - 1)) field.Number d
+  wagon ← field_of wagon_number_from field.Wagon d
+  place ← field_of place_from field.Place d
+  moment ← field_of moment_from field.Moment d
+  Ok (record { id = record { company = company; number = number }; kind = kind; wagon = wagon; place = place; moment = moment })
+
+-- the same fields, then hold
+unfoldable pub exception_of : Data → Result message.Message LineFault
+exception_of d = do
+  message ← message_of (Exception false) d
+  hold ← field_of boolean_of field.Hold d
+  Ok (record message { kind = Exception hold })
+
+unfoldable pub order_text_of : Data → Result Order LineFault
+order_text_of d = do
+  id ← field_of order_id_from field.Order d
+  place ← field_of place_from field.Place d
+  classes ← field_of classes_from field.Classes d
+  load ← field_of (number_within 0 200_000) field.Load d
+  latest ← field_of moment_from field.Latest d
+  penalty ← field_of (number_within 0 1_000_000_000) field.Penalty d
+  wagons ← optional_field_of (number_within 1 20) field.Wagons d
+  Ok (record { id = id; place = place; classes = classes; load = load; latest = latest; penalty = penalty; wagons = unwrap_or wagons 1 })
+
+unfoldable pub commit_text_of : Data → Result CommitText LineFault
+commit_text_of d = do
+  version ← field_of (number_within 0 1_000_000) field.Version d
+  at ← field_of moment_from field.At d
+  pairs ← list_at pair_of field.Pairs d
+  u ← list_at (number_within 0 (2 ^ 64 - 1)) field.WagonPrices d
+  v ← list_at (number_within 0 (2 ^ 64 - 1)) field.OrderPrices d
+  Ok (record { version = version; at = at; pairs = pairs; u = u; v = v })
+
+-- the command of each type
+unfoldable pub command_of_type : LineType → Data → Result Command LineFault
+command_of_type of_type.Release d = message_of Release d >>= λ message. Ok (Message message)
+command_of_type of_type.Departure d = message_of Departure d >>= λ message. Ok (Message message)
+command_of_type of_type.YardArrival d = message_of YardArrival d >>= λ message. Ok (Message message)
+command_of_type of_type.YardDeparture d = message_of YardDeparture d >>= λ message. Ok (Message message)
+command_of_type of_type.Exception d = exception_of d >>= λ message. Ok (Message message)
+command_of_type of_type.Arrival d = message_of Arrival d >>= λ message. Ok (Message message)
+command_of_type of_type.Delivery d = message_of Delivery d >>= λ message. Ok (Message message)
+command_of_type of_type.Order d = order_text_of d >>= λ order. Ok (Place order)
+command_of_type of_type.Withdraw d = field_of order_id_from field.Order d >>= λ id. Ok (Withdraw id)
+command_of_type of_type.Begin d = field_of moment_from field.At d >>= λ at. Ok (Begin at)
+command_of_type of_type.Plan d = field_of moment_from field.At d >>= λ at. Ok (Plan at)
+command_of_type of_type.Commit d = commit_text_of d >>= λ commit. Ok (Commit commit)
+command_of_type of_type.Sheet d = Ok Sheet
+command_of_type of_type.Network d = field_of (number_within 1 8) field.Revision d >>= λ k. Ok (Revise k)
+
+-- the command that a line is, or its first fault
+unfoldable pub command_of : List ℕ → Result Command LineFault
+command_of bytes = do
+  d ← object_of bytes
+  name ← field_of text_of field.TypeName d
+  line_type ← line_type_of name
+  command_of_type line_type d

@@ -1,0 +1,135 @@
+//! Command lines, read field by field.
+
+ghost use Rattle.std.specs.Prelude.{◌≡◌};
+ghost use Rattle.serde_json.specs.View.{view};
+ghost use Rattle.move_messages.specs.Fields.{Gives};
+ghost use Rattle.move_messages.specs.Commands as meaning;
+
+use crate::command::Command;
+use crate::commit_text::{CommitText, Pairs, PriceList};
+use crate::fault::LineFault;
+use crate::field::Field;
+use crate::limits::{MAX_LOAD, MAX_NETWORKS, MAX_PENALTY, MAX_VERSION, MAX_WAGONS};
+use crate::line::object_of;
+use crate::line_type::LineType;
+use crate::lists::{numbers_at, pairs_at};
+use crate::members::{
+    boolean_at, classes_at, company_at, count_at, moment_at, number_at, optional_count_at,
+    order_id_at, place_at, text_at, wagon_number_at,
+};
+use crate::message::{Message, MessageKind};
+use crate::order_text::OrderText;
+use rail_codes::MessageId;
+use serde_json::Value;
+use std::alloc::Global;
+
+/// The command that a line gives.
+///
+/// The bytes are no JSON value (21), or no object (22); the `type` is missing (24), no text (25),
+/// or none of those known (23); else the fields of its type are tried in their order, and the first
+/// that is missing (24) or bad (25) is the answer. An order's `wagons` may be missing and is then 1.
+/// `OutOfMemory` (1) may come in place of any answer.
+#[tactic(auto, unfolding(crate::specs::Commands::command_of))]
+pub fn read_line(alloc: Global, bytes: &[u8]) -> Result<Command, LineFault>
+    ensures { Gives (λ command. command) result (meaning.command_of bytes.now) }
+{
+    let object = object_of(alloc, bytes)?;
+    let line_type = LineType::named(text_at(&object, Field::TypeName)?)?;
+    command_at(alloc, line_type, &object)
+}
+
+/// The command of a line of this type.
+#[tactic(auto, unfolding(crate::specs::Commands::command_of_type))]
+fn command_at(alloc: Global, line_type: LineType, object: &Value) -> Result<Command, LineFault>
+    ensures { Gives (λ command. command) result
+        (meaning.command_of_type line_type (view object.now)) }
+{
+    let command = match line_type {
+        LineType::Release => Command::Message(message_at(object, MessageKind::Release)?),
+        LineType::Departure => Command::Message(message_at(object, MessageKind::Departure)?),
+        LineType::YardArrival => Command::Message(message_at(object, MessageKind::YardArrival)?),
+        LineType::YardDeparture => {
+            Command::Message(message_at(object, MessageKind::YardDeparture)?)
+        }
+        LineType::Exception => Command::Message(exception_at(object)?),
+        LineType::Arrival => Command::Message(message_at(object, MessageKind::Arrival)?),
+        LineType::Delivery => Command::Message(message_at(object, MessageKind::Delivery)?),
+        LineType::Order => Command::Place(order_at(object)?),
+        LineType::Withdraw => Command::Withdraw(order_id_at(object, Field::Order)?),
+        LineType::Begin => Command::Begin(moment_at(object, Field::At)?),
+        LineType::Plan => Command::Plan(moment_at(object, Field::At)?),
+        LineType::Commit => Command::Commit(commit_at(alloc, object)?),
+        LineType::Sheet => Command::Sheet,
+        LineType::Network => {
+            Command::Revise(count_at(object, Field::Revision, 1, MAX_NETWORKS)?)
+        }
+    };
+    Ok(command)
+}
+
+/// A message of this kind.
+#[tactic(auto, unfolding(crate::specs::Commands::message_of))]
+fn message_at(object: &Value, kind: MessageKind) -> Result<Message, LineFault>
+    ensures { result ≡ meaning.message_of kind (view object.now) }
+{
+    let company = company_at(object)?;
+    let number = count_at(object, Field::Number, 0, u32::MAX)?;
+    let wagon = wagon_number_at(object, Field::Wagon)?;
+    let place = place_at(object)?;
+    let moment = moment_at(object, Field::Moment)?;
+    Ok(Message {
+        id: MessageId { company, number },
+        kind,
+        wagon,
+        place,
+        moment,
+    })
+}
+
+/// An exception, which has a field more.
+#[tactic(auto, unfolding(crate::specs::Commands::exception_of))]
+fn exception_at(object: &Value) -> Result<Message, LineFault>
+    ensures { result ≡ meaning.exception_of (view object.now) }
+{
+    let message = message_at(object, MessageKind::Exception(false))?;
+    let hold = boolean_at(object, Field::Hold)?;
+    Ok(Message {
+        kind: MessageKind::Exception(hold),
+        ..message
+    })
+}
+
+/// An order.
+#[tactic(auto, unfolding(crate::specs::Commands::order_text_of))]
+fn order_at(object: &Value) -> Result<OrderText, LineFault>
+    ensures { result ≡ meaning.order_text_of (view object.now) }
+{
+    let id = order_id_at(object, Field::Order)?;
+    let place = place_at(object)?;
+    let classes = classes_at(object)?;
+    let load = count_at(object, Field::Load, 0, MAX_LOAD)?;
+    let latest = moment_at(object, Field::Latest)?;
+    let penalty = number_at(object, Field::Penalty, 0, MAX_PENALTY)?;
+    let wagons = optional_count_at(object, Field::Wagons, 1, MAX_WAGONS)?.unwrap_or(1);
+    let order = OrderText::new(id, place, classes, load, latest, penalty, wagons);
+    Ok(order.unwrap())
+}
+
+/// A commit.
+#[tactic(auto, unfolding(crate::specs::Commands::commit_text_of))]
+fn commit_at(alloc: Global, object: &Value) -> Result<CommitText, LineFault>
+    ensures { Gives (λ commit. commit) result (meaning.commit_text_of (view object.now)) }
+{
+    let version = number_at(object, Field::Version, 0, MAX_VERSION)?;
+    let at = moment_at(object, Field::At)?;
+    let pairs = pairs_at(alloc, object, Field::Pairs)?;
+    let u = numbers_at(alloc, object, Field::WagonPrices, 0, u64::MAX)?;
+    let v = numbers_at(alloc, object, Field::OrderPrices, 0, u64::MAX)?;
+    Ok(CommitText {
+        version,
+        at,
+        pairs: Pairs::from_vec(pairs),
+        u: PriceList::from_vec(u),
+        v: PriceList::from_vec(v),
+    })
+}

@@ -1,0 +1,19 @@
+//! The limits of the numbers in a line.
+
+/// The most classes that an order accepts; it accepts one at least.
+pub const MAX_CLASSES: usize = 8;
+
+/// The greatest load of an order's wagon, in kg.
+pub const MAX_LOAD: u32 = 200_000;
+
+/// The greatest penalty of an order, per missing wagon.
+pub const MAX_PENALTY: u64 = 1_000_000_000;
+
+/// The most wagons that one order asks for; it asks for one at least.
+pub const MAX_WAGONS: u32 = 20;
+
+/// The greatest version that a commit names.
+pub const MAX_VERSION: u64 = 1_000_000;
+
+/// The most networks; they are numbered from 1.
+pub const MAX_NETWORKS: u32 = 8;
