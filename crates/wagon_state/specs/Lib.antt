@@ -1,0 +1,4 @@
+pub mod Free
+pub mod Laws
+pub mod StatusTable
+pub mod StepFault

@@ -1,0 +1,20 @@
+//! The state of each wagon of a fleet, and what a movement message makes of it.
+//!
+//! None of these calls takes memory.
+#![tactic(auto)]
+
+mod change;
+mod free_wagon;
+mod load;
+mod status;
+mod status_table;
+mod step_fault;
+mod wagon_row;
+
+pub use change::{Change, Effect};
+pub use free_wagon::{FreeWagon, free};
+pub use load::Load;
+pub use status::Status;
+pub use status_table::step;
+pub use step_fault::StepFault;
+pub use wagon_row::WagonRow;

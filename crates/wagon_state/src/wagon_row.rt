@@ -1,0 +1,23 @@
+//! What the office knows of a wagon.
+
+use crate::Status;
+use rail_codes::{ClassCode, Moment, OrderId, WagonNumber};
+
+/// What the office knows of a wagon.
+#[derive(Clone, Copy, Debug, PartialEq, Eq, Hash)]
+pub struct WagonRow {
+    /// Its number.
+    pub number: WagonNumber,
+    /// Its class.
+    pub class: ClassCode,
+    /// The most that it carries, in kg.
+    pub load_limit: u32,
+    /// What it is doing, and where.
+    pub status: Status,
+    /// Whether it is held.
+    pub held: bool,
+    /// When its last accepted message says that something happened, in seconds since 1970.
+    pub last: Moment,
+    /// The order that it is promised to.
+    pub promise: Option<OrderId>,
+}
