@@ -1,0 +1,3 @@
+pub mod Ascending
+pub mod Membership
+pub mod Rows

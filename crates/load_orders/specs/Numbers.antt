@@ -1,0 +1,34 @@
+-- Ascending lists of wagon numbers, each by its digits.
+use Rattle.std.specs.Prelude.{◌≡◌, ◌↔◌, ◌⊎◌, ℕ, Bool, not, nat_eq, List, count_by}
+use Rattle.std.specs.List.{filter, insert, Contains}
+use Rattle.std.specs.Ordering.{is_lt, nat_cmp}
+use Rattle.std.specs.Cmp.Lexicographic.{pointwise, slice_cmp}
+use Rattle.std.specs.List.Sorted.{IsStrictlySortedBy}
+
+-- whether another number is below a number
+abbrev pub is_below : List ℕ → List ℕ → Bool
+is_below number other = is_lt (slice_cmp nat_cmp other number)
+
+-- whether another number is this one
+abbrev pub is_number : List ℕ → List ℕ → Bool
+is_number number other = pointwise nat_eq other number
+
+-- each number is below those after it
+abbrev pub IsAscending : List (List ℕ) → Type 0
+IsAscending numbers = IsStrictlySortedBy (slice_cmp nat_cmp) numbers
+
+-- the numbers with one more, which stands behind those below it
+unfoldable pub with_number : List ℕ → List (List ℕ) → List (List ℕ)
+with_number number numbers = insert numbers (count_by (is_below number) numbers) number
+
+-- the numbers but this one
+unfoldable pub without_number : List ℕ → List (List ℕ) → List (List ℕ)
+without_number number numbers = filter (λ other. not (is_number number other)) numbers
+
+-- it has the numbers that it had, and one more
+abbrev pub HasOneMore : List ℕ → (before after : List (List ℕ)) → Type 0
+HasOneMore number before after = (other : List ℕ) → Contains after other ↔ ((other ≡ number) ⊎ Contains before other)
+
+-- it has the numbers that it had but one
+abbrev pub HasAllBut : List ℕ → (before after : List (List ℕ)) → Type 0
+HasAllBut number before after = (other : List ℕ) → Contains after other ↔ (Contains before other × ¬ (other ≡ number))

@@ -1,0 +1,14 @@
+//! The state of an order.
+
+/// How far an order has come.
+#[derive(Clone, Copy, Debug, PartialEq, Eq, Hash)]
+pub enum OrderState {
+    /// It lacks a wagon.
+    Waiting,
+    /// All the wagons that it lacked are promised.
+    Promised,
+    /// Each wagon that it wants has been delivered.
+    Filled,
+    /// It is taken back.
+    Withdrawn,
+}
