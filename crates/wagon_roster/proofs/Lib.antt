@@ -1,0 +1,4 @@
+pub mod ReadingLemmas
+pub mod RecordLemmas
+pub mod RosterLemmas
+pub mod RosterOfLemmas

@@ -1,0 +1,88 @@
+-- The rows of wagons that the records of a file say, or the first fault.
+use Rattle.std.specs.Prelude.{◌≡◌, ℕ, ◌+◌, Bool, true, false, IfSome, if◌then◌else◌, nat_lt, List, [], ◌∷◌, ◌++◌, Option, Some, None, Result, Ok, Err}
+use Rattle.std.specs.List.Sorted.{IsPermutation}
+use Rattle.csv.specs.Reading.{AreRecords, Ready, default_config, is_flexible, reader_config, reader_state, reader_trim, source_of, strip_bom}
+use Rattle.csv.specs.declared.parser.State.TheVariants as st
+use Rattle.csv.specs.declared.reader.Reader.{Reader}
+use Rattle.csv.specs.declared.reader.Trim.TheVariants as trim
+use Rattle.wagon_state.specs.declared.wagon_row.WagonRow.{WagonRow}
+use Rattle.wagon_roster.specs.Records.{Record, is_header, wagon_record}
+use Rattle.wagon_roster.specs.Roster.{has_wagon}
+use Rattle.wagon_roster.specs.declared.limits.TheConstants.{MAX_WAGONS}
+use Rattle.wagon_roster.specs.declared.roster_fault.RosterFault.{RosterFault}
+use Rattle.wagon_roster.specs.declared.roster_fault.RosterFault.TheVariants.{OutOfMemory, DuplicateWagon, TooLarge, BadRosterRow, ReadFailed}
+
+-- rows and the row of one more wagon, which is none of theirs
+abbrev pub with_wagon : List WagonRow → WagonRow → Result (List WagonRow) RosterFault
+with_wagon rows row = if has_wagon rows row.number then Err (DuplicateWagon row.number) else Ok (rows ++ row ∷ [])
+
+abbrev pub with_read : ℕ → List WagonRow → Option WagonRow → Result (List WagonRow) RosterFault
+with_read n rows None = Err (BadRosterRow n)
+with_read n rows (Some row) = with_wagon rows row
+
+-- rows and what the record of number n says, which is at most the 1,000th below the header
+abbrev pub with_record : ℕ → List WagonRow → Record → Result (List WagonRow) RosterFault
+with_record n rows fields = if nat_lt (MAX_WAGONS + 1) n then Err TooLarge else with_read n rows (wagon_record fields)
+
+infixl 10 ◌>>=◌
+abbrev pub ◌>>=◌ : {A B : Type 0} → Result A RosterFault → (A → Result B RosterFault) → Result B RosterFault
+(Ok x) >>= f = f x
+(Err fault) >>= f = Err fault
+
+-- rows and what these records say, numbered from n
+abbrev pub with_records : ℕ → List WagonRow → List Record → Result (List WagonRow) RosterFault
+with_records n rows [] = Ok rows
+with_records n rows (fields ∷ records) = with_record n rows fields >>= λ more. with_records (n + 1) more records
+
+-- the rows that the records of a file say, in their order, the header being record 1
+abbrev pub rows_of : List Record → Result (List WagonRow) RosterFault
+rows_of [] = Err (BadRosterRow 1)
+rows_of (fields ∷ records) = if is_header fields then with_records 2 [] records else Err (BadRosterRow 1)
+
+abbrev pub Stops : {X : Type 0} → RosterFault → Result X RosterFault → Type 0
+Stops OutOfMemory read = Unit {0}
+Stops ReadFailed read = Unit {0}
+Stops (DuplicateWagon number) read = read ≡ Err (DuplicateWagon number)
+Stops TooLarge read = read ≡ Err TooLarge
+Stops (BadRosterRow n) read = read ≡ Err (BadRosterRow n)
+
+-- why a wagon was not added
+abbrev pub RefusesWagon : RosterFault → List WagonRow → WagonRow → Type 0
+RefusesWagon OutOfMemory rows row = Unit {0}
+RefusesWagon (DuplicateWagon number) rows row = (number ≡ row.number) × (has_wagon rows number ≡ true)
+RefusesWagon TooLarge rows row = ⊥
+RefusesWagon (BadRosterRow n) rows row = ⊥
+RefusesWagon ReadFailed rows row = ⊥
+
+-- The roster has exactly the rows that were read, in whatever order.
+pub record HasRowsOf (read : Result (List WagonRow) RosterFault) (roster : List WagonRow) : Type 0 where
+  pub rows : List WagonRow
+  pub are_read : read ≡ Ok rows
+  pub same : IsPermutation rows roster
+
+-- What was answered is what the reading gives, its rows or its fault, unless memory or the reader failed.
+abbrev pub Gives : Result (List WagonRow) RosterFault → Result (List WagonRow) RosterFault → Type 0
+Gives (Ok roster) read = HasRowsOf read roster
+Gives (Err fault) read = Stops fault read
+
+-- the records of a file of these bytes are those that csv gives with its default settings and no header row
+abbrev pub AreRecordsOf : List ℕ → List Record → Type 0
+AreRecordsOf bytes records = AreRecords default_config st.StartRecord (strip_bom bytes) records
+
+-- the records that a reader has left, where the bytes that it has left are known
+abbrev pub AreLeft : {R : Type 0} → (R → Option (List ℕ)) → Reader R → List Record → Type 0
+AreLeft remaining reader records = IfSome (source_of remaining reader) (λ bytes. AreRecords default_config (reader_state reader) bytes records)
+
+-- a reader with the default settings, but that records may be of any length, whose next read gives a record
+pub record IsSetUp {R : Type 0} (reader : Reader R) : Type 0 where
+  pub plain : reader_trim reader ≡ trim.None
+  pub ready : Ready reader
+  pub settings : reader_config reader ≡ default_config
+  pub flexible : is_flexible reader ≡ true
+
+abbrev pub is_failure : RosterFault → Bool
+is_failure OutOfMemory = true
+is_failure ReadFailed = true
+is_failure (DuplicateWagon number) = false
+is_failure TooLarge = false
+is_failure (BadRosterRow n) = false

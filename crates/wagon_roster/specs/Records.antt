@@ -1,0 +1,96 @@
+-- What the fields of a record of a roster say.
+use Rattle.std.specs.Prelude.{ℕ, Bool, false, ◌&&◌, ◌||◌, ◌==◌, ◌+◌, ◌*◌, ◌-◌, if◌then◌else◌, fold, nat_eq, nat_lt, List, [], ◌∷◌, length, Option, Some, None, codes}
+use Rattle.std.specs.List.{list_all}
+use Rattle.std.specs.Char.{is_ascii_digit}
+use Rattle.std.specs.Cmp.Lexicographic.{pointwise}
+use Rattle.std.specs.Result.{result_ok}
+use Rattle.std.specs.Str.{is_utf8}
+use Rattle.rail_codes.specs.ClassCode.{class_code_of}
+use Rattle.rail_codes.specs.Moment.{moment_of}
+use Rattle.rail_codes.specs.Place.{place_of}
+use Rattle.rail_codes.specs.WagonNumber.{wagon_number_of}
+use Rattle.wagon_state.specs.declared.load.Load.TheVariants.{Loaded, Unladen}
+use Rattle.wagon_state.specs.declared.status.Status.{Status}
+use Rattle.wagon_state.specs.declared.status.Status.TheVariants.{Empty, Loading, Ready, Journey, Yard, Arrived, Unloading}
+use Rattle.wagon_state.specs.declared.wagon_row.WagonRow.{WagonRow}
+use Rattle.wagon_roster.specs.declared.limits.TheConstants.{MAX_DIGITS, MAX_LOAD}
+
+-- a record of CSV: its fields, each by its bytes
+abbrev pub Record : Type 0
+Record = List (List ℕ)
+
+abbrev pub is_text : List ℕ → List ℕ → Bool
+is_text text field = pointwise nat_eq field text
+
+-- whether a record is the header
+abbrev pub is_header : Record → Bool
+is_header (wagon ∷ class ∷ load ∷ status ∷ place ∷ moment ∷ []) =
+    is_text (codes "wagon") wagon && is_text (codes "class") class && is_text (codes "load") load
+    && is_text (codes "status") status && is_text (codes "place") place && is_text (codes "moment") moment
+is_header fields = false
+
+infixl 10 ◌>>=◌
+abbrev pub ◌>>=◌ : {A B : Type 0} → Option A → (A → Option B) → Option B
+None >>= f = None
+(Some x) >>= f = f x
+
+-- a field as text, where its bytes are UTF-8
+abbrev pub text_in : List ℕ → Option (List ℕ)
+text_in field = if is_utf8 field then Some field else None
+
+abbrev pub number_in : List ℕ → Option (List ℕ)
+number_in field = text_in field >>= λ text. result_ok (wagon_number_of text)
+
+abbrev pub class_in : List ℕ → Option (List ℕ)
+class_in field = text_in field >>= λ text. result_ok (class_code_of text)
+
+abbrev pub place_in : List ℕ → Option (List ℕ)
+place_in field = text_in field >>= λ text. result_ok (place_of text)
+
+abbrev pub moment_in : List ℕ → Option ℕ
+moment_in field = text_in field >>= λ text. result_ok (moment_of text)
+
+-- the number that ASCII digits spell
+abbrev pub spelled_number : List ℕ → ℕ
+spelled_number digits = fold (λ n digit. n * 10 + (digit - 48)) 0 digits
+
+abbrev pub digits_in : List ℕ → Option ℕ
+digits_in field = if list_all is_ascii_digit field then Some (spelled_number field) else None
+
+-- kg: 1 to 7 digits that spell a number of at most 200,000
+abbrev pub load_in : List ℕ → Option ℕ
+load_in field = if (length field == 0) || nat_lt MAX_DIGITS (length field) then None else digits_in field >>= within_limit
+  where
+    within_limit : ℕ → Option ℕ
+    within_limit number = if nat_lt MAX_LOAD number then None else Some number
+
+-- the status that a word says of a wagon at this place; an empty one has been ready since the moment
+abbrev pub status_in : (word place : List ℕ) → (moment : ℕ) → Option Status
+status_in word place moment =
+    if is_text (codes "empty") word then Some (Empty place moment)
+    else if is_text (codes "loading") word then Some (Loading place)
+    else if is_text (codes "ready") word then Some (Ready place)
+    else if is_text (codes "journey_loaded") word then Some (Journey Loaded place)
+    else if is_text (codes "journey_empty") word then Some (Journey Unladen place)
+    else if is_text (codes "yard_loaded") word then Some (Yard Loaded place)
+    else if is_text (codes "yard_empty") word then Some (Yard Unladen place)
+    else if is_text (codes "arrived_loaded") word then Some (Arrived Loaded place)
+    else if is_text (codes "arrived_empty") word then Some (Arrived Unladen place)
+    else if is_text (codes "unloading") word then Some (Unloading place)
+    else None
+
+-- the row of the wagon that six fields say, if each is as its rule asks: nobody holds it, and it is promised to nobody
+abbrev pub wagon_in : (wagon class load status place moment : List ℕ) → Option WagonRow
+wagon_in wagon class load status place moment = do
+  at ← place_in place
+  last ← moment_in moment
+  number ← number_in wagon
+  kind ← class_in class
+  limit ← load_in load
+  doing ← status_in status at last
+  Some (record { number = number; class = kind; load_limit = limit; status = doing; held = false; last = last; promise = None })
+
+-- what a record says, if it has six fields that say a wagon
+abbrev pub wagon_record : Record → Option WagonRow
+wagon_record (wagon ∷ class ∷ load ∷ status ∷ place ∷ moment ∷ []) = wagon_in wagon class load status place moment
+wagon_record fields = None

@@ -1,0 +1,54 @@
+-- What a roster is.
+use Rattle.std.specs.Prelude.{◌≡◌, ℕ, ◌≤◌, Bool, false, nat_eq, List, length, None, All}
+use Rattle.std.specs.Cmp.Lexicographic.{pointwise, slice_cmp}
+use Rattle.std.specs.List.{AllWithin, list_any}
+use Rattle.std.specs.List.Sorted.{IsStrictlySortedBy}
+use Rattle.std.specs.Ordering.{nat_cmp}
+use Rattle.std.specs.declared.cmp.Ordering.{Ordering}
+use Rattle.std.specs.declared.cmp.Ordering.TheVariants.{Less, Greater}
+use Rattle.wagon_state.specs.declared.status.Status.{Status}
+use Rattle.wagon_state.specs.declared.status.Status.TheVariants.{Empty}
+use Rattle.wagon_state.specs.declared.wagon_row.WagonRow.{WagonRow}
+use Rattle.wagon_roster.specs.declared.limits.TheConstants.{MAX_LOAD, MAX_WAGONS}
+
+-- whether two wagon numbers are the same
+abbrev pub is_same_number : List ℕ → List ℕ → Bool
+is_same_number number other = pointwise nat_eq number other
+
+abbrev pub is_same_wagon : WagonRow → WagonRow → Bool
+is_same_wagon a b = is_same_number a.number b.number
+
+-- whether one of the rows is that of this wagon
+abbrev pub has_wagon : List WagonRow → List ℕ → Bool
+has_wagon rows number = list_any (λ row. is_same_number number row.number) rows
+
+-- wagon numbers by their digits, the first digit first
+abbrev pub compare_numbers : List ℕ → List ℕ → Ordering
+compare_numbers a b = slice_cmp nat_cmp a b
+
+abbrev pub by_number : WagonRow → WagonRow → Ordering
+by_number a b = compare_numbers a.number b.number
+
+-- an empty wagon has been ready since this moment
+abbrev pub IsReadySince : ℕ → Status → Type 0
+IsReadySince moment (Empty place ready) = ready ≡ moment
+IsReadySince moment status = Unit {0}
+
+-- the row of a wagon that nobody holds and that is promised to nobody
+pub record IsRosterRow (row : WagonRow) : Type 0 where
+  pub few_kg : row.load_limit ≤ MAX_LOAD
+  pub not_held : row.held ≡ false
+  pub not_promised : row.promise ≡ None
+  pub ready : IsReadySince row.last row.status
+
+-- rows of few wagons, each number above the one before
+pub record IsRoster (rows : List WagonRow) : Type 0 where
+  pub few : length rows ≤ MAX_WAGONS
+  pub ascending : IsStrictlySortedBy by_number rows
+  pub each : All IsRosterRow rows
+
+-- a place before which the numbers are less than this one, and from which on they are greater
+pub record IsGapFor (rows : List WagonRow) (number : List ℕ) (place : ℕ) : Type 0 where
+  pub within : place ≤ length rows
+  pub before : AllWithin (λ row. compare_numbers row.number number ≡ Less) rows 0 place
+  pub after : AllWithin (λ row. compare_numbers row.number number ≡ Greater) rows place (length rows)

@@ -1,0 +1,39 @@
+-- The roster of a file's records in the subject's own words, apart from how it is read.
+use Rattle.std.specs.Prelude.{◌≡◌, ℕ, ◌≤◌, List, ◌∷◌, length, Option, Some, IfSome, IfOk, IsTrue, Result, Ok, Err, map}
+use Rattle.std.specs.List.{IsDistinct}
+use Rattle.std.specs.List.Sorted.{IsPermutation}
+use Rattle.wagon_state.specs.declared.wagon_row.WagonRow.{WagonRow}
+use Rattle.wagon_roster.specs.Reading.{AreRecordsOf, Gives, is_failure, rows_of}
+use Rattle.wagon_roster.specs.Records.{Record, is_header, wagon_record}
+use Rattle.wagon_roster.specs.Roster.{IsRoster, is_same_wagon}
+use Rattle.wagon_roster.specs.declared.limits.TheConstants.{MAX_WAGONS}
+use Rattle.wagon_roster.specs.declared.roster_fault.RosterFault.{RosterFault}
+
+-- The records are the header and below it one for each wagon, in any order, and the roster has exactly their rows,
+-- ascending by number.
+pub record IsRosterOf (records : List Record) (roster : List WagonRow) : Type 0 where
+  pub header : Record
+  pub below : List Record
+  pub rows : List WagonRow
+  pub header_first : records ≡ header ∷ below
+  pub header_right : IsTrue (is_header header)
+  pub each_read : map wagon_record below ≡ map Some rows
+  pub few_records : length below ≤ MAX_WAGONS
+  pub no_wagon_twice : IsDistinct is_same_wagon rows
+  pub same_rows : IsPermutation rows roster
+  pub in_order : IsRoster roster
+
+-- this roster was answered, unless memory or the reader failed
+abbrev pub IsAnswered : List WagonRow → Result (List WagonRow) RosterFault → Type 0
+IsAnswered roster (Ok answer) = answer ≡ roster
+IsAnswered roster (Err fault) = IsTrue (is_failure fault)
+
+-- What reading answers, where the bytes of the file are known or not: it has the records of those bytes; it answers
+-- what they say or their first fault, unless memory or the reader failed; a roster that it answers is theirs; and
+-- where they have a roster, that is answered.
+pub record IsReadFrom (known : Option (List ℕ)) (result : Result (List WagonRow) RosterFault) : Type 0 where
+  pub records : List Record
+  pub all_records : IfSome known (λ bytes. AreRecordsOf bytes records)
+  pub first_fault : Gives result (rows_of records)
+  pub exact : IfOk result (IsRosterOf records)
+  pub complete : (roster : List WagonRow) → IsRosterOf records roster → IsAnswered roster result
