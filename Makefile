@@ -18,6 +18,7 @@ test:
 
 bench: build
 	@bench/check/run
+	@bench/distances/run
 
 install: build
 	install -D crates/wagons/out/wagons $(DESTDIR)/usr/local/bin/wagons

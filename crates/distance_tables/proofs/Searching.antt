@@ -32,10 +32,10 @@ unreached zero k = refl
 unreached (suc places) zero = refl
 unreached (suc places) (suc k) = unreached places k
 
-Contains-nil : {X : Type 0} (x : X) → Contains [] x → ⊥
+pub Contains-nil : {X : Type 0} (x : X) → Contains [] x → ⊥
 Contains-nil x h = omega (arith, h.1)
 
-Contains-cons_cases : {X : Type 0} (x y : X) (xs : List X) → Contains (x ∷ xs) y → (x ≡ y) ⊎ Contains xs y
+pub Contains-cons_cases : {X : Type 0} (x y : X) (xs : List X) → Contains (x ∷ xs) y → (x ≡ y) ⊎ Contains xs y
 Contains-cons_cases x y xs (zero, l, same) = inl same
 Contains-cons_cases x y xs (suc k, l, same) = inr (k, omega arith, same)
 
@@ -133,5 +133,5 @@ IsRow-search lines places origin labels waiting h none =
     (λ k. near places labels h.full h.bounded k (label_at labels k) refl)
 
 -- what a slice of a whole vector gives back
-pub whole_slice : (n : ℕ) (xs ys : List (Option Distance)) → length xs ≡ n → length ys ≡ n → take n (ys ++ drop (length ys) xs) ≡ ys
+pub whole_slice : {X : Type 0} (n : ℕ) (xs ys : List X) → length xs ≡ n → length ys ≡ n → take n (ys ++ drop (length ys) xs) ≡ ys
 whole_slice n xs ys old new = take-append-le n ys (drop (length ys) xs) (omega arith) ∙ take_all n ys (omega arith)

@@ -3,5 +3,7 @@ pub mod Laws
 pub mod Networks
 pub mod Rows
 pub mod Search
+pub mod Shares
 pub mod Starts
 pub mod Walk
+pub mod WorkFault

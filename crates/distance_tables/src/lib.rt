@@ -3,16 +3,23 @@
 
 mod distance;
 mod distances;
+mod gate;
 mod laws;
 mod lines_by_origin;
+mod many_threads;
 mod networks;
 mod networks_fault;
 mod one_thread;
 mod search;
+mod share;
 mod waiting;
+mod work_fault;
 
 pub use distances::{MAX_DISTANCE, Tables};
-pub use laws::{distance_is_unique, place_is_at_itself, triangle_holds};
+pub use gate::{Gate, OpenGate};
+pub use laws::{both_are_of_one_walk, distance_is_unique, place_is_at_itself, triangle_holds};
+pub use many_threads::{MAX_WORKERS, tables_by_workers};
 pub use networks::{MAX_NETWORKS, Networks};
 pub use networks_fault::NetworksFault;
 pub use one_thread::tables;
+pub use work_fault::WorkFault;

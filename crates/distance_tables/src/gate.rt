@@ -1,0 +1,15 @@
+//! What each origin passes before its work.
+
+/// What a worker passes before the work of each origin, once for each.
+pub trait Gate {
+    /// Is called with the origin's number, in the worker's thread.
+    fn enter(&self, origin: usize);
+}
+
+/// A gate that does nothing, for programs.
+#[derive(Clone, Copy, Debug)]
+pub struct OpenGate;
+
+impl Gate for OpenGate {
+    fn enter(&self, _origin: usize) {}
+}
