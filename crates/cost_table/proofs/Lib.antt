@@ -4,3 +4,5 @@ pub mod Sums
 pub mod CostLemmas
 pub mod NameLemmas
 pub mod Search
+pub mod ProblemLemmas
+pub mod AllowedLemmas

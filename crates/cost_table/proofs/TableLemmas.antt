@@ -100,7 +100,7 @@ cost_past : (c d : ℕ) (rest : Option ℕ) (b : Bool) → b ≡ false → cond 
 cost_past c d rest true e h = cc
 cost_past c d rest false e h = h
 
-cost_in_within : (n low j c : ℕ) (row : List (ℕ × ℕ)) → IsRow n low row → cost_in row j ≡ Some c → (j < n) × (c ≤ 1000000000)
+pub cost_in_within : (n low j c : ℕ) (row : List (ℕ × ℕ)) → IsRow n low row → cost_in row j ≡ Some c → (j < n) × (c ≤ 1000000000)
 cost_in_within n low j c [] h is = cc
 cost_in_within n low j c (cell ∷ row) h is =
     let rest = cost_in_within n (cell.0 + 1) j c row h.3 in

@@ -4,3 +4,5 @@ pub mod Flat
 pub mod Rows
 pub mod Names
 pub mod TableFault
+pub mod Problem
+pub mod Allowed

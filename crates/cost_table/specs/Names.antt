@@ -25,10 +25,11 @@ repeated_after before (name ∷ names) =
 abbrev pub first_repeated : List (List ℕ) → Option (List ℕ)
 first_repeated names = repeated_after [] names
 
-abbrev pub unrepeated : NameLists → Option (List ℕ) → Option (List ℕ) → Result NameLists TableFault
-unrepeated names (Some number) id = Err (DuplicateWagon number)
-unrepeated names None (Some id) = Err (DuplicateOrder id)
-unrepeated names None None = Ok names
+-- x, where no wagon and no order is repeated
+abbrev pub unrepeated : {A : Type 0} → A → (wagon : Option (List ℕ)) → (order : Option (List ℕ)) → Result A TableFault
+unrepeated x (Some number) id = Err (DuplicateWagon number)
+unrepeated x None (Some id) = Err (DuplicateOrder id)
+unrepeated x None None = Ok x
 
 -- the names of a table, or what is wrong with them
 abbrev pub names_of : List (List ℕ) → List (List ℕ) → Result NameLists TableFault

@@ -1,17 +1,21 @@
 //! Cost tables: which wagon may serve which order at which cost, what a missed wagon costs, and the cost of a plan.
 #![tactic(auto)]
 
-mod cells;
+mod allowed;
 mod limits;
 mod names;
 mod plan;
 mod plan_cost;
+mod problem;
 mod rows;
+mod table_cells;
 mod table_fault;
 
-pub use cells::Cells;
+pub use allowed::cells;
 pub use limits::{MAX_COST, MAX_LACK, MAX_LACK_IN_ALL, MAX_ORDERS, MAX_WAGONS};
 pub use names::Names;
 pub use plan::Plan;
 pub use plan_cost::cost;
+pub use problem::Problem;
+pub use table_cells::Cells;
 pub use table_fault::TableFault;

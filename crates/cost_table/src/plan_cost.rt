@@ -3,7 +3,7 @@ ghost use Rattle.std.specs.List.{sum_by};
 ghost use Rattle.cost_table.specs.Table.{penalty_at, lack_at, order_count};
 ghost use Rattle.cost_table.specs.Plan.{IsPlan, cost_of, pair_cost, pair_penalty, sum_below};
 
-use crate::cells::Cells;
+use crate::table_cells::Cells;
 
 /// The penalty of all wagons that order `j` lacks.
 fn penalty_in_all(cells: &Cells, j: usize) -> u64

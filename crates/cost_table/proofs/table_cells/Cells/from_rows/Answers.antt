@@ -2,7 +2,7 @@ use Rattle.std.proofs.Common.{◌≡◌, false, true, arith}
 use Rattle.std.proofs.lemmas.Bool.Decides.{nat_tests}
 use Rattle.cost_table.specs.Rows.{is_too_large, is_even}
 use Rattle.cost_table.proofs.TableLemmas.{fields_kept, table_kept, passes, numbers_kept}
-use Rattle.cost_table.proofs.cells.Cells.from_rows.Goals as goal
+use Rattle.cost_table.proofs.table_cells.Cells.from_rows.Goals as goal
 
 pub invariant_of-result : goal.invariant_of-result
 invariant_of-result c =

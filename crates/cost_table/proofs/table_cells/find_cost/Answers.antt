@@ -1,7 +1,7 @@
 use Rattle.std.proofs.Common.{Ok, Err, rules, sym}
 use Rattle.std.proofs.lemmas.List.Sorted.{answers_always}
 use Rattle.cost_table.proofs.Search.{searched}
-use Rattle.cost_table.proofs.cells.find_cost.Goals as goal
+use Rattle.cost_table.proofs.table_cells.find_cost.Goals as goal
 
 -- the closure gives a cell's order
 pub returns-in-Ok : goal.returns-in-Ok

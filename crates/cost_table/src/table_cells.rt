@@ -34,6 +34,25 @@ impl Model for Cells {
 }
 
 impl Cells {
+    /// The table of rows that lie one after another.
+    pub(crate) fn of_rows(
+        entries: Vec<(usize, u64)>,
+        ends: Vec<usize>,
+        penalties: Vec<u64>,
+        lacks: Vec<u32>,
+    ) -> Cells
+        requires ends { AreEnds (length entries.items) 0 ends.items }
+        requires table { IsTable (record { rows = rows_of entries.items 0 ends.items; penalties = penalties.items; lacks = lacks.items }) }
+        ensures { result ≡ record { rows = rows_of entries.items 0 ends.items; penalties = penalties.items; lacks = lacks.items } }
+    {
+        Cells {
+            entries,
+            ends,
+            penalties,
+            lacks,
+        }
+    }
+
     /// The table of these rows: `rows[i][j]` is the cost of wagon `i` for order `j` in kilometres, `None` where it
     /// may not serve it.
     ///

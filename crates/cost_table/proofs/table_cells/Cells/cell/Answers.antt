@@ -2,7 +2,7 @@ use Rattle.std.proofs.Common.{◌≡◌, ◌∙◌, ap}
 use Rattle.cost_table.specs.Table.{cost_in, cost_at}
 use Rattle.cost_table.proofs.TableLemmas.{look_up_within}
 use Rattle.cost_table.proofs.Search.{row_ascends}
-use Rattle.cost_table.proofs.cells.Cells.cell.Goals as goal
+use Rattle.cost_table.proofs.table_cells.Cells.cell.Goals as goal
 
 pub find_cost-requires : goal.find_cost-requires
 find_cost-requires c = row_ascends _ 0 c.row.result.now c.row.ensures.cells

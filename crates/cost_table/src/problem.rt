@@ -1,0 +1,171 @@
+//! What is to be distributed.
+ghost use Rattle.std.specs.Prelude.{◌≡◌, ◌≤◌, ℕ, Some, IfSome, length, position, slice_get, sum};
+ghost use Rattle.std.specs.List.{list_any};
+ghost use Rattle.cost_table.specs.Names.{both, is_name, first_repeated, pair_of};
+ghost use Rattle.cost_table.specs.Problem.{problem_of, wagon_names, order_names, lacks_of, names_of_problem, is_too_much, IsProblem};
+
+use crate::limits::{MAX_LACK_IN_ALL, MAX_ORDERS, MAX_WAGONS};
+use crate::table_fault::TableFault;
+use load_orders::Wanted;
+use rail_codes::{Moment, OrderId, WagonNumber};
+use std::marker::Model;
+use wagon_state::FreeWagon;
+
+/// Free wagons and waiting orders at a moment: at most 1,000 wagons, 500 orders, and 500 lacking wagons in all;
+/// no wagon and no order stands twice. A contract sees the moment and the two lists.
+#[derive(Debug, Drop)]
+pub struct Problem {
+    at: Moment,
+    wagons: Vec<FreeWagon>,
+    orders: Vec<Wanted>,
+}
+
+impl Model for Problem {
+    ghost use Rattle.cost_table.specs.Problem.{ProblemValue, IsProblem};
+
+    ghost Value = { ProblemValue };
+
+    ghost view = { λ p. record { at = p.at; wagons = p.wagons.items; orders = p.orders.items } };
+
+    ghost invariant = { λ p. IsProblem (record { at = p.at; wagons = p.wagons.items; orders = p.orders.items }) };
+}
+
+impl Problem {
+    /// The problem of these wagons and orders at a moment. They are dropped where they are refused: with `TooLarge`
+    /// (53) for over 1,000 wagons, over 500 orders or over 500 lacking wagons in all, else `DuplicateWagon` (51)
+    /// with the first wagon that stands before it too, else `DuplicateOrder` (52) likewise. Takes no memory.
+    pub fn new(
+        at: Moment,
+        wagons: Vec<FreeWagon>,
+        orders: Vec<Wanted>,
+    ) -> Result<Problem, TableFault>
+        ensures { result ≡ problem_of at wagons.items orders.items }
+    {
+        if wagons.len() > MAX_WAGONS || lack_too_much(&orders) {
+            return Err(TableFault::TooLarge);
+        }
+        if let Some(number) = repeated_wagon(&wagons) {
+            return Err(TableFault::DuplicateWagon(number));
+        }
+        if let Some(id) = repeated_order(&orders) {
+            return Err(TableFault::DuplicateOrder(id));
+        }
+        Ok(Problem { at, wagons, orders })
+    }
+
+    /// The moment.
+    pub fn at(&self) -> Moment
+        ensures { result ≡ self.now.at }
+    {
+        self.at
+    }
+
+    /// The wagons.
+    pub fn wagons(&self) -> &[FreeWagon]
+        ensures wagons { result.now ≡ self.now.wagons }
+        ensures problem { IsProblem self.now }
+    {
+        &self.wagons
+    }
+
+    /// The orders, each with how many wagons it lacks.
+    pub fn orders(&self) -> &[Wanted]
+        ensures orders { result.now ≡ self.now.orders }
+        ensures problem { IsProblem self.now }
+    {
+        &self.orders
+    }
+
+    /// Where a wagon and an order stand, `None` where one of them is not there.
+    pub fn pair_of(&self, number: WagonNumber, id: OrderId) -> Option<(usize, usize)>
+        ensures value { result ≡ pair_of (names_of_problem self.now) number id }
+        ensures found { IfSome result (λ p. (slice_get (wagon_names self.now.wagons) p.0 ≡ Some number) × (slice_get (order_names self.now.orders) p.1 ≡ Some id)) }
+        ensures held { (i j : ℕ) → slice_get (wagon_names self.now.wagons) i ≡ Some number → slice_get (order_names self.now.orders) j ≡ Some id → result ≡ Some (i, j) }
+    {
+        positions(&self.wagons, &self.orders, number, id)
+    }
+}
+
+/// Where a wagon and an order first stand.
+fn positions(
+    wagons: &[FreeWagon],
+    orders: &[Wanted],
+    number: WagonNumber,
+    id: OrderId,
+) -> Option<(usize, usize)>
+    ensures { result ≡ both (position (λ wagon. is_name number wagon.number) wagons.now) (position (λ wanted. is_name id wanted.order.id) orders.now) }
+{
+    let i = position_of_wagon(wagons, number)?;
+    let j = position_of_order(orders, id)?;
+    Some((i, j))
+}
+
+/// Whether there are too many orders, or they lack too many wagons.
+fn lack_too_much(orders: &[Wanted]) -> bool
+    ensures { result ≡ is_too_much orders.now }
+{
+    orders.len() > MAX_ORDERS || total_lack(orders) > MAX_LACK_IN_ALL
+}
+
+/// How many wagons a short list of orders lacks in all.
+fn total_lack(orders: &[Wanted]) -> u64
+    requires { length orders.now ≤ MAX_ORDERS }
+    ensures { result ≡ sum (lacks_of orders.now) }
+{
+    let mut total: u64 = 0;
+    for wanted in orders {
+        total += u64::from(wanted.lack());
+    }
+    total
+}
+
+/// The first wagon that stands before it too.
+fn repeated_wagon(wagons: &[FreeWagon]) -> Option<WagonNumber>
+    ensures { result ≡ first_repeated (wagon_names wagons.now) }
+{
+    for (k, wagon) in wagons.iter().enumerate() {
+        if is_wagon_among(&wagons[..k], wagon.number) {
+            return Some(wagon.number);
+        }
+    }
+    None
+}
+
+fn is_wagon_among(wagons: &[FreeWagon], number: WagonNumber) -> bool
+    ensures { result ≡ list_any (λ wagon. is_name number wagon.number) wagons.now }
+{
+    wagons.iter().any(|wagon| wagon.number == number)
+}
+
+/// The first order that stands before it too.
+fn repeated_order(orders: &[Wanted]) -> Option<OrderId>
+    ensures { result ≡ first_repeated (order_names orders.now) }
+{
+    for (k, wanted) in orders.iter().enumerate() {
+        let id = wanted.order().id();
+        if is_order_among(&orders[..k], id) {
+            return Some(id);
+        }
+    }
+    None
+}
+
+fn is_order_among(orders: &[Wanted], id: OrderId) -> bool
+    ensures { result ≡ list_any (λ wanted. is_name id wanted.order.id) orders.now }
+{
+    orders.iter().any(|wanted| wanted.order().id() == id)
+}
+
+/// Where a wagon first stands.
+fn position_of_wagon(wagons: &[FreeWagon], number: WagonNumber) -> Option<usize>
+    ensures { result ≡ position (λ wagon. is_name number wagon.number) wagons.now }
+{
+    wagons.iter().position(|wagon| wagon.number == number)
+}
+
+/// Where an order first stands.
+fn position_of_order(orders: &[Wanted], id: OrderId) -> Option<usize>
+    ensures { result ≡ position (λ wanted. is_name id wanted.order.id) orders.now }
+{
+    orders.iter().position(|wanted| wanted.order().id() == id)
+}
