@@ -1,6 +1,6 @@
 //! Networks and their least distances.
 
-use distance_tables::{Networks, NetworksFault, tables};
+use distance_tables::{Networks, NetworksFault, Tables, tables};
 use line_network::{Network, NetworkFault, read_lines};
 use rail_codes::Place;
 use std::alloc::Global;
@@ -47,6 +47,25 @@ fn least_distances(rt: HostRuntime) -> Result<(), Fail> {
         Networks::new(Vec::new(alloc)).err(),
         Some(NetworksFault::BadNetworkCount)
     );
+    Ok(())
+}
+
+/// So many tables of one network.
+fn several(alloc: Global, network: &Network, count: u32) -> Result<Vec<Tables>, Fail> {
+    let mut all = Vec::new(alloc);
+    for _ in 0..count {
+        all.push(tables(alloc, network)?)?;
+    }
+    Ok(all)
+}
+
+#[test]
+fn eight_networks_at_most(rt: HostRuntime) -> Result<(), Fail> {
+    let alloc = rt.alloc();
+    let network = read_lines(alloc, "from,to,km,minutes,way\n".as_bytes())?;
+    assert_eq!(rt; Networks::new(several(alloc, &network, 8)?)?.count(), 8);
+    let fault = Networks::new(several(alloc, &network, 9)?).err();
+    assert_eq!(rt; fault.map(|fault| fault.number()), Some(47));
     Ok(())
 }
 

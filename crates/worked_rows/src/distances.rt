@@ -1,0 +1,269 @@
+//! Distances by several workers, and beside another way to find them.
+
+use distance_tables::{Gate, OpenGate, Tables, WorkFault, tables, tables_by_workers};
+use line_network::{Network, NetworkFault, read_lines};
+use rail_codes::Place;
+use std::alloc::{AllocError, Global};
+use std::io::Read;
+use std::sync::atomic::{AtomicU64, Ordering};
+use std::test::Fail;
+use std::{io, thread};
+
+/// Three places: from the first to the third it is shorter by the second, and quicker without.
+const SAMPLE: &str =
+    "from,to,km,minutes,way\nDE00001,DE00002,100,120,both\nDE00002,DE00003,50,60,both\nDE00001,DE00003,160,90,one\n";
+
+/// Whether two tables answer the same between any two places of a network.
+fn same_answers(network: &Network, one: &Tables, other: &Tables) -> bool {
+    for from in 0..network.places() {
+        for to in 0..network.places() {
+            let (Some(from), Some(to)) = (network.place_at(from), network.place_at(to)) else {
+                return false;
+            };
+            if one.between(from, to) != other.between(from, to) {
+                return false;
+            }
+        }
+    }
+    true
+}
+
+#[test]
+fn workers_like_one_thread(rt: HostRuntime) -> Result<(), Fail> {
+    let alloc = rt.alloc();
+    let network = read_lines(alloc, SAMPLE.as_bytes())?;
+    let one = tables(alloc, &network)?;
+    for workers in [1, 2, 3, 64] {
+        let many = tables_by_workers(&rt, alloc, &network, workers, &OpenGate)?;
+        assert!(rt; same_answers(&network, &one, &many), "{workers} workers");
+    }
+    for workers in [0, 65] {
+        let fault = tables_by_workers(&rt, alloc, &network, workers, &OpenGate).err();
+        assert_eq!(rt; fault, Some(WorkFault::BadWorkerCount), "{workers} workers");
+        assert_eq!(rt; fault.map(|fault| fault.number()), Some(45));
+    }
+    Ok(())
+}
+
+/// Holds the first two origins each until the other has entered, and counts who entered and who gave up.
+#[derive(Drop)]
+struct MeetingGate {
+    entered: [AtomicU64; 3],
+    gave_up: AtomicU64,
+}
+
+impl Gate for MeetingGate {
+    fn enter(&self, origin: usize) {
+        let Some(own) = self.entered.get(origin) else {
+            return;
+        };
+        own.fetch_add(1, Ordering::SeqCst);
+        let other = match origin {
+            0 => &self.entered[1],
+            1 => &self.entered[0],
+            _ => return,
+        };
+        for _ in 0..10_000_000 {
+            if other.load(Ordering::SeqCst) > 0 {
+                return;
+            }
+            thread::yield_now();
+        }
+        self.gave_up.fetch_add(1, Ordering::SeqCst);
+    }
+}
+
+#[test]
+fn two_workers_at_once(rt: HostRuntime) -> Result<(), Fail> {
+    let alloc = rt.alloc();
+    let network = read_lines(alloc, SAMPLE.as_bytes())?;
+    let gate = MeetingGate {
+        entered: [AtomicU64::new(0), AtomicU64::new(0), AtomicU64::new(0)],
+        gave_up: AtomicU64::new(0),
+    };
+    let many = tables_by_workers(&rt, alloc, &network, 2, &gate)?;
+    assert!(rt; same_answers(&network, &tables(alloc, &network)?, &many));
+    for entered in &gate.entered {
+        assert_eq!(rt; entered.load(Ordering::SeqCst), 1);
+    }
+    assert_eq!(rt; gate.gave_up.load(Ordering::SeqCst), 0);
+    Ok(())
+}
+
+/// So many records of lines of one length, each from the place `step` after that of the record before, to the
+/// place behind it; the places go round after `places`.
+fn records(alloc: Global, count: u32, step: u32, places: u32, length: u32) -> Result<String, Fail> {
+    let mut text = format!(in alloc; "from,to,km,minutes,way\n")?;
+    for record in 0..count {
+        let from = record.wrapping_mul(step) % places.max(1);
+        let to = from.wrapping_add(1) % places.max(1);
+        let line = format!(in alloc; "DE{from:05},DE{to:05},{length},{length},one\n")?;
+        text.push_str(&line)?;
+    }
+    Ok(text)
+}
+
+#[test]
+fn a_ring(rt: HostRuntime) -> Result<(), Fail> {
+    let alloc = rt.alloc();
+    let ring = records(alloc, 2000, 1, 2000, 10000)?;
+    let network = read_lines(alloc, ring.as_bytes())?;
+    let distances = tables(alloc, &network)?;
+    let (first, last) = (Place::read("DE00000")?, Place::read("DE01999")?);
+    assert_eq!(rt; distances.between(first, last), Some((19990000, 19990000)));
+    assert_eq!(rt; distances.between(last, first), Some((10000, 10000)));
+    Ok(())
+}
+
+/// How many places and lines a text has, or why it is no network.
+fn counts(alloc: Global, text: &str) -> Result<(usize, usize), NetworkFault> {
+    let network = read_lines(alloc, text.as_bytes())?;
+    Ok((network.places(), network.lines().len()))
+}
+
+#[test]
+fn limits_of_networks(rt: HostRuntime) -> Result<(), Fail> {
+    let alloc = rt.alloc();
+    for (count, places, answer) in [
+        (1000, 2002, Ok((2000, 1000))),
+        (1001, 2002, Err(NetworkFault::TooManyPlaces)),
+        (20000, 2, Ok((2, 20000))),
+        (20001, 2, Err(NetworkFault::TooManyLines)),
+    ] {
+        let text = records(alloc, count, 2, places, 1)?;
+        assert_eq!(rt; counts(alloc, &text), answer, "{count} records");
+    }
+    assert_eq!(rt; NetworkFault::TooManyPlaces.number(), 42);
+    assert_eq!(rt; NetworkFault::TooManyLines.number(), 43);
+    Ok(())
+}
+
+/// Gives its bytes, and then fails.
+#[derive(Drop)]
+struct FailingReader<'a> {
+    rest: &'a [u8],
+}
+
+impl Read for FailingReader<'_> {
+    fn read(&mut self, buf: &mut [u8]) -> io::Result<usize> {
+        if self.rest.is_empty() {
+            return Err(io::Error::from(io::ErrorKind::Other));
+        }
+        let count = self.rest.len().min(buf.len());
+        let (front, rest) = self.rest.split_at(count);
+        buf[..count].copy_from_slice(front);
+        self.rest = rest;
+        Ok(count)
+    }
+}
+
+#[test]
+fn unreadable_networks(rt: HostRuntime) -> Result<(), Fail> {
+    let alloc = rt.alloc();
+    let failing = FailingReader {
+        rest: SAMPLE.as_bytes(),
+    };
+    let fault = read_lines(alloc, failing).err();
+    assert_eq!(rt; fault, Some(NetworkFault::ReadFailed));
+    assert_eq!(rt; fault.map(|fault| fault.number()), Some(93));
+    let bytes: &[u8] = b"from,to,km,minutes,way\nDE0000\xff,DE00002,5,5,one\n";
+    assert_eq!(rt;
+        read_lines(alloc, bytes).err(),
+        Some(NetworkFault::BadRow(2))
+    );
+    Ok(())
+}
+
+/// Numbers from a seed.
+#[derive(Drop)]
+struct Random(u64);
+
+impl Random {
+    fn below(&mut self, bound: u64) -> u64 {
+        self.0 ^= self.0 << 13;
+        self.0 ^= self.0 >> 7;
+        self.0 ^= self.0 << 17;
+        self.0 % bound.max(1)
+    }
+}
+
+/// A network of at most twelve places, with lines so short that many walks are as long as others.
+fn random_network(alloc: Global, random: &mut Random) -> Result<Network, Fail> {
+    let mut text = format!(in alloc; "from,to,km,minutes,way\n")?;
+    for _ in 0..random.below(30) {
+        let (from, to) = (random.below(12), random.below(12));
+        let km = random.below(4).wrapping_add(1);
+        let minutes = random.below(9).wrapping_add(1);
+        let way = if random.below(3) == 0 { "both" } else { "one" };
+        let line = format!(in alloc; "DE{from:05},DE{to:05},{km},{minutes},{way}\n")?;
+        text.push_str(&line)?;
+    }
+    Ok(read_lines(alloc, text.as_bytes())?)
+}
+
+/// The distances from an origin, by relaxing all lines in as many rounds as there are places.
+fn relaxed(
+    alloc: Global,
+    network: &Network,
+    origin: usize,
+) -> Result<Vec<Option<(u32, u32)>>, AllocError> {
+    let mut labels = vec![in alloc; None; network.places()]?;
+    if let Some(label) = labels.get_mut(origin) {
+        *label = Some((0, 0));
+    }
+    for _ in 0..network.places() {
+        for line in network.lines() {
+            relax(&mut labels, line.from, line.to, (line.km, line.minutes));
+        }
+    }
+    Ok(labels)
+}
+
+/// Relaxes one line.
+fn relax(labels: &mut [Option<(u32, u32)>], from: usize, to: usize, length: (u32, u32)) {
+    if from >= labels.len() || to >= labels.len() {
+        return;
+    }
+    let Some((km, minutes)) = labels[from] else {
+        return;
+    };
+    let pair = (km.wrapping_add(length.0), minutes.wrapping_add(length.1));
+    if falls(labels[to], pair) {
+        labels[to] = Some(pair);
+    }
+}
+
+/// Whether a label falls to a pair.
+fn falls(label: Option<(u32, u32)>, pair: (u32, u32)) -> bool {
+    match label {
+        Some(label) => pair < label,
+        None => true,
+    }
+}
+
+/// Whether tables answer what the rounds find, between any two places.
+fn agree(alloc: Global, network: &Network, distances: &Tables) -> Result<bool, Fail> {
+    for origin in 0..network.places() {
+        let labels = relaxed(alloc, network, origin)?;
+        for end in 0..network.places() {
+            let from = network.place_at(origin).ok_or("a place of the network")?;
+            let to = network.place_at(end).ok_or("a place of the network")?;
+            if labels.get(end).copied() != Some(distances.between(from, to)) {
+                return Ok(false);
+            }
+        }
+    }
+    Ok(true)
+}
+
+#[test]
+fn like_relaxing_in_rounds(rt: HostRuntime) -> Result<(), Fail> {
+    let alloc = rt.alloc();
+    let mut random = Random(20260301);
+    for number in 0..60 {
+        let network = random_network(alloc, &mut random)?;
+        let distances = tables(alloc, &network)?;
+        assert!(rt; agree(alloc, &network, &distances)?, "network {number}");
+    }
+    Ok(())
+}
