@@ -1,11 +1,13 @@
-use Rattle.std.proofs.Common.{◌≡◌, ℕ, [], ◌∷◌, ◌++◌, true, false, ltb, subst, ◌+◌, ◌-◌, ◌<◌, ◌≤◌, List, length, take, drop, sym, ◌∙◌, arith, ap, inl, inr, get_or}
+use Rattle.std.proofs.Common.{◌≡◌, ℕ, [], ◌∷◌, ◌++◌, true, false, ltb, subst, ◌+◌, ◌-◌, ◌<◌, ◌≤◌, List, length, take, drop, sym, ◌∙◌, arith, ap, inl, inr, get_or, map}
 use Rattle.std.specs.List.{All, AllWithin, Contains}
 use Rattle.std.specs.List.Sorted.{IsPartitionPoint}
 use Rattle.std.proofs.lemmas.Bool.{cases_lt, ltb-true, ltb-false}
-use Rattle.std.proofs.lemmas.List.{get_or_append_left, get_or_push, length_push, get_or-take, get_or-drop, get_or_read, length-take-le, length-drop}
-use Rattle.std.proofs.lemmas.List.Elements.{Contains-get_or}
+use Rattle.std.proofs.lemmas.List.{get_or_append_left, get_or_push, length_push, get_or-take, get_or-drop, get_or_read, length-take-le, length-drop, length-map, get_or-map, take-map, drop-map}
+use Rattle.std.proofs.lemmas.List.Elements.{All-map, All-same, All-weaker, Contains-get_or}
 use Rattle.line_network.specs.declared.line.Line.{Line}
+use Rattle.distance_tables.specs.declared.step.Step.{Step}
 use Rattle.distance_tables.specs.Starts.{AreStarts}
+use Rattle.distance_tables.specs.Steps.{step_of, line_from}
 
 some_line : Line
 some_line = record { from = 0; to = 0; km = 0; minutes = 0 }
@@ -67,6 +69,30 @@ module _ (lines : List Line) (starts : List ℕ) (k s e : ℕ) (h : AreStarts li
           | inr past ↦ absurd (omega (arith, later has.0 line past has.1))
         ]
       ]
+
+  -- the same without their origins
+  module _ (steps : List Step) (same : steps ≡ map step_of lines) where
+    part_of_steps : take (e - s) (drop s steps) ≡ map step_of (take (e - s) (drop s lines))
+    part_of_steps = ap (λ xs. take (e - s) (drop s xs)) same ∙ (ap (take (e - s)) (drop-map step_of s lines) ∙ take-map step_of (e - s) (drop s lines))
+
+    pub end_of_steps : e ≤ length steps
+    end_of_steps = omega (arith, end_within, ap length same, length-map lines step_of)
+
+    pub own_steps : All (λ x. Contains lines (line_from k x)) (take (e - s) (drop s steps))
+    own_steps =
+        let Own : Step → Type 0 = λ x. Contains lines (line_from k x) in
+        All-same Own _ _ part_of_steps
+        (All-map Own step_of (take (e - s) (drop s lines))
+        (All-weaker (λ line. Contains lines line × (line.from ≡ k)) (λ line. Contains lines (line_from k (step_of line)))
+        (λ line h. let P : ℕ → Type 0 = λ n. Contains lines (record { from = n; to = line.to; km = line.km; minutes = line.minutes }) in subst P h.1 h.0)
+        (take (e - s) (drop s lines)) own_lines))
+
+    pub all_steps : (line : Line) → Contains lines line → line.from ≡ k → Contains (take (e - s) (drop s steps)) (step_of line)
+    all_steps line has from =
+        let part = all_lines line has from in
+        let P : List Step → Type 0 = λ xs. Contains xs (step_of line) in
+        subst P (sym part_of_steps)
+        (part.0, omega (arith, part.1, length-map (take (e - s) (drop s lines)) step_of), get_or-map step_of (take (e - s) (drop s lines)) part.0 line (step_of line) part.1 ∙ ap step_of part.2)
 
 -- a fact of each start and of one more
 each_start : (starts : List ℕ) (place s : ℕ) → length starts ≡ place → (P : ℕ → ℕ → Type 0) → ((k : ℕ) → k < length starts → P k (get_or starts k 0)) → P place s → (k : ℕ) → k < length (starts ++ s ∷ []) → P k (get_or (starts ++ s ∷ []) k 0)

@@ -11,6 +11,8 @@ use Rattle.std.proofs.lemmas.List.Sums.{sum_by-set, count_by-le-length}
 use Rattle.line_network.specs.declared.line.Line.{Line}
 use Rattle.line_network.specs.Network.{IsLine}
 use Rattle.distance_tables.specs.declared.distance.Distance.{Distance}
+use Rattle.distance_tables.specs.declared.step.Step.{Step}
+use Rattle.distance_tables.specs.Steps.{line_from}
 use Rattle.distance_tables.specs.declared.waiting.Waiting.{Waiting}
 use Rattle.distance_tables.specs.Rows.{IsPathPair}
 use Rattle.distance_tables.specs.Search.{plus_line, label_at, LabelAtMost, LabelAbove, IsBelow, is_label_below, below_count, AreBounded, AreLabels, IsRelaxed, IsSettled, entry, label_weight, Relaxes, stays, falls, Improves}
@@ -177,10 +179,10 @@ pub record IsLineFrom (lines : List Line) (places u : ℕ) (l : Line) : Type 0 w
   pub from : l.from ≡ u
   pub is : IsLine places l
 
-pub IsLineFrom-at : (lines part : List Line) (places u i : ℕ) (d : Line) → All (λ l. Contains lines l × (l.from ≡ u)) part → All (IsLine places) lines → i < length part → IsLineFrom lines places u (get_or part i d)
+pub IsLineFrom-at : (lines : List Line) (part : List Step) (places u i : ℕ) (d : Step) → All (λ s. Contains lines (line_from u s)) part → All (IsLine places) lines → i < length part → IsLineFrom lines places u (line_from u (get_or part i d))
 IsLineFrom-at lines part places u i d own all within =
     let here = own i d within in
-    record { has = here.0; from = here.1; is = All-contains (IsLine places) lines (get_or part i d) all here.0 }
+    record { has = here; from = refl; is = All-contains (IsLine places) lines (line_from u (get_or part i d)) all here }
 
 pub fits_km : (lines : List Line) (labels : List (Option Distance)) (places u : ℕ) (d : Distance) (l : Line) → AreBounded labels → label_at labels u ≡ Some d → length labels ≡ places → places ≤ 2000 → IsLineFrom lines places u l → d.km + l.km < 2 ^ 32
 fits_km lines labels places u d l bounded label same few line = omega (arith, few_km labels u d bounded label, line.is.most_km)
@@ -188,12 +190,12 @@ fits_km lines labels places u d l bounded label same few line = omega (arith, fe
 pub fits_minutes : (lines : List Line) (labels : List (Option Distance)) (places u : ℕ) (d : Distance) (l : Line) → AreBounded labels → label_at labels u ≡ Some d → length labels ≡ places → places ≤ 2000 → IsLineFrom lines places u l → d.minutes + l.minutes < 2 ^ 32
 fits_minutes lines labels places u d l bounded label same few line = omega (arith, few_minutes labels u d bounded label, line.is.most_minutes)
 
--- of a list of lines one more is relaxed
-pub relaxed_more : (old new : List (Option Distance)) (part : List Line) (i : ℕ) (d : Distance) (x : Line) → i < length part
+-- of the lines from a place one more is relaxed
+pub relaxed_more : (old new : List (Option Distance)) (part : List Step) (u i : ℕ) (d : Distance) (x : Step) → i < length part
     → ((k : ℕ) (e : Distance) → LabelAtMost (label_at old k) e → LabelAtMost (label_at new k) e)
-    → AllWithin (λ l. LabelAtMost (label_at old l.to) (plus_line d l)) part 0 i
-    → LabelAtMost (label_at new (get_or part i x).to) (plus_line d (get_or part i x))
-    → AllWithin (λ l. LabelAtMost (label_at new l.to) (plus_line d l)) part 0 (i + 1)
-relaxed_more old new part i d x within lower before here =
-    let P : Line → Type 0 = λ l. LabelAtMost (label_at new l.to) (plus_line d l) in
-    AllWithin-more P part 0 i (λ k y low below. lower (get_or part k y).to (plus_line d (get_or part k y)) (before k y low below)) (λ y. subst P (get_or_default part i x y within) here)
+    → AllWithin (λ s. LabelAtMost (label_at old s.to) (plus_line d (line_from u s))) part 0 i
+    → LabelAtMost (label_at new (get_or part i x).to) (plus_line d (line_from u (get_or part i x)))
+    → AllWithin (λ s. LabelAtMost (label_at new s.to) (plus_line d (line_from u s))) part 0 (i + 1)
+relaxed_more old new part u i d x within lower before here =
+    let P : Step → Type 0 = λ s. LabelAtMost (label_at new s.to) (plus_line d (line_from u s)) in
+    AllWithin-more P part 0 i (λ k y low below. lower (get_or part k y).to (plus_line d (line_from u (get_or part k y))) (before k y low below)) (λ y. subst P (get_or_default part i x y within) here)

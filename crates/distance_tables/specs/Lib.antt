@@ -5,5 +5,6 @@ pub mod Rows
 pub mod Search
 pub mod Shares
 pub mod Starts
+pub mod Steps
 pub mod Walk
 pub mod WorkFault

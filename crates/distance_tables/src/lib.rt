@@ -12,6 +12,7 @@ mod networks_fault;
 mod one_thread;
 mod search;
 mod share;
+mod step;
 mod waiting;
 mod work_fault;
 

@@ -1,8 +1,10 @@
 //! Lines in the order of the places where they begin.
-ghost use Rattle.std.specs.Prelude.{◌≡◌, ◌+◌, ◌^◌, ◌<◌, IfOk, All, Contains, length, vec_len};
+ghost use Rattle.std.specs.Prelude.{◌≡◌, ◌+◌, ◌^◌, ◌<◌, IfOk, All, Contains, length, map, vec_len};
 ghost use Rattle.std.specs.List.Sorted.{IsPermutation, IsNonDecreasingBy};
 ghost use Rattle.distance_tables.specs.Starts.{AreStarts};
+ghost use Rattle.distance_tables.specs.Steps.{step_of, line_from};
 
+use crate::step::Step;
 use line_network::Line;
 use std::alloc::{AllocError, Global};
 
@@ -10,9 +12,12 @@ use std::alloc::{AllocError, Global};
 #[derive(Drop)]
 pub(crate) struct LinesByOrigin {
     lines: Vec<Line>,
+    // the same without their origins
+    steps: Vec<Step>,
     // where the lines from each place begin, and behind the last place their end
     starts: Vec<usize>,
     ghost indexed: { AreStarts lines.items starts.items },
+    ghost stepped: { steps.items ≡ map step_of lines.items },
 }
 
 impl LinesByOrigin {
@@ -29,18 +34,23 @@ impl LinesByOrigin {
         let mut lines = Vec::from_slice(alloc, lines)?;
         lines.sort_by_key(|line| line.from)?;
         let starts = starts_of(alloc, &lines, places)?;
-        Ok(LinesByOrigin { lines, starts })
+        let steps = steps_of(alloc, &lines)?;
+        Ok(LinesByOrigin {
+            lines,
+            steps,
+            starts,
+        })
     }
 
-    /// The lines from a place.
-    pub(crate) fn from_place(&self, place: usize) -> &[Line]
+    /// The lines from a place, without it.
+    pub(crate) fn from_place(&self, place: usize) -> &[Step]
         requires { place + 1 < vec_len self.now.starts }
-        ensures own { All (λ l. Contains self.now.lines.items l × (l.from ≡ place)) result.now }
-        ensures complete { (l : Line) → Contains self.now.lines.items l → l.from ≡ place → Contains result.now l }
+        ensures own { All (λ s. Contains self.now.lines.items (line_from place s)) result.now }
+        ensures complete { (l : Line) → Contains self.now.lines.items l → l.from ≡ place → Contains result.now (step_of l) }
     {
         let start = self.starts[place];
         let end = self.starts[place + 1];
-        &self.lines[start..end]
+        &self.steps[start..end]
     }
 }
 
@@ -56,4 +66,15 @@ fn starts_of(alloc: Global, lines: &[Line], places: usize) -> Result<Vec<usize>,
         starts.push(lines.partition_point(|line| line.from < place))?;
     }
     Ok(starts)
+}
+
+/// The lines without their origins.
+fn steps_of(alloc: Global, lines: &[Line]) -> Result<Vec<Step>, AllocError>
+    ensures { IfOk result (λ steps. steps.items ≡ map step_of lines.now) }
+{
+    let mut steps = Vec::with_capacity(alloc, lines.len())?;
+    for line in lines {
+        steps.push(Step::of_line(line))?;
+    }
+    Ok(steps)
 }

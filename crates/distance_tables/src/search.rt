@@ -99,8 +99,9 @@ fn relax_lines(
     ensures label { OnOk result (label_at labels.new at.place ≡ Some at.distance) }
     ensures relaxed { OnOk result (IsRelaxed lines.now.lines.items labels.new at.place at.distance) }
 {
-    for line in lines.from_place(at.place) {
-        relax(labels, waiting, at.distance, line)?;
+    for step in lines.from_place(at.place) {
+        let line = step.starting_at(at.place);
+        relax(labels, waiting, at.distance, &line)?;
     }
     Ok(())
 }

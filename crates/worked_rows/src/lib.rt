@@ -6,22 +6,8 @@ mod check_lines;
 #[cfg(test)]
 mod codes;
 #[cfg(test)]
-mod commands;
-#[cfg(test)]
 mod devices;
 #[cfg(test)]
-mod distances;
-#[cfg(test)]
-mod networks;
-#[cfg(test)]
-mod orders;
-#[cfg(test)]
-mod problems;
-#[cfg(test)]
-mod rosters;
-#[cfg(test)]
 mod runs;
-#[cfg(test)]
-mod status;
 #[cfg(test)]
 mod tables;

@@ -1,0 +1,7 @@
+pub mod IndexList
+pub mod Columns
+pub mod State
+pub mod Search
+pub mod Path
+pub mod Pairs
+pub mod Planner

@@ -1,0 +1,12 @@
+//! The planner: a plan of least cost, and dual prices that show it, by shortest augmenting paths.
+#![tactic(auto)]
+
+mod columns;
+mod index_list;
+mod path;
+mod planner;
+mod prices;
+mod search;
+mod state;
+
+pub use planner::{Planner, certified_plan, plan};

@@ -1,0 +1,129 @@
+-- What the state of an office keeps through each change.
+use Rattle.std.proofs.Common.{◌≡◌, ◌∙◌, ℕ, ◌≤◌, arith, List, [], ◌∷◌, ◌++◌, map, refl, ap, sym, subst}
+use Rattle.std.specs.Prelude.{◌↔◌, Bool, true, false, cond, Option, Some, None, IsSome, IfSome, Result, Ok, Err, OnOk, OnErr, option_map}
+use Rattle.move_messages.specs.Order.{Order}
+use Rattle.move_messages.specs.declared.message.Message as message
+use Rattle.wagon_state.specs.declared.change.Change.{Change}
+use Rattle.wagon_state.specs.declared.wagon_row.WagonRow.{WagonRow}
+use Rattle.wagon_roster.specs.Roster.{IsRoster}
+use Rattle.load_orders.specs.Lack.{is_open}
+use Rattle.load_orders.specs.OrderRow.{OrderRowValue, placed_row}
+use Rattle.office_rows.specs.Kept.{IsWagonRows}
+use Rattle.office_rows.specs.Rows.{wagon_in, order_in, at_wagon, at_order, promised_to, taken_back}
+use Rattle.operating_db.specs.declared.apply_fault.ApplyFault.{ApplyFault}
+use Rattle.operating_db.specs.declared.apply_fault.ApplyFault.TheVariants.{OrderClosed}
+use Rattle.operating_db.specs.declared.limits.TheConstants.{MAX_NETWORKS}
+use Rattle.operating_db.specs.After.{IsChange, message_to, moved, order_place, orders_after, unpromised, unpromised_among, withdrawn_from}
+use Rattle.operating_db.specs.Commits.{Pair, IsNext, with_promise}
+use Rattle.operating_db.specs.Office.{Office, StateValue, first_office}
+use Rattle.operating_db.specs.Promises.{is_promise_to, is_among, promise_of, promised_of, PromisesAgree}
+use Rattle.operating_db.specs.State.{IsState}
+use Rattle.operating_db.proofs.Agree.{ordered_agree, withdrawn_agree}
+use Rattle.operating_db.proofs.Changes.{among_known, withdrawn_wagons}
+use Rattle.operating_db.proofs.Commits.{next_agree}
+use Rattle.operating_db.proofs.Events.{change_kept, rosters_agree, step_keeps}
+use Rattle.operating_db.proofs.Lookups.{wagon_has}
+use Rattle.operating_db.proofs.Names.{same_self}
+
+-- the state with other rows
+abbrev pub with_rows : StateValue → List WagonRow → List OrderRowValue → StateValue
+with_rows state wagons orders = record state { office = record state.office { wagons = wagons; orders = orders } }
+
+rows_state : (state : StateValue) (wagons : List WagonRow) (orders : List OrderRowValue) → PromisesAgree (record state.office { wagons = wagons; orders = orders }) → IsState state → IsState (with_rows state wagons orders)
+rows_state state wagons orders agree h = record { promises = agree; from_one = h.from_one; in_force = h.in_force; few = h.few }
+
+agree_by : (office : Office) (wagons wagons' : List WagonRow) (orders orders' : List OrderRowValue) → wagons ≡ wagons' → orders ≡ orders' → PromisesAgree (record office { wagons = wagons'; orders = orders' }) → PromisesAgree (record office { wagons = wagons; orders = orders })
+agree_by office wagons wagons' orders orders' e f h =
+    subst (λ (w : List WagonRow). PromisesAgree (record office { wagons = w; orders = orders })) (sym e) (subst (λ (o : List OrderRowValue). PromisesAgree (record office { wagons = wagons'; orders = o })) (sym f) h)
+
+pub new_state : (roster wagons : List WagonRow) (orders : List OrderRowValue) (networks : ℕ) → IsRoster roster → wagons ≡ roster → orders ≡ [] → 1 ≤ networks → networks ≤ MAX_NETWORKS
+    → IsState (record { office = record { wagons = wagons; orders = orders; network = 1 }; networks = networks })
+new_state roster wagons orders networks h e f least most = record {
+  promises = agree_by (first_office roster) wagons roster orders [] e f (rosters_agree roster h);
+  from_one = omega arith;
+  in_force = least;
+  few = most;
+}
+
+pub placed_state : {A E : Type 0} (state : StateValue) (text : Order) (orders : List OrderRowValue) (r : Result A E) → OnOk r (orders ≡ state.office.orders ++ placed_row text ∷ []) → OnErr r (orders ≡ state.office.orders) → IsState state → IsState (with_rows state state.office.wagons orders)
+placed_state state text orders (Ok x) added refused h = rows_state state state.office.wagons orders (agree_by state.office state.office.wagons state.office.wagons orders _ refl added (ordered_agree state.office (placed_row text) refl h.promises)) h
+placed_state state text orders (Err x) added refused h = rows_state state state.office.wagons orders (agree_by state.office state.office.wagons state.office.wagons orders _ refl refused h.promises) h
+
+pub promised_state : (state : StateValue) (pair : Pair) (wagons : List WagonRow) (orders : List OrderRowValue) → wagons ≡ at_wagon pair.0 (with_promise (Some pair.1)) state.office.wagons → orders ≡ at_order pair.1 (promised_to pair.0) state.office.orders → IsNext state.office pair → IsState state → IsState (with_rows state wagons orders)
+promised_state state pair wagons orders e f next h = rows_state state wagons orders (agree_by state.office wagons _ orders _ e f (next_agree state.office pair next h.promises)) h
+
+-- the wagons and the orders of a withdrawal
+pub withdrawn_is : (office : Office) (id : List ℕ) (order : OrderRowValue) (promised : List (List ℕ)) (wagons : List WagonRow) → PromisesAgree office → IsWagonRows office.wagons → Some order ≡ order_in office.orders id → promised ≡ order.promised → wagons ≡ unpromised_among promised office.wagons → wagons ≡ map (unpromised id) office.wagons
+withdrawn_is office id order promised wagons agree kept there is ended =
+    ended ∙ (ap (λ (ns : List (List ℕ)). unpromised_among ns office.wagons) is ∙ withdrawn_wagons office id order agree kept (sym there))
+
+pub withdrawn_state : (state : StateValue) (id : List ℕ) (wagons : List WagonRow) (orders : List OrderRowValue) → wagons ≡ map (unpromised id) state.office.wagons → orders ≡ at_order id taken_back state.office.orders → IsState state → IsState (with_rows state wagons orders)
+withdrawn_state state id wagons orders e f h = rows_state state wagons orders (agree_by state.office wagons _ orders _ e f (withdrawn_agree state.office id h.promises)) h
+
+-- the order of a promise is there
+order_known : (office : Office) (n : List ℕ) (row : WagonRow) (id : List ℕ) → Some row ≡ wagon_in office.wagons n → row.promise ≡ Some id → PromisesAgree office → is_among n (promised_of (order_in office.orders id)) ≡ true
+order_known office n row id found had agree =
+    sym (agree n id) ∙ (ap (λ (o : Option WagonRow). is_promise_to (promise_of o) id) (sym found) ∙ (ap (λ (p : Option (List ℕ)). is_promise_to p id) had ∙ same_self id))
+
+some_order : {A B : Type 0} (f : A → B) (o : Option A) → IsSome o → IsSome (option_map f o)
+some_order f None h = h
+some_order f (Some x) h = refl
+
+place_by : (office : Office) (n : List ℕ) (row : WagonRow) (r p : Option (List ℕ)) → Some row ≡ wagon_in office.wagons n → row.promise ≡ p → r ≡ order_place office.orders p → PromisesAgree office → IsSome r ↔ IsSome p
+place_by office n row r None found had is agree = ((λ h. subst (λ (o : Option (List ℕ)). IsSome o) is h), (λ h. cc h))
+place_by office n row r (Some id) found had is agree =
+    let known : IsSome (order_in office.orders id) = among_known n (order_in office.orders id) (order_known office n row id found had agree) in
+    ((λ h. refl), (λ h. subst (λ (o : Option (List ℕ)). IsSome o) (sym is) (some_order (λ (row : OrderRowValue). row.text.place) (order_in office.orders id) known)))
+
+pub place_there : (office : Office) (n : List ℕ) (row : WagonRow) (r : Option (List ℕ)) → Some row ≡ wagon_in office.wagons n → r ≡ order_place office.orders row.promise → PromisesAgree office → IsSome r ↔ IsSome row.promise
+place_there office n row r found is agree = place_by office n row r row.promise found refl is agree
+
+-- ---- what a message changes
+
+change_number : (office : Office) (m : message.Message) (change : Change) (promise : Option (List ℕ)) → IsChange office m change promise → change.row.number ≡ m.wagon
+change_number office m change promise h =
+    (step_keeps h.row m (order_place office.orders h.row.promise) change h.stepped).number ∙ wagon_has office.wagons m.wagon h.row h.found
+
+pub change_known : (office : Office) (m : message.Message) (change : Change) (promise : Option (List ℕ)) → IsChange office m change promise → IsSome (wagon_in office.wagons change.row.number)
+change_known office m change promise h =
+    subst (λ (o : Option WagonRow). IsSome o) (sym (ap (wagon_in office.wagons) (change_number office m change promise h) ∙ h.found)) refl
+
+settles_by : (office : Office) (n : List ℕ) (row : WagonRow) (p : Option (List ℕ)) → Some row ≡ wagon_in office.wagons n → p ≡ row.promise → PromisesAgree office → IfSome p (λ id. is_among n (promised_of (order_in office.orders id)) ≡ true)
+settles_by office n row None found is agree = tt
+settles_by office n row (Some id) found is agree = order_known office n row id found (sym is) agree
+
+pub change_settles : (office : Office) (m : message.Message) (change : Change) (promise : Option (List ℕ)) → IsChange office m change promise → PromisesAgree office → IfSome promise (λ id. is_among m.wagon (promised_of (order_in office.orders id)) ≡ true)
+change_settles office m change promise h agree = settles_by office m.wagon h.row promise (sym h.found) h.promise_is agree
+
+change_wagons : (office : Office) (m : message.Message) (change : Change) (promise : Option (List ℕ)) (wagons : List WagonRow) → IsChange office m change promise → wagons ≡ at_wagon change.row.number (λ _. change.row) office.wagons → wagons ≡ at_wagon m.wagon (λ _. change.row) office.wagons
+change_wagons office m change promise wagons h e = e ∙ ap (λ (n : List ℕ). at_wagon n (λ _. change.row) office.wagons) (change_number office m change promise h)
+
+change_orders : (office : Office) (m : message.Message) (change : Change) (promise : Option (List ℕ)) (orders : List OrderRowValue) (h : IsChange office m change promise) → orders ≡ orders_after change.effect promise m.wagon office.orders → orders ≡ orders_after change.effect h.row.promise m.wagon office.orders
+change_orders office m change promise orders h e = e ∙ ap (λ (p : Option (List ℕ)). orders_after change.effect p m.wagon office.orders) h.promise_is
+
+pub change_state : (state : StateValue) (m : message.Message) (change : Change) (promise : Option (List ℕ)) (wagons : List WagonRow) (orders : List OrderRowValue) → IsChange state.office m change promise
+    → wagons ≡ at_wagon change.row.number (λ _. change.row) state.office.wagons → orders ≡ orders_after change.effect promise m.wagon state.office.orders → IsState state → IsState (with_rows state wagons orders)
+change_state state m change promise wagons orders h e f kept =
+    rows_state state wagons orders (agree_by state.office wagons _ orders _ (change_wagons state.office m change promise wagons h e) (change_orders state.office m change promise orders h f)
+    (change_kept state.office m.wagon h.row change h.found (step_keeps h.row m (order_place state.office.orders h.row.promise) change h.stepped) kept.promises).promises) kept
+
+rows_are : (office : Office) (wagons wagons' : List WagonRow) (orders orders' : List OrderRowValue) → wagons ≡ wagons' → orders ≡ orders' → let r : Result Office ApplyFault = Ok (record office { wagons = wagons'; orders = orders' }) in r ≡ Ok (record office { wagons = wagons; orders = orders })
+rows_are office wagons wagons' orders orders' e f = cc
+
+pub change_done : (office : Office) (m : message.Message) (change : Change) (promise : Option (List ℕ)) (wagons : List WagonRow) (orders : List OrderRowValue) → IsChange office m change promise
+    → wagons ≡ at_wagon change.row.number (λ _. change.row) office.wagons → orders ≡ orders_after change.effect promise m.wagon office.orders
+    → message_to office m (wagon_in office.wagons m.wagon) ≡ Ok (record office { wagons = wagons; orders = orders })
+change_done office m change promise wagons orders h e f =
+    ap (message_to office m) h.found ∙ (ap (moved office m.wagon h.row.promise) h.stepped
+    ∙ rows_are office wagons _ orders _ (change_wagons office m change promise wagons h e) (change_orders office m change promise orders h f))
+
+-- ---- a withdrawal
+
+open_done : (office : Office) (id : List ℕ) (b : Bool) (wagons : List WagonRow) (orders : List OrderRowValue) → b ≡ true → wagons ≡ map (unpromised id) office.wagons → orders ≡ at_order id taken_back office.orders
+    → cond b (Ok (record office { wagons = map (unpromised id) office.wagons; orders = at_order id taken_back office.orders })) (Err OrderClosed) ≡ Ok (record office { wagons = wagons; orders = orders })
+open_done office id true wagons orders is e f = rows_are office wagons _ orders _ e f
+open_done office id false wagons orders is e f = cc is
+
+pub withdrawn_done : (office : Office) (id : List ℕ) (order : OrderRowValue) (wagons : List WagonRow) (orders : List OrderRowValue) → Some order ≡ order_in office.orders id → is_open order ≡ true → wagons ≡ map (unpromised id) office.wagons → orders ≡ at_order id taken_back office.orders
+    → withdrawn_from office id (order_in office.orders id) ≡ Ok (record office { wagons = wagons; orders = orders })
+withdrawn_done office id order wagons orders there is e f = ap (withdrawn_from office id) (sym there) ∙ open_done office id (is_open order) wagons orders is e f

@@ -1,0 +1,22 @@
+use Rattle.operating_db.specs.Office.{Office}
+use Rattle.operating_db.proofs.States.{change_done, change_known, change_settles, change_state}
+use Rattle.operating_db.proofs.office_state.OfficeState.accept.Goals as goal
+
+pub put-requires : goal.put-requires
+put-requires c =
+    let office : Office = record { wagons = c.self.inside.wagons; orders = c.self.inside.orders; network = c.self.inside.network } in
+    change_known office c.args.message.now c.in-Ok.found.0 c.in-Ok.found.1 (rw (← c.self.view_is) at c.in-Ok.ensures.change)
+
+pub settle-requires : goal.settle-requires
+settle-requires c =
+    let office : Office = record { wagons = c.self.inside.wagons; orders = c.self.inside.orders; network = c.self.inside.network } in
+    change_settles office c.args.message.now c.in-Ok.found.0 c.in-Ok.found.1 (rw (← c.self.view_is) at c.in-Ok.ensures.change) c.self.invariant.promises
+
+pub invariant_of-self : goal.invariant_of-self
+invariant_of-self c =
+    change_state _ c.args.message.now c.in-Ok.found.0 c.in-Ok.found.1 c.put.new.self c.settle.new.orders (rw (← c.self.view_is) at c.in-Ok.ensures.change) c.put.ensures c.settle.ensures c.self.invariant
+
+pub returns-clause-done : goal.returns-clause-done
+returns-clause-done c =
+    let office : Office = record { wagons = c.self.inside.wagons; orders = c.self.inside.orders; network = c.self.inside.network } in
+    rw (← c.self.view_is) (change_done office c.args.message.now c.in-Ok.found.0 c.in-Ok.found.1 c.put.new.self c.settle.new.orders (rw (← c.self.view_is) at c.in-Ok.ensures.change) c.put.ensures c.settle.ensures)

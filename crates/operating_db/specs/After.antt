@@ -1,0 +1,92 @@
+-- What each event makes of an office, or its first refusal.
+use Rattle.std.specs.Prelude.{◌≡◌, ◌+◌, ◌==◌, nat_lt, ℕ, if◌then◌else◌, ◌||◌, List, [], ◌∷◌, ◌++◌, map, Option, Some, None, is_some, option_map, Result, Ok, Err}
+use Rattle.move_messages.specs.Order.{Order}
+use Rattle.move_messages.specs.declared.message.Message as message
+use Rattle.wagon_state.specs.declared.change.Effect.{Effect}
+use Rattle.wagon_state.specs.declared.change.Effect.TheVariants as effect
+use Rattle.wagon_state.specs.declared.change.Change.{Change}
+use Rattle.wagon_state.specs.declared.step_fault.StepFault.{StepFault}
+use Rattle.wagon_state.specs.declared.wagon_row.WagonRow.{WagonRow}
+use Rattle.wagon_state.specs.StatusTable.{step_of}
+use Rattle.load_orders.specs.Lack.{is_open}
+use Rattle.load_orders.specs.OrderRow.{OrderRowValue, placed_row}
+use Rattle.office_rows.specs.declared.limits.TheConstants.{MAX_OPEN_WAGONS}
+use Rattle.office_rows.specs.Rows.{wagon_in, order_in, at_wagon, at_order, open_wagons, filled_by, freed_of, taken_back}
+use Rattle.operating_db.specs.declared.apply_fault.ApplyFault.{ApplyFault}
+use Rattle.operating_db.specs.declared.apply_fault.ApplyFault.TheVariants.{UnknownWagon, Step, OrderKnown, TooManyOpen, UnknownOrder, OrderClosed, UnknownNetwork, SameNetwork}
+use Rattle.operating_db.specs.declared.event.Event.{Event}
+use Rattle.operating_db.specs.declared.event.Event.TheVariants.{Message, Place, Withdraw, Commit, Revise}
+use Rattle.operating_db.specs.Commits.{promise_all, with_promise}
+use Rattle.operating_db.specs.Office.{Office}
+use Rattle.operating_db.specs.Promises.{is_among, is_promise_to}
+
+-- A message: the row of its wagon as the status table says. A promise that ends does so on the order too, which may then be
+-- filled by the wagon.
+
+-- the orders after what became of the promise of a wagon
+abbrev pub orders_after : Effect → (promise : Option (List ℕ)) → (number : List ℕ) → List OrderRowValue → List OrderRowValue
+orders_after effect.None promise number orders = orders
+orders_after effect.Fills None number orders = orders
+orders_after effect.Fills (Some id) number orders = at_order id (filled_by number) orders
+orders_after effect.Ends None number orders = orders
+orders_after effect.Ends (Some id) number orders = at_order id (freed_of number) orders
+
+-- where the order of a promise wants its wagons
+abbrev pub order_place : List OrderRowValue → (promise : Option (List ℕ)) → Option (List ℕ)
+order_place orders None = None
+order_place orders (Some id) = option_map (λ row. row.text.place) (order_in orders id)
+
+-- what a message changes: the row of its wagon is there with this promise, and the status table has this change
+pub record IsChange (office : Office) (message : message.Message) (change : Change) (promise : Option (List ℕ)) : Type 0 where
+  pub row : WagonRow
+  pub found : wagon_in office.wagons message.wagon ≡ Some row
+  pub promise_is : promise ≡ row.promise
+  pub stepped : step_of row message (order_place office.orders row.promise) ≡ Ok change
+
+abbrev pub moved : Office → (number : List ℕ) → (promise : Option (List ℕ)) → Result Change StepFault → Result Office ApplyFault
+moved office number promise (Err fault) = Err (Step fault)
+moved office number promise (Ok change) = Ok (record office {
+  wagons = at_wagon number (λ _. change.row) office.wagons;
+  orders = orders_after change.effect promise number office.orders;
+})
+
+abbrev pub message_to : Office → message.Message → Option WagonRow → Result Office ApplyFault
+message_to office message None = Err UnknownWagon
+message_to office message (Some row) = moved office message.wagon row.promise (step_of row message (order_place office.orders row.promise))
+
+-- An order: its name is new, and the open orders want at most 500 wagons in all.
+abbrev pub after_order : Office → Order → Result Office ApplyFault
+after_order office text =
+    if is_some (order_in office.orders text.id) then Err OrderKnown
+    else if nat_lt MAX_OPEN_WAGONS (open_wagons office.orders + text.wagons) then Err TooManyOpen
+    else Ok (record office { orders = office.orders ++ placed_row text ∷ [] })
+
+-- A withdrawal ends each promise to the order, on the wagons too. The wagons that filled it stay.
+abbrev pub unpromised : List ℕ → WagonRow → WagonRow
+unpromised id row = if is_promise_to row.promise id then record row { promise = None } else row
+
+-- the wagons, where these numbers lose their promises
+abbrev pub unpromised_among : List (List ℕ) → List WagonRow → List WagonRow
+unpromised_among numbers rows = map (λ row. if is_among row.number numbers then with_promise None row else row) rows
+
+abbrev pub withdrawn_from : Office → (id : List ℕ) → Option OrderRowValue → Result Office ApplyFault
+withdrawn_from office id None = Err UnknownOrder
+withdrawn_from office id (Some row) =
+    if is_open row then Ok (record office { wagons = map (unpromised id) office.wagons; orders = at_order id taken_back office.orders })
+    else Err OrderClosed
+
+-- A revision puts one of the networks, counted from 1, in force in place of another.
+abbrev pub after_revision : (networks : ℕ) → Office → ℕ → Result Office ApplyFault
+after_revision networks office network =
+    if network == 0 || nat_lt networks network then Err UnknownNetwork
+    else if network == office.network then Err SameNetwork
+    else Ok (record office { network = network })
+
+-- What an event makes of an office where there are so many networks, or its first refusal. Which commits are possible
+-- is said by `CanPromise`.
+unfoldable pub after_call : (networks : ℕ) → Office → Event → Result Office ApplyFault
+after_call networks office (Message message) = message_to office message (wagon_in office.wagons message.wagon)
+after_call networks office (Place text) = after_order office text
+after_call networks office (Withdraw id) = withdrawn_from office id (order_in office.orders id)
+after_call networks office (Commit commit) = Ok (promise_all office commit.pairs)
+after_call networks office (Revise network) = after_revision networks office network

@@ -1,0 +1,9 @@
+pub mod After
+pub mod ApplyFault
+pub mod Commits
+pub mod Laws
+pub mod Office
+pub mod Problem
+pub mod Promises
+pub mod State
+pub mod Steps

@@ -1,0 +1,16 @@
+//! The operating database: what each event does to the office.
+#![tactic(auto)]
+
+mod apply_fault;
+mod event;
+mod laws;
+mod limits;
+mod lists;
+mod office_state;
+mod promises;
+
+pub use apply_fault::ApplyFault;
+pub use event::Event;
+pub use laws::events_keep_offices;
+pub use limits::MAX_NETWORKS;
+pub use office_state::OfficeState;

@@ -1,0 +1,376 @@
+//! The state of an office.
+ghost use Rattle.std.specs.Prelude.{◌≡◌, ◌≤◌, ◌↔◌, IsTrue, Ok, Err, IfOk, IfErr, IsOk, OnErr, OnOk, MatchResult, option_copied, option_map};
+ghost use Rattle.std.specs.List.{list_all};
+ghost use Rattle.office_rows.specs.Kept.{IsOrderRows, IsWagonRows};
+ghost use Rattle.office_rows.specs.Rows.{order_in, wagon_in};
+ghost use Rattle.operating_db.specs.After.{IsChange, after_call, after_order, after_revision, message_to, order_place, withdrawn_from};
+ghost use Rattle.operating_db.specs.ApplyFault.{IsRefusal};
+ghost use Rattle.operating_db.specs.Commits.{CanPromise, IsNext, is_free_row, is_promisable, lack_in, promise_all, promise_pair, times_of_order, times_of_wagon};
+ghost use Rattle.operating_db.specs.Office.{first_office};
+ghost use Rattle.operating_db.specs.Problem.{problem_of};
+ghost use Rattle.operating_db.specs.Promises.{PromisesAgree};
+ghost use Rattle.operating_db.specs.State.{IsState};
+ghost use Rattle.operating_db.specs.Steps.{IsPromised};
+
+use crate::limits::MAX_NETWORKS;
+use crate::lists::{free_wagons, waiting_orders};
+use crate::promises::{end_promises, set_promise, settle};
+use crate::{ApplyFault, Event};
+use cost_table::Problem;
+use load_orders::OrderRow;
+use move_messages::{Message, OrderText};
+use office_rows::{MAX_OPEN_WAGONS, OrderRows, WagonRows};
+use rail_codes::{Moment, OrderId, Place, WagonNumber};
+use std::alloc::{AllocError, Global};
+use std::marker::Model;
+use wagon_roster::Roster;
+use wagon_state::{Change, WagonRow, free, step};
+
+/// The rows of the wagons and of the orders, and the network in force. A wagon is promised to an order exactly where
+/// the order has it among its promised wagons. A contract sees the office of the definitions, and how many networks
+/// there are.
+#[derive(Debug, Drop)]
+pub struct OfficeState {
+    wagons: WagonRows,
+    orders: OrderRows,
+    network: u32,
+    networks: u32,
+}
+
+impl Model for OfficeState {
+    ghost use Rattle.operating_db.specs.Office.{StateValue};
+    ghost use Rattle.operating_db.specs.Promises.{PromisesAgree};
+    ghost use Rattle.operating_db.specs.State.{IsState};
+
+    ghost Value = { StateValue };
+
+    ghost view = { λ state. record { office = record { wagons = state.wagons; orders = state.orders; network = state.network }; networks = state.networks } };
+
+    ghost invariant = { λ state. IsState (record { office = record { wagons = state.wagons; orders = state.orders; network = state.network }; networks = state.networks }) };
+}
+
+impl OfficeState {
+    /// The office of a roster, where there are so many networks: no order, and the first network is in force.
+    pub fn new(alloc: Global, roster: &Roster, networks: u32) -> Result<OfficeState, AllocError>
+        requires from_one { 1 ≤ networks }
+        requires few { networks ≤ MAX_NETWORKS }
+        ensures { IfOk result (λ state. state ≡ record { office = first_office roster.now; networks = networks }) }
+    {
+        let _rows = roster.rows();
+        Ok(OfficeState {
+            wagons: WagonRows::from_roster(alloc, roster)?,
+            orders: OrderRows::new(alloc),
+            network: 1,
+            networks,
+        })
+    }
+
+    /// The row of a wagon. Takes no memory.
+    pub fn wagon(&self, number: WagonNumber) -> Option<&WagonRow>
+        ensures { option_copied result ≡ wagon_in self.now.office.wagons number }
+    {
+        self.wagons.get(number)
+    }
+
+    /// The row of an order. Takes no memory.
+    pub fn order(&self, id: OrderId) -> Option<&OrderRow>
+        ensures { option_map (λ row. row.now) result ≡ order_in self.now.office.orders id }
+    {
+        self.orders.get(id)
+    }
+
+    /// The rows of all wagons, ascending by number. Takes no memory.
+    pub fn wagon_rows(&self) -> &[WagonRow]
+        ensures rows { result.now ≡ self.now.office.wagons }
+        ensures valid { IsWagonRows self.now.office.wagons }
+        ensures agree { PromisesAgree self.now.office }
+    {
+        self.wagons.as_slice()
+    }
+
+    /// The rows of all orders, as placed. Takes no memory.
+    pub fn order_rows(&self) -> &[OrderRow]
+        ensures rows { result.now ≡ self.now.office.orders }
+        ensures valid { IsOrderRows self.now.office.orders }
+    {
+        self.orders.as_slice()
+    }
+
+    /// The network in force, counted from 1. Takes no memory.
+    pub fn network(&self) -> u32
+        ensures value { result ≡ self.now.office.network }
+        ensures valid { IsState self.now }
+    {
+        self.network
+    }
+
+    /// How many networks there are, 1 to 8. Takes no memory.
+    pub fn networks(&self) -> u32
+        ensures value { result ≡ self.now.networks }
+        ensures valid { IsState self.now }
+    {
+        self.networks
+    }
+
+    /// What is to be distributed at a moment: every free wagon, ascending by number, and every waiting order, as
+    /// placed, with how many wagons it lacks.
+    pub fn problem(&self, alloc: Global, at: Moment) -> Result<Problem, AllocError>
+        ensures { IfOk result (λ problem. problem ≡ problem_of self.now.office at) }
+    {
+        let wagons = free_wagons(alloc, self.wagons.as_slice())?;
+        let orders = waiting_orders(alloc, self.orders.as_slice())?;
+        Ok(Problem::new(at, wagons, orders).unwrap())
+    }
+
+    /// Whether these pairs can be promised together: no wagon stands twice, each is free now, and each order lacks as
+    /// many wagons now as it is given. Takes no memory.
+    pub fn can_promise(&self, pairs: &[(WagonNumber, OrderId)]) -> bool
+        ensures { IsTrue result ↔ CanPromise self.now.office pairs.now }
+    {
+        self.are_promisable(pairs)
+    }
+
+    /// Whether each pair of a commit can be promised.
+    fn are_promisable(&self, pairs: &[(WagonNumber, OrderId)]) -> bool
+        ensures { result ≡ list_all (is_promisable self.now.office pairs.now) pairs.now }
+    {
+        pairs.iter().all(|pair| self.is_promisable(pairs, pair))
+    }
+
+    /// Whether a pair of a commit can be promised.
+    fn is_promisable(&self, pairs: &[(WagonNumber, OrderId)], pair: &(WagonNumber, OrderId)) -> bool
+        ensures { result ≡ is_promisable self.now.office pairs.now pair.now }
+    {
+        let (number, id) = *pair;
+        times_of_wagon(number, pairs) <= 1
+            && self.is_free(number)
+            && times_of_order(id, pairs) <= self.lack(id) as usize
+    }
+
+    /// Whether the office has this wagon, and it is free.
+    fn is_free(&self, number: WagonNumber) -> bool
+        ensures { result ≡ is_free_row (wagon_in self.now.office.wagons number) }
+    {
+        match self.wagons.get(number) {
+            Some(row) => free(row).is_some(),
+            None => false,
+        }
+    }
+
+    /// How many wagons an order lacks; an unknown one lacks none.
+    fn lack(&self, id: OrderId) -> u32
+        ensures { result ≡ lack_in (order_in self.now.office.orders id) }
+    {
+        match self.orders.get(id) {
+            Some(row) => row.lack(),
+            None => 0,
+        }
+    }
+
+    /// What an event would be answered by `apply`, but for want of memory (1). Takes no memory.
+    #[tactic(auto, unfolding(crate::specs::After::after_call))]
+    pub fn possible(&self, event: &Event) -> Result<(), ApplyFault>
+        requires { IsPromised self.now.office event.now }
+        ensures possible { OnOk result (IsOk (after_call self.now.networks self.now.office event.now)) }
+        ensures refused { IfErr result (λ fault. after_call self.now.networks self.now.office event.now ≡ Err fault) }
+    {
+        match event {
+            Event::Message(message) => match self.change_by(message) {
+                Ok(_) => Ok(()),
+                Err(fault) => Err(fault),
+            },
+            Event::Place(text) => self.placeable(text),
+            Event::Withdraw(id) => self.withdrawable(*id),
+            Event::Commit(_) => Ok(()),
+            Event::Revise(network) => self.revisable(*network),
+        }
+    }
+
+    /// Lets an event happen: the office is then that of the definitions. A commit promises its pairs, which must be
+    /// possible together (`can_promise`).
+    ///
+    /// Refused, with the office unchanged: a message with `UnknownWagon` (73), else as the status table says (31 to
+    /// 33); an order with `OrderKnown` (74), else with `TooManyOpen` (75) where the open orders and this one want over
+    /// 500 wagons in all, else for want of memory (1); a withdrawal with `UnknownOrder` (76), else with `OrderClosed`
+    /// (77); a revision with `UnknownNetwork` (79), else with `SameNetwork` (80).
+    #[tactic(auto, unfolding(crate::specs::After::after_call))]
+    pub fn apply(&mut self, alloc: Global, event: &Event) -> Result<(), ApplyFault>
+        requires { IsPromised self.old.office event.now }
+        ensures done { OnOk result (after_call self.old.networks self.old.office event.now ≡ Ok self.new.office) }
+        ensures refused { IfErr result (λ fault. IsRefusal (after_call self.old.networks self.old.office event.now) fault) }
+        ensures unchanged { OnErr result (self.new ≡ self.old) }
+        ensures networks { self.new.networks ≡ self.old.networks }
+    {
+        match event {
+            Event::Message(message) => self.accept(message),
+            Event::Place(text) => self.place(alloc, text),
+            Event::Withdraw(id) => self.withdraw(*id),
+            Event::Commit(commit) => {
+                self.commit(commit.pairs.as_slice());
+                Ok(())
+            }
+            Event::Revise(network) => self.revise(*network),
+        }
+    }
+
+    /// What a message changes, and the order that its wagon is promised to.
+    fn change_by(&self, message: &Message) -> Result<(Change, Option<OrderId>), ApplyFault>
+        ensures change { IfOk result (λ found. IsChange self.now.office message.now found.0 found.1) }
+        ensures refused { IfErr result (λ fault. message_to self.now.office message.now (wagon_in self.now.office.wagons message.now.wagon) ≡ Err fault) }
+    {
+        let Some(row) = self.wagons.get(message.wagon) else {
+            return Err(ApplyFault::UnknownWagon);
+        };
+        match step(row, message, self.order_place(row.promise)) {
+            Ok(change) => Ok((change, row.promise)),
+            Err(fault) => Err(ApplyFault::Step(fault)),
+        }
+    }
+
+    /// Where the order of a promise wants its wagons.
+    fn order_place(&self, promise: Option<OrderId>) -> Option<Place>
+        ensures { result ≡ order_place self.now.office.orders promise }
+    {
+        let row = self.orders.get(promise?)?;
+        Some(row.text().place())
+    }
+
+    /// Takes a message in.
+    fn accept(&mut self, message: &Message) -> Result<(), ApplyFault>
+        ensures done { OnOk result (message_to self.old.office message.now (wagon_in self.old.office.wagons message.now.wagon) ≡ Ok self.new.office) }
+        ensures refused { IfErr result (λ fault. message_to self.old.office message.now (wagon_in self.old.office.wagons message.now.wagon) ≡ Err fault) }
+        ensures unchanged { OnErr result (self.new ≡ self.old) }
+        ensures networks { self.new.networks ≡ self.old.networks }
+    {
+        let number = message.wagon;
+        let (change, promise) = match self.change_by(message) {
+            Ok(found) => found,
+            Err(fault) => return Err(fault),
+        };
+        self.wagons.put(change.row);
+        settle(&mut self.orders, change.effect, promise, number);
+        Ok(())
+    }
+
+    /// Whether an order may be placed.
+    fn placeable(&self, text: &OrderText) -> Result<(), ApplyFault>
+        ensures possible { OnOk result (IsOk (after_order self.now.office text.now)) }
+        ensures refused { IfErr result (λ fault. after_order self.now.office text.now ≡ Err fault) }
+    {
+        if self.orders.get(text.id()).is_some() {
+            return Err(ApplyFault::OrderKnown);
+        }
+        if self.orders.open_wagons() + text.wagons() > MAX_OPEN_WAGONS {
+            return Err(ApplyFault::TooManyOpen);
+        }
+        Ok(())
+    }
+
+    /// Places an order.
+    fn place(&mut self, alloc: Global, text: &OrderText) -> Result<(), ApplyFault>
+        ensures done { OnOk result (after_order self.old.office text.now ≡ Ok self.new.office) }
+        ensures refused { IfErr result (λ fault. IsRefusal (after_order self.old.office text.now) fault) }
+        ensures unchanged { OnErr result (self.new ≡ self.old) }
+        ensures networks { self.new.networks ≡ self.old.networks }
+    {
+        if let Err(fault) = self.placeable(text) {
+            return Err(fault);
+        }
+        match self.orders.push(alloc, *text) {
+            Ok(()) => Ok(()),
+            Err(_) => Err(ApplyFault::OutOfMemory),
+        }
+    }
+
+    /// Whether an order may be withdrawn.
+    fn withdrawable(&self, id: OrderId) -> Result<(), ApplyFault>
+        ensures possible { OnOk result (IsOk (withdrawn_from self.now.office id (order_in self.now.office.orders id))) }
+        ensures refused { IfErr result (λ fault. withdrawn_from self.now.office id (order_in self.now.office.orders id) ≡ Err fault) }
+    {
+        match self.orders.get(id) {
+            None => Err(ApplyFault::UnknownOrder),
+            Some(row) if row.is_open() => Ok(()),
+            Some(_) => Err(ApplyFault::OrderClosed),
+        }
+    }
+
+    /// Withdraws an order, and ends the promises to it.
+    fn withdraw(&mut self, id: OrderId) -> Result<(), ApplyFault>
+        ensures done { OnOk result (withdrawn_from self.old.office id (order_in self.old.office.orders id) ≡ Ok self.new.office) }
+        ensures refused { IfErr result (λ fault. withdrawn_from self.old.office id (order_in self.old.office.orders id) ≡ Err fault) }
+        ensures unchanged { OnErr result (self.new ≡ self.old) }
+        ensures networks { self.new.networks ≡ self.old.networks }
+    {
+        let Some(row) = self.orders.get(id) else {
+            return Err(ApplyFault::UnknownOrder);
+        };
+        if !row.is_open() {
+            return Err(ApplyFault::OrderClosed);
+        }
+        let _rows = self.wagons.as_slice();
+        end_promises(&mut self.wagons, row.promised());
+        self.orders.withdraw(id);
+        Ok(())
+    }
+
+    /// Promises pairs that can be promised together.
+    fn commit(&mut self, pairs: &[(WagonNumber, OrderId)])
+        requires { CanPromise self.old.office pairs.now }
+        ensures { self.new ≡ record self.old { office = promise_all self.old.office pairs.now } }
+    {
+        for (number, id) in pairs {
+            self.promise(*number, *id);
+        }
+    }
+
+    /// Promises a free wagon to an order that lacks one.
+    fn promise(&mut self, number: WagonNumber, id: OrderId)
+        requires { IsNext self.old.office (number, id) }
+        ensures { self.new ≡ record self.old { office = promise_pair self.old.office (number, id) } }
+    {
+        set_promise(&mut self.wagons, number, Some(id));
+        self.orders.promise(id, number);
+    }
+
+    /// Whether a network may be put in force.
+    fn revisable(&self, network: u32) -> Result<(), ApplyFault>
+        ensures possible { OnOk result (IsOk (after_revision self.now.networks self.now.office network)) }
+        ensures refused { IfErr result (λ fault. after_revision self.now.networks self.now.office network ≡ Err fault) }
+    {
+        if network == 0 || self.networks < network {
+            return Err(ApplyFault::UnknownNetwork);
+        }
+        if network == self.network {
+            return Err(ApplyFault::SameNetwork);
+        }
+        Ok(())
+    }
+
+    /// Puts a network in force.
+    fn revise(&mut self, network: u32) -> Result<(), ApplyFault>
+        ensures done { OnOk result (after_revision self.old.networks self.old.office network ≡ Ok self.new.office) }
+        ensures refused { IfErr result (λ fault. after_revision self.old.networks self.old.office network ≡ Err fault) }
+        ensures unchanged { OnErr result (self.new ≡ self.old) }
+        ensures networks { self.new.networks ≡ self.old.networks }
+    {
+        if let Err(fault) = self.revisable(network) {
+            return Err(fault);
+        }
+        self.network = network;
+        Ok(())
+    }
+}
+
+/// In how many pairs a wagon stands.
+fn times_of_wagon(number: WagonNumber, pairs: &[(WagonNumber, OrderId)]) -> usize
+    ensures { result ≡ times_of_wagon number pairs.now }
+{
+    pairs.iter().filter(|pair| number == pair.0).count()
+}
+
+/// In how many pairs an order stands.
+fn times_of_order(id: OrderId, pairs: &[(WagonNumber, OrderId)]) -> usize
+    ensures { result ≡ times_of_order id pairs.now }
+{
+    pairs.iter().filter(|pair| id == pair.1).count()
+}

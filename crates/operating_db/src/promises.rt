@@ -1,0 +1,47 @@
+//! Promises, on the side of the wagons and on that of the orders.
+ghost use Rattle.std.specs.Prelude.{◌≡◌, true, IfSome};
+ghost use Rattle.office_rows.specs.Rows.{at_wagon, order_in};
+ghost use Rattle.operating_db.specs.After.{orders_after, unpromised_among};
+ghost use Rattle.operating_db.specs.Commits.{with_promise};
+ghost use Rattle.operating_db.specs.Promises.{is_among, promised_of};
+
+use office_rows::{OrderRows, WagonRows};
+use rail_codes::{OrderId, WagonNumber};
+use wagon_state::{Effect, WagonRow};
+
+/// Sets the promise of a wagon, where the office has it. Takes no memory.
+pub(crate) fn set_promise(wagons: &mut WagonRows, number: WagonNumber, promise: Option<OrderId>)
+    ensures { wagons.new ≡ at_wagon number (with_promise promise) wagons.old }
+{
+    let _rows = wagons.as_slice();
+    if let Some(row) = wagons.get(number) {
+        let row = WagonRow { promise, ..*row };
+        wagons.put(row);
+    }
+}
+
+/// Ends the promises of these wagons. Takes no memory.
+pub(crate) fn end_promises(wagons: &mut WagonRows, numbers: &[WagonNumber])
+    ensures { wagons.new ≡ unpromised_among numbers.now wagons.old }
+{
+    for number in numbers {
+        set_promise(wagons, *number, None);
+    }
+}
+
+/// What becomes of the promise of a wagon, on the side of its order. Takes no memory.
+pub(crate) fn settle(
+    orders: &mut OrderRows,
+    effect: Effect,
+    promise: Option<OrderId>,
+    number: WagonNumber,
+)
+    requires { IfSome promise (λ id. is_among number (promised_of (order_in orders.old id)) ≡ true) }
+    ensures { orders.new ≡ orders_after effect promise number orders.old }
+{
+    match (effect, promise) {
+        (Effect::Fills, Some(id)) => orders.fill(id, number),
+        (Effect::Ends, Some(id)) => orders.end_promise(id, number),
+        _ => {}
+    }
+}
