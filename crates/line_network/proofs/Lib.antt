@@ -2,3 +2,4 @@ pub mod NetworkLemmas
 pub mod NetworkOfLemmas
 pub mod ReadingLemmas
 pub mod RecordLemmas
+pub mod Requests

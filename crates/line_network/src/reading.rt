@@ -1,7 +1,7 @@
-ghost use Rattle.std.specs.Prelude.{◌≡◌, IfErr, IfOk, IsErrOf, IsTrue, true, List, OnOk, if◌then◌else◌};
+ghost use Rattle.std.specs.Prelude.{◌≡◌, ◌+◌, IfErr, IfOk, IsErrOf, IsTrue, true, List, OnOk, if◌then◌else◌};
 ghost use Rattle.csv.specs.Reading.{ReadRecord, error_kind, has_failed, is_io, stops_reader};
 ghost use Rattle.csv.specs.Records.{fields_of};
-ghost use Rattle.line_network.specs.Reading.{AreLeft, Gives, IsSetUp, is_failure, network_of, no_network, with_rows};
+ghost use Rattle.line_network.specs.Reading.{AreLeft, AsksAtMost, Gives, IsRequest, IsSetUp, is_failure, network_of, no_network, with_rows};
 ghost use Rattle.line_network.specs.NetworkOf.{IsReadFrom};
 ghost use Rattle.line_network.specs.Records.{Row};
 
@@ -38,6 +38,7 @@ fn read_rows<R: Read>(alloc: Global, rows: &mut Reader<R>) -> Result<Network, Ne
     requires { IsSetUp rows.old }
     ensures meaning { (all : List Row) × AreLeft R.remaining rows.old all × Gives result (network_of all) }
     ensures stopped { IsErrOf result NetworkFault.ReadFailed → has_failed rows.new ≡ true }
+    ensures asked { AsksAtMost R.remaining rows.old (MAX_RECORDS + 2) rows.new }
 {
     let mut row = ByteRecord::new(alloc);
     if !next_row(rows, &mut row)? {
@@ -59,6 +60,7 @@ fn read_below_header<R: Read>(
     requires none { empty ≡ no_network }
     ensures meaning { (rest : List Row) × AreLeft R.remaining rows.old rest × Gives result (with_rows 2 no_network rest) }
     ensures stopped { IsErrOf result NetworkFault.ReadFailed → has_failed rows.new ≡ true }
+    ensures asked { AsksAtMost R.remaining rows.old (MAX_RECORDS + 1) rows.new }
 {
     let mut network = empty;
     for number in 2..MAX_RECORDS + 2 {
@@ -83,6 +85,7 @@ fn next_row<R: Read>(rows: &mut Reader<R>, row: &mut ByteRecord) -> Result<bool,
     ensures still { OnOk result (IsSetUp rows.new) }
     ensures failed { IfErr result (λ fault. IsTrue (is_failure fault)) }
     ensures stopped { IsErrOf result NetworkFault.ReadFailed → has_failed rows.new ≡ true }
+    ensures asked { IsRequest R.remaining rows.old rows.new }
 {
     match rows.read_byte_record(row) {
         Ok(found) => Ok(found),

@@ -1,7 +1,8 @@
-use Rattle.std.proofs.Common.{◌∙◌, arith, ap, sym, subst, length}
+use Rattle.std.proofs.Common.{◌+◌, ◌-◌, ◌∙◌, arith, ap, sym, subst, length}
 use Rattle.std.proofs.lemmas.Result.{err_from_is_err_and}
 use Rattle.csv.specs.Records.{fields_of}
 use Rattle.line_network.proofs.ReadingLemmas.{Answers-end, Answers-failure, Answers-fault, HasRead, HasRead-more, HasRead-start, with_row-known, with_row-other, with_row-past}
+use Rattle.line_network.proofs.Requests.{asks_none, asks_more}
 use Rattle.line_network.specs.Network.{NetworkValue}
 use Rattle.line_network.specs.declared.network_fault.NetworkFault.TheVariants.{BadRow, TooManyLines}
 use Rattle.line_network.proofs.reading.read_below_header.Goals as goal
@@ -11,6 +12,7 @@ loop-number-init g c = record {
   set_up = c.requires.set_up;
   read = subst (λ (n : NetworkValue). HasRead g.R.Read.remaining c.args.rows.now c.args.rows.now 2 n) (sym c.requires.none) (HasRead-start g.R.Read.remaining c.args.rows.now);
   few = omega (arith, ap (λ (n : NetworkValue). length n.lines) c.requires.none);
+  asked = asks_none g.R.Read.remaining c.args.rows.now 0;
 }
 
 pub returns-in_err-next_row-clause-meaning : goal.returns-in_err-next_row-clause-meaning
@@ -46,6 +48,7 @@ loop-number-preserved g c =
           (fields_of c.next_row.new.row) c.loop-number.invariant.read c.loop-number.invariant.set_up (rw c.if-not-branch.false at c.in_ok-next_row.ensures.reads)
           (known ∙ c.in_ok-network.ensures.meaning);
       few = omega (arith, c.in_ok-network.ensures.longer);
+      asked = asks_more g.R.Read.remaining c.args.rows.now (c.loop-number.number - 2) (c.loop-number.number + 1 - 2) c.loop-number.rows c.next_row.new.rows (omega arith) c.loop-number.invariant.asked c.next_row.ensures.asked;
     }
 
 pub returns-in_err-next_row-2-clause-meaning : goal.returns-in_err-next_row-2-clause-meaning
@@ -63,3 +66,31 @@ pub returns-clause-meaning : goal.returns-clause-meaning
 returns-clause-meaning g c =
     Answers-end g.R.Read.remaining c.args.rows.now c.loop-number.rows c.next_row-2.new.rows c.loop-number.number c.loop-number.network (fields_of c.next_row-2.new.row)
     c.loop-number.invariant.read c.loop-number.invariant.set_up (rw c.if-branch.false at c.in_ok-next_row-2.ensures.reads)
+
+pub returns-in_err-next_row-clause-asked : goal.returns-in_err-next_row-clause-asked
+returns-in_err-next_row-clause-asked g c =
+    asks_more g.R.Read.remaining c.args.rows.now (c.loop-number.number - 2) 20001 c.loop-number.rows c.next_row.new.rows (omega arith) c.loop-number.invariant.asked c.next_row.ensures.asked
+
+pub returns-then-not-branch-clause-asked : goal.returns-then-not-branch-clause-asked
+returns-then-not-branch-clause-asked g c =
+    asks_more g.R.Read.remaining c.args.rows.now (c.loop-number.number - 2) 20001 c.loop-number.rows c.next_row.new.rows (omega arith) c.loop-number.invariant.asked c.next_row.ensures.asked
+
+pub returns-in_default-clause-asked : goal.returns-in_default-clause-asked
+returns-in_default-clause-asked g c =
+    asks_more g.R.Read.remaining c.args.rows.now (c.loop-number.number - 2) 20001 c.loop-number.rows c.next_row.new.rows (omega arith) c.loop-number.invariant.asked c.next_row.ensures.asked
+
+pub returns-in_err-network-clause-asked : goal.returns-in_err-network-clause-asked
+returns-in_err-network-clause-asked g c =
+    asks_more g.R.Read.remaining c.args.rows.now (c.loop-number.number - 2) 20001 c.loop-number.rows c.next_row.new.rows (omega arith) c.loop-number.invariant.asked c.next_row.ensures.asked
+
+pub returns-in_err-next_row-2-clause-asked : goal.returns-in_err-next_row-2-clause-asked
+returns-in_err-next_row-2-clause-asked g c =
+    asks_more g.R.Read.remaining c.args.rows.now (c.loop-number.number - 2) 20001 c.loop-number.rows c.next_row-2.new.rows (omega arith) c.loop-number.invariant.asked c.next_row-2.ensures.asked
+
+pub returns-then-branch-clause-asked : goal.returns-then-branch-clause-asked
+returns-then-branch-clause-asked g c =
+    asks_more g.R.Read.remaining c.args.rows.now (c.loop-number.number - 2) 20001 c.loop-number.rows c.next_row-2.new.rows (omega arith) c.loop-number.invariant.asked c.next_row-2.ensures.asked
+
+pub returns-clause-asked : goal.returns-clause-asked
+returns-clause-asked g c =
+    asks_more g.R.Read.remaining c.args.rows.now (c.loop-number.number - 2) 20001 c.loop-number.rows c.next_row-2.new.rows (omega arith) c.loop-number.invariant.asked c.next_row-2.ensures.asked
