@@ -1,0 +1,174 @@
+-- The step of a book: what each call is answered, and the book after it.
+use Rattle.std.specs.Prelude.{◌≡◌, ◌≢◌, ◌+◌, ◌==◌, ◌&&◌, ◌⊎◌, nat_lt, nat_le, ℕ, Bool, true, false, if◌then◌else◌, List, [], ◌∷◌, ◌++◌, length, drop, Option, Some, None, Result, Ok, Err, slice_get}
+use Rattle.std.specs.List.{list_any}
+use Rattle.std.specs.Option.{option_or}
+use Rattle.move_messages.specs.declared.message.Message as movement
+use Rattle.move_messages.specs.declared.commit_text.CommitText.{CommitText}
+use Rattle.cost_table.specs.Problem.{ProblemValue}
+use Rattle.cost_table.specs.Table.{Table}
+use Rattle.price_checker.specs.Faults.{first_fault}
+use Rattle.price_checker.specs.declared.check_fault.CheckFault.{CheckFault}
+use Rattle.operating_db.specs.After.{after_call}
+use Rattle.operating_db.specs.Commits.{Pair}
+use Rattle.operating_db.specs.Office.{Office}
+use Rattle.operating_db.specs.declared.apply_fault.ApplyFault.{ApplyFault}
+use Rattle.operating_db.specs.declared.event.Event.{Event}
+use Rattle.operating_db.specs.declared.event.Event.TheVariants as event
+use Rattle.commit_book.specs.Commits.{positions_of, wagon_changed, order_changed}
+use Rattle.commit_book.specs.History.{replay, problem_at, IsTableAt, IsFresh}
+use Rattle.commit_book.specs.Refusal.{refusal_of, named}
+use Rattle.commit_book.specs.Setting.{Setting}
+use Rattle.commit_book.specs.declared.answer.Answer.{Answer}
+use Rattle.commit_book.specs.declared.answer.Answer.TheVariants.{Done, Begun, Refused}
+use Rattle.commit_book.specs.declared.call.Call.{Call}
+use Rattle.commit_book.specs.declared.call.Call.TheVariants.{Message, Place, Withdraw, Begin, Commit, Revise}
+use Rattle.commit_book.specs.declared.refusal.Refusal.{Refusal}
+use Rattle.commit_book.specs.declared.refusal.Refusal.TheVariants.{OutOfMemory, IdReused, BookFull, NotKept}
+use Rattle.commit_book.specs.declared.reply.Reply.TheVariants.{Accepted, Repeated}
+
+-- a book: the accepted events, and the version and moment of each kept problem, the oldest first
+pub record BookState : Type 0 where
+  pub history : List Event
+  pub kept : List (ℕ × ℕ)
+
+-- ---- events
+
+abbrev pub is_full : Setting → List Event → Bool
+is_full setting history = nat_le setting.entries (length history)
+
+-- entry n, or the office's refusal
+abbrev pub entered_as : ℕ → Result Office ApplyFault → Answer
+entered_as n (Ok office) = Done (Accepted n)
+entered_as n (Err fault) = Refused (refusal_of fault)
+
+-- what an event is answered that is no commit
+abbrev pub event_answer : Setting → List Event → Event → Answer
+event_answer setting history event =
+    if is_full setting history then Refused BookFull
+    else entered_as (length history + 1) (after_call (length setting.networks) (replay setting history) event)
+
+-- ---- messages
+
+-- an entry is this message
+pub record IsRepeated (history : List Event) (message : movement.Message) (answer : Answer) : Type 0 where
+  pub before : ℕ
+  pub same : slice_get history before ≡ Some (event.Message message)
+  pub answered : answer ≡ Done (Repeated (before + 1))
+
+-- an entry is another message of this id
+pub record IsReused (history : List Event) (message : movement.Message) (answer : Answer) : Type 0 where
+  pub before : ℕ
+  pub other : movement.Message
+  pub there : slice_get history before ≡ Some (event.Message other)
+  pub same_id : other.id ≡ message.id
+  pub differs : other ≢ message
+  pub answered : answer ≡ Refused IdReused
+
+-- no entry has this id
+pub record IsNew (setting : Setting) (history : List Event) (message : movement.Message) (answer : Answer) : Type 0 where
+  pub fresh : IsFresh message.id history
+  pub answered : answer ≡ event_answer setting history (event.Message message)
+
+abbrev pub IsMessageAnswer : Setting → List Event → movement.Message → Answer → Type 0
+IsMessageAnswer setting history message answer = IsRepeated history message answer ⊎ (IsReused history message answer ⊎ IsNew setting history message answer)
+
+-- ---- commits
+
+abbrev pub is_this : ℕ × ℕ → ℕ × ℕ → Bool
+is_this which kept = kept.0 == which.0 && kept.1 == which.1
+
+-- whether the problem of a version at a moment is kept
+abbrev pub is_kept : List (ℕ × ℕ) → ℕ × ℕ → Bool
+is_kept kept which = list_any (is_this which) kept
+
+-- a fault of the checker, by name; else the first wagon, else the first order, that has changed
+abbrev pub refusal_for : ProblemValue → (now : Office) → List Pair → Option CheckFault → Option Refusal
+refusal_for problem now pairs (Some fault) = Some (named problem fault)
+refusal_for problem now pairs None = option_or (wagon_changed problem now pairs) (order_changed now [] pairs)
+
+abbrev pub refusal_at : ProblemValue → (now : Office) → CommitText → Table → Result (List (ℕ × ℕ)) Refusal → Option Refusal
+refusal_at problem now commit table (Err refusal) = Some refusal
+refusal_at problem now commit table (Ok positions) = refusal_for problem now commit.pairs (first_fault table positions commit.u commit.v)
+
+-- why a commit is refused, where this is the problem that it names, this its table, and this the office now
+abbrev pub refusal_in : ProblemValue → (now : Office) → CommitText → Table → Option Refusal
+refusal_in problem now commit table = refusal_at problem now commit table (positions_of problem commit.pairs)
+
+abbrev pub accepted_unless : ℕ → Option Refusal → Answer
+accepted_unless n (Some refusal) = Refused refusal
+accepted_unless n None = Done (Accepted n)
+
+-- what a commit of a kept problem is answered, with the table of the version and moment that it names
+pub record IsJudged (setting : Setting) (history : List Event) (commit : CommitText) (answer : Answer) : Type 0 where
+  pub table : Table
+  pub is_table : IsTableAt setting history commit.version commit.at table
+  pub answered : answer ≡ accepted_unless (length history + 1) (refusal_in (problem_at setting history commit.version commit.at) (replay setting history) commit table)
+
+abbrev pub IsCommitAnswer : (is_kept is_full : Bool) → Setting → List Event → CommitText → Answer → Type 0
+IsCommitAnswer false is_full setting history commit answer = answer ≡ Refused NotKept
+IsCommitAnswer true true setting history commit answer = answer ≡ Refused BookFull
+IsCommitAnswer true false setting history commit answer = IsJudged setting history commit answer
+
+-- ---- steps
+
+-- the kept problems after a begin: one that is kept stays where it is; another goes last, and the oldest is dropped
+-- where there would be too many
+abbrev pub kept_after : Setting → List (ℕ × ℕ) → ℕ × ℕ → List (ℕ × ℕ)
+kept_after setting kept which =
+    if is_kept kept which then kept
+    else if nat_lt (length kept) setting.kept then kept ++ which ∷ []
+    else drop 1 kept ++ which ∷ []
+
+-- an accepted event is the last entry; else nothing has changed
+abbrev pub entered : BookState → Event → Answer → BookState
+entered book event (Done (Accepted n)) = record book { history = book.history ++ event ∷ [] }
+entered book event (Done (Repeated n)) = book
+entered book event (Begun n) = book
+entered book event (Refused refusal) = book
+
+-- the answer to a call, and the book after it, want of memory aside
+abbrev pub IsAnswer : Setting → BookState → Call → Answer → Type 0
+IsAnswer setting book (Message message) answer = IsMessageAnswer setting book.history message answer
+IsAnswer setting book (Place text) answer = answer ≡ event_answer setting book.history (event.Place text)
+IsAnswer setting book (Withdraw id) answer = answer ≡ event_answer setting book.history (event.Withdraw id)
+IsAnswer setting book (Begin at) answer = answer ≡ Begun (length book.history)
+IsAnswer setting book (Commit commit) answer =
+    IsCommitAnswer (is_kept book.kept (commit.version, commit.at)) (is_full setting book.history) setting book.history commit answer
+IsAnswer setting book (Revise network) answer = answer ≡ event_answer setting book.history (event.Revise network)
+
+abbrev pub book_after : Setting → BookState → Call → Answer → BookState
+book_after setting book (Message message) answer = entered book (event.Message message) answer
+book_after setting book (Place text) answer = entered book (event.Place text) answer
+book_after setting book (Withdraw id) answer = entered book (event.Withdraw id) answer
+book_after setting book (Begin at) answer = record book { kept = kept_after setting book.kept (length book.history, at) }
+book_after setting book (Commit commit) answer = entered book (event.Commit commit) answer
+book_after setting book (Revise network) answer = entered book (event.Revise network) answer
+
+pub record IsStep (setting : Setting) (book : BookState) (call : Call) (answer : Answer) (new : BookState) : Type 0 where
+  pub answered : IsAnswer setting book call answer
+  pub changed : new ≡ book_after setting book call answer
+
+-- where a call may want memory: a begin; a commit of a kept problem, on a book that isn't full; another event where it
+-- would be accepted
+abbrev pub MayWantMemory : Setting → BookState → Call → Type 0
+MayWantMemory setting book (Begin at) = Unit {0}
+MayWantMemory setting book (Commit commit) =
+    (is_kept book.kept (commit.version, commit.at) ≡ true) × (is_full setting book.history ≡ false)
+MayWantMemory setting book call = IsAnswer setting book call (Done (Accepted (length book.history + 1)))
+
+-- want of memory, with nothing changed
+pub record WantsMemory (setting : Setting) (book : BookState) (call : Call) (answer : Answer) (new : BookState) : Type 0 where
+  pub may : MayWantMemory setting book call
+  pub refused : answer ≡ Refused OutOfMemory
+  pub unchanged : new ≡ book
+
+-- A call of a book: its step, or want of memory.
+abbrev pub IsCall : Setting → BookState → Call → Answer → BookState → Type 0
+IsCall setting book call answer new = IsStep setting book call answer new ⊎ WantsMemory setting book call answer new
+
+-- a run of calls, one after the other, with their answers
+abbrev pub IsRun : Setting → BookState → List Call → List Answer → BookState → Type 0
+IsRun setting book [] [] new = new ≡ book
+IsRun setting book (call ∷ calls) (answer ∷ answers) new = (next : BookState) × IsCall setting book call answer next × IsRun setting next calls answers new
+IsRun setting book [] (answer ∷ answers) new = ⊥
+IsRun setting book (call ∷ calls) [] new = ⊥

@@ -1,0 +1,63 @@
+-- What a commit is tested for: its pairs are of the problem that it names, and what they are of has not changed.
+use Rattle.std.specs.Prelude.{ℕ, Bool, true, false, nat_eq, nat_lt, ◌==◌, ◌&&◌, if◌then◌else◌, List, [], ◌∷◌, ◌++◌, Option, Some, None, Result, Ok, Err}
+use Rattle.std.specs.List.{find}
+use Rattle.std.specs.Option.{option_and_then}
+use Rattle.std.specs.Cmp.Lexicographic.{pointwise}
+use Rattle.move_messages.specs.Values.{◌>>=◌}
+use Rattle.wagon_state.specs.declared.free_wagon.FreeWagon.{FreeWagon}
+use Rattle.wagon_state.specs.Free.{free_of}
+use Rattle.office_rows.specs.Rows.{wagon_in, order_in}
+use Rattle.cost_table.specs.Names.{is_name, pair_of}
+use Rattle.cost_table.specs.Problem.{ProblemValue, names_of_problem}
+use Rattle.operating_db.specs.Commits.{Pair, times_of_order, lack_in}
+use Rattle.operating_db.specs.Office.{Office}
+use Rattle.commit_book.specs.declared.refusal.Refusal.{Refusal}
+use Rattle.commit_book.specs.declared.refusal.Refusal.TheVariants.{WagonChanged, OrderChanged, NotInProblem}
+
+-- ---- names and positions
+
+abbrev pub found_or : Pair → Option (ℕ × ℕ) → Result (ℕ × ℕ) Refusal
+found_or pair None = Err (NotInProblem pair.0 pair.1)
+found_or pair (Some position) = Ok position
+
+-- the positions of the pairs in a problem, up to the first pair whose wagon or order it doesn't have
+unfoldable pub positions_of : ProblemValue → List Pair → Result (List (ℕ × ℕ)) Refusal
+positions_of problem [] = Ok []
+positions_of problem (pair ∷ pairs) = do
+  position ← found_or pair (pair_of (names_of_problem problem) pair.0 pair.1)
+  positions ← positions_of problem pairs
+  Ok (position ∷ positions)
+
+-- ---- what has changed
+
+-- a problem's wagon of a number
+abbrev pub wagon_of : ProblemValue → List ℕ → Option FreeWagon
+wagon_of problem number = find (λ wagon. is_name number wagon.number) problem.wagons
+
+-- a wagon as a free one, where an office has it and it is free
+abbrev pub free_in : Office → List ℕ → Option FreeWagon
+free_in office number = option_and_then free_of (wagon_in office.wagons number)
+
+-- whether two are one wagon, at one place and from one moment on
+abbrev pub is_same_wagon : FreeWagon → FreeWagon → Bool
+is_same_wagon a b =
+    pointwise nat_eq a.number b.number && (pointwise nat_eq a.class b.class && (a.load_limit == b.load_limit && (pointwise nat_eq a.place b.place && a.ready == b.ready)))
+
+-- whether both are there, and one wagon
+abbrev pub is_same_free : Option FreeWagon → Option FreeWagon → Bool
+is_same_free (Some a) (Some b) = is_same_wagon a b
+is_same_free (Some a) None = false
+is_same_free None b = false
+
+-- the first pair whose wagon isn't free now as it is in the problem
+abbrev pub wagon_changed : ProblemValue → (now : Office) → List Pair → Option Refusal
+wagon_changed problem now [] = None
+wagon_changed problem now (pair ∷ pairs) =
+    if is_same_free (wagon_of problem pair.0) (free_in now pair.0) then wagon_changed problem now pairs else Some (WagonChanged pair.0)
+
+-- the first pair whose order, this pair and those before it counted, lacks fewer wagons now
+abbrev pub order_changed : (now : Office) → (before : List Pair) → List Pair → Option Refusal
+order_changed now before [] = None
+order_changed now before (pair ∷ pairs) =
+    if nat_lt (times_of_order pair.1 before) (lack_in (order_in now.orders pair.1)) then order_changed now (before ++ pair ∷ []) pairs
+    else Some (OrderChanged pair.1)

@@ -1,0 +1,65 @@
+-- The headline: what holds of every book, whatever was called.
+use Rattle.std.specs.Prelude.{◌≡◌, ◌≤◌, ℕ, List, [], take, Some, Ok, All, slice_get}
+use Rattle.move_messages.specs.declared.commit_text.CommitText.{CommitText}
+use Rattle.wagon_roster.specs.Roster.{IsRoster}
+use Rattle.wagon_state.specs.declared.free_wagon.FreeWagon.{FreeWagon}
+use Rattle.load_orders.specs.Wanted.{WantedOrder}
+use Rattle.line_network.specs.Network.{NetworkValue}
+use Rattle.distance_tables.specs.Networks.{IsNetworkCount, network_at}
+use Rattle.cost_table.specs.Allowed.{IsTableOf, Reaches}
+use Rattle.cost_table.specs.Plan.{IsOptimal}
+use Rattle.cost_table.specs.Problem.{ProblemValue}
+use Rattle.cost_table.specs.Table.{Table}
+use Rattle.price_checker.specs.Certificate.{IsCertificate}
+use Rattle.operating_db.specs.Commits.{Pair, times_of_wagon, times_of_order}
+use Rattle.operating_db.specs.Promises.{PromisesAgree}
+use Rattle.operating_db.specs.declared.event.Event.{Event}
+use Rattle.operating_db.specs.declared.event.Event.TheVariants.{Commit}
+use Rattle.commit_book.specs.BookStep.{BookState, IsRun}
+use Rattle.commit_book.specs.Commits.{positions_of}
+use Rattle.commit_book.specs.History.{IsLegal, problem_at, version}
+use Rattle.commit_book.specs.Setting.{Setting}
+use Rattle.commit_book.specs.declared.answer.Answer.{Answer}
+use Rattle.commit_book.specs.declared.call.Call.{Call}
+
+-- Of a pair of a distribution: its wagon is one of the problem's free wagons and its order one of the waiting orders,
+-- which the wagon suits and reaches in time, and which is given no more wagons than it lacks.
+pub record IsReached (network : NetworkValue) (problem : ProblemValue) (pairs : List Pair) (pair : Pair) : Type 0 where
+  pub i : ℕ
+  pub wagon : FreeWagon
+  pub is_free : slice_get problem.wagons i ≡ Some wagon
+  pub its_number : wagon.number ≡ pair.0
+  pub j : ℕ
+  pub wanted : WantedOrder
+  pub is_waiting : slice_get problem.orders j ≡ Some wanted
+  pub its_id : wanted.order.id ≡ pair.1
+  pub km : ℕ
+  pub reaches : Reaches network problem.at wagon wanted.order km
+  pub no_more : times_of_order pair.1 pairs ≤ wanted.lack
+
+-- The headline, of one commit behind the entries before it: in the version and at the moment that it names, distinct
+-- wagons that were free go to orders that were waiting, which they suit and reach in time, no order more than it lacked;
+-- no such distribution of that version has a lower sum of kilometres and penalties, as the recorded prices show.
+pub record IsSound (setting : Setting) (before : List Event) (commit : CommitText) : Type 0 where
+  pub network : NetworkValue
+  pub in_force : network_at setting.networks (version setting before commit.version).network ≡ Some network
+  pub distinct : (number : List ℕ) → times_of_wagon number commit.pairs ≤ 1
+  pub reached : All (IsReached network (problem_at setting before commit.version commit.at) commit.pairs) commit.pairs
+  pub table : Table
+  pub is_table : IsTableOf network (problem_at setting before commit.version commit.at) table
+  pub positions : List (ℕ × ℕ)
+  pub are_positions : positions_of (problem_at setting before commit.version commit.at) commit.pairs ≡ Ok positions
+  pub optimal : IsOptimal table positions
+  pub certificate : IsCertificate table positions commit.u commit.v
+
+-- what holds of a history, and of each of its versions
+pub record IsProved (setting : Setting) (history : List Event) : Type 0 where
+  pub legal : IsLegal setting history
+  pub commits : (n : ℕ) (commit : CommitText) → slice_get history n ≡ Some (Commit commit) → IsSound setting (take n history) commit
+  pub promises : (n : ℕ) → PromisesAgree (version setting history n)
+
+-- Over every roster, all networks, all limits and every list of calls, whatever memory was refused on the way.
+abbrev pub Headline : Type 0
+Headline =
+    (setting : Setting) → IsRoster setting.roster → (calls : List Call) (answers : List Answer) (book : BookState)
+    → IsRun setting (record { history = []; kept = [] }) calls answers book → IsProved setting book.history

@@ -1,0 +1,31 @@
+-- What a book keeps beside its history.
+use Rattle.std.specs.Prelude.{◌≡◌, ◌≤◌, nat_lt, ℕ, if◌then◌else◌, List, [], ◌∷◌, ◌++◌, length, drop, All}
+use Rattle.operating_db.specs.declared.event.Event.{Event}
+use Rattle.commit_book.specs.BookStep.{BookState}
+use Rattle.commit_book.specs.History.{IsLegal, IsTableAt, problem_at}
+use Rattle.commit_book.specs.Setting.{Setting}
+use Rattle.commit_book.specs.declared.kept_problems.KeptProblem.{KeptProblem}
+
+-- what a contract sees of a book: what it was given, its history, and which problems it keeps
+pub record BookValue : Type 0 where
+  pub setting : Setting
+  pub state : BookState
+
+-- the version and the moment of a kept problem
+abbrev pub which_of : KeptProblem → ℕ × ℕ
+which_of kept = (kept.version, kept.problem.at)
+
+-- one more, as the last; the first makes room where there are as many as may be
+abbrev pub with_kept : ℕ → List KeptProblem → KeptProblem → List KeptProblem
+with_kept most kept one = if nat_lt (length kept) most then kept ++ one ∷ [] else drop 1 kept ++ one ∷ []
+
+-- the problem and the table are those of a version that the book has had
+pub record IsKeptAt (setting : Setting) (history : List Event) (kept : KeptProblem) : Type 0 where
+  pub had : kept.version ≤ length history
+  pub is_problem : kept.problem ≡ problem_at setting history kept.version kept.problem.at
+  pub is_table : IsTableAt setting history kept.version kept.problem.at kept.cells
+
+-- What every book keeps: its history is legal, and each kept problem is that of its version.
+pub record IsBook (setting : Setting) (history : List Event) (kept : List KeptProblem) : Type 0 where
+  pub legal : IsLegal setting history
+  pub problems : All (IsKeptAt setting history) kept

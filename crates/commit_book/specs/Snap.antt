@@ -1,0 +1,23 @@
+-- Snapshots: what a planner is given.
+use Rattle.std.specs.Prelude.{◌≤◌, ◌<◌, ℕ, List, length}
+use Rattle.cost_table.specs.Problem.{ProblemValue}
+use Rattle.operating_db.specs.Commits.{Pair}
+use Rattle.commit_book.specs.Refusal.{wagon_name, order_name}
+use Rattle.commit_book.specs.declared.limits.TheConstants.{MAX_ENTRIES}
+
+-- a version, the network in force in it, and its problem at a moment
+pub record SnapValue : Type 0 where
+  pub version : ℕ
+  pub network : ℕ
+  pub problem : ProblemValue
+
+abbrev pub IsVersionNumber : ℕ → Type 0
+IsVersionNumber version = version ≤ MAX_ENTRIES
+
+-- a pair of positions is one of the problem
+abbrev pub IsInRange : ProblemValue → ℕ × ℕ → Type 0
+IsInRange problem position = (position.0 < length problem.wagons) × (position.1 < length problem.orders)
+
+-- the names at a pair of positions
+abbrev pub named_pair : ProblemValue → ℕ × ℕ → Pair
+named_pair problem position = (wagon_name problem position.0, order_name problem position.1)

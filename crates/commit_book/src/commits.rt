@@ -1,0 +1,128 @@
+//! The tests of a commit.
+ghost use Rattle.std.specs.Prelude.{◌≡◌, ◌≢◌, [], IfErr, IfOk, None, OnOk, Some, option_copied};
+ghost use Rattle.std.specs.List.{find};
+ghost use Rattle.std.specs.Result.{result_err};
+ghost use Rattle.cost_table.specs.Names.{is_name};
+ghost use Rattle.commit_book.specs.BookStep.{refusal_in};
+ghost use Rattle.commit_book.specs.Commits.{free_in, is_same_free, order_changed, wagon_changed, wagon_of as wagon_in_problem};
+ghost use Rattle.commit_book.specs.declared.refusal.Refusal.TheVariants.{OutOfMemory};
+ghost use Rattle.operating_db.specs.Commits.{lack_in, times_of_order as times_in};
+ghost use Rattle.office_rows.specs.Rows.{order_in};
+
+use crate::Refusal;
+use crate::kept_problems::KeptProblem;
+use crate::names::{named, positions_of};
+use cost_table::Problem;
+use move_messages::CommitText;
+use operating_db::OfficeState;
+use price_checker::{Prices, check};
+use rail_codes::{OrderId, WagonNumber};
+use std::alloc::{AllocError, Global};
+use wagon_state::{FreeWagon, free};
+
+/// Tests a commit of a kept problem in the office as it is now: its pairs are of the problem (84); they and its prices
+/// are a certificate of the problem's table (61 to 66); its wagons are free as they were (82); its orders lack as many
+/// wagons as they are given (83).
+pub(crate) fn judge(
+    alloc: Global,
+    kept: &KeptProblem,
+    now: &OfficeState,
+    commit: &CommitText,
+) -> Result<(), Refusal>
+    ensures accepted { OnOk result (refusal_in kept.now.problem now.now.office commit.now kept.now.cells ≡ None) }
+    ensures refused { IfErr result (λ refusal. refusal ≢ OutOfMemory → refusal_in kept.now.problem now.now.office commit.now kept.now.cells ≡ Some refusal) }
+{
+    let pairs = commit.pairs.as_slice();
+    let positions = positions_of(alloc, &kept.problem, pairs)?;
+    let prices = prices_of(alloc, commit)?;
+    if let Err(fault) = check(&kept.cells, &positions, &prices) {
+        return Err(named(&kept.problem, fault));
+    }
+    wagons_unchanged(&kept.problem, now, pairs)?;
+    orders_unchanged(now, pairs)
+}
+
+/// The prices of a commit.
+fn prices_of(alloc: Global, commit: &CommitText) -> Result<Prices, AllocError>
+    ensures { IfOk result (λ prices. (prices.u.items ≡ commit.now.u) × (prices.v.items ≡ commit.now.v)) }
+{
+    let u = Vec::from_slice(alloc, commit.u.as_slice())?;
+    let v = Vec::from_slice(alloc, commit.v.as_slice())?;
+    Ok(Prices { u, v })
+}
+
+/// Each wagon of the pairs is free now as it is in the problem.
+fn wagons_unchanged(
+    problem: &Problem,
+    now: &OfficeState,
+    pairs: &[(WagonNumber, OrderId)],
+) -> Result<(), Refusal>
+    ensures { result_err result ≡ wagon_changed problem.now now.now.office pairs.now }
+{
+    for pair in pairs {
+        if !is_unchanged(wagon_of(problem, pair.0), free_now(now, pair.0)) {
+            return Err(Refusal::WagonChanged(pair.0));
+        }
+    }
+    Ok(())
+}
+
+/// The wagon of a number, where the problem has it.
+fn wagon_of(problem: &Problem, number: WagonNumber) -> Option<&FreeWagon>
+    ensures { option_copied result ≡ wagon_in_problem problem.now number }
+{
+    wagon_among(problem.wagons(), number)
+}
+
+/// The first wagon of a number.
+fn wagon_among(wagons: &[FreeWagon], number: WagonNumber) -> Option<&FreeWagon>
+    ensures { option_copied result ≡ find (λ wagon. is_name number wagon.number) wagons.now }
+{
+    wagons.iter().find(|wagon| wagon.number == number)
+}
+
+/// The wagon of a number as a free one, where the office has it and it is free.
+fn free_now(now: &OfficeState, number: WagonNumber) -> Option<FreeWagon>
+    ensures { result ≡ free_in now.now.office number }
+{
+    free(now.wagon(number)?)
+}
+
+/// Whether both are there, and one wagon.
+fn is_unchanged(planned: Option<&FreeWagon>, present: Option<FreeWagon>) -> bool
+    ensures { result ≡ is_same_free (option_copied planned) present }
+{
+    match (planned, present) {
+        (Some(planned), Some(present)) => *planned == present,
+        _ => false,
+    }
+}
+
+/// Each order lacks as many wagons now as the pairs give it.
+fn orders_unchanged(now: &OfficeState, pairs: &[(WagonNumber, OrderId)]) -> Result<(), Refusal>
+    ensures { result_err result ≡ order_changed now.now.office [] pairs.now }
+{
+    for (k, pair) in pairs.iter().enumerate() {
+        if times_of_order(pair.1, &pairs[..k]) >= lack_now(now, pair.1) as usize {
+            return Err(Refusal::OrderChanged(pair.1));
+        }
+    }
+    Ok(())
+}
+
+/// How many wagons an order lacks now; an unknown one lacks none.
+fn lack_now(now: &OfficeState, id: OrderId) -> u32
+    ensures { result ≡ lack_in (order_in now.now.office.orders id) }
+{
+    match now.order(id) {
+        Some(row) => row.lack(),
+        None => 0,
+    }
+}
+
+/// In how many pairs an order stands.
+fn times_of_order(id: OrderId, pairs: &[(WagonNumber, OrderId)]) -> usize
+    ensures { result ≡ times_in id pairs.now }
+{
+    pairs.iter().filter(|pair| id == pair.1).count()
+}

@@ -1,0 +1,108 @@
+//! The accepted events, and the office after them.
+ghost use Rattle.std.specs.Prelude.{◌≡◌, ◌≤◌, ◌++◌, ◌∷◌, [], Some, IfErr, IfNone, IfOk, IfSome, IsOk, OnErr, OnOk, length, option_map, slice_get};
+ghost use Rattle.operating_db.specs.After.{after_call};
+ghost use Rattle.operating_db.specs.ApplyFault.{IsRefusal};
+ghost use Rattle.operating_db.specs.Steps.{IsPromised};
+ghost use Rattle.operating_db.specs.declared.event.Event.TheVariants as event;
+ghost use Rattle.commit_book.specs.History.{IsFresh};
+ghost use Rattle.commit_book.specs.Ledger.{IsFreshEvent, office_of, state_of};
+
+use indexmap::IndexMap;
+use move_messages::Message;
+use operating_db::{ApplyFault, Event, MAX_NETWORKS, OfficeState};
+use rail_codes::MessageId;
+use std::alloc::{AllocError, Global};
+use std::marker::Model;
+use wagon_roster::Roster;
+
+/// The accepted events in their order, and the office after them. A contract sees the roster, how many networks there
+/// are, and the list of the events.
+#[derive(Debug, Drop)]
+pub(crate) struct Ledger {
+    roster: Roster,
+    events: Vec<Event>,
+    // The place of each message among the events, by its id.
+    ids: IndexMap<MessageId, usize>,
+    state: OfficeState,
+}
+
+impl Model for Ledger {
+    ghost use Rattle.commit_book.specs.Ledger.{LedgerValue, IsLedger};
+
+    ghost Value = { LedgerValue };
+
+    ghost view = { λ ledger. record { roster = ledger.roster; networks = ledger.state.networks; events = ledger.events.items } };
+
+    ghost invariant = { λ ledger. IsLedger ledger.roster ledger.events.items ledger.ids.entries ledger.state };
+}
+
+impl Ledger {
+    /// No event, where there are so many networks.
+    pub fn new(alloc: Global, roster: Roster, networks: u32) -> Result<Ledger, AllocError>
+        requires from_one { 1 ≤ networks }
+        requires few { networks ≤ MAX_NETWORKS }
+        ensures { IfOk result (λ ledger. ledger ≡ record { roster = roster; networks = networks; events = [] }) }
+    {
+        let state = OfficeState::new(alloc, &roster, networks)?;
+        Ok(Ledger {
+            roster,
+            events: Vec::new(alloc),
+            ids: IndexMap::new(alloc),
+            state,
+        })
+    }
+
+    /// How many events there are.
+    pub fn len(&self) -> usize
+        ensures { result ≡ length self.now.events }
+    {
+        self.events.len()
+    }
+
+    /// The event at a place, counted from 0.
+    pub fn get(&self, place: usize) -> Option<&Event>
+        ensures { option_map (λ event. event.now) result ≡ slice_get self.now.events place }
+    {
+        self.events.get(place)
+    }
+
+    /// The office after all events.
+    pub fn state(&self) -> &OfficeState
+        ensures { result.now ≡ state_of self.now }
+    {
+        &self.state
+    }
+
+    /// The message of an id, and the place of its event.
+    pub fn find(&self, id: MessageId) -> Option<(usize, &Message)>
+        ensures found { IfSome result (λ r. (slice_get self.now.events r.0 ≡ Some (event.Message r.1.now)) × (r.1.now.id ≡ id)) }
+        ensures fresh { IfNone result (IsFresh id self.now.events) }
+    {
+        let place = *self.ids.get(&id)?;
+        match self.events.get(place)? {
+            Event::Message(message) => Some((place, message)),
+            _ => None,
+        }
+    }
+
+    /// Lets an event happen, as the last one; a message must have a new id, and a commit must be possible. Refused as
+    /// the office refuses it, with nothing changed; want of memory comes after all else.
+    pub fn enter(&mut self, alloc: Global, event: Event) -> Result<(), ApplyFault>
+        requires promised { IsPromised (office_of self.old) event }
+        requires fresh { IsFreshEvent event self.old.events }
+        ensures entered { OnOk result (self.new ≡ record self.old { events = self.old.events ++ event ∷ [] }) }
+        ensures possible { OnOk result (IsOk (after_call self.old.networks (office_of self.old) event)) }
+        ensures refused { IfErr result (λ fault. IsRefusal (after_call self.old.networks (office_of self.old) event) fault) }
+        ensures unchanged { OnErr result (self.new ≡ self.old) }
+    {
+        self.state.possible(&event)?;
+        self.events.reserve(1)?;
+        self.ids.reserve(1)?;
+        self.state.apply(alloc, &event)?;
+        if let Event::Message(message) = &event {
+            self.ids.insert(message.id, self.events.len()).unwrap();
+        }
+        self.events.push(event).unwrap();
+        Ok(())
+    }
+}

@@ -1,0 +1,23 @@
+//! The book: a history of events that is legal whatever is called, and commits that are accepted exactly where their
+//! prices prove them least in the version that they name.
+#![tactic(auto)]
+
+mod answer;
+mod call;
+mod commits;
+mod kept_problems;
+mod laws;
+mod ledger;
+mod limits;
+mod names;
+mod refusal;
+mod reply;
+mod snap;
+
+pub use answer::Answer;
+pub use call::Call;
+pub use laws::every_commit_is_proved_least;
+pub use limits::{Limits, MAX_ENTRIES, MAX_KEPT};
+pub use refusal::Refusal;
+pub use reply::Reply;
+pub use snap::Snap;
