@@ -24,12 +24,24 @@ use Rattle.commit_book.specs.declared.call.Call.{Call}
 use Rattle.commit_book.specs.declared.call.Call.TheVariants.{Message, Place, Withdraw, Begin, Commit, Revise}
 use Rattle.commit_book.specs.declared.refusal.Refusal.{Refusal}
 use Rattle.commit_book.specs.declared.refusal.Refusal.TheVariants.{OutOfMemory, IdReused, BookFull, NotKept}
+use Rattle.std.specs.declared.alloc.AllocError.{AllocError}
+use Rattle.commit_book.specs.Snap.{SnapValue}
+use Rattle.commit_book.specs.declared.reply.Reply.{Reply}
 use Rattle.commit_book.specs.declared.reply.Reply.TheVariants.{Accepted, Repeated}
 
 -- a book: the accepted events, and the version and moment of each kept problem, the oldest first
 pub record BookState : Type 0 where
   pub history : List Event
   pub kept : List (ℕ × ℕ)
+
+-- what a call that enters an event returned, as an answer; what a begin did
+abbrev pub answer_of : Result Reply Refusal → Answer
+answer_of (Ok reply) = Done reply
+answer_of (Err refusal) = Refused refusal
+
+abbrev pub begun_of : Result SnapValue AllocError → Answer
+begun_of (Ok snap) = Begun snap.version
+begun_of (Err error) = Refused OutOfMemory
 
 -- ---- events
 
@@ -46,6 +58,26 @@ abbrev pub event_answer : Setting → List Event → Event → Answer
 event_answer setting history event =
     if is_full setting history then Refused BookFull
     else entered_as (length history + 1) (after_call (length setting.networks) (replay setting history) event)
+
+-- an accepted event is the last entry; else nothing has changed
+abbrev pub entered : BookState → Event → Answer → BookState
+entered book event (Done (Accepted n)) = record book { history = book.history ++ event ∷ [] }
+entered book event (Done (Repeated n)) = book
+entered book event (Begun n) = book
+entered book event (Refused refusal) = book
+
+-- an event that is entered or refused; or memory is refused where it would be entered
+pub record IsEnteredOrRefused (setting : Setting) (book : BookState) (entry : Event) (answer : Answer) (new : BookState) : Type 0 where
+  pub answered : answer ≡ event_answer setting book.history entry
+  pub changed : new ≡ entered book entry answer
+
+pub record IsOutOfMemory (setting : Setting) (book : BookState) (entry : Event) (answer : Answer) (new : BookState) : Type 0 where
+  pub may : event_answer setting book.history entry ≡ Done (Accepted (length book.history + 1))
+  pub refused : answer ≡ Refused OutOfMemory
+  pub unchanged : new ≡ book
+
+abbrev pub IsEntered : Setting → BookState → Event → Answer → BookState → Type 0
+IsEntered setting book entry answer new = IsEnteredOrRefused setting book entry answer new ⊎ IsOutOfMemory setting book entry answer new
 
 -- ---- messages
 
@@ -118,13 +150,6 @@ kept_after setting kept which =
     if is_kept kept which then kept
     else if nat_lt (length kept) setting.kept then kept ++ which ∷ []
     else drop 1 kept ++ which ∷ []
-
--- an accepted event is the last entry; else nothing has changed
-abbrev pub entered : BookState → Event → Answer → BookState
-entered book event (Done (Accepted n)) = record book { history = book.history ++ event ∷ [] }
-entered book event (Done (Repeated n)) = book
-entered book event (Begun n) = book
-entered book event (Refused refusal) = book
 
 -- the answer to a call, and the book after it, want of memory aside
 abbrev pub IsAnswer : Setting → BookState → Call → Answer → Type 0

@@ -1,8 +1,11 @@
 -- What a book keeps beside its history.
-use Rattle.std.specs.Prelude.{◌≡◌, ◌≤◌, nat_lt, ℕ, if◌then◌else◌, List, [], ◌∷◌, ◌++◌, length, drop, All}
+use Rattle.std.specs.Prelude.{◌≡◌, ◌≤◌, nat_lt, ℕ, if◌then◌else◌, List, [], ◌∷◌, ◌++◌, length, drop, map, All}
+use Rattle.line_network.specs.Network.{NetworkValue}
 use Rattle.operating_db.specs.declared.event.Event.{Event}
 use Rattle.commit_book.specs.BookStep.{BookState}
 use Rattle.commit_book.specs.History.{IsLegal, IsTableAt, problem_at}
+use Rattle.commit_book.specs.Ledger.{LedgerValue}
+use Rattle.commit_book.specs.Limits.{LimitNumbers}
 use Rattle.commit_book.specs.Setting.{Setting}
 use Rattle.commit_book.specs.declared.kept_problems.KeptProblem.{KeptProblem}
 
@@ -29,3 +32,18 @@ pub record IsKeptAt (setting : Setting) (history : List Event) (kept : KeptProbl
 pub record IsBook (setting : Setting) (history : List Event) (kept : List KeptProblem) : Type 0 where
   pub legal : IsLegal setting history
   pub problems : All (IsKeptAt setting history) kept
+
+-- what a book was given
+abbrev pub setting_of : LedgerValue → List NetworkValue → LimitNumbers → Setting
+setting_of ledger networks limits = record { roster = ledger.roster; networks = networks; entries = limits.entries; kept = limits.kept }
+
+abbrev pub book_of : LedgerValue → List NetworkValue → LimitNumbers → List KeptProblem → BookValue
+book_of ledger networks limits kept = record {
+  setting = setting_of ledger networks limits;
+  state = record { history = ledger.events; kept = map which_of kept };
+}
+
+-- a book of these parts
+pub record IsBookOf (ledger : LedgerValue) (networks : List NetworkValue) (limits : LimitNumbers) (kept : List KeptProblem) : Type 0 where
+  pub counted : ledger.networks ≡ length networks
+  pub book : IsBook (setting_of ledger networks limits) ledger.events kept

@@ -2,7 +2,11 @@
 use Rattle.std.specs.Prelude.{◌≤◌, ◌<◌, ℕ, List, length}
 use Rattle.cost_table.specs.Problem.{ProblemValue}
 use Rattle.operating_db.specs.Commits.{Pair}
+use Rattle.operating_db.specs.Problem.{problem_of}
+use Rattle.operating_db.specs.declared.event.Event.{Event}
+use Rattle.commit_book.specs.History.{replay}
 use Rattle.commit_book.specs.Refusal.{wagon_name, order_name}
+use Rattle.commit_book.specs.Setting.{Setting}
 use Rattle.commit_book.specs.declared.limits.TheConstants.{MAX_ENTRIES}
 
 -- a version, the network in force in it, and its problem at a moment
@@ -21,3 +25,11 @@ IsInRange problem position = (position.0 < length problem.wagons) × (position.1
 -- the names at a pair of positions
 abbrev pub named_pair : ProblemValue → ℕ × ℕ → Pair
 named_pair problem position = (wagon_name problem position.0, order_name problem position.1)
+
+-- the problem of a history's last version at a moment, and the network in force
+abbrev pub snap_of : Setting → List Event → (at : ℕ) → SnapValue
+snap_of setting history at = record {
+  version = length history;
+  network = (replay setting history).network;
+  problem = problem_of (replay setting history) at;
+}

@@ -1,5 +1,5 @@
 //! The tests of a commit.
-ghost use Rattle.std.specs.Prelude.{◌≡◌, ◌≢◌, [], IfErr, IfOk, None, OnOk, Some, option_copied};
+ghost use Rattle.std.specs.Prelude.{◌≡◌, ◌≢◌, [], IfErr, IfOk, None, OnOk, Some, nat_lt, option_copied};
 ghost use Rattle.std.specs.List.{find};
 ghost use Rattle.std.specs.Result.{result_err};
 ghost use Rattle.cost_table.specs.Names.{is_name};
@@ -60,18 +60,25 @@ fn wagons_unchanged(
     ensures { result_err result ≡ wagon_changed problem.now now.now.office pairs.now }
 {
     for pair in pairs {
-        if !is_unchanged(wagon_of(problem, pair.0), free_now(now, pair.0)) {
+        if !is_free_as_planned(problem, now, pair.0) {
             return Err(Refusal::WagonChanged(pair.0));
         }
     }
     Ok(())
 }
 
-/// The wagon of a number, where the problem has it.
-fn wagon_of(problem: &Problem, number: WagonNumber) -> Option<&FreeWagon>
-    ensures { option_copied result ≡ wagon_in_problem problem.now number }
+/// Whether a wagon is free now as it is in the problem.
+fn is_free_as_planned(problem: &Problem, now: &OfficeState, number: WagonNumber) -> bool
+    ensures { result ≡ is_same_free (wagon_in_problem problem.now number) (free_in now.now.office number) }
 {
-    wagon_among(problem.wagons(), number)
+    is_unchanged(wagon_of(problem, number), free_now(now, number))
+}
+
+/// The wagon of a number, where the problem has it.
+fn wagon_of(problem: &Problem, number: WagonNumber) -> Option<FreeWagon>
+    ensures { result ≡ wagon_in_problem problem.now number }
+{
+    wagon_among(problem.wagons(), number).copied()
 }
 
 /// The first wagon of a number.
@@ -89,11 +96,11 @@ fn free_now(now: &OfficeState, number: WagonNumber) -> Option<FreeWagon>
 }
 
 /// Whether both are there, and one wagon.
-fn is_unchanged(planned: Option<&FreeWagon>, present: Option<FreeWagon>) -> bool
-    ensures { result ≡ is_same_free (option_copied planned) present }
+fn is_unchanged(planned: Option<FreeWagon>, present: Option<FreeWagon>) -> bool
+    ensures { result ≡ is_same_free planned present }
 {
     match (planned, present) {
-        (Some(planned), Some(present)) => *planned == present,
+        (Some(planned), Some(present)) => planned == present,
         _ => false,
     }
 }
@@ -103,11 +110,18 @@ fn orders_unchanged(now: &OfficeState, pairs: &[(WagonNumber, OrderId)]) -> Resu
     ensures { result_err result ≡ order_changed now.now.office [] pairs.now }
 {
     for (k, pair) in pairs.iter().enumerate() {
-        if times_of_order(pair.1, &pairs[..k]) >= lack_now(now, pair.1) as usize {
+        if !lacks_more(now, &pairs[..k], pair.1) {
             return Err(Refusal::OrderChanged(pair.1));
         }
     }
     Ok(())
+}
+
+/// Whether an order lacks more wagons now than these pairs give it.
+fn lacks_more(now: &OfficeState, before: &[(WagonNumber, OrderId)], id: OrderId) -> bool
+    ensures { result ≡ nat_lt (times_in id before.now) (lack_in (order_in now.now.office.orders id)) }
+{
+    times_of_order(id, before) < lack_now(now, id) as usize
 }
 
 /// How many wagons an order lacks now; an unknown one lacks none.

@@ -1,11 +1,12 @@
 //! The accepted events, and the office after them.
-ghost use Rattle.std.specs.Prelude.{◌≡◌, ◌≤◌, ◌++◌, ◌∷◌, [], Some, IfErr, IfNone, IfOk, IfSome, IsOk, OnErr, OnOk, length, option_map, slice_get};
+ghost use Rattle.std.specs.Prelude.{◌≡◌, ◌<◌, ◌≤◌, ◌++◌, ◌∷◌, [], Some, IfErr, IfNone, IfOk, IfSome, IsOk, OnErr, OnOk, length, option_map, slice_get};
 ghost use Rattle.operating_db.specs.After.{after_call};
 ghost use Rattle.operating_db.specs.ApplyFault.{IsRefusal};
 ghost use Rattle.operating_db.specs.Steps.{IsPromised};
 ghost use Rattle.operating_db.specs.declared.event.Event.TheVariants as event;
 ghost use Rattle.commit_book.specs.History.{IsFresh};
-ghost use Rattle.commit_book.specs.Ledger.{IsFreshEvent, office_of, state_of};
+ghost use Rattle.commit_book.specs.Ledger.{IsFreshEvent, ids_from, office_of, state_of};
+ghost use Rattle.indexmap.specs.IndexMap.{spare};
 
 use indexmap::IndexMap;
 use move_messages::Message;
@@ -78,11 +79,7 @@ impl Ledger {
         ensures found { IfSome result (λ r. (slice_get self.now.events r.0 ≡ Some (event.Message r.1.now)) × (r.1.now.id ≡ id)) }
         ensures fresh { IfNone result (IsFresh id self.now.events) }
     {
-        let place = *self.ids.get(&id)?;
-        match self.events.get(place)? {
-            Event::Message(message) => Some((place, message)),
-            _ => None,
-        }
+        find_message(&self.ids, &self.events, id)
     }
 
     /// Lets an event happen, as the last one; a message must have a new id, and a commit must be possible. Refused as
@@ -99,10 +96,37 @@ impl Ledger {
         self.events.reserve(1)?;
         self.ids.reserve(1)?;
         self.state.apply(alloc, &event)?;
-        if let Event::Message(message) = &event {
-            self.ids.insert(message.id, self.events.len()).unwrap();
-        }
+        note(&mut self.ids, &self.events, &event);
         self.events.push(event).unwrap();
         Ok(())
+    }
+}
+
+/// The message of an id, and its place.
+fn find_message<'a>(
+    ids: &IndexMap<MessageId, usize>,
+    events: &'a [Event],
+    id: MessageId,
+) -> Option<(usize, &'a Message)>
+    requires { ids.now.entries ≡ ids_from 0 events.now }
+    ensures found { IfSome result (λ r. (slice_get events.now r.0 ≡ Some (event.Message r.1.now)) × (r.1.now.id ≡ id)) }
+    ensures fresh { IfNone result (IsFresh id events.now) }
+{
+    let place = *ids.get(&id)?;
+    match &events[place] {
+        Event::Message(message) => Some((place, message)),
+        _ => None,
+    }
+}
+
+/// Notes the place of an event behind others by its id, if it is a message. Takes no memory.
+fn note(ids: &mut IndexMap<MessageId, usize>, events: &[Event], event: &Event)
+    requires indexed { ids.old.entries ≡ ids_from 0 events.now }
+    requires room { 0 < spare ids.old }
+    requires fresh { IsFreshEvent event.now events.now }
+    ensures { ids.new.entries ≡ ids_from 0 (events.now ++ event.now ∷ []) }
+{
+    if let Event::Message(message) = event {
+        ids.insert(message.id, events.len()).unwrap();
     }
 }

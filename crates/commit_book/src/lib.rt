@@ -3,6 +3,7 @@
 #![tactic(auto)]
 
 mod answer;
+mod book;
 mod call;
 mod commits;
 mod kept_problems;
@@ -15,6 +16,7 @@ mod reply;
 mod snap;
 
 pub use answer::Answer;
+pub use book::Book;
 pub use call::Call;
 pub use laws::every_commit_is_proved_least;
 pub use limits::{Limits, MAX_ENTRIES, MAX_KEPT};
