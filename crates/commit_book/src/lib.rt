@@ -13,6 +13,7 @@ mod limits;
 mod names;
 mod refusal;
 mod reply;
+mod same_messages;
 mod snap;
 
 pub use answer::Answer;
