@@ -2,7 +2,7 @@
 ghost use Rattle.std.specs.Prelude.{◌≡◌, [], IfErr, IfOk, OnErr, OnOk, Some, length, option_map};
 ghost use Rattle.distance_tables.specs.Networks.{network_at};
 ghost use Rattle.operating_db.specs.Steps.{IsPromised};
-ghost use Rattle.commit_book.specs.BookStep.{IsCall, IsRun, IsEntered, answer_of, begun_of, is_full, is_kept, kept_after};
+ghost use Rattle.commit_book.specs.BookStep.{IsCall, IsEntered, answer_of, begun_of, is_full, is_kept, kept_after};
 ghost use Rattle.commit_book.specs.CommitTests.{IsAccepted, IsRefused};
 ghost use Rattle.commit_book.specs.History.{IsLegal, Owes, entry_at, replay};
 ghost use Rattle.commit_book.specs.Kept.{IsKeptAt, which_of};
@@ -13,7 +13,7 @@ use crate::commits::judge;
 use crate::kept_problems::{KeptProblem, find_kept, keep};
 use crate::ledger::Ledger;
 use crate::same_messages::is_same;
-use crate::{Answer, Call, Limits, Refusal, Reply, Snap};
+use crate::{Limits, Refusal, Reply, Snap};
 use cost_table::cells;
 use distance_tables::{Networks, Tables};
 use move_messages::{CommitText, Message, OrderText};
@@ -158,50 +158,6 @@ impl Book {
         self.judged(alloc, commit)?;
         let commit = commit.copy(alloc)?;
         self.enter(alloc, Event::Commit(commit))
-    }
-
-    /// Makes these calls one after the other, and gives their answers. Where the memory for the answers is refused, no
-    /// call is made.
-    pub fn run(&mut self, alloc: Global, calls: &[Call]) -> Result<Vec<Answer>, AllocError>
-        ensures run { IfOk result (λ answers. IsRun self.old.setting self.old.state calls.now answers.items self.new.state) }
-        ensures setting { self.new.setting ≡ self.old.setting }
-        ensures unchanged { OnErr result (self.new ≡ self.old) }
-    {
-        let mut answers = Vec::with_capacity(alloc, calls.len())?;
-        for call in calls {
-            answers.push(self.answer(alloc, call)).unwrap();
-        }
-        Ok(answers)
-    }
-
-    /// Makes a call.
-    fn answer(&mut self, alloc: Global, call: &Call) -> Answer
-        ensures call { IsCall self.old.setting self.old.state call.now result self.new.state }
-        ensures setting { self.new.setting ≡ self.old.setting }
-    {
-        let reply = match call {
-            Call::Message(message) => self.message(alloc, message),
-            Call::Place(text) => self.place(alloc, text),
-            Call::Withdraw(id) => self.withdraw(alloc, *id),
-            Call::Begin(at) => return self.begin_answer(alloc, *at),
-            Call::Commit(commit) => self.commit(alloc, commit),
-            Call::Revise(network) => self.revise(alloc, *network),
-        };
-        match reply {
-            Ok(reply) => Answer::Done(reply),
-            Err(refusal) => Answer::Refused(refusal),
-        }
-    }
-
-    /// Begins, and answers the version.
-    fn begin_answer(&mut self, alloc: Global, at: Moment) -> Answer
-        ensures call { IsCall self.old.setting self.old.state (call.Begin at) result self.new.state }
-        ensures setting { self.new.setting ≡ self.old.setting }
-    {
-        match self.begin(alloc, at) {
-            Ok(snap) => Answer::Begun(snap.version()),
-            Err(_) => Answer::Refused(Refusal::OutOfMemory),
-        }
     }
 
     /// Tests a commit.

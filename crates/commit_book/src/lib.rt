@@ -5,6 +5,7 @@
 mod answer;
 mod book;
 mod call;
+mod call_runs;
 mod commits;
 mod kept_problems;
 mod laws;
