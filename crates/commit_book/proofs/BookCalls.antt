@@ -1,5 +1,6 @@
 -- The calls of a book, from what its parts answer.
-use Rattle.std.proofs.Common.{◌≡◌, ◌≢◌, ◌∙◌, ◌+◌, ℕ, Bool, true, false, List, [], ◌∷◌, ◌++◌, length, Some, None, refl, sym, ap, subst, inl, inr}
+use Rattle.std.proofs.Common.{◌≡◌, ◌≢◌, ◌∙◌, ◌+◌, ◌<◌, ℕ, Bool, true, false, List, [], ◌∷◌, ◌++◌, length, take, get_or, add-one, Some, None, refl, sym, ap, subst, inl, inr}
+use Rattle.std.proofs.Math.Seq.{take-suc}
 use Rattle.std.specs.Prelude.{◌⊎◌, Result, Ok, Err, slice_get}
 use Rattle.move_messages.specs.declared.commit_text.CommitText.{CommitText}
 use Rattle.move_messages.specs.declared.message.Message as movement
@@ -88,3 +89,10 @@ run_push setting book [] [] mid next answer new run step = (new, subst (λ (b : 
 run_push setting book (first ∷ calls) (a ∷ answers) mid next answer new run step = (run.0, run.1, run_push setting run.0 calls answers mid next answer new run.2 step)
 run_push setting book [] (a ∷ answers) mid next answer new run step = absurd run
 run_push setting book (first ∷ calls) [] mid next answer new run step = absurd run
+
+-- one more call of a list
+pub run_step : (setting : Setting) (book : BookState) (calls : List Call) (i : ℕ) (next : Call) (answers : List Answer) (mid : BookState) (answer : Answer) (new : BookState) → i < length calls → next ≡ get_or calls i next
+    → IsRun setting book (take i calls) answers mid → IsCall setting mid next answer new → IsRun setting book (take (i + 1) calls) (answers ++ answer ∷ []) new
+run_step setting book calls i next answers mid answer new lt is run step =
+    let more : take (i + 1) calls ≡ take i calls ++ next ∷ [] = ap (λ (k : ℕ). take k calls) (add-one i) ∙ take-suc calls i next lt ∙ ap (λ (x : Call). take i calls ++ x ∷ []) (sym is) in
+    rw more (run_push setting book (take i calls) answers mid next answer new run step)
