@@ -1,0 +1,190 @@
+-- The positions of a commit's pairs: which wagon and order each names, and that a name stands as often as its position.
+use Rattle.std.proofs.Common.{◌≡◌, ◌+◌, ◌<◌, ◌≤◌, ℕ, zero, suc, Bool, true, false, cond, List, [], ◌∷◌, length, map, refl, sym, ◌∙◌, ap, arith, subst}
+use Rattle.std.specs.Prelude.{◌==◌, Option, Some, None, Result, Ok, Err, count_by, position, slice_get}
+use Rattle.std.proofs.lemmas.Bool.Decides.{nat_tests}
+use Rattle.std.proofs.lemmas.List.{length-map}
+use Rattle.std.proofs.lemmas.List.Sums.{sum_by-cons}
+use Rattle.std.proofs.lemmas.Option.{slice_get_within}
+use Rattle.move_messages.specs.Values.{◌>>=◌}
+use Rattle.wagon_state.specs.declared.free_wagon.FreeWagon.{FreeWagon}
+use Rattle.load_orders.specs.Wanted.{WantedOrder}
+use Rattle.line_network.specs.Network.{NetworkValue}
+use Rattle.cost_table.specs.Allowed.{IsTableOf}
+use Rattle.cost_table.specs.Names.{both, is_name, pair_of}
+use Rattle.cost_table.specs.Plan.{serves, uses}
+use Rattle.cost_table.specs.Problem.{ProblemValue, names_of_problem, order_names, wagon_names}
+use Rattle.cost_table.specs.Table.{Table, order_count, wagon_count}
+use Rattle.cost_table.proofs.NameLemmas.{found_at}
+use Rattle.operating_db.specs.Commits.{Pair, times_of_order, times_of_wagon}
+use Rattle.operating_db.proofs.Names.{same, same_is, same_self}
+use Rattle.commit_book.specs.Commits.{found_or, positions_of}
+use Rattle.commit_book.specs.declared.refusal.Refusal.{Refusal}
+
+-- where a wagon stands in a problem; an order
+abbrev pub wagon_place : ProblemValue → List ℕ → Option ℕ
+wagon_place problem number = position (is_name number) (wagon_names problem.wagons)
+
+abbrev pub order_place : ProblemValue → List ℕ → Option ℕ
+order_place problem id = position (is_name id) (order_names problem.orders)
+
+pub record IsPlaced (problem : ProblemValue) (pair : Pair) (place : ℕ × ℕ) : Type 0 where
+  pub wagon : wagon_place problem pair.0 ≡ Some place.0
+  pub order : order_place problem pair.1 ≡ Some place.1
+
+abbrev pub ArePlaced : ProblemValue → List Pair → List (ℕ × ℕ) → Type 0
+ArePlaced problem [] [] = Unit {0}
+ArePlaced problem (pair ∷ pairs) (place ∷ places) = IsPlaced problem pair place × ArePlaced problem pairs places
+ArePlaced problem [] (place ∷ places) = ⊥
+ArePlaced problem (pair ∷ pairs) [] = ⊥
+
+-- ---- positions are such places
+
+placed_by : (problem : ProblemValue) (pair : Pair) (place : ℕ × ℕ) (i j : Option ℕ) → wagon_place problem pair.0 ≡ i → order_place problem pair.1 ≡ j → found_or pair (both i j) ≡ Ok place → IsPlaced problem pair place
+placed_by problem pair place None j wagon order h = absurd cc
+placed_by problem pair place (Some i) None wagon order h = absurd cc
+placed_by problem pair place (Some i) (Some j) wagon order h =
+    let same_place : (i, j) ≡ place = cc in
+    subst (IsPlaced problem pair) same_place (record { wagon = wagon; order = order })
+
+bind_ok : {A B : Type 0} (r : Result A Refusal) (f : A → Result B Refusal) (y : B) → (r >>= f) ≡ Ok y → (x : A) × (r ≡ Ok x) × (f x ≡ Ok y)
+bind_ok (Ok x) f y e = (x, refl, e)
+bind_ok (Err d) f y e = absurd cc
+
+pub positions_placed : (problem : ProblemValue) (pairs : List Pair) (positions : List (ℕ × ℕ)) → positions_of problem pairs ≡ Ok positions → ArePlaced problem pairs positions
+unfolding positions_of
+positions_placed problem [] positions h = let none : [] ≡ positions = cc in subst (ArePlaced problem []) none tt
+positions_placed problem (pair ∷ pairs) positions h =
+    let first = bind_ok (found_or pair (pair_of (names_of_problem problem) pair.0 pair.1)) (λ place. positions_of problem pairs >>= λ places. Ok (place ∷ places)) positions h in
+    let rest = bind_ok (positions_of problem pairs) (λ places. Ok (first.0 ∷ places)) positions first.2 in
+    let whole : first.0 ∷ rest.0 ≡ positions = cc in
+    subst (ArePlaced problem (pair ∷ pairs)) whole
+    (placed_by problem pair first.0 (wagon_place problem pair.0) (order_place problem pair.1) refl refl first.1, positions_placed problem pairs rest.0 rest.1)
+
+-- ---- what stands at a place
+
+some_same : {A : Type 0} (x y : A) → let o : Option A = Some x in o ≡ Some y → x ≡ y
+some_same x y h = cc
+
+-- the item at a place has that name
+abbrev pub HasName : {A : Type 0} → (A → List ℕ) → List A → List ℕ → ℕ → Type 0
+HasName {A} name_of xs name i = (x : A) × (slice_get xs i ≡ Some x) × (name_of x ≡ name)
+
+named_at : {A : Type 0} (name_of : A → List ℕ) (xs : List A) (name : List ℕ) (i : ℕ) → slice_get (map name_of xs) i ≡ Some name → HasName name_of xs name i
+named_at name_of [] name i h = absurd cc
+named_at name_of (x ∷ xs) name zero h = (x, refl, some_same (name_of x) name h)
+named_at name_of (x ∷ xs) name (suc i) h = named_at name_of xs name i h
+
+pub wagon_there : (problem : ProblemValue) (number : List ℕ) (i : ℕ) → wagon_place problem number ≡ Some i → HasName (λ (w : FreeWagon). w.number) problem.wagons number i
+wagon_there problem number i h = named_at (λ (w : FreeWagon). w.number) problem.wagons number i (found_at (wagon_names problem.wagons) number i h)
+
+pub order_there : (problem : ProblemValue) (id : List ℕ) (j : ℕ) → order_place problem id ≡ Some j → HasName (λ (o : WantedOrder). o.order.id) problem.orders id j
+order_there problem id j h = named_at (λ (o : WantedOrder). o.order.id) problem.orders id j (found_at (order_names problem.orders) id j h)
+
+-- each pair is one of the table's
+abbrev pub AllInRange : Table → List (ℕ × ℕ) → Type 0
+AllInRange t [] = Unit {0}
+AllInRange t (p ∷ ps) = (p.0 < wagon_count t) × (p.1 < order_count t) × AllInRange t ps
+
+pub placed_in_range : (net : NetworkValue) (problem : ProblemValue) (t : Table) → IsTableOf net problem t → (pairs : List Pair) (places : List (ℕ × ℕ)) → ArePlaced problem pairs places → AllInRange t places
+placed_in_range net problem t table [] [] h = tt
+placed_in_range net problem t table (pair ∷ pairs) (place ∷ places) h =
+    let wagon = wagon_there problem pair.0 place.0 h.0.wagon in
+    let order = order_there problem pair.1 place.1 h.0.order in
+    let i = slice_get_within problem.wagons place.0 wagon.0 wagon.1 in
+    let j = slice_get_within problem.orders place.1 order.0 order.1 in
+    let rows : wagon_count t ≡ length problem.wagons = table.wagons in
+    let columns : order_count t ≡ length problem.orders = ap (λ (ls : List ℕ). length ls) table.lacks ∙ length-map problem.orders (λ (o : WantedOrder). o.lack) in
+    (omega (arith, i, rows), omega (arith, j, columns), placed_in_range net problem t table pairs places h.1)
+placed_in_range net problem t table [] (place ∷ places) h = absurd h
+placed_in_range net problem t table (pair ∷ pairs) [] h = absurd h
+
+-- ---- how often a name stands
+
+-- the names on one side of the pairs, and their places
+abbrev AreIndexed : (index : List ℕ → Option ℕ) → (name : Pair → List ℕ) → (side : ℕ × ℕ → ℕ) → List Pair → List (ℕ × ℕ) → Type 0
+AreIndexed index name side [] [] = Unit {0}
+AreIndexed index name side (pair ∷ pairs) (place ∷ places) = (index (name pair) ≡ Some (side place)) × AreIndexed index name side pairs places
+AreIndexed index name side [] (place ∷ places) = ⊥
+AreIndexed index name side (pair ∷ pairs) [] = ⊥
+
+wagons_indexed : (problem : ProblemValue) (pairs : List Pair) (places : List (ℕ × ℕ)) → ArePlaced problem pairs places → AreIndexed (wagon_place problem) (λ (p : Pair). p.0) (λ (p : ℕ × ℕ). p.0) pairs places
+wagons_indexed problem [] [] h = tt
+wagons_indexed problem (pair ∷ pairs) (place ∷ places) h = (h.0.wagon, wagons_indexed problem pairs places h.1)
+wagons_indexed problem [] (place ∷ places) h = h
+wagons_indexed problem (pair ∷ pairs) [] h = h
+
+orders_indexed : (problem : ProblemValue) (pairs : List Pair) (places : List (ℕ × ℕ)) → ArePlaced problem pairs places → AreIndexed (order_place problem) (λ (p : Pair). p.1) (λ (p : ℕ × ℕ). p.1) pairs places
+orders_indexed problem [] [] h = tt
+orders_indexed problem (pair ∷ pairs) (place ∷ places) h = (h.0.order, orders_indexed problem pairs places h.1)
+orders_indexed problem [] (place ∷ places) h = h
+orders_indexed problem (pair ∷ pairs) [] h = h
+
+
+wagons_one_to_one : (problem : ProblemValue) (a b : List ℕ) (i : ℕ) → wagon_place problem a ≡ Some i → wagon_place problem b ≡ Some i → a ≡ b
+wagons_one_to_one problem a b i h g = some_same a b (sym (found_at (wagon_names problem.wagons) a i h) ∙ found_at (wagon_names problem.wagons) b i g)
+
+orders_one_to_one : (problem : ProblemValue) (a b : List ℕ) (i : ℕ) → order_place problem a ≡ Some i → order_place problem b ≡ Some i → a ≡ b
+orders_one_to_one problem a b i h g = some_same a b (sym (found_at (order_names problem.orders) a i h) ∙ found_at (order_names problem.orders) b i g)
+
+same_tests : (x y : List ℕ) (i j : ℕ) (b : Bool) → same x y ≡ b → (x ≡ y → j ≡ i) → (j ≡ i → x ≡ y) → b ≡ (j == i)
+same_tests x y i j true is f g = let e : j ≡ i = f (same_is x y is) in grind (arith, nat_tests, e)
+same_tests x y i j false is f g =
+    let apart : j ≡ i → ⊥ = λ e. differ (sym is ∙ (ap (λ n. same x n) (sym (g e)) ∙ same_self x)) in
+    grind (arith, nat_tests, apart)
+  where
+    differ : false ≡ true → ⊥
+    differ h = cc
+
+-- a name stands as often as its place
+count_same : (index : List ℕ → Option ℕ) (name : Pair → List ℕ) (side : ℕ × ℕ → ℕ) → ((a b : List ℕ) (i : ℕ) → index a ≡ Some i → index b ≡ Some i → a ≡ b)
+    → (pairs : List Pair) (places : List (ℕ × ℕ)) → AreIndexed index name side pairs places → (q : List ℕ) (i : ℕ) → index q ≡ Some i
+    → count_by (λ (p : Pair). same q (name p)) pairs ≡ count_by (λ (p : ℕ × ℕ). side p == i) places
+count_same index name side one [] [] h q i is = refl
+count_same index name side one (pair ∷ pairs) (place ∷ places) h q i is =
+    let rest = count_same index name side one pairs places h.1 q i is in
+    let tests = same_tests q (name pair) i (side place) (same q (name pair)) refl
+    (λ e. some_same (side place) i (sym h.0 ∙ (ap index (sym e) ∙ is)))
+    (λ e. one q (name pair) i is (h.0 ∙ ap (λ (k : ℕ). Some k) e)) in
+    let left = sum_by-cons (λ (p : Pair). cond (same q (name p)) 1 0) pair pairs in
+    let right = sum_by-cons (λ (p : ℕ × ℕ). cond (side p == i) 1 0) place places in
+    let here : ◌≡◌ {A = ℕ} (cond (same q (name pair)) 1 0) (cond (side place == i) 1 0) = ap (λ b. cond b 1 0) tests in
+    omega (arith, rest, left, right, here)
+count_same index name side one [] (place ∷ places) h q i is = absurd h
+count_same index name side one (pair ∷ pairs) [] h q i is = absurd h
+
+none_some : (i : ℕ) → let o : Option ℕ = Some i in None ≡ o → ⊥
+none_some i h = cc
+
+differs : (x y : List ℕ) (b : Bool) → same x y ≡ b → (x ≡ y → ⊥) → b ≡ false
+differs x y true is apart = absurd (apart (same_is x y is))
+differs x y false is apart = refl
+
+-- a name with no place stands nowhere
+count_none : (index : List ℕ → Option ℕ) (name : Pair → List ℕ) (side : ℕ × ℕ → ℕ) (pairs : List Pair) (places : List (ℕ × ℕ)) → AreIndexed index name side pairs places → (q : List ℕ) → index q ≡ None
+    → ◌≡◌ {A = ℕ} (count_by (λ (p : Pair). same q (name p)) pairs) 0
+count_none index name side [] [] h q is = refl
+count_none index name side (pair ∷ pairs) (place ∷ places) h q is =
+    let rest = count_none index name side pairs places h.1 q is in
+    let left = sum_by-cons (λ (p : Pair). cond (same q (name p)) 1 0) pair pairs in
+    let other = differs q (name pair) (same q (name pair)) refl (λ e. none_some (side place) (sym is ∙ (ap index e ∙ h.0))) in
+    let here : ◌≡◌ {A = ℕ} (cond (same q (name pair)) 1 0) 0 = ap (λ b. cond b 1 0) other in
+    omega (arith, rest, left, here)
+count_none index name side [] (place ∷ places) h q is = absurd h
+count_none index name side (pair ∷ pairs) [] h q is = absurd h
+
+pub order_times : (problem : ProblemValue) (pairs : List Pair) (places : List (ℕ × ℕ)) → ArePlaced problem pairs places → (id : List ℕ) (j : ℕ) → order_place problem id ≡ Some j → times_of_order id pairs ≡ serves j places
+order_times problem pairs places placed id j is =
+    count_same (order_place problem) (λ (p : Pair). p.1) (λ (p : ℕ × ℕ). p.1) (orders_one_to_one problem) pairs places (orders_indexed problem pairs places placed) id j is
+
+once_by : (problem : ProblemValue) (pairs : List Pair) (places : List (ℕ × ℕ)) → ArePlaced problem pairs places → ((i : ℕ) → uses i places ≤ 1) → (number : List ℕ) (o : Option ℕ) → wagon_place problem number ≡ o → times_of_wagon number pairs ≤ 1
+once_by problem pairs places placed once number None is =
+    let c = count_none (wagon_place problem) (λ (p : Pair). p.0) (λ (p : ℕ × ℕ). p.0) pairs places (wagons_indexed problem pairs places placed) number is in
+    omega (arith, c)
+once_by problem pairs places placed once number (Some i) is =
+    let c = count_same (wagon_place problem) (λ (p : Pair). p.0) (λ (p : ℕ × ℕ). p.0) (wagons_one_to_one problem) pairs places (wagons_indexed problem pairs places placed) number i is in
+    let k = once i in
+    omega (arith, c, k)
+
+-- where no position is used twice, no wagon is named twice
+pub named_once : (problem : ProblemValue) (pairs : List Pair) (places : List (ℕ × ℕ)) → ArePlaced problem pairs places → ((i : ℕ) → uses i places ≤ 1) → (number : List ℕ) → times_of_wagon number pairs ≤ 1
+named_once problem pairs places placed once number = once_by problem pairs places placed once number (wagon_place problem number) refl
