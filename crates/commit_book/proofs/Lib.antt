@@ -1,2 +1,4 @@
+pub mod Certified
+pub mod CommitLaws
 pub mod Histories
 pub mod Placed

@@ -1,0 +1,165 @@
+-- A commit that is not refused pays what it owes, and can be promised.
+use Rattle.std.proofs.Common.{◌≡◌, ◌∙◌, ◌+◌, ◌<◌, ◌≤◌, ℕ, Bool, true, false, cond, ◌&&◌, List, [], ◌∷◌, ◌++◌, length, refl, sym, ap, arith, subst, append_assoc, append-nil, nat_eq}
+use Rattle.std.specs.Prelude.{◌==◌, nat_lt, Option, Some, None, is_some, Result, Ok, Err, All, option_and_then}
+use Rattle.std.proofs.lemmas.Bool.Decides.{nat_tests}
+use Rattle.std.proofs.lemmas.List.Elements.{All-cons, All-head, All-nil, All-tail}
+use Rattle.std.proofs.lemmas.List.Sums.{sum_by_push}
+use Rattle.std.specs.Cmp.Lexicographic.{pointwise}
+use Rattle.move_messages.specs.declared.commit_text.CommitText.{CommitText}
+use Rattle.wagon_state.specs.declared.free_wagon.FreeWagon.{FreeWagon}
+use Rattle.wagon_state.specs.declared.wagon_row.WagonRow.{WagonRow}
+use Rattle.wagon_state.specs.Free.{free_of}
+use Rattle.office_rows.specs.Rows.{order_in, wagon_in}
+use Rattle.cost_table.specs.Problem.{ProblemValue}
+use Rattle.cost_table.specs.Table.{Table}
+use Rattle.price_checker.specs.Faults.{first_fault}
+use Rattle.price_checker.specs.declared.check_fault.CheckFault.{CheckFault}
+use Rattle.price_checker.proofs.Duality.{certificates_optimal}
+use Rattle.price_checker.proofs.FirstBelow.{none_first, none_second}
+use Rattle.operating_db.specs.Commits.{CanPromise, IsPromisable, Pair, is_free_row, lack_in, times_of_order, times_of_wagon}
+use Rattle.operating_db.specs.Office.{Office}
+use Rattle.operating_db.specs.declared.event.Event.{Event}
+use Rattle.operating_db.proofs.Names.{same, same_is}
+use Rattle.commit_book.specs.BookStep.{refusal_at, refusal_for, refusal_in}
+use Rattle.commit_book.specs.Commits.{free_in, is_same_free, is_same_wagon, order_changed, positions_of, wagon_changed, wagon_of}
+use Rattle.commit_book.specs.History.{IsLeast, IsTableAt, IsUnchanged, problem_at, replay}
+use Rattle.commit_book.specs.Setting.{Setting}
+use Rattle.commit_book.specs.declared.refusal.Refusal.{Refusal}
+use Rattle.commit_book.specs.declared.refusal.Refusal.TheVariants.{OrderChanged, WagonChanged}
+use Rattle.commit_book.proofs.Certified.{certified, tail_allowed}
+use Rattle.commit_book.proofs.Placed.{named_once, placed_in_range, positions_placed}
+
+-- ---- wagons
+
+both_true : (a b : Bool) → (a && b) ≡ true → (a ≡ true) × (b ≡ true)
+both_true true b h = (refl, h)
+both_true false b h = cc
+
+same_number : (a b : ℕ) → (a == b) ≡ true → a ≡ b
+same_number a b h = grind (arith, nat_tests, h)
+
+alike : (a b : FreeWagon) → a.number ≡ b.number → a.class ≡ b.class → a.load_limit ≡ b.load_limit → a.place ≡ b.place → a.ready ≡ b.ready → a ≡ b
+alike a b number class load_limit place ready =
+    let parts : ◌≡◌ {A = FreeWagon} (record { number = a.number; class = a.class; load_limit = a.load_limit; place = a.place; ready = a.ready }) (record { number = b.number; class = b.class; load_limit = b.load_limit; place = b.place; ready = b.ready }) = cc in
+    parts
+
+same_wagon : (a b : FreeWagon) → is_same_wagon a b ≡ true → a ≡ b
+same_wagon a b h =
+    let number = both_true (same a.number b.number) _ h in
+    let class = both_true (same a.class b.class) _ number.1 in
+    let load = both_true (a.load_limit == b.load_limit) _ class.1 in
+    let place = both_true (same a.place b.place) _ load.1 in
+    alike a b (same_is _ _ number.0) (same_is _ _ class.0) (same_number _ _ load.0) (same_is _ _ place.0) (same_number _ _ place.1)
+
+-- both are there, and one
+unchanged_by : (was is : Option FreeWagon) → is_same_free was is ≡ true → (wagon : FreeWagon) × (was ≡ Some wagon) × (is ≡ Some wagon)
+unchanged_by None is h = cc
+unchanged_by (Some a) None h = cc
+unchanged_by (Some a) (Some b) h = (a, refl, ap (λ (w : FreeWagon). Some w) (sym (same_wagon a b h)))
+
+-- where no wagon has changed, each is free now as it was
+pub all_unchanged : (problem : ProblemValue) (now : Office) (pairs : List Pair) → wagon_changed problem now pairs ≡ None → All (IsUnchanged problem now) pairs
+all_unchanged problem now [] h = All-nil (IsUnchanged problem now)
+all_unchanged problem now (pair ∷ pairs) h =
+    let f = tail_allowed (is_same_free (wagon_of problem pair.0) (free_in now pair.0)) (wagon_changed problem now pairs) (WagonChanged pair.0) h in
+    All-cons (IsUnchanged problem now) pair pairs (unchanged_by (wagon_of problem pair.0) (free_in now pair.0) f.0) (all_unchanged problem now pairs f.1)
+
+free_row : (o : Option WagonRow) (wagon : FreeWagon) → option_and_then free_of o ≡ Some wagon → is_free_row o ≡ true
+free_row None wagon h = cc
+free_row (Some row) wagon h = ap is_some h
+
+-- ---- orders
+
+-- no order is given more than it lacks
+abbrev pub GivesWithin : Office → List Pair → Type 0
+GivesWithin now pairs = (id : List ℕ) → times_of_order id pairs ≤ lack_in (order_in now.orders id)
+
+times_push : (id : List ℕ) (pairs : List Pair) (pair : Pair) → times_of_order id (pairs ++ pair ∷ []) ≡ times_of_order id pairs + cond (same id pair.1) 1 0
+times_push id pairs pair = sum_by_push (λ (p : Pair). cond (same id p.1) 1 0) pairs pair
+
+at_most_one : (b : Bool) → cond b 1 0 ≤ 1
+at_most_one true = omega arith
+at_most_one false = omega arith
+
+given_own : (now : Office) (before : List Pair) (pair : Pair) → nat_lt (times_of_order pair.1 before) (lack_in (order_in now.orders pair.1)) ≡ true → times_of_order pair.1 (before ++ pair ∷ []) ≤ lack_in (order_in now.orders pair.1)
+given_own now before pair h =
+    let e = times_push pair.1 before pair in
+    let one = at_most_one (same pair.1 pair.1) in
+    let less : times_of_order pair.1 before < lack_in (order_in now.orders pair.1) = grind (arith, nat_tests, h) in
+    omega (arith, e, one, less)
+
+given_push : (now : Office) (before : List Pair) (pair : Pair) (id : List ℕ) (b : Bool) → same id pair.1 ≡ b → times_of_order pair.1 (before ++ pair ∷ []) ≤ lack_in (order_in now.orders pair.1) → times_of_order id before ≤ lack_in (order_in now.orders id) → times_of_order id (before ++ pair ∷ []) ≤ lack_in (order_in now.orders id)
+given_push now before pair id true is own k = subst (λ (x : List ℕ). times_of_order x (before ++ pair ∷ []) ≤ lack_in (order_in now.orders x)) (sym (same_is id pair.1 is)) own
+given_push now before pair id false is own k =
+    let e = times_push id before pair in
+    let none : ◌≡◌ {A = ℕ} (cond (same id pair.1) 1 0) 0 = ap (λ b. cond b 1 0) is in
+    omega (arith, e, none, k)
+
+given_by : (now : Office) (before pairs : List Pair) → GivesWithin now before → order_changed now before pairs ≡ None → GivesWithin now (before ++ pairs)
+given_by now before [] g h = subst (GivesWithin now) (sym (append-nil before)) g
+given_by now before (pair ∷ pairs) g h =
+    let f = tail_allowed (nat_lt (times_of_order pair.1 before) (lack_in (order_in now.orders pair.1))) (order_changed now (before ++ pair ∷ []) pairs) (OrderChanged pair.1) h in
+    let more : GivesWithin now (before ++ pair ∷ []) = λ id. given_push now before pair id (same id pair.1) refl (given_own now before pair f.0) (g id) in
+    subst (GivesWithin now) (append_assoc before (pair ∷ []) pairs) (given_by now (before ++ pair ∷ []) pairs more f.1)
+
+-- where no order has changed, none is given more than it lacks
+pub gives_within : (now : Office) (pairs : List Pair) → order_changed now [] pairs ≡ None → GivesWithin now pairs
+gives_within now pairs h = given_by now [] pairs (λ id. omega arith) h
+
+-- ---- commits
+
+promisable : (problem : ProblemValue) (now : Office) (pairs : List Pair) → ((number : List ℕ) → times_of_wagon number pairs ≤ 1) → GivesWithin now pairs → (some : List Pair) → All (IsUnchanged problem now) some → All (IsPromisable now pairs) some
+promisable problem now pairs once within [] h = All-nil (IsPromisable now pairs)
+promisable problem now pairs once within (pair ∷ some) h =
+    let head = All-head (IsUnchanged problem now) pair some h in
+    All-cons (IsPromisable now pairs) pair some (record { once = once pair.0; free = free_row (wagon_in now.wagons pair.0) head.0 head.2; lacking = within pair.1 })
+    (promisable problem now pairs once within some (All-tail (IsUnchanged problem now) pair some h))
+
+-- distinct wagons that have not changed, and no order with more than it lacks, can be promised
+pub can_promise : (problem : ProblemValue) (now : Office) (pairs : List Pair) → ((number : List ℕ) → times_of_wagon number pairs ≤ 1) → GivesWithin now pairs → All (IsUnchanged problem now) pairs → CanPromise now pairs
+can_promise problem now pairs once within h = promisable problem now pairs once within pairs h
+
+-- what a commit says that has none of the refusals
+pub record IsUnrefused (problem : ProblemValue) (now : Office) (commit : CommitText) (table : Table) : Type 0 where
+  pub positions : List (ℕ × ℕ)
+  pub are_positions : positions_of problem commit.pairs ≡ Ok positions
+  pub no_fault : first_fault table positions commit.u commit.v ≡ None
+  pub wagons : wagon_changed problem now commit.pairs ≡ None
+  pub orders : order_changed now [] commit.pairs ≡ None
+
+no_fault_by : (problem : ProblemValue) (now : Office) (pairs : List Pair) (fault : Option CheckFault) → refusal_for problem now pairs fault ≡ None → (fault ≡ None) × (wagon_changed problem now pairs ≡ None) × (order_changed now [] pairs ≡ None)
+no_fault_by problem now pairs None h = (refl, none_first _ _ h, none_second (wagon_changed problem now pairs) _ h)
+no_fault_by problem now pairs (Some fault) h = cc
+
+unrefused_by : (problem : ProblemValue) (now : Office) (commit : CommitText) (table : Table) (positions : Result (List (ℕ × ℕ)) Refusal) → positions_of problem commit.pairs ≡ positions → refusal_at problem now commit table positions ≡ None → IsUnrefused problem now commit table
+unrefused_by problem now commit table (Err refusal) is h = cc
+unrefused_by problem now commit table (Ok positions) is h =
+    let f = no_fault_by problem now commit.pairs (first_fault table positions commit.u commit.v) h in
+    record { positions = positions; are_positions = is; no_fault = f.0; wagons = f.1; orders = f.2 }
+
+pub unrefused : (problem : ProblemValue) (now : Office) (commit : CommitText) (table : Table) → refusal_in problem now commit table ≡ None → IsUnrefused problem now commit table
+unrefused problem now commit table h = unrefused_by problem now commit table (positions_of problem commit.pairs) refl h
+
+pub commit_owed : (setting : Setting) (history : List Event) (commit : CommitText) (table : Table) → commit.version ≤ length history → IsTableAt setting history commit.version commit.at table
+    → refusal_in (problem_at setting history commit.version commit.at) (replay setting history) commit table ≡ None → IsLeast setting history commit × CanPromise (replay setting history) commit.pairs
+commit_owed setting history commit table had is_table h =
+    let problem = problem_at setting history commit.version commit.at in
+    let now = replay setting history in
+    let un = unrefused problem now commit table h in
+    let placed = positions_placed problem commit.pairs un.positions un.are_positions in
+    let range = placed_in_range is_table.network problem table is_table.of_problem commit.pairs un.positions placed in
+    let certificate = certified table un.positions commit.u commit.v range un.no_fault in
+    let unchanged = all_unchanged problem now commit.pairs un.wagons in
+    let once = named_once problem commit.pairs un.positions placed certificate.plan.once in (
+      record {
+        had = had;
+        table = table;
+        is_table = is_table;
+        positions = un.positions;
+        are_positions = un.are_positions;
+        certificate = certificate;
+        optimal = certificates_optimal table un.positions commit.u commit.v certificate;
+        unchanged = unchanged;
+      },
+      can_promise problem now commit.pairs once (gives_within now commit.pairs un.orders) unchanged,
+    )
