@@ -1,10 +1,9 @@
 -- A commit that is not refused pays what it owes, and can be promised.
-use Rattle.std.proofs.Common.{◌≡◌, ◌∙◌, ◌+◌, ◌<◌, ◌≤◌, ℕ, Bool, true, false, cond, ◌&&◌, List, [], ◌∷◌, ◌++◌, length, refl, sym, ap, arith, subst, append_assoc, append-nil, nat_eq}
+use Rattle.std.proofs.Common.{◌≡◌, ◌+◌, ◌<◌, ◌≤◌, ℕ, Bool, true, false, cond, ◌&&◌, List, [], ◌∷◌, ◌++◌, length, refl, sym, ap, arith, subst, append_assoc, append-nil}
 use Rattle.std.specs.Prelude.{◌==◌, nat_lt, Option, Some, None, is_some, Result, Ok, Err, All, option_and_then}
 use Rattle.std.proofs.lemmas.Bool.Decides.{nat_tests}
 use Rattle.std.proofs.lemmas.List.Elements.{All-cons, All-head, All-nil, All-tail}
 use Rattle.std.proofs.lemmas.List.Sums.{sum_by_push}
-use Rattle.std.specs.Cmp.Lexicographic.{pointwise}
 use Rattle.move_messages.specs.declared.commit_text.CommitText.{CommitText}
 use Rattle.wagon_state.specs.declared.free_wagon.FreeWagon.{FreeWagon}
 use Rattle.wagon_state.specs.declared.wagon_row.WagonRow.{WagonRow}

@@ -2,3 +2,4 @@ pub mod Certified
 pub mod CommitLaws
 pub mod Histories
 pub mod Placed
+pub mod Sound

@@ -1,5 +1,5 @@
 -- The positions of a commit's pairs: which wagon and order each names, and that a name stands as often as its position.
-use Rattle.std.proofs.Common.{◌≡◌, ◌+◌, ◌<◌, ◌≤◌, ℕ, zero, suc, Bool, true, false, cond, List, [], ◌∷◌, length, map, refl, sym, ◌∙◌, ap, arith, subst}
+use Rattle.std.proofs.Common.{◌≡◌, ◌<◌, ◌≤◌, ℕ, zero, suc, Bool, true, false, cond, List, [], ◌∷◌, length, map, refl, sym, ◌∙◌, ap, arith, subst}
 use Rattle.std.specs.Prelude.{◌==◌, Option, Some, None, Result, Ok, Err, count_by, position, slice_get}
 use Rattle.std.proofs.lemmas.Bool.Decides.{nat_tests}
 use Rattle.std.proofs.lemmas.List.{length-map}
@@ -120,6 +120,7 @@ orders_indexed problem [] (place ∷ places) h = h
 orders_indexed problem (pair ∷ pairs) [] h = h
 
 
+-- two names at one place are one
 wagons_one_to_one : (problem : ProblemValue) (a b : List ℕ) (i : ℕ) → wagon_place problem a ≡ Some i → wagon_place problem b ≡ Some i → a ≡ b
 wagons_one_to_one problem a b i h g = some_same a b (sym (found_at (wagon_names problem.wagons) a i h) ∙ found_at (wagon_names problem.wagons) b i g)
 
