@@ -3,3 +3,4 @@ pub mod CommitLaws
 pub mod Histories
 pub mod Placed
 pub mod Sound
+pub mod Versions
