@@ -2,5 +2,6 @@ pub mod Certified
 pub mod CommitLaws
 pub mod Histories
 pub mod Placed
+pub mod Runs
 pub mod Sound
 pub mod Versions
