@@ -30,11 +30,11 @@ use Rattle.commit_book.proofs.Placed.{named_once, placed_in_range, positions_pla
 
 -- ---- wagons
 
-both_true : (a b : Bool) → (a && b) ≡ true → (a ≡ true) × (b ≡ true)
+pub both_true : (a b : Bool) → (a && b) ≡ true → (a ≡ true) × (b ≡ true)
 both_true true b h = (refl, h)
 both_true false b h = cc
 
-same_number : (a b : ℕ) → (a == b) ≡ true → a ≡ b
+pub same_number : (a b : ℕ) → (a == b) ≡ true → a ≡ b
 same_number a b h = grind (arith, nat_tests, h)
 
 alike : (a b : FreeWagon) → a.number ≡ b.number → a.class ≡ b.class → a.load_limit ≡ b.load_limit → a.place ≡ b.place → a.ready ≡ b.ready → a ≡ b

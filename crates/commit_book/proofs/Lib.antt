@@ -1,3 +1,4 @@
+pub mod Books
 pub mod Certified
 pub mod CommitLaws
 pub mod Histories

@@ -62,7 +62,7 @@ positions_placed problem (pair ∷ pairs) positions h =
 
 -- ---- what stands at a place
 
-some_same : {A : Type 0} (x y : A) → let o : Option A = Some x in o ≡ Some y → x ≡ y
+pub some_same : {A : Type 0} (x y : A) → let o : Option A = Some x in o ≡ Some y → x ≡ y
 some_same x y h = cc
 
 -- the item at a place has that name

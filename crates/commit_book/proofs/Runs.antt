@@ -1,5 +1,5 @@
 -- Every run of calls keeps a book: its history is legal, and each kept problem is one of a version that it has had.
-use Rattle.std.proofs.Common.{◌≡◌, ◌∙◌, ◌+◌, ◌≤◌, ℕ, Bool, true, false, cond, ◌&&◌, ◌||◌, List, [], ◌∷◌, ◌++◌, length, drop, take, refl, sym, arith, subst, inl, inr, length-append}
+use Rattle.std.proofs.Common.{◌≡◌, ◌∙◌, ◌+◌, ◌≤◌, ℕ, Bool, true, false, cond, ◌||◌, List, [], ◌∷◌, ◌++◌, length, drop, take, refl, sym, arith, subst, inl, inr, length-append}
 use Rattle.std.specs.Prelude.{◌==◌, nat_le, nat_lt, Option, Some, None, Result, Ok, Err, IsOk, All}
 use Rattle.std.proofs.lemmas.Bool.Decides.{nat_tests}
 use Rattle.std.proofs.lemmas.List.Elements.{All-drop, All-head, All-nil, All-push, All-tail, All-weaker}
@@ -24,7 +24,7 @@ use Rattle.commit_book.specs.declared.call.Call.TheVariants as call
 use Rattle.commit_book.specs.declared.refusal.Refusal.{Refusal}
 use Rattle.commit_book.specs.declared.refusal.Refusal.TheVariants.{BookFull, IdReused, NotKept}
 use Rattle.commit_book.specs.declared.reply.Reply.TheVariants.{Accepted, Repeated}
-use Rattle.commit_book.proofs.CommitLaws.{commit_owed}
+use Rattle.commit_book.proofs.CommitLaws.{both_true, commit_owed, same_number}
 use Rattle.commit_book.proofs.Histories.{empty_legal, legal_push}
 use Rattle.commit_book.proofs.Sound.{sound}
 use Rattle.commit_book.proofs.Versions.{versions_agree}
@@ -49,16 +49,16 @@ with_room : (full : Bool) (answer : Answer) (n : ℕ) → cond full (Refused Boo
 with_room true answer n h = absurd (not_refused BookFull n h)
 with_room false answer n h = (refl, h)
 
--- an entry of a history that has room for it
-pub record IsEntered (setting : Setting) (history : List Event) (entry : Event) : Type 0 where
+-- an entry behind a history that has room for it
+pub record IsLegalEntry (setting : Setting) (history : List Event) (entry : Event) : Type 0 where
   pub room : length history + 1 ≤ setting.entries
   pub is_entry : IsEntry setting history entry
 
-pub entered_legal : (setting : Setting) (history : List Event) (entry : Event) → IsLegal setting history → IsEntered setting history entry → IsLegal setting (history ++ entry ∷ [])
+pub entered_legal : (setting : Setting) (history : List Event) (entry : Event) → IsLegal setting history → IsLegalEntry setting history entry → IsLegal setting (history ++ entry ∷ [])
 entered_legal setting history entry legal h = legal_push setting history entry legal h.is_entry h.room
 
 -- an event that is accepted, where it asks for no promises and pays what it owes
-pub event_entered : (setting : Setting) (history : List Event) (entry : Event) (n : ℕ) → IsPromised (replay setting history) entry → Owes setting history entry → event_answer setting history entry ≡ Done (Accepted n) → IsEntered setting history entry
+pub event_entered : (setting : Setting) (history : List Event) (entry : Event) (n : ℕ) → IsPromised (replay setting history) entry → Owes setting history entry → event_answer setting history entry ≡ Done (Accepted n) → IsLegalEntry setting history entry
 event_entered setting history entry n promised owed h =
     let r = after_call (length setting.networks) (replay setting history) entry in
     let f = with_room (is_full setting history) (entered_as (length history + 1) r) n h in
@@ -68,7 +68,7 @@ event_entered setting history entry n promised owed h =
     }
 
 -- a message that is accepted
-pub message_entered : (setting : Setting) (history : List Event) (message : movement.Message) (answer : Answer) (n : ℕ) → IsMessageAnswer setting history message answer → answer ≡ Done (Accepted n) → IsEntered setting history (event.Message message)
+pub message_entered : (setting : Setting) (history : List Event) (message : movement.Message) (answer : Answer) (n : ℕ) → IsMessageAnswer setting history message answer → answer ≡ Done (Accepted n) → IsLegalEntry setting history (event.Message message)
 message_entered setting history message answer n (inl repeated) h = absurd (not_repeated (repeated.before + 1) n (sym repeated.answered ∙ h))
 message_entered setting history message answer n (inr (inl reused)) h = absurd (not_refused IdReused n (sym reused.answered ∙ h))
 message_entered setting history message answer n (inr (inr new)) h = event_entered setting history (event.Message message) n tt new.fresh (sym new.answered ∙ h)
@@ -87,7 +87,7 @@ no_refusal k n (Some refusal) h = absurd (not_refused refusal n h)
 
 -- a commit that is accepted, of a version that the book has had where its problem is kept
 pub commit_entered : (setting : Setting) (history : List Event) (commit : CommitText) (answer : Answer) (n : ℕ) (kept full : Bool) → is_full setting history ≡ full → (kept ≡ true → commit.version ≤ length history)
-    → IsCommitAnswer kept full setting history commit answer → answer ≡ Done (Accepted n) → IsEntered setting history (event.Commit commit)
+    → IsCommitAnswer kept full setting history commit answer → answer ≡ Done (Accepted n) → IsLegalEntry setting history (event.Commit commit)
 commit_entered setting history commit answer n false full is had step h = absurd (not_refused NotKept n (sym step ∙ h))
 commit_entered setting history commit answer n true true is had step h = absurd (not_refused BookFull n (sym step ∙ h))
 commit_entered setting history commit answer n true false is had step h = record {
@@ -106,14 +106,9 @@ record IsLegalBook (setting : Setting) (book : BookState) : Type 0 where
   legal : IsLegal setting book.history
   had : All (IsHad (length book.history)) book.kept
 
-both_true : (a b : Bool) → (a && b) ≡ true → a ≡ true
-both_true true b h = refl
-both_true false b h = cc
-
 had_first : (n : ℕ) (which kept : ℕ × ℕ) (this rest : Bool) → is_this which kept ≡ this → IsHad n kept → (rest ≡ true → IsHad n which) → (this || rest) ≡ true → IsHad n which
 had_first n which kept true rest is here later h =
-    let first = both_true (kept.0 == which.0) (kept.1 == which.1) is in
-    let same : kept.0 ≡ which.0 = grind (arith, nat_tests, first) in
+    let same = same_number kept.0 which.0 (both_true (kept.0 == which.0) (kept.1 == which.1) is).0 in
     omega (arith, same, here)
 had_first n which kept false rest is here later h = later h
 
@@ -127,7 +122,7 @@ had_chosen n at kept true room all = all
 had_chosen n at kept false true all = All-push (IsHad n) kept (n, at) all (omega arith)
 had_chosen n at kept false false all = All-push (IsHad n) (drop 1 kept) (n, at) (All-drop (IsHad n) 1 kept all) (omega arith)
 
-entered_book : (setting : Setting) (book : BookState) (entry : Event) (answer : Answer) → IsLegalBook setting book → ((n : ℕ) → answer ≡ Done (Accepted n) → IsEntered setting book.history entry) → IsLegalBook setting (entered book entry answer)
+entered_book : (setting : Setting) (book : BookState) (entry : Event) (answer : Answer) → IsLegalBook setting book → ((n : ℕ) → answer ≡ Done (Accepted n) → IsLegalEntry setting book.history entry) → IsLegalBook setting (entered book entry answer)
 entered_book setting book entry (Done (Accepted n)) h is = record {
   legal = entered_legal setting book.history entry h.legal (is n refl);
   had =

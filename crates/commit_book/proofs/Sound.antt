@@ -1,6 +1,6 @@
 -- A commit that pays what it owes is what the headline says of it.
 use Rattle.std.proofs.Common.{◌≡◌, ◌∙◌, ◌<◌, ◌≤◌, ℕ, zero, suc, List, [], ◌∷◌, map, ap, arith}
-use Rattle.std.specs.Prelude.{Option, Some, All, slice_get, slice_index}
+use Rattle.std.specs.Prelude.{Some, All, slice_get, slice_index}
 use Rattle.std.proofs.lemmas.List.Elements.{All-cons, All-nil}
 use Rattle.move_messages.specs.declared.commit_text.CommitText.{CommitText}
 use Rattle.load_orders.specs.Wanted.{WantedOrder}
@@ -14,10 +14,7 @@ use Rattle.operating_db.specs.declared.event.Event.{Event}
 use Rattle.commit_book.specs.Headline.{IsReached, IsSound}
 use Rattle.commit_book.specs.History.{IsLeast, problem_at}
 use Rattle.commit_book.specs.Setting.{Setting}
-use Rattle.commit_book.proofs.Placed.{ArePlaced, named_once, order_there, order_times, positions_placed, wagon_there}
-
-some_same : {A : Type 0} (x y : A) → let o : Option A = Some x in o ≡ Some y → x ≡ y
-some_same x y h = cc
+use Rattle.commit_book.proofs.Placed.{ArePlaced, named_once, order_there, order_times, positions_placed, some_same, wagon_there}
 
 -- what a column has at the place of an item
 index-map : {A : Type 0} (f : A → ℕ) (xs : List A) (i : ℕ) (x : A) → slice_get xs i ≡ Some x → slice_index (map f xs) i ≡ f x

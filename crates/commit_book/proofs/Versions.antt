@@ -11,15 +11,11 @@ use Rattle.operating_db.specs.Steps.{IsPromised}
 use Rattle.operating_db.specs.declared.apply_fault.ApplyFault.{ApplyFault}
 use Rattle.operating_db.specs.declared.event.Event.{Event}
 use Rattle.operating_db.proofs.Events.{rosters_agree, step_kept}
-use Rattle.commit_book.specs.History.{IsLegal, after, after_all, replay, version}
+use Rattle.commit_book.specs.History.{IsLegal, after, replay, version}
 use Rattle.commit_book.specs.Setting.{Setting}
 
--- the office after one more entry
-pub after-push : (networks : ℕ) (office : Office) (events : List Event) (event : Event) → after_all networks office (events ++ event ∷ []) ≡ after networks (after_all networks office events) event
-after-push networks office events event = fold-append (after networks) office events (event ∷ [])
-
-pub replay-push : (setting : Setting) (entries : List Event) (event : Event) → replay setting (entries ++ event ∷ []) ≡ after (length setting.networks) (replay setting entries) event
-replay-push setting entries event = after-push (length setting.networks) (first_office setting.roster) entries event
+replay-push : (setting : Setting) (entries : List Event) (event : Event) → replay setting (entries ++ event ∷ []) ≡ after (length setting.networks) (replay setting entries) event
+replay-push setting entries event = fold-append (after (length setting.networks)) (first_office setting.roster) entries (event ∷ [])
 
 after_agrees : (networks : ℕ) (office : Office) (event : Event) (r : Result Office ApplyFault) → after_call networks office event ≡ r → IsPromised office event → PromisesAgree office → PromisesAgree (result_unwrap_or r office)
 after_agrees networks office event (Ok new) is promised agree = (step_kept networks office event new (promised, is) agree).promises
