@@ -1,5 +1,4 @@
 pub mod Books
-pub mod Certified
 pub mod CommitLaws
 pub mod Histories
 pub mod Placed
