@@ -116,7 +116,6 @@ orders_indexed problem (pair ∷ pairs) (place ∷ places) h = (h.0.order, order
 orders_indexed problem [] (place ∷ places) h = h
 orders_indexed problem (pair ∷ pairs) [] h = h
 
-
 -- two names at one place are one
 wagons_one_to_one : (problem : ProblemValue) (a b : List ℕ) (i : ℕ) → wagon_place problem a ≡ Some i → wagon_place problem b ≡ Some i → a ≡ b
 wagons_one_to_one problem a b i h g = some_same a b (sym (found_at (wagon_names problem.wagons) a i h) ∙ found_at (wagon_names problem.wagons) b i g)
