@@ -14,6 +14,7 @@ use Rattle.cost_table.specs.Table.{Table}
 use Rattle.price_checker.specs.Faults.{first_fault}
 use Rattle.price_checker.specs.declared.check_fault.CheckFault.{CheckFault}
 use Rattle.price_checker.proofs.Duality.{certificates_optimal}
+use Rattle.price_checker.proofs.FaultFree.{in_range_certified}
 use Rattle.price_checker.proofs.FirstBelow.{none_first, none_second}
 use Rattle.operating_db.specs.Commits.{CanPromise, IsPromisable, Pair, is_free_row, lack_in, times_of_order, times_of_wagon}
 use Rattle.operating_db.specs.Office.{Office}
@@ -25,8 +26,11 @@ use Rattle.commit_book.specs.History.{IsLeast, IsTableAt, IsUnchanged, problem_a
 use Rattle.commit_book.specs.Setting.{Setting}
 use Rattle.commit_book.specs.declared.refusal.Refusal.{Refusal}
 use Rattle.commit_book.specs.declared.refusal.Refusal.TheVariants.{OrderChanged, WagonChanged}
-use Rattle.commit_book.proofs.Certified.{certified, tail_allowed}
 use Rattle.commit_book.proofs.Placed.{named_once, placed_in_range, positions_placed}
+
+tail_allowed : {A : Type 0} (b : Bool) (rest : Option A) (x : A) → cond b rest (Some x) ≡ None → (b ≡ true) × (rest ≡ None)
+tail_allowed true rest x h = (refl, h)
+tail_allowed false rest x h = cc
 
 -- ---- wagons
 
@@ -147,7 +151,7 @@ commit_owed setting history commit table had is_table h =
     let un = unrefused problem now commit table h in
     let placed = positions_placed problem commit.pairs un.positions un.are_positions in
     let range = placed_in_range is_table.network problem table is_table.of_problem commit.pairs un.positions placed in
-    let certificate = certified table un.positions commit.u commit.v range un.no_fault in
+    let certificate = in_range_certified table un.positions commit.u commit.v range un.no_fault in
     let unchanged = all_unchanged problem now commit.pairs un.wagons in
     let once = named_once problem commit.pairs un.positions placed certificate.plan.once in (
       record {

@@ -1,7 +1,6 @@
 pub mod BookCalls
 pub mod BookParts
 pub mod Books
-pub mod Certified
 pub mod CommitLaws
 pub mod CommitWalks
 pub mod Histories

@@ -93,7 +93,7 @@ commit_entered setting history commit answer n true true is had step h = absurd 
 commit_entered setting history commit answer n true false is had step h = record {
   room = room_of setting.entries (length history) is;
   is_entry = commit_entry setting history commit step.table (had refl) step.is_table
-  (no_refusal (length history + 1) n (refusal_in (problem_at setting history commit.version commit.at) (replay setting history) commit step.table) (sym step.answered ∙ h));
+      (no_refusal (length history + 1) n (refusal_in (problem_at setting history commit.version commit.at) (replay setting history) commit step.table) (sym step.answered ∙ h));
 }
 
 -- ---- books
