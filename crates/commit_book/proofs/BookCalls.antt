@@ -1,14 +1,14 @@
 -- The calls of a book, from what its parts answer.
-use Rattle.std.proofs.Common.{◌≡◌, ◌≢◌, ◌∙◌, ◌+◌, ◌<◌, ℕ, Bool, true, false, List, [], ◌∷◌, ◌++◌, length, take, get_or, add-one, Some, None, refl, sym, ap, subst, inl, inr}
+use Rattle.std.proofs.Common.{◌≡◌, ◌≢◌, ◌∙◌, ◌+◌, ◌<◌, ℕ, Bool, true, false, List, [], ◌∷◌, ◌++◌, length, take, get_or, add-one, Some, refl, sym, ap, subst, inl, inr}
 use Rattle.std.proofs.Math.Seq.{take-suc}
-use Rattle.std.specs.Prelude.{◌⊎◌, Result, Ok, Err, slice_get}
+use Rattle.std.specs.Prelude.{◌⊎◌, slice_get}
 use Rattle.move_messages.specs.declared.commit_text.CommitText.{CommitText}
 use Rattle.move_messages.specs.declared.message.Message as movement
 use Rattle.operating_db.specs.After.{after_call}
 use Rattle.operating_db.specs.declared.event.Event.{Event}
 use Rattle.operating_db.specs.declared.event.Event.TheVariants as event
-use Rattle.commit_book.specs.BookStep.{BookState, IsCall, IsCommitAnswer, IsEntered, IsStep, IsRun, event_answer, is_full, is_kept}
-use Rattle.commit_book.specs.CommitTests.{IsAccepted, IsRefused, IsTestable}
+use Rattle.commit_book.specs.BookStep.{BookState, IsCall, IsCommitAnswer, IsEntered, IsRun, event_answer, is_full, is_kept}
+use Rattle.commit_book.specs.CommitTests.{IsAccepted, IsRefused}
 use Rattle.commit_book.specs.Setting.{Setting}
 use Rattle.commit_book.specs.declared.answer.Answer.{Answer}
 use Rattle.commit_book.specs.declared.answer.Answer.TheVariants.{Done, Refused}

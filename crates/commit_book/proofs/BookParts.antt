@@ -1,5 +1,5 @@
 -- A book's parts, when an event is entered and when a problem is kept.
-use Rattle.std.proofs.Common.{◌≡◌, ◌∙◌, ◌+◌, ℕ, false, List, [], ◌∷◌, ◌++◌, length, map, Option, Some, None, is_some, refl, sym, ap, arith, subst}
+use Rattle.std.proofs.Common.{◌≡◌, ◌∙◌, ℕ, false, List, [], ◌∷◌, ◌++◌, length, map, Option, Some, None, is_some, refl, sym, ap, arith, subst}
 use Rattle.std.specs.Prelude.{IsOk, option_map}
 use Rattle.std.proofs.Math.Seq.{take-length}
 use Rattle.line_network.specs.Network.{NetworkValue}

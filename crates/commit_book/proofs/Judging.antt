@@ -1,17 +1,17 @@
 -- What the tests of a commit say, of the kept problem that was found.
-use Rattle.std.proofs.Common.{◌≡◌, ◌≢◌, ◌∙◌, ◌+◌, ℕ, Bool, true, false, List, length, map, Option, Some, None, is_some, refl, sym, ap, inl, inr}
+use Rattle.std.proofs.Common.{◌≡◌, ◌≢◌, ◌∙◌, true, false, List, length, map, Some, None, is_some, refl, sym, ap, inl, inr}
 use Rattle.std.proofs.lemmas.List.{length-map}
 use Rattle.load_orders.specs.Wanted.{WantedOrder}
 use Rattle.move_messages.specs.declared.commit_text.CommitText.{CommitText}
 use Rattle.cost_table.specs.Problem.{ProblemValue}
 use Rattle.cost_table.specs.Table.{order_count, wagon_count}
 use Rattle.operating_db.specs.declared.event.Event.{Event}
-use Rattle.commit_book.specs.BookStep.{BookState, is_full, is_kept, accepted_unless, refusal_in}
+use Rattle.commit_book.specs.BookStep.{BookState, is_full, refusal_in}
 use Rattle.commit_book.specs.CommitTests.{IsAccepted, IsRefused, IsTestable}
 use Rattle.commit_book.specs.History.{replay}
 use Rattle.commit_book.specs.Kept.{IsBook, which_of}
 use Rattle.commit_book.specs.Setting.{Setting}
-use Rattle.commit_book.specs.declared.answer.Answer.TheVariants.{Done, Refused}
+use Rattle.commit_book.specs.declared.answer.Answer.TheVariants.{Refused}
 use Rattle.commit_book.specs.declared.kept_problems.KeptProblem.{KeptProblem}
 use Rattle.commit_book.specs.declared.refusal.Refusal.{Refusal}
 use Rattle.commit_book.specs.declared.refusal.Refusal.TheVariants.{OutOfMemory, NotKept, BookFull}

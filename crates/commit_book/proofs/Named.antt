@@ -1,8 +1,8 @@
 -- The positions that a fault of the checker names are positions of the problem.
-use Rattle.std.proofs.Common.{◌≡◌, ℕ, zero, suc, ◌+◌, ◌<◌, ◌≤◌, Bool, true, false, cond, List, [], ◌∷◌, ◌++◌, length, refl, sym, ap, ◌∙◌, subst, arith, inl, inr}
-use Rattle.std.specs.Prelude.{◌⊎◌, ◌==◌, ◌&&◌, nat_lt, Option, Some, None, is_some, Result, Ok, Err, slice_index, sum}
+use Rattle.std.proofs.Common.{◌≡◌, ℕ, zero, suc, ◌+◌, ◌<◌, Bool, true, false, cond, List, [], ◌∷◌, ◌++◌, length, refl, ap, ◌∙◌, subst, arith}
+use Rattle.std.specs.Prelude.{◌==◌, ◌&&◌, nat_lt, Option, Some, None, is_some, Result, Ok, Err, slice_index, sum}
 use Rattle.std.specs.Option.{option_or}
-use Rattle.cost_table.specs.Table.{Table, cost_at, wagon_count, order_count, lack_at, penalty_at}
+use Rattle.cost_table.specs.Table.{Table, cost_at, wagon_count, order_count, penalty_at}
 use Rattle.cost_table.specs.Plan.{cost_of}
 use Rattle.std.proofs.lemmas.List.{length-map}
 use Rattle.wagon_state.specs.declared.free_wagon.FreeWagon.{FreeWagon}
@@ -12,7 +12,7 @@ use Rattle.cost_table.specs.Problem.{ProblemValue, names_of_problem, order_names
 use Rattle.std.specs.Prelude.{position}
 use Rattle.std.proofs.lemmas.List.Quantifiers.{position-Some}
 use Rattle.move_messages.specs.Values.{◌>>=◌}
-use Rattle.price_checker.specs.Faults.{first_fault, wrong_lengths, not_allowed, used_twice, is_spent, price_gap, gap_of_wagon, gap_at, over_penalty, penalty_gap, sums_differ, first_below, paid_by_orders}
+use Rattle.price_checker.specs.Faults.{first_fault, wrong_lengths, not_allowed, used_twice, is_spent, price_gap, gap_at, over_penalty, first_below, paid_by_orders}
 use Rattle.price_checker.specs.declared.check_fault.CheckFault.{CheckFault}
 use Rattle.price_checker.specs.declared.check_fault.CheckFault.TheVariants as check
 use Rattle.commit_book.specs.Commits.{found_or, positions_of}

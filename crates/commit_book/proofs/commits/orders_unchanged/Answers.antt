@@ -1,4 +1,4 @@
-use Rattle.std.proofs.Common.{sym, ◌∙◌}
+use Rattle.std.proofs.Common.{sym}
 use Rattle.commit_book.proofs.CommitWalks.{order_here, order_next}
 use Rattle.commit_book.proofs.commits.orders_unchanged.Goals as goal
 

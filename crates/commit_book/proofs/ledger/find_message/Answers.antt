@@ -1,4 +1,4 @@
-use Rattle.std.proofs.Common.{◌≡◌, ℕ, Some, None, sym, ◌∙◌, ap}
+use Rattle.std.proofs.Common.{sym, ◌∙◌, ap}
 use Rattle.std.specs.Map.{lookup}
 use Rattle.commit_book.proofs.Ids.{fresh_by, found_id, is_found, is_id, is_somewhere}
 use Rattle.commit_book.proofs.ledger.find_message.Goals as goal

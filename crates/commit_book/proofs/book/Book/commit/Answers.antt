@@ -1,6 +1,3 @@
-use Rattle.std.proofs.Common.{sym, ap, ◌∙◌, ◌≡◌, Some, None}
-use Rattle.operating_db.specs.declared.event.Event.TheVariants as event
-use Rattle.commit_book.specs.BookStep.{IsEntered}
 use Rattle.commit_book.proofs.BookCalls.{commit_call}
 use Rattle.commit_book.proofs.book.Book.commit.Goals as goal
 

@@ -1,5 +1,4 @@
 use Rattle.std.proofs.Common.{sym, ◌∙◌, ap}
-use Rattle.commit_book.specs.declared.kept_problems.KeptProblem.{KeptProblem}
 use Rattle.commit_book.proofs.BookParts.{kept_none}
 use Rattle.commit_book.proofs.Books.{kept_as}
 use Rattle.commit_book.proofs.book.Book.is_kept.Goals as goal
