@@ -4,7 +4,7 @@ ghost use Rattle.std.specs.List.{list_all};
 ghost use Rattle.office_rows.specs.Kept.{IsOrderRows, IsWagonRows};
 ghost use Rattle.office_rows.specs.Rows.{order_in, wagon_in};
 ghost use Rattle.operating_db.specs.After.{IsChange, after_call, after_order, after_revision, message_to, order_place, withdrawn_from};
-ghost use Rattle.operating_db.specs.ApplyFault.{IsRefusal};
+ghost use Rattle.operating_db.specs.ApplyFault.{IsPlace, IsRefusal, IsRefusalOf};
 ghost use Rattle.operating_db.specs.Commits.{CanPromise, IsNext, is_free_row, is_promisable, lack_in, promise_all, promise_pair, times_of_order, times_of_wagon};
 ghost use Rattle.operating_db.specs.Office.{first_office};
 ghost use Rattle.operating_db.specs.Problem.{problem_of};
@@ -198,6 +198,8 @@ impl OfficeState {
         requires { IsPromised self.old.office event.now }
         ensures done { OnOk result (after_call self.old.networks self.old.office event.now ≡ Ok self.new.office) }
         ensures refused { IfErr result (λ fault. IsRefusal (after_call self.old.networks self.old.office event.now) fault) }
+        ensures by_event { IfErr result (λ fault. IsRefusalOf event.now (after_call self.old.networks self.old.office event.now) fault) }
+        ensures memory { IfErr result (λ fault. fault ≡ ApplyFault.OutOfMemory → IsPlace event.now) }
         ensures unchanged { OnErr result (self.new ≡ self.old) }
         ensures networks { self.new.networks ≡ self.old.networks }
     {
@@ -217,6 +219,7 @@ impl OfficeState {
     fn change_by(&self, message: &Message) -> Result<(Change, Option<OrderId>), ApplyFault>
         ensures change { IfOk result (λ found. IsChange self.now.office message.now found.0 found.1) }
         ensures refused { IfErr result (λ fault. message_to self.now.office message.now (wagon_in self.now.office.wagons message.now.wagon) ≡ Err fault) }
+        ensures memory { IfErr result (λ fault. ¬ (fault ≡ ApplyFault.OutOfMemory)) }
     {
         let Some(row) = self.wagons.get(message.wagon) else {
             return Err(ApplyFault::UnknownWagon);
@@ -239,6 +242,7 @@ impl OfficeState {
     fn accept(&mut self, message: &Message) -> Result<(), ApplyFault>
         ensures done { OnOk result (message_to self.old.office message.now (wagon_in self.old.office.wagons message.now.wagon) ≡ Ok self.new.office) }
         ensures refused { IfErr result (λ fault. message_to self.old.office message.now (wagon_in self.old.office.wagons message.now.wagon) ≡ Err fault) }
+        ensures memory { IfErr result (λ fault. ¬ (fault ≡ ApplyFault.OutOfMemory)) }
         ensures unchanged { OnErr result (self.new ≡ self.old) }
         ensures networks { self.new.networks ≡ self.old.networks }
     {
@@ -298,6 +302,7 @@ impl OfficeState {
     fn withdraw(&mut self, id: OrderId) -> Result<(), ApplyFault>
         ensures done { OnOk result (withdrawn_from self.old.office id (order_in self.old.office.orders id) ≡ Ok self.new.office) }
         ensures refused { IfErr result (λ fault. withdrawn_from self.old.office id (order_in self.old.office.orders id) ≡ Err fault) }
+        ensures memory { IfErr result (λ fault. ¬ (fault ≡ ApplyFault.OutOfMemory)) }
         ensures unchanged { OnErr result (self.new ≡ self.old) }
         ensures networks { self.new.networks ≡ self.old.networks }
     {
@@ -336,6 +341,7 @@ impl OfficeState {
     fn revisable(&self, network: u32) -> Result<(), ApplyFault>
         ensures possible { OnOk result (IsOk (after_revision self.now.networks self.now.office network)) }
         ensures refused { IfErr result (λ fault. after_revision self.now.networks self.now.office network ≡ Err fault) }
+        ensures memory { IfErr result (λ fault. ¬ (fault ≡ ApplyFault.OutOfMemory)) }
     {
         if network == 0 || self.networks < network {
             return Err(ApplyFault::UnknownNetwork);
@@ -350,6 +356,7 @@ impl OfficeState {
     fn revise(&mut self, network: u32) -> Result<(), ApplyFault>
         ensures done { OnOk result (after_revision self.old.networks self.old.office network ≡ Ok self.new.office) }
         ensures refused { IfErr result (λ fault. after_revision self.old.networks self.old.office network ≡ Err fault) }
+        ensures memory { IfErr result (λ fault. ¬ (fault ≡ ApplyFault.OutOfMemory)) }
         ensures unchanged { OnErr result (self.new ≡ self.old) }
         ensures networks { self.new.networks ≡ self.old.networks }
     {
