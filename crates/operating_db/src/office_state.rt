@@ -7,20 +7,20 @@ ghost use Rattle.operating_db.specs.After.{IsChange, after_call, after_order, af
 ghost use Rattle.operating_db.specs.ApplyFault.{IsPlace, IsRefusal, IsRefusalOf};
 ghost use Rattle.operating_db.specs.Commits.{CanPromise, IsNext, is_free_row, is_promisable, lack_in, promise_all, promise_pair, times_of_order, times_of_wagon};
 ghost use Rattle.operating_db.specs.Office.{first_office};
-ghost use Rattle.operating_db.specs.Problem.{problem_of};
+ghost use Rattle.operating_db.specs.Problem.{free_count, problem_of};
 ghost use Rattle.operating_db.specs.Promises.{PromisesAgree};
 ghost use Rattle.operating_db.specs.State.{IsState};
 ghost use Rattle.operating_db.specs.Steps.{IsPromised};
 
 use crate::limits::MAX_NETWORKS;
-use crate::lists::{free_wagons, waiting_orders};
+use crate::lists::{free_count, free_wagons, waiting_orders};
 use crate::promises::{end_promises, set_promise, settle};
 use crate::{ApplyFault, Event};
 use cost_table::Problem;
 use load_orders::OrderRow;
 use move_messages::{Message, OrderText};
 use office_rows::{MAX_OPEN_WAGONS, OrderRows, WagonRows};
-use rail_codes::{Moment, OrderId, Place, WagonNumber};
+use rail_codes::{ClassCode, Moment, OrderId, Place, WagonNumber};
 use std::alloc::{AllocError, Global};
 use std::marker::Model;
 use wagon_roster::Roster;
@@ -120,6 +120,13 @@ impl OfficeState {
         let wagons = free_wagons(alloc, self.wagons.as_slice())?;
         let orders = waiting_orders(alloc, self.orders.as_slice())?;
         Ok(Problem::new(at, wagons, orders).unwrap())
+    }
+
+    /// How many free wagons of a class stand at a place. Takes no memory.
+    pub fn free_count(&self, class: ClassCode, place: Place) -> usize
+        ensures { result ≡ free_count self.now.office.wagons class place }
+    {
+        free_count(self.wagons.as_slice(), class, place)
     }
 
     /// Whether these pairs can be promised together: no wagon stands twice, each is free now, and each order lacks as
