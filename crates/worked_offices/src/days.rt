@@ -194,7 +194,7 @@ fn wagon_row(office: &OfficeState, number: &str) -> Result<WagonRow, Fail> {
     Ok(*office.wagon(WagonNumber::read(number)?).ok_or("no wagon")?)
 }
 
-/// Whether a wagon is promised to an order, and it alone to this order.
+/// Whether a wagon is promised to an order, and the order has it among its promised ones.
 fn is_promised(office: &OfficeState, number: &str, name: &str) -> Result<bool, Fail> {
     let (number, id) = (WagonNumber::read(number)?, OrderId::read(name)?);
     let wagon = office.wagon(number).ok_or("no wagon")?;
