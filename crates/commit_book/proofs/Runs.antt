@@ -13,7 +13,8 @@ use Rattle.operating_db.specs.declared.apply_fault.ApplyFault.{ApplyFault}
 use Rattle.operating_db.specs.declared.event.Event.{Event}
 use Rattle.operating_db.specs.declared.event.Event.TheVariants as event
 use Rattle.commit_book.specs.BookStep.{BookState, IsAnswer, IsCall, IsCommitAnswer, IsMessageAnswer, IsRun, accepted_unless, book_after, entered, entered_as, event_answer, is_full, is_kept, is_this, refusal_in}
-use Rattle.commit_book.specs.Headline.{Headline}
+use Rattle.wagon_roster.specs.Roster.{IsRoster}
+use Rattle.commit_book.specs.Headline.{Headline, IsProved}
 use Rattle.commit_book.specs.History.{IsEntry, IsLegal, IsTableAt, Owes, problem_at, replay}
 use Rattle.commit_book.specs.Refusal.{refusal_of}
 use Rattle.commit_book.specs.Setting.{Setting}
@@ -157,12 +158,16 @@ run_book setting book (c ∷ calls) (answer ∷ answers) new h run = run_book se
 run_book setting book [] (answer ∷ answers) new h run = absurd run
 run_book setting book (c ∷ calls) [] new h run = absurd run
 
+-- a legal history of a roster is as the headline says
+pub proved_by : (setting : Setting) → IsRoster setting.roster → (history : List Event) → IsLegal setting history → IsProved setting history
+proved_by setting roster history legal = record {
+  legal = legal;
+  commits = λ n commit is. sound setting (take n history) commit (legal.entries n (event.Commit commit) is).owed;
+  promises = versions_agree setting roster history legal;
+}
+
 pub headline : Headline
 headline setting roster calls answers book run =
     let first : IsLegalBook setting (record { history = []; kept = [] }) = record { legal = empty_legal setting; had = All-nil (IsHad 0) } in
     let last = run_book setting (record { history = []; kept = [] }) calls answers book first run in
-    record {
-      legal = last.legal;
-      commits = λ n commit is. sound setting (take n book.history) commit (last.legal.entries n (event.Commit commit) is).owed;
-      promises = versions_agree setting roster book.history last.legal;
-    }
+    proved_by setting roster book.history last.legal

@@ -4,7 +4,8 @@ ghost use Rattle.distance_tables.specs.Networks.{network_at};
 ghost use Rattle.operating_db.specs.Steps.{IsPromised};
 ghost use Rattle.commit_book.specs.BookStep.{IsCall, IsEntered, answer_of, begun_of, is_full, is_kept, kept_after};
 ghost use Rattle.commit_book.specs.CommitTests.{IsAccepted, IsRefused};
-ghost use Rattle.commit_book.specs.History.{IsLegal, Owes, entry_at, replay};
+ghost use Rattle.commit_book.specs.Headline.{IsProved};
+ghost use Rattle.commit_book.specs.History.{Owes, entry_at, replay};
 ghost use Rattle.commit_book.specs.Kept.{IsKeptAt, which_of};
 ghost use Rattle.commit_book.specs.Snap.{IsVersionNumber, snap_of};
 ghost use Rattle.commit_book.specs.declared.call.Call.TheVariants as call;
@@ -82,11 +83,12 @@ impl Book {
         self.ledger.get(place as usize)
     }
 
-    /// The office after all entries. Takes no memory.
+    /// The office after all entries. Whatever led to this book, its history is as the headline says. Takes no memory.
     pub fn state(&self) -> &OfficeState
         ensures state { result.now ≡ record { office = replay self.now.setting self.now.state.history; networks = length self.now.setting.networks } }
-        ensures legal { IsLegal self.now.setting self.now.state.history }
+        ensures proved { IsProved self.now.setting self.now.state.history }
     {
+        let _rows = self.ledger.roster().rows();
         self.ledger.state()
     }
 

@@ -53,6 +53,13 @@ impl Ledger {
         })
     }
 
+    /// The roster that it began with.
+    pub fn roster(&self) -> &Roster
+        ensures { result.now ≡ self.now.roster }
+    {
+        &self.roster
+    }
+
     /// How many events there are.
     pub fn len(&self) -> usize
         ensures { result ≡ length self.now.events }
