@@ -6,5 +6,6 @@ pub mod Search
 pub mod Shares
 pub mod Starts
 pub mod Steps
+pub mod Turns
 pub mod Walk
 pub mod WorkFault

@@ -10,9 +10,11 @@ mod many_threads;
 mod networks;
 mod networks_fault;
 mod one_thread;
+mod queue;
 mod search;
 mod share;
 mod step;
+mod turn;
 mod waiting;
 mod work_fault;
 

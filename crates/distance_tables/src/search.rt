@@ -4,18 +4,17 @@
 //! still the one that it waited with. No order of the turns is needed for the answer; the heap's order makes
 //! it fast.
 ghost use Rattle.std.specs.Prelude.{◌≡◌, ◌≢◌, ℕ, ◌+◌, ◌^◌, ◌<◌, ◌≤◌, ◌↔◌, Some, None, [], All, replicate, IsTrue, MatchBool, IfOk, OnOk, length, vec_len};
-ghost use Rattle.std.specs.BinaryHeap.{heap_items};
 ghost use Rattle.distance_tables.specs.Rows.{IsRow};
 ghost use Rattle.distance_tables.specs.Search.{label_at, AreBounded, IsRelaxed, Improves, LabelAtMost, LabelAbove, Relaxes};
+ghost use Rattle.distance_tables.specs.Turns.{waits};
 ghost use Rattle.line_network.specs.Network.{IsLine};
 
 use crate::distance::Distance;
 use crate::lines_by_origin::LinesByOrigin;
+use crate::queue::Queue;
 use crate::waiting::Waiting;
 use line_network::{Line, MAX_PLACES};
 use std::alloc::{AllocError, Global};
-use std::cmp::Reverse;
-use std::collections::BinaryHeap;
 
 /// The distances from one place to each place, `None` where no walk leads.
 pub(crate) fn row_of_origin(
@@ -31,7 +30,7 @@ pub(crate) fn row_of_origin(
     ensures { IfOk result (λ row. IsRow lines.now.lines.items places origin row.items) }
 {
     let mut labels = unreached(alloc, places)?;
-    let mut waiting = BinaryHeap::with_capacity(alloc, places)?;
+    let mut waiting = Queue::with_capacity(alloc, places)?;
     search(&mut labels, &mut waiting, lines, origin)?;
     Ok(labels)
 }
@@ -46,7 +45,7 @@ fn unreached(alloc: Global, places: usize) -> Result<Vec<Option<Distance>>, Allo
 /// Labels each place that a walk from the origin leads to with its distance.
 fn search(
     labels: &mut [Option<Distance>],
-    waiting: &mut BinaryHeap<Reverse<Waiting>>,
+    waiting: &mut Queue,
     lines: &LinesByOrigin,
     origin: usize,
 ) -> Result<(), AllocError>
@@ -55,17 +54,17 @@ fn search(
     requires indexed { vec_len lines.now.starts ≡ length labels.old + 1 }
     requires lines { All (IsLine (length labels.old)) lines.now.lines.items }
     requires unreached { labels.old ≡ replicate (length labels.old) None }
-    requires none_waits { heap_items waiting.old ≡ [] }
+    requires none_waits { waits waiting.old ≡ [] }
 
     ensures { OnOk result (IsRow lines.now.lines.items (length labels.old) origin labels.new) }
 {
     let distance = Distance { km: 0, minutes: 0 };
-    waiting.push(Reverse(Waiting {
+    waiting.push(Waiting {
         distance,
         place: origin,
-    }))?;
+    })?;
     labels[origin] = Some(distance);
-    while let Some(Reverse(next)) = waiting.pop() {
+    while let Some(next) = waiting.pop() {
         if !is_label(labels[next.place], next.distance) {
             continue;
         }
@@ -84,7 +83,7 @@ fn is_label(label: Option<Distance>, distance: Distance) -> bool
 /// Relaxes the lines from a place.
 fn relax_lines(
     labels: &mut [Option<Distance>],
-    waiting: &mut BinaryHeap<Reverse<Waiting>>,
+    waiting: &mut Queue,
     lines: &LinesByOrigin,
     at: Waiting,
 ) -> Result<(), AllocError>
@@ -94,7 +93,7 @@ fn relax_lines(
     requires bounded { AreBounded labels.old }
     requires label { label_at labels.old at.place ≡ Some at.distance }
 
-    ensures improves { OnOk result (Improves lines.now.lines.items labels.old labels.new (heap_items waiting.old) (heap_items waiting.new)) }
+    ensures improves { OnOk result (Improves lines.now.lines.items labels.old labels.new (waits waiting.old) (waits waiting.new)) }
     ensures bounded { OnOk result (AreBounded labels.new) }
     ensures label { OnOk result (label_at labels.new at.place ≡ Some at.distance) }
     ensures relaxed { OnOk result (IsRelaxed lines.now.lines.items labels.new at.place at.distance) }
@@ -109,19 +108,20 @@ fn relax_lines(
 /// Lowers the label of the place where a line ends, if the way over the line is shorter; the place then waits.
 fn relax(
     labels: &mut [Option<Distance>],
-    waiting: &mut BinaryHeap<Reverse<Waiting>>,
+    waiting: &mut Queue,
     at: Distance,
     line: &Line,
 ) -> Result<(), AllocError>
+    requires few { length labels.old ≤ MAX_PLACES }
     requires known { line.now.to < length labels.old }
-    requires km { at.km + line.now.km < 2 ^ 32 }
-    requires minutes { at.minutes + line.now.minutes < 2 ^ 32 }
-    ensures { OnOk result (Relaxes labels.old labels.new (heap_items waiting.old) (heap_items waiting.new) at line.now) }
+    requires km { at.km + line.now.km < 2 ^ 25 }
+    requires minutes { at.minutes + line.now.minutes < 2 ^ 25 }
+    ensures { OnOk result (Relaxes labels.old labels.new (waits waiting.old) (waits waiting.new) at line.now) }
 {
     let place = line.to;
     let distance = at.plus(line);
     if falls(labels[place], distance) {
-        waiting.push(Reverse(Waiting { distance, place }))?;
+        waiting.push(Waiting { distance, place })?;
         labels[place] = Some(distance);
     }
     Ok(())
