@@ -1,6 +1,7 @@
 pub mod Distance
 pub mod Laws
 pub mod Networks
+pub mod Numbers
 pub mod Rows
 pub mod Search
 pub mod Shares

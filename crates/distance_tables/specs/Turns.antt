@@ -1,5 +1,5 @@
 -- How a turn's number stands for a place that waits.
-use Rattle.std.specs.Prelude.{◌≡◌, ℕ, ◌^◌, ◌<◌, ◌/◌, ◌%◌, List, map}
+use Rattle.std.specs.Prelude.{◌^◌, ◌<◌, ◌/◌, ◌%◌, List, map}
 use Rattle.std.specs.BinaryHeap.{heap_items}
 use Rattle.std.specs.declared.cmp.Reverse.{Reverse}
 use Rattle.distance_tables.specs.declared.queue.Queue.{Queue}

@@ -4,6 +4,7 @@
 mod distance;
 mod distances;
 mod gate;
+mod label;
 mod laws;
 mod lines_by_origin;
 mod many_threads;

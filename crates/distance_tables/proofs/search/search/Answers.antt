@@ -2,24 +2,21 @@ use Rattle.std.proofs.Common.{◌<◌, List, Option, Some, length, set, subst, s
 use Rattle.distance_tables.specs.Turns.{waits}
 use Rattle.std.proofs.lemmas.Bool.{iff_false}
 use Rattle.distance_tables.specs.declared.distance.Distance.{Distance}
+use Rattle.distance_tables.proofs.Numbering.{length_known}
 use Rattle.distance_tables.proofs.Searching.{IsSearch, IsSearch-start, IsSearch-stale, IsSearch-next, IsRow-search, place_in_range}
 use Rattle.distance_tables.proofs.search.search.Goals as goal
 
 pub loop-next-init : goal.loop-next-init
 loop-next-init c =
     let moved = rw c.requires.none_waits at c.in_ok-push.ensures in
-    let P : List (Option Distance) → Type 0 = λ xs. IsSearch c.args.lines.now.lines.items (length c.args.labels.now) c.args.origin (set xs c.args.origin (Some (record { km = 0; minutes = 0 }))) (waits c.push.new.self) in
-    subst P (sym c.requires.unreached) (IsSearch-start _ _ _ c.requires.origin _ moved)
+    let P : List (Option Distance) → Type 0 = λ xs. IsSearch c.args.lines.now.lines.items (length c.args.labels.now) c.args.origin xs (waits c.push.new.self) in
+    let Q : List (Option Distance) → Type 0 = λ xs. P (set xs c.args.origin (Some (record { km = 0; minutes = 0 }))) in
+    subst P (sym c.lower.ensures) (subst Q (sym c.requires.unreached) (IsSearch-start _ _ _ c.requires.origin _ moved))
 
-pub slice_copy_out-is_label : goal.slice_copy_out-is_label
-slice_copy_out-is_label c =
-    let known : c.in-Some.next.place < length c.args.labels.now = place_in_range _ _ _ c.in-Some.next.distance c.in-Some.next.place c.loop-next.invariant.in_range c.in-Some.ensures.next in
-    omega (arith, c.loop-next.invariant.full)
-
-pub offset_bounds-labels-next : goal.offset_bounds-labels-next
-offset_bounds-labels-next c =
-    let known : c.in-Some.next.place < length c.args.labels.now = place_in_range _ _ _ c.in-Some.next.distance c.in-Some.next.place c.loop-next.invariant.in_range c.in-Some.ensures.next in
-    omega (arith, c.requires.few)
+pub is_label-requires : goal.is_label-requires
+is_label-requires c =
+    let within : c.in-Some.next.place < length c.args.labels.now = place_in_range _ _ _ c.in-Some.next.distance c.in-Some.next.place c.loop-next.invariant.in_range c.in-Some.ensures.next in
+    omega (arith, c.loop-next.invariant.full, length_known c.loop-next.labels)
 
 pub loop-next-preserved : goal.loop-next-preserved
 loop-next-preserved c =
