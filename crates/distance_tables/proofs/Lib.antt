@@ -1,5 +1,6 @@
 pub mod Labels
 pub mod Lines
+pub mod Numbering
 pub mod Paths
 pub mod Relaxing
 pub mod Searching

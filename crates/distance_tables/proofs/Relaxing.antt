@@ -1,7 +1,6 @@
 use Rattle.std.proofs.Common.{◌≡◌, ℕ, suc, ◌+◌, ◌*◌, ◌^◌, ◌<◌, ◌≤◌, ◌⊎◌, true, false, List, ◌∷◌, length, refl, sym, ◌∙◌, subst, arith, inl, inr, Some, None, Option, get_or, set, length-set, get_or-set_same, get_or-set_other}
 use Rattle.std.specs.List.{All, AllWithin, Contains}
 use Rattle.std.specs.List.Sorted.{IsPermutation}
-use Rattle.std.specs.declared.cmp.Reverse.{Reverse}
 use Rattle.std.proofs.lemmas.Bool.{cases_eq, cases_lt}
 use Rattle.std.proofs.lemmas.List.{get_or_past, get_or_default}
 use Rattle.std.proofs.lemmas.Option.{none-some, same_Some}
@@ -85,7 +84,7 @@ Contains-first x xs = (0, omega arith, refl)
 Contains-later : {X : Type 0} (x y : X) (xs : List X) → Contains xs y → Contains (x ∷ xs) y
 Contains-later x y xs h = (suc h.0, omega arith, h.2)
 
-pub Improves-refl : (lines : List Line) (labels : List (Option Distance)) (waiting : List (Reverse Waiting)) → Improves lines labels labels waiting waiting
+pub Improves-refl : (lines : List Line) (labels : List (Option Distance)) (waiting : List Waiting) → Improves lines labels labels waiting waiting
 Improves-refl lines labels waiting = record {
   same_length = refl;
   lower = λ k d h. h;
@@ -95,7 +94,7 @@ Improves-refl lines labels waiting = record {
   less_work = omega arith;
 }
 
-pub Improves-trans : (lines : List Line) (first second third : List (Option Distance)) (one two three : List (Reverse Waiting)) → Improves lines first second one two → Improves lines second third two three → Improves lines first third one three
+pub Improves-trans : (lines : List Line) (first second third : List (Option Distance)) (one two three : List Waiting) → Improves lines first second one two → Improves lines second third two three → Improves lines first third one three
 Improves-trans lines first second third one two three h k = record {
   same_length = k.same_length ∙ h.same_length;
   lower = λ n d low. k.lower n d (h.lower n d low);
@@ -106,7 +105,7 @@ Improves-trans lines first second third one two three h k = record {
 }
 
 -- one line from a place is relaxed
-module _ (lines : List Line) (old new : List (Option Distance)) (waited waits : List (Reverse Waiting)) (u : ℕ) (d : Distance) (l : Line)
+module _ (lines : List Line) (old new : List (Option Distance)) (waited waits : List Waiting) (u : ℕ) (d : Distance) (l : Line)
     (has : Contains lines l) (from : l.from ≡ u) (label : label_at old u ≡ Some d) (in_range : l.to < length old) (long : 1 ≤ l.km) where
   module _ (above : LabelAbove (label_at old l.to) (plus_line d l)) where
     lower-fallen : (k : ℕ) (e : Distance) → LabelAtMost (label_at old k) e → LabelAtMost (label_at (set old l.to (Some (plus_line d l))) k) e
@@ -132,19 +131,19 @@ module _ (lines : List Line) (old new : List (Option Distance)) (waited waits : 
           | inr relaxed ↦ inr (λ m is leads. lower-fallen m.to (plus_line e m) (relaxed m is leads))
         ])
 
-    Improves-fallen : d.km + l.km < 2 ^ 32 → d.minutes + l.minutes < 2 ^ 32 → IsPermutation (entry (plus_line d l) l.to ∷ waited) waits → Improves lines old (set old l.to (Some (plus_line d l))) waited waits
+    Improves-fallen : d.km + l.km < 2 ^ 25 → d.minutes + l.minutes < 2 ^ 25 → IsPermutation (entry (plus_line d l) l.to ∷ waited) waits → Improves lines old (set old l.to (Some (plus_line d l))) waited waits
     Improves-fallen fits_km fits_minutes moved = record {
       same_length = length-set old l.to (Some (plus_line d l));
       lower = lower-fallen;
       labels = AreLabels-fallen;
       settled = IsSettled-fallen moved;
-      in_range = λ h. let P : Reverse Waiting → Type 0 = λ e. e.0.place < length (set old l.to (Some (plus_line d l))) in
+      in_range = λ h. let P : Waiting → Type 0 = λ e. e.place < length (set old l.to (Some (plus_line d l))) in
           let same : length (set old l.to (Some (plus_line d l))) ≡ length old = length-set old l.to (Some (plus_line d l)) in
-          All-permutation P _ _ moved (All-cons P (entry (plus_line d l) l.to) waited (omega arith) (λ k e within. let q : (get_or waited k e).0.place < length old = h k e within in omega arith));
-      less_work = omega (arith, label_weight-falls (label_at old l.to) (plus_line d l) fits_km fits_minutes above, sum_by-set label_weight old l.to (Some (plus_line d l)) None in_range, length_permutation (entry (plus_line d l) l.to ∷ waited) waits moved);
+          All-permutation P _ _ moved (All-cons P (entry (plus_line d l) l.to) waited (omega arith) (λ k e within. let q : (get_or waited k e).place < length old = h k e within in omega arith));
+      less_work = omega (arith, label_weight-falls (label_at old l.to) (plus_line d l) (omega arith) (omega arith) above, sum_by-set label_weight old l.to (Some (plus_line d l)) None in_range, length_permutation (entry (plus_line d l) l.to ∷ waited) waits moved);
     }
 
-  pub Improves-Relaxes : d.km + l.km < 2 ^ 32 → d.minutes + l.minutes < 2 ^ 32 → Relaxes old new waited waits d l → Improves lines old new waited waits
+  pub Improves-Relaxes : d.km + l.km < 2 ^ 25 → d.minutes + l.minutes < 2 ^ 25 → Relaxes old new waited waits d l → Improves lines old new waited waits
   Improves-Relaxes fits_km fits_minutes (stays same rest low) =
       let P : List (Option Distance) → Type 0 = λ xs. Improves lines old xs waited waits in
       subst P (sym same) (subst (Improves lines old old waited) (sym rest) (Improves-refl lines old waited))
@@ -184,10 +183,10 @@ IsLineFrom-at lines part places u i d own all within =
     let here = own i d within in
     record { has = here; from = refl; is = All-contains (IsLine places) lines (line_from u (get_or part i d)) all here }
 
-pub fits_km : (lines : List Line) (labels : List (Option Distance)) (places u : ℕ) (d : Distance) (l : Line) → AreBounded labels → label_at labels u ≡ Some d → length labels ≡ places → places ≤ 2000 → IsLineFrom lines places u l → d.km + l.km < 2 ^ 32
+pub fits_km : (lines : List Line) (labels : List (Option Distance)) (places u : ℕ) (d : Distance) (l : Line) → AreBounded labels → label_at labels u ≡ Some d → length labels ≡ places → places ≤ 2000 → IsLineFrom lines places u l → d.km + l.km < 2 ^ 25
 fits_km lines labels places u d l bounded label same few line = omega (arith, few_km labels u d bounded label, line.is.most_km)
 
-pub fits_minutes : (lines : List Line) (labels : List (Option Distance)) (places u : ℕ) (d : Distance) (l : Line) → AreBounded labels → label_at labels u ≡ Some d → length labels ≡ places → places ≤ 2000 → IsLineFrom lines places u l → d.minutes + l.minutes < 2 ^ 32
+pub fits_minutes : (lines : List Line) (labels : List (Option Distance)) (places u : ℕ) (d : Distance) (l : Line) → AreBounded labels → label_at labels u ≡ Some d → length labels ≡ places → places ≤ 2000 → IsLineFrom lines places u l → d.minutes + l.minutes < 2 ^ 25
 fits_minutes lines labels places u d l bounded label same few line = omega (arith, few_minutes labels u d bounded label, line.is.most_minutes)
 
 -- of the lines from a place one more is relaxed

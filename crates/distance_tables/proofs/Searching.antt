@@ -2,7 +2,6 @@ use Rattle.std.proofs.Common.{◌≡◌, ℕ, zero, suc, ◌*◌, ◌<◌, ◌�
 use Rattle.std.proofs.lemmas.List.{length-replicate, take-append-le, take_all}
 use Rattle.std.specs.List.{Contains}
 use Rattle.std.specs.List.Sorted.{IsPermutation}
-use Rattle.std.specs.declared.cmp.Reverse.{Reverse}
 use Rattle.std.proofs.lemmas.Bool.{cases_eq}
 use Rattle.std.proofs.lemmas.Option.{none-some, same_Some}
 use Rattle.std.proofs.lemmas.List.Elements.{All-cons, All-nil, All-tail}
@@ -17,7 +16,7 @@ use Rattle.distance_tables.proofs.Paths.{IsRow-relaxed}
 use Rattle.distance_tables.proofs.Relaxing.{each_label, fallen}
 
 -- what the search keeps between two turns
-pub record IsSearch (lines : List Line) (places origin : ℕ) (labels : List (Option Distance)) (waiting : List (Reverse Waiting)) : Type 0 where
+pub record IsSearch (lines : List Line) (places origin : ℕ) (labels : List (Option Distance)) (waiting : List Waiting) : Type 0 where
   pub full : length labels ≡ places
   pub bounded : AreBounded labels
   pub are : AreLabels lines origin labels
@@ -54,10 +53,10 @@ module _ (lines : List Line) (places origin : ℕ) (within : origin < places) wh
       (λ d same. subst (P origin) (same_Some (record { km = 0; minutes = 0 }) d same) here)
       (λ k other d at. absurd (none-some d (sym (unreached places k) ∙ at)))
 
-  pub IsSearch-start : (waiting : List (Reverse Waiting)) → IsPermutation (entry (record { km = 0; minutes = 0 }) origin ∷ []) waiting → IsSearch lines places origin (set (replicate places None) origin (Some (record { km = 0; minutes = 0 }))) waiting
+  pub IsSearch-start : (waiting : List Waiting) → IsPermutation (entry (record { km = 0; minutes = 0 }) origin ∷ []) waiting → IsSearch lines places origin (set (replicate places None) origin (Some (record { km = 0; minutes = 0 }))) waiting
   IsSearch-start waiting moved =
       let labels : List (Option Distance) = set (replicate places None) origin (Some (record { km = 0; minutes = 0 })) in
-      let InRange : Reverse Waiting → Type 0 = λ e. e.0.place < places in
+      let InRange : Waiting → Type 0 = λ e. e.place < places in
       let Low : Option Distance → Type 0 = λ o. LabelAtMost o (record { km = 0; minutes = 0 }) in
       record {
         full = length-set (replicate places None) origin (Some (record { km = 0; minutes = 0 })) ∙ length-replicate places None;
@@ -75,23 +74,23 @@ module _ (lines : List Line) (places origin : ℕ) (within : origin < places) wh
       }
 
 -- a place whose label has fallen since is passed over
-pub IsSearch-stale : (lines : List Line) (places origin : ℕ) (labels : List (Option Distance)) (waited waits : List (Reverse Waiting)) (d : Distance) (u : ℕ) → IsSearch lines places origin labels waited → IsPermutation waited (entry d u ∷ waits) → (label_at labels u ≡ Some d → ⊥) → IsSearch lines places origin labels waits
+pub IsSearch-stale : (lines : List Line) (places origin : ℕ) (labels : List (Option Distance)) (waited waits : List Waiting) (d : Distance) (u : ℕ) → IsSearch lines places origin labels waited → IsPermutation waited (entry d u ∷ waits) → (label_at labels u ≡ Some d → ⊥) → IsSearch lines places origin labels waits
 IsSearch-stale lines places origin labels waited waits d u h moved stale = record {
   full = h.full;
   bounded = h.bounded;
   are = h.are;
   settled = λ k e at. elim (h.settled k e at) [
     | inl waits' ↦ elim (Contains-cons_cases (entry d u) (entry e k) waits (Contains-permutation _ _ _ moved waits')) [
-      | inl same ↦ (let P : Reverse Waiting → Type 0 = λ x. label_at labels x.0.place ≡ Some x.0.distance in absurd (stale (subst P (sym same) at)))
+      | inl same ↦ (let P : Waiting → Type 0 = λ x. label_at labels x.place ≡ Some x.distance in absurd (stale (subst P (sym same) at)))
       | inr still ↦ inl still
     ]
     | inr relaxed ↦ inr relaxed
   ];
-  in_range = let InRange : Reverse Waiting → Type 0 = λ e. e.0.place < places in All-tail InRange _ _ (All-permutation InRange _ _ moved h.in_range);
+  in_range = let InRange : Waiting → Type 0 = λ e. e.place < places in All-tail InRange _ _ (All-permutation InRange _ _ moved h.in_range);
 }
 
 -- the lines of a place are relaxed
-pub IsSearch-next : (lines : List Line) (places origin : ℕ) (old new : List (Option Distance)) (waited between waits : List (Reverse Waiting)) (d : Distance) (u : ℕ) → IsSearch lines places origin old waited → IsPermutation waited (entry d u ∷ between) → Improves lines old new between waits → AreBounded new → label_at new u ≡ Some d → IsRelaxed lines new u d → IsSearch lines places origin new waits
+pub IsSearch-next : (lines : List Line) (places origin : ℕ) (old new : List (Option Distance)) (waited between waits : List Waiting) (d : Distance) (u : ℕ) → IsSearch lines places origin old waited → IsPermutation waited (entry d u ∷ between) → Improves lines old new between waits → AreBounded new → label_at new u ≡ Some d → IsRelaxed lines new u d → IsSearch lines places origin new waits
 IsSearch-next lines places origin old new waited between waits d u h moved improves bounded label relaxed = record {
   full = improves.same_length ∙ h.full;
   bounded = bounded;
@@ -102,21 +101,21 @@ IsSearch-next lines places origin old new waited between waits d u h moved impro
         subst P (sym same) (subst Q (same_Some d e (sym label ∙ subst L same at)) relaxed)))
     | inr other ↦ improves.settled k (λ e at. elim (h.settled k e at) [
       | inl waits' ↦ elim (Contains-cons_cases (entry d u) (entry e k) between (Contains-permutation _ _ _ moved waits')) [
-        | inl same ↦ absurd (other (sym (ap (λ (x : Reverse Waiting). x.0.place) same)))
+        | inl same ↦ absurd (other (sym (ap (λ (x : Waiting). x.place) same)))
         | inr still ↦ inl still
       ]
       | inr relaxed' ↦ inr relaxed'
     ])
   ];
-  in_range = let InRange : Reverse Waiting → Type 0 = λ e. e.0.place < places in
-      let all : AreInRange (length old) between = (λ k e l. let q : (get_or between k e).0.place < places = All-tail InRange _ _ (All-permutation InRange _ _ moved h.in_range) k e l in omega (arith, h.full)) in
-      (λ k e l. let q : (get_or waits k e).0.place < length new = improves.in_range all k e l in omega (arith, improves.same_length, h.full));
+  in_range = let InRange : Waiting → Type 0 = λ e. e.place < places in
+      let all : AreInRange (length old) between = (λ k e l. let q : (get_or between k e).place < places = All-tail InRange _ _ (All-permutation InRange _ _ moved h.in_range) k e l in omega (arith, h.full)) in
+      (λ k e l. let q : (get_or waits k e).place < length new = improves.in_range all k e l in omega (arith, improves.same_length, h.full));
 }
 
 -- the place whose turn comes is one of the places
-pub place_in_range : (places : ℕ) (waited waits : List (Reverse Waiting)) (d : Distance) (u : ℕ) → AreInRange places waited → IsPermutation waited (entry d u ∷ waits) → u < places
+pub place_in_range : (places : ℕ) (waited waits : List Waiting) (d : Distance) (u : ℕ) → AreInRange places waited → IsPermutation waited (entry d u ∷ waits) → u < places
 place_in_range places waited waits d u h moved =
-    let InRange : Reverse Waiting → Type 0 = λ e. e.0.place < places in
+    let InRange : Waiting → Type 0 = λ e. e.place < places in
     All-permutation InRange _ _ moved h 0 (entry d u) (omega arith)
 
 -- a label is of no more lines than there are places
@@ -127,7 +126,7 @@ near places labels full bounded k (Some d) at =
     (omega (arith, bounded.km k d at), omega (arith, bounded.minutes k d at))
 
 -- where none waits, the labels are the distances
-pub IsRow-search : (lines : List Line) (places origin : ℕ) (labels : List (Option Distance)) (waiting : List (Reverse Waiting)) → IsSearch lines places origin labels waiting → length waiting ≡ 0 → IsRow lines places origin labels
+pub IsRow-search : (lines : List Line) (places origin : ℕ) (labels : List (Option Distance)) (waiting : List Waiting) → IsSearch lines places origin labels waiting → length waiting ≡ 0 → IsRow lines places origin labels
 IsRow-search lines places origin labels waiting h none =
     IsRow-relaxed lines places origin labels h.full h.are (λ k d at. elim (h.settled k d at) [ inl waits ↦ absurd (omega (arith, waits.1)) | inr relaxed ↦ relaxed ])
     (λ k. near places labels h.full h.bounded k (label_at labels k) refl)

@@ -1,6 +1,5 @@
 use Rattle.std.specs.Prelude.{◌≡◌, ℕ, ◌+◌, ◌*◌, ◌^◌, ◌<◌, ◌≤◌, ◌⊎◌, ⊤, Bool, false, ◌&&◌, ◌||◌, ◌==◌, nat_lt, List, ◌∷◌, length, Option, Some, None, All, Contains, count_by, sum_by, slice_set, slice_index_or, IsSomeAnd}
 use Rattle.std.specs.List.Sorted.{IsPermutation}
-use Rattle.std.specs.declared.cmp.Reverse.{Reverse}
 use Rattle.line_network.specs.declared.limits.TheConstants.{MAX_LENGTH}
 use Rattle.line_network.specs.declared.line.Line.{Line}
 use Rattle.distance_tables.specs.declared.distance.Distance.{Distance}
@@ -48,31 +47,31 @@ pub record AreLabels (lines : List Line) (origin : ℕ) (labels : List (Option D
 abbrev pub IsRelaxed : List Line → List (Option Distance) → ℕ → Distance → Type 0
 IsRelaxed lines labels k d = (l : Line) → Contains lines l → l.from ≡ k → LabelAtMost (label_at labels l.to) (plus_line d l)
 
-abbrev pub entry : Distance → ℕ → Reverse Waiting
-entry d k = record { 0 = record { distance = d; place = k } }
+abbrev pub entry : Distance → ℕ → Waiting
+entry d k = record { distance = d; place = k }
 
 -- a place that is reached waits, or its lines are relaxed
-abbrev pub IsSettled : List Line → List (Option Distance) → List (Reverse Waiting) → ℕ → Type 0
+abbrev pub IsSettled : List Line → List (Option Distance) → List Waiting → ℕ → Type 0
 IsSettled lines labels waiting k = (d : Distance) → label_at labels k ≡ Some d → Contains waiting (entry d k) ⊎ IsRelaxed lines labels k d
 
-abbrev pub AreInRange : ℕ → List (Reverse Waiting) → Type 0
-AreInRange places waiting = All (λ e. e.0.place < places) waiting
+abbrev pub AreInRange : ℕ → List Waiting → Type 0
+AreInRange places waiting = All (λ e. e.place < places) waiting
 
 abbrev pub label_weight : Option Distance → ℕ
 label_weight None = 2 ^ 64
 label_weight (Some d) = d.km * 2 ^ 32 + d.minutes
 
 -- what is left to do: how far the labels can fall, and what waits
-abbrev pub work_left : List (Option Distance) → List (Reverse Waiting) → ℕ
+abbrev pub work_left : List (Option Distance) → List Waiting → ℕ
 work_left labels waiting = sum_by label_weight labels + length waiting
 
 -- a line is relaxed: the label of its end was low enough, or falls, and the place waits
-pub data Relaxes (old new : List (Option Distance)) (waited waits : List (Reverse Waiting)) (d : Distance) (l : Line) : Type 0 where
+pub data Relaxes (old new : List (Option Distance)) (waited waits : List Waiting) (d : Distance) (l : Line) : Type 0 where
   stays : new ≡ old → waits ≡ waited → LabelAtMost (label_at old l.to) (plus_line d l) → Relaxes old new waited waits d l
   falls : new ≡ slice_set old l.to (Some (plus_line d l)) → IsPermutation (entry (plus_line d l) l.to ∷ waited) waits → LabelAbove (label_at old l.to) (plus_line d l) → Relaxes old new waited waits d l
 
 -- what relaxing lines keeps
-pub record Improves (lines : List Line) (old new : List (Option Distance)) (waited waits : List (Reverse Waiting)) : Type 0 where
+pub record Improves (lines : List Line) (old new : List (Option Distance)) (waited waits : List Waiting) : Type 0 where
   pub same_length : length new ≡ length old
   pub lower : (k : ℕ) (d : Distance) → LabelAtMost (label_at old k) d → LabelAtMost (label_at new k) d
   pub labels : (origin : ℕ) → AreLabels lines origin old → AreLabels lines origin new

@@ -1,24 +1,17 @@
 //! Pairs of kilometres and minutes.
-ghost use Rattle.std.specs.Prelude.{◌≡◌, ◌+◌, ◌^◌, ◌<◌, ◌≤◌, ◌↔◌, IsTrue};
+ghost use Rattle.std.specs.Prelude.{◌≡◌, ◌+◌, ◌^◌, ◌<◌, ◌≤◌};
 
 use line_network::Line;
 
 /// The kilometres and minutes of a walk.
-#[derive(Clone, Copy, Debug, PartialEq, Eq, PartialOrd, Ord)]
+#[derive(Clone, Copy, Debug, PartialEq, Eq)]
 pub(crate) struct Distance {
     pub(crate) km: u32,
     pub(crate) minutes: u32,
 }
 
 impl Distance {
-    ghost use Rattle.distance_tables.specs.Search.{IsBelow, plus_line};
-
-    /// Whether it lies below another, kilometres compared first, then minutes.
-    pub(crate) fn is_below(self, other: Distance) -> bool
-        ensures { IsTrue result ↔ IsBelow self other }
-    {
-        self.km < other.km || (self.km == other.km && self.minutes < other.minutes)
-    }
+    ghost use Rattle.distance_tables.specs.Search.{plus_line};
 
     /// The pair of a walk that goes on by one line more.
     pub(crate) fn plus(self, line: &Line) -> Distance

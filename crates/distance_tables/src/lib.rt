@@ -4,15 +4,18 @@
 mod distance;
 mod distances;
 mod gate;
+mod label;
 mod laws;
 mod lines_by_origin;
 mod many_threads;
 mod networks;
 mod networks_fault;
 mod one_thread;
+mod queue;
 mod search;
 mod share;
 mod step;
+mod turn;
 mod waiting;
 mod work_fault;
 

@@ -3,19 +3,20 @@
 //! A place waits each time its label falls, and one whose turn comes has its lines relaxed if its label is
 //! still the one that it waited with. No order of the turns is needed for the answer; the heap's order makes
 //! it fast.
-ghost use Rattle.std.specs.Prelude.{◌≡◌, ◌≢◌, ℕ, ◌+◌, ◌^◌, ◌<◌, ◌≤◌, ◌↔◌, Some, None, [], All, replicate, IsTrue, MatchBool, IfOk, OnOk, length, vec_len};
-ghost use Rattle.std.specs.BinaryHeap.{heap_items};
+ghost use Rattle.std.specs.Prelude.{◌≡◌, ◌≢◌, ℕ, ◌+◌, ◌^◌, ◌<◌, ◌≤◌, ◌↔◌, Some, None, [], All, replicate, IsTrue, MatchBool, IfOk, OnOk, length, slice_set, vec_len};
+ghost use Rattle.distance_tables.specs.Numbers.{known};
 ghost use Rattle.distance_tables.specs.Rows.{IsRow};
 ghost use Rattle.distance_tables.specs.Search.{label_at, AreBounded, IsRelaxed, Improves, LabelAtMost, LabelAbove, Relaxes};
+ghost use Rattle.distance_tables.specs.Turns.{waits};
 ghost use Rattle.line_network.specs.Network.{IsLine};
 
 use crate::distance::Distance;
+use crate::label::Label;
 use crate::lines_by_origin::LinesByOrigin;
+use crate::queue::Queue;
 use crate::waiting::Waiting;
 use line_network::{Line, MAX_PLACES};
 use std::alloc::{AllocError, Global};
-use std::cmp::Reverse;
-use std::collections::BinaryHeap;
 
 /// The distances from one place to each place, `None` where no walk leads.
 pub(crate) fn row_of_origin(
@@ -31,22 +32,34 @@ pub(crate) fn row_of_origin(
     ensures { IfOk result (λ row. IsRow lines.now.lines.items places origin row.items) }
 {
     let mut labels = unreached(alloc, places)?;
-    let mut waiting = BinaryHeap::with_capacity(alloc, places)?;
+    let mut waiting = Queue::with_capacity(alloc, places)?;
     search(&mut labels, &mut waiting, lines, origin)?;
-    Ok(labels)
+    distances(alloc, &labels)
 }
 
 /// The labels before a search.
-fn unreached(alloc: Global, places: usize) -> Result<Vec<Option<Distance>>, AllocError>
-    ensures { IfOk result (λ labels. labels.items ≡ replicate places None) }
+fn unreached(alloc: Global, places: usize) -> Result<Vec<Label>, AllocError>
+    ensures places { IfOk result (λ labels. vec_len labels ≡ places) }
+    ensures none { IfOk result (λ labels. known labels.items ≡ replicate places None) }
 {
-    vec![in alloc; None; places]
+    vec![in alloc; Label::unreached(); places]
+}
+
+/// The distances that labels say.
+fn distances(alloc: Global, labels: &[Label]) -> Result<Vec<Option<Distance>>, AllocError>
+    ensures { IfOk result (λ row. row.items ≡ known labels.now) }
+{
+    let mut row = Vec::with_capacity(alloc, labels.len())?;
+    for label in labels {
+        row.push(label.distance())?;
+    }
+    Ok(row)
 }
 
 /// Labels each place that a walk from the origin leads to with its distance.
 fn search(
-    labels: &mut [Option<Distance>],
-    waiting: &mut BinaryHeap<Reverse<Waiting>>,
+    labels: &mut [Label],
+    waiting: &mut Queue,
     lines: &LinesByOrigin,
     origin: usize,
 ) -> Result<(), AllocError>
@@ -54,19 +67,19 @@ fn search(
     requires origin { origin < length labels.old }
     requires indexed { vec_len lines.now.starts ≡ length labels.old + 1 }
     requires lines { All (IsLine (length labels.old)) lines.now.lines.items }
-    requires unreached { labels.old ≡ replicate (length labels.old) None }
-    requires none_waits { heap_items waiting.old ≡ [] }
+    requires unreached { known labels.old ≡ replicate (length labels.old) None }
+    requires none_waits { waits waiting.old ≡ [] }
 
-    ensures { OnOk result (IsRow lines.now.lines.items (length labels.old) origin labels.new) }
+    ensures { OnOk result (IsRow lines.now.lines.items (length labels.old) origin (known labels.new)) }
 {
     let distance = Distance { km: 0, minutes: 0 };
-    waiting.push(Reverse(Waiting {
+    waiting.push(Waiting {
         distance,
         place: origin,
-    }))?;
-    labels[origin] = Some(distance);
-    while let Some(Reverse(next)) = waiting.pop() {
-        if !is_label(labels[next.place], next.distance) {
+    })?;
+    lower(labels, origin, distance);
+    while let Some(next) = waiting.pop() {
+        if !is_label(labels, next) {
             continue;
         }
         relax_lines(labels, waiting, lines, next)?;
@@ -74,30 +87,31 @@ fn search(
     Ok(())
 }
 
-/// Whether a place has a label still.
-fn is_label(label: Option<Distance>, distance: Distance) -> bool
-    ensures { IsTrue result ↔ (label ≡ Some distance) }
+/// Whether a place has the label still that it waited with.
+fn is_label(labels: &[Label], next: Waiting) -> bool
+    requires { next.place < length labels.now }
+    ensures { IsTrue result ↔ (label_at (known labels.now) next.place ≡ Some next.distance) }
 {
-    label == Some(distance)
+    labels[next.place].distance() == Some(next.distance)
 }
 
 /// Relaxes the lines from a place.
 fn relax_lines(
-    labels: &mut [Option<Distance>],
-    waiting: &mut BinaryHeap<Reverse<Waiting>>,
+    labels: &mut [Label],
+    waiting: &mut Queue,
     lines: &LinesByOrigin,
     at: Waiting,
 ) -> Result<(), AllocError>
     requires few { length labels.old ≤ MAX_PLACES }
     requires indexed { vec_len lines.now.starts ≡ length labels.old + 1 }
     requires lines { All (IsLine (length labels.old)) lines.now.lines.items }
-    requires bounded { AreBounded labels.old }
-    requires label { label_at labels.old at.place ≡ Some at.distance }
+    requires bounded { AreBounded (known labels.old) }
+    requires label { label_at (known labels.old) at.place ≡ Some at.distance }
 
-    ensures improves { OnOk result (Improves lines.now.lines.items labels.old labels.new (heap_items waiting.old) (heap_items waiting.new)) }
-    ensures bounded { OnOk result (AreBounded labels.new) }
-    ensures label { OnOk result (label_at labels.new at.place ≡ Some at.distance) }
-    ensures relaxed { OnOk result (IsRelaxed lines.now.lines.items labels.new at.place at.distance) }
+    ensures improves { OnOk result (Improves lines.now.lines.items (known labels.old) (known labels.new) (waits waiting.old) (waits waiting.new)) }
+    ensures bounded { OnOk result (AreBounded (known labels.new)) }
+    ensures label { OnOk result (label_at (known labels.new) at.place ≡ Some at.distance) }
+    ensures relaxed { OnOk result (IsRelaxed lines.now.lines.items (known labels.new) at.place at.distance) }
 {
     for step in lines.from_place(at.place) {
         let line = step.starting_at(at.place);
@@ -108,31 +122,40 @@ fn relax_lines(
 
 /// Lowers the label of the place where a line ends, if the way over the line is shorter; the place then waits.
 fn relax(
-    labels: &mut [Option<Distance>],
-    waiting: &mut BinaryHeap<Reverse<Waiting>>,
+    labels: &mut [Label],
+    waiting: &mut Queue,
     at: Distance,
     line: &Line,
 ) -> Result<(), AllocError>
+    requires few { length labels.old ≤ MAX_PLACES }
     requires known { line.now.to < length labels.old }
-    requires km { at.km + line.now.km < 2 ^ 32 }
-    requires minutes { at.minutes + line.now.minutes < 2 ^ 32 }
-    ensures { OnOk result (Relaxes labels.old labels.new (heap_items waiting.old) (heap_items waiting.new) at line.now) }
+    requires km { at.km + line.now.km < 2 ^ 25 }
+    requires minutes { at.minutes + line.now.minutes < 2 ^ 25 }
+    ensures { OnOk result (Relaxes (known labels.old) (known labels.new) (waits waiting.old) (waits waiting.new) at line.now) }
 {
     let place = line.to;
     let distance = at.plus(line);
-    if falls(labels[place], distance) {
-        waiting.push(Reverse(Waiting { distance, place }))?;
-        labels[place] = Some(distance);
+    if falls(labels, place, distance) {
+        waiting.push(Waiting { distance, place })?;
+        lower(labels, place, distance);
     }
     Ok(())
 }
 
-/// Whether a label falls to a distance.
-fn falls(label: Option<Distance>, distance: Distance) -> bool
-    ensures { MatchBool result (LabelAbove label distance) (LabelAtMost label distance) }
+/// Whether the label of a place falls to a distance.
+fn falls(labels: &[Label], place: usize, distance: Distance) -> bool
+    requires place { place < length labels.now }
+    requires km { distance.km < 2 ^ 25 }
+    ensures { MatchBool result (LabelAbove (label_at (known labels.now) place) distance) (LabelAtMost (label_at (known labels.now) place) distance) }
 {
-    match label {
-        Some(label) => distance.is_below(label),
-        None => true,
-    }
+    labels[place].falls_to(distance)
+}
+
+/// Lowers the label of a place to a distance.
+fn lower(labels: &mut [Label], place: usize, distance: Distance)
+    requires place { place < length labels.old }
+    requires km { distance.km < 2 ^ 25 }
+    ensures { known labels.new ≡ slice_set (known labels.old) place (Some distance) }
+{
+    labels[place] = Label::at(distance);
 }

@@ -2,7 +2,7 @@
 use crate::distance::Distance;
 
 /// A place whose lines are still to be relaxed, and its label when it was put there.
-#[derive(Clone, Copy, Debug, PartialEq, Eq, PartialOrd, Ord)]
+#[derive(Clone, Copy, Debug)]
 pub(crate) struct Waiting {
     pub(crate) distance: Distance,
     pub(crate) place: usize,

@@ -5,8 +5,10 @@ use line_network::{Network, NetworkFault, read_lines};
 use rail_codes::Place;
 use std::alloc::{AllocError, Global};
 use std::io::Read;
+use std::sync::Wait;
 use std::sync::atomic::{AtomicU64, Ordering};
 use std::test::Fail;
+use std::thread::Threads;
 use std::{io, thread};
 
 /// Three places: from the first to the third it is shorter by the second, and quicker without.
@@ -28,20 +30,45 @@ fn same_answers(network: &Network, one: &Tables, other: &Tables) -> bool {
     true
 }
 
+/// Whether so many workers make the tables of the sample that one thread makes.
+fn like_one_thread<R: Threads + Wait, G: Gate + Sync>(
+    rt: &R,
+    alloc: Global,
+    workers: usize,
+    gate: &G,
+) -> Result<bool, Fail> {
+    let network = read_lines(alloc, SAMPLE.as_bytes())?;
+    let one = tables(alloc, &network)?;
+    let many = tables_by_workers(rt, alloc, &network, workers, gate)?;
+    Ok(same_answers(&network, &one, &many))
+}
+
 #[test]
 fn workers_like_one_thread(rt: HostRuntime) -> Result<(), Fail> {
     let alloc = rt.alloc();
+    assert!(rt; like_one_thread(&rt, alloc, 1, &OpenGate)?);
+    assert!(rt; like_one_thread(&rt, alloc, 2, &OpenGate)?);
+    assert!(rt; like_one_thread(&rt, alloc, 3, &OpenGate)?);
+    assert!(rt; like_one_thread(&rt, alloc, 64, &OpenGate)?);
+    Ok(())
+}
+
+/// Why so many workers make no tables of the sample.
+fn refusal<R: Threads + Wait>(
+    rt: &R,
+    alloc: Global,
+    workers: usize,
+) -> Result<Option<WorkFault>, Fail> {
     let network = read_lines(alloc, SAMPLE.as_bytes())?;
-    let one = tables(alloc, &network)?;
-    for workers in [1, 2, 3, 64] {
-        let many = tables_by_workers(&rt, alloc, &network, workers, &OpenGate)?;
-        assert!(rt; same_answers(&network, &one, &many), "{workers} workers");
-    }
-    for workers in [0, 65] {
-        let fault = tables_by_workers(&rt, alloc, &network, workers, &OpenGate).err();
-        assert_eq!(rt; fault, Some(WorkFault::BadWorkerCount), "{workers} workers");
-        assert_eq!(rt; fault.map(|fault| fault.number()), Some(45));
-    }
+    Ok(tables_by_workers(rt, alloc, &network, workers, &OpenGate).err())
+}
+
+#[test]
+fn one_to_sixty_four_workers(rt: HostRuntime) -> Result<(), Fail> {
+    let alloc = rt.alloc();
+    assert_eq!(rt; refusal(&rt, alloc, 0)?, Some(WorkFault::BadWorkerCount));
+    assert_eq!(rt; refusal(&rt, alloc, 65)?, Some(WorkFault::BadWorkerCount));
+    assert_eq!(rt; WorkFault::BadWorkerCount.number(), 45);
     Ok(())
 }
 
@@ -75,14 +102,11 @@ impl Gate for MeetingGate {
 
 #[test]
 fn two_workers_at_once(rt: HostRuntime) -> Result<(), Fail> {
-    let alloc = rt.alloc();
-    let network = read_lines(alloc, SAMPLE.as_bytes())?;
     let gate = MeetingGate {
         entered: [AtomicU64::new(0), AtomicU64::new(0), AtomicU64::new(0)],
         gave_up: AtomicU64::new(0),
     };
-    let many = tables_by_workers(&rt, alloc, &network, 2, &gate)?;
-    assert!(rt; same_answers(&network, &tables(alloc, &network)?, &many));
+    assert!(rt; like_one_thread(&rt, rt.alloc(), 2, &gate)?);
     for entered in &gate.entered {
         assert_eq!(rt; entered.load(Ordering::SeqCst), 1);
     }
@@ -242,28 +266,46 @@ fn falls(label: Option<(u32, u32)>, pair: (u32, u32)) -> bool {
 }
 
 /// Whether tables answer what the rounds find, between any two places.
-fn agree(alloc: Global, network: &Network, distances: &Tables) -> Result<bool, Fail> {
+fn agree(alloc: Global, network: &Network, distances: &Tables) -> Result<bool, AllocError> {
     for origin in 0..network.places() {
         let labels = relaxed(alloc, network, origin)?;
-        for end in 0..network.places() {
-            let from = network.place_at(origin).ok_or("a place of the network")?;
-            let to = network.place_at(end).ok_or("a place of the network")?;
-            if labels.get(end).copied() != Some(distances.between(from, to)) {
-                return Ok(false);
-            }
+        if !row_agrees(network, distances, origin, &labels) {
+            return Ok(false);
         }
     }
     Ok(true)
 }
 
+/// The same from one place.
+fn row_agrees(
+    network: &Network,
+    distances: &Tables,
+    origin: usize,
+    labels: &[Option<(u32, u32)>],
+) -> bool {
+    for end in 0..network.places() {
+        let (Some(from), Some(to)) = (network.place_at(origin), network.place_at(end)) else {
+            return false;
+        };
+        if labels.get(end).copied() != Some(distances.between(from, to)) {
+            return false;
+        }
+    }
+    true
+}
+
+/// Whether the tables of a network answer what the rounds find.
+fn agrees(alloc: Global, network: &Network) -> Result<bool, Fail> {
+    let distances = tables(alloc, network)?;
+    Ok(agree(alloc, network, &distances)?)
+}
+
 #[test]
 fn like_relaxing_in_rounds(rt: HostRuntime) -> Result<(), Fail> {
-    let alloc = rt.alloc();
     let mut random = Random(20260301);
     for number in 0..60 {
-        let network = random_network(alloc, &mut random)?;
-        let distances = tables(alloc, &network)?;
-        assert!(rt; agree(alloc, &network, &distances)?, "network {number}");
+        let network = random_network(rt.alloc(), &mut random)?;
+        assert!(rt; agrees(rt.alloc(), &network)?, "network {number}");
     }
     Ok(())
 }

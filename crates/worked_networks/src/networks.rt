@@ -1,52 +1,45 @@
 //! Networks and their least distances.
 
-use distance_tables::{Networks, NetworksFault, Tables, tables};
+use distance_tables::{Networks, Tables, tables};
 use line_network::{Network, NetworkFault, read_lines};
 use rail_codes::Place;
 use std::alloc::Global;
 use std::test::Fail;
 
-/// Three places: from the first to the third it is shorter by the second, and quicker without.
+/// Three places: from the first to the third it is shorter by the second, and quicker without; and a line from
+/// the first to itself.
 const SAMPLE: &str =
-    "from,to,km,minutes,way\nDE00001,DE00002,100,120,both\nDE00002,DE00003,50,60,both\nDE00001,DE00003,160,90,one\n";
+    "from,to,km,minutes,way\nDE00001,DE00002,100,120,both\nDE00002,DE00003,50,60,both\nDE00001,DE00003,160,90,one\nDE00001,DE00001,5,5,both\n";
 
-/// The sample with a fourth record below it.
-fn longer(alloc: Global, record: &str) -> Result<Network, Fail> {
-    let text = format!(in alloc; "{SAMPLE}{record}\n")?;
-    Ok(read_lines(alloc, text.as_bytes())?)
+#[test]
+fn lines_of_records(rt: HostRuntime) -> Result<(), Fail> {
+    let network = read_lines(rt.alloc(), SAMPLE.as_bytes())?;
+    assert_eq!(rt; (network.places(), network.lines().len()), (3, 7));
+    Ok(())
+}
+
+/// A copy of the sample.
+fn copied(alloc: Global) -> Result<Network, Fail> {
+    let network = read_lines(alloc, SAMPLE.as_bytes())?;
+    Ok(network.copy(alloc)?)
+}
+
+/// The distance between two places in a copy of the sample.
+fn in_sample(alloc: Global, from: &str, to: &str) -> Result<Option<(u32, u32)>, Fail> {
+    let (from, to) = (Place::read(from)?, Place::read(to)?);
+    let distances = tables(alloc, &copied(alloc)?)?;
+    Ok(distances.between(from, to))
 }
 
 #[test]
 fn least_distances(rt: HostRuntime) -> Result<(), Fail> {
     let alloc = rt.alloc();
-    let network = longer(alloc, "DE00001,DE00001,5,5,both")?;
-    assert_eq!(rt; (network.places(), network.lines().len()), (3, 7));
-    let distances = tables(alloc, &network.copy(alloc)?)?;
-    for (from, to, pair) in [
-        ("DE00001", "DE00003", Some((150, 180))),
-        ("DE00003", "DE00001", Some((150, 180))),
-        ("DE00002", "DE00003", Some((50, 60))),
-        ("DE00001", "DE00001", Some((0, 0))),
-        ("DE00009", "DE00009", None),
-        ("DE00001", "DE00009", None),
-    ] {
-        assert_eq!(rt;
-            distances.between(Place::read(from)?, Place::read(to)?),
-            pair,
-            "{from} {to}"
-        );
-    }
-    let mut all = Vec::new(alloc);
-    all.push(distances)?;
-    let networks = Networks::new(all)?;
-    assert_eq!(rt; networks.count(), 1);
-    assert!(rt;
-        networks.get(1).is_some() && networks.get(0).is_none() && networks.get(2).is_none()
-    );
-    assert_eq!(rt;
-        Networks::new(Vec::new(alloc)).err(),
-        Some(NetworksFault::BadNetworkCount)
-    );
+    assert_eq!(rt; in_sample(alloc, "DE00001", "DE00003")?, Some((150, 180)));
+    assert_eq!(rt; in_sample(alloc, "DE00003", "DE00001")?, Some((150, 180)));
+    assert_eq!(rt; in_sample(alloc, "DE00002", "DE00003")?, Some((50, 60)));
+    assert_eq!(rt; in_sample(alloc, "DE00001", "DE00001")?, Some((0, 0)));
+    assert_eq!(rt; in_sample(alloc, "DE00009", "DE00009")?, None);
+    assert_eq!(rt; in_sample(alloc, "DE00001", "DE00009")?, None);
     Ok(())
 }
 
@@ -59,13 +52,41 @@ fn several(alloc: Global, network: &Network, count: u32) -> Result<Vec<Tables>, 
     Ok(all)
 }
 
+/// So many networks without a line, or the number of their refusal.
+fn empty_networks(alloc: Global, count: u32) -> Result<Result<Networks, u32>, Fail> {
+    let network = read_lines(alloc, "from,to,km,minutes,way\n".as_bytes())?;
+    let all = several(alloc, &network, count)?;
+    Ok(Networks::new(all).map_err(|fault| fault.number()))
+}
+
+/// How many they are, or the number of their refusal.
+fn count_of(alloc: Global, count: u32) -> Result<Result<u32, u32>, Fail> {
+    let networks = empty_networks(alloc, count)?;
+    Ok(networks.map(|networks| networks.count()))
+}
+
 #[test]
 fn eight_networks_at_most(rt: HostRuntime) -> Result<(), Fail> {
     let alloc = rt.alloc();
-    let network = read_lines(alloc, "from,to,km,minutes,way\n".as_bytes())?;
-    assert_eq!(rt; Networks::new(several(alloc, &network, 8)?)?.count(), 8);
-    let fault = Networks::new(several(alloc, &network, 9)?).err();
-    assert_eq!(rt; fault.map(|fault| fault.number()), Some(47));
+    assert_eq!(rt; count_of(alloc, 0)?, Err(47));
+    assert_eq!(rt; count_of(alloc, 1)?, Ok(1));
+    assert_eq!(rt; count_of(alloc, 8)?, Ok(8));
+    assert_eq!(rt; count_of(alloc, 9)?, Err(47));
+    Ok(())
+}
+
+/// Whether one network has a number.
+fn is_numbered(alloc: Global, number: u32) -> Result<bool, Fail> {
+    let networks = empty_networks(alloc, 1)?;
+    Ok(networks.is_ok_and(|networks| networks.get(number).is_some()))
+}
+
+#[test]
+fn networks_are_numbered_from_one(rt: HostRuntime) -> Result<(), Fail> {
+    let alloc = rt.alloc();
+    assert!(rt; !is_numbered(alloc, 0)?);
+    assert!(rt; is_numbered(alloc, 1)?);
+    assert!(rt; !is_numbered(alloc, 2)?);
     Ok(())
 }
 

@@ -1,5 +1,6 @@
 use Rattle.std.proofs.Common.{◌≡◌, Some}
-use Rattle.std.specs.BinaryHeap.{heap_items}
+use Rattle.distance_tables.specs.Numbers.{known}
+use Rattle.distance_tables.specs.Turns.{waits}
 use Rattle.std.specs.List.{AllWithin}
 use Rattle.distance_tables.specs.Search.{label_at, plus_line, AreBounded, LabelAtMost, Improves}
 use Rattle.distance_tables.specs.Steps.{line_from}
@@ -7,8 +8,8 @@ use Rattle.distance_tables.proofs.search.relax_lines.Given as goal
 
 abbrev pub invariant-loop-step : goal.invariant-loop-step
 invariant-loop-step l = record {
-  improves : Improves l.lines.lines.items l.fn.labels l.labels (heap_items l.fn.waiting) (heap_items l.waiting);
-  bounded : AreBounded l.labels;
-  label : label_at l.labels l.at.place ≡ Some l.at.distance;
-  relaxed : AllWithin (λ s. LabelAtMost (label_at l.labels s.to) (plus_line l.at.distance (line_from l.at.place s))) l.step-items 0 l.step-index;
+  improves : Improves l.lines.lines.items (known l.fn.labels) (known l.labels) (waits l.fn.waiting) (waits l.waiting);
+  bounded : AreBounded (known l.labels);
+  label : label_at (known l.labels) l.at.place ≡ Some l.at.distance;
+  relaxed : AllWithin (λ s. LabelAtMost (label_at (known l.labels) s.to) (plus_line l.at.distance (line_from l.at.place s))) l.step-items 0 l.step-index;
 }

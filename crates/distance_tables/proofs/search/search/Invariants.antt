@@ -1,11 +1,12 @@
 use Rattle.std.proofs.Common.{length}
-use Rattle.std.specs.BinaryHeap.{heap_items}
+use Rattle.distance_tables.specs.Numbers.{known}
+use Rattle.distance_tables.specs.Turns.{waits}
 use Rattle.distance_tables.specs.Search.{work_left}
 use Rattle.distance_tables.proofs.Searching.{IsSearch}
 use Rattle.distance_tables.proofs.search.search.Given as goal
 
 abbrev pub invariant-loop-next : goal.invariant-loop-next
-invariant-loop-next l = IsSearch l.lines.lines.items (length l.fn.labels) l.origin l.labels (heap_items l.waiting)
+invariant-loop-next l = IsSearch l.lines.lines.items (length l.fn.labels) l.origin (known l.labels) (waits l.waiting)
 
 abbrev pub decreases-loop-next : goal.decreases-loop-next
-decreases-loop-next l = work_left l.labels (heap_items l.waiting)
+decreases-loop-next l = work_left (known l.labels) (waits l.waiting)
