@@ -21,5 +21,6 @@ pub mod Placed
 pub mod ColumnParts
 pub mod ColumnSteps
 pub mod Beginning
+pub mod PairSteps
 pub mod Transposed
 pub mod FirstPrices
