@@ -19,6 +19,7 @@ test:
 bench: build
 	@bench/check/run
 	@bench/distances/run
+	@bench/plan/run
 
 install: build
 	install -D crates/wagons/out/wagons $(DESTDIR)/usr/local/bin/wagons

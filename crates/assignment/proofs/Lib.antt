@@ -16,6 +16,11 @@ pub mod Unit
 pub mod Serving
 pub mod Pairs
 pub mod Final
-pub mod ColumnLemmas
+pub mod Placing
+pub mod Placed
+pub mod ColumnParts
+pub mod ColumnSteps
+pub mod Beginning
+pub mod PairSteps
 pub mod Transposed
 pub mod FirstPrices

@@ -1,5 +1,6 @@
 pub mod IndexList
 pub mod Columns
+pub mod Placing
 pub mod State
 pub mod Search
 pub mod Path

@@ -6,7 +6,7 @@ use Rattle.assignment.specs.State.{order_at}
 use Rattle.assignment.specs.Search.{IsAtRest}
 
 -- the memory that planning a table takes, and its cells by order
-pub record IsReady (t : Table) (by_order : List (List (ℕ × ℕ))) (u v : List ℕ) (order_of : List (Option ℕ)) (s : Search) (pairs : List (ℕ × ℕ)) : Type 0 where
+pub record IsReady (t : Table) (by_order : List (List (ℕ × ℕ))) (u v : List ℕ) (order_of : List (Option ℕ)) (s : Search) (pairs : List (ℕ × ℕ)) (ends : List ℕ) : Type 0 where
   pub table : IsTable t
   pub columns : AreColumns t by_order
   pub wagons : length u ≡ wagon_count t
@@ -16,3 +16,5 @@ pub record IsReady (t : Table) (by_order : List (List (ℕ × ℕ))) (u v : List
   pub idle : (i : ℕ) → order_at order_of i ≡ None
   pub rest : IsAtRest t s
   pub room : length pairs ≡ wagon_count t
+  pub order_ends : length ends ≡ order_count t
+  pub zeros : (k : ℕ) → slice_index ends k ≡ 0

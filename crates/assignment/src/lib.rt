@@ -3,10 +3,12 @@
 
 mod columns;
 mod index_list;
+mod pair_list;
 mod path;
 mod planner;
 mod prices;
 mod search;
+mod starts;
 mod state;
 
 pub use planner::{Planner, certified_plan, plan};

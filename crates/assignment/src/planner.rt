@@ -5,9 +5,9 @@ ghost use Rattle.price_checker.specs.Certificate.{IsCertificate};
 ghost use Rattle.assignment.specs.Columns.{AreColumns, cost_in};
 ghost use Rattle.assignment.specs.State.{IsState, AreCounted, IsFirstPrice, taken_at, one_more, served};
 ghost use Rattle.assignment.specs.Search.{IsAtRest};
-ghost use Rattle.assignment.specs.Pairs.{pairs_of, pairs_below};
 
 use crate::columns::Columns;
+use crate::pair_list::write_pairs;
 use crate::path::walk_back;
 use crate::prices::raise;
 use crate::search::Search;
@@ -23,6 +23,7 @@ pub struct Planner<'a> {
     state: State<'a>,
     search: Search,
     pairs: Vec<(usize, usize)>,
+    ends: Vec<usize>,
 }
 
 impl<'a> Model for Planner<'a> {
@@ -33,7 +34,7 @@ impl<'a> Model for Planner<'a> {
 
     ghost view = { λ p. p.state.cells.now };
 
-    ghost invariant = { λ p. IsReady p.state.cells.now p.state.columns p.state.u.items p.state.v.items p.state.order_of.items p.search p.pairs.items };
+    ghost invariant = { λ p. IsReady p.state.cells.now p.state.columns p.state.u.items p.state.v.items p.state.order_of.items p.search p.pairs.items p.ends.items };
 }
 
 impl<'a> Planner<'a> {
@@ -50,10 +51,12 @@ impl<'a> Planner<'a> {
         };
         let search = Search::new(alloc, cells.wagons(), cells.orders())?;
         let pairs = Vec::from_elem(alloc, (0, 0), cells.wagons())?;
+        let ends = Vec::from_elem(alloc, 0, cells.orders())?;
         Ok(Planner {
             state,
             search,
             pairs,
+            ends,
         })
     }
 
@@ -66,12 +69,13 @@ impl<'a> Planner<'a> {
             mut state,
             mut search,
             mut pairs,
+            mut ends,
         } = self;
         first_prices(&mut state);
         'orders: for j in 0..state.cells.orders() {
             serve_order(&mut state, &mut search, j);
         }
-        let count = write_pairs(&mut pairs, &state.order_of, state.cells.orders());
+        let count = write_pairs(&mut pairs, &mut ends, &state.order_of);
         pairs.truncate(count);
         let prices = Prices {
             u: state.u,
@@ -155,39 +159,6 @@ fn serve_unit(state: &mut State, search: &mut Search, j: usize)
         best.distance,
     );
     walk_back(&mut state.order_of, search, best.end);
-}
-
-/// Writes the pairs of all orders, and says how many there are.
-fn write_pairs(pairs: &mut [(usize, usize)], order_of: &[Option<usize>], orders: usize) -> usize
-    requires { length pairs.old ≡ length order_of.now }
-    ensures pairs { take result pairs.new ≡ pairs_below orders order_of.now }
-{
-    let mut count = 0;
-    'orders: for j in 0..orders {
-        count = write_order(pairs, count, order_of, j);
-    }
-    count
-}
-
-/// Writes the pairs of one order behind the first `count`.
-fn write_order(
-    pairs: &mut [(usize, usize)],
-    count: usize,
-    order_of: &[Option<usize>],
-    j: usize,
-) -> usize
-    requires { count + served j order_of.now ≤ length pairs.old }
-    ensures pairs { take result pairs.new ≡ take count pairs.old ++ pairs_of j 0 order_of.now }
-    ensures count { result ≡ count + served j order_of.now }
-{
-    let mut count = count;
-    'wagons: for (i, order) in order_of.iter().enumerate() {
-        if *order == Some(j) {
-            pairs[count] = (i, j);
-            count += 1;
-        }
-    }
-    count
 }
 
 /// A plan of least cost of a table, prices that are a certificate of it, and the checker's word, which tells the cost:

@@ -26,4 +26,6 @@ invariant_of-result c =
       idle = λ i. ap (λ x. order_at x i) h ∙ all_same {X = Option ℕ} c.wagons-2.result i None;
       rest = c.in_ok-search.ensures c.args.cells.now (sym c.wagons-3.ensures.count) (sym c.orders-2.ensures.count);
       room = (let e : length c.in_ok-pairs.pairs.items ≡ c.wagons-4.result = search rules in e ∙ c.wagons-4.ensures.count);
+      order_ends = (let e : length c.in_ok-ends.ends.items ≡ c.orders-3.result = search rules in e ∙ c.orders-3.ensures.count);
+      zeros = (let e : c.in_ok-ends.ends.items ≡ replicate c.orders-3.result 0 = search rules in λ k. ap (λ x. get_or x k 0) e ∙ all_same c.orders-3.result k 0);
     }

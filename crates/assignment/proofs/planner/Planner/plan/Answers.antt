@@ -1,4 +1,4 @@
-use Rattle.std.proofs.Common.{◌≡◌, ℕ, List, take, refl, sym, ◌∙◌, ap, arith, subst}
+use Rattle.std.proofs.Common.{◌≡◌, ◌<◌, ℕ, List, Some, length, take, refl, sym, ◌∙◌, ap, arith, subst}
 use Rattle.std.specs.Vec.{with_items}
 use Rattle.std.proofs.lemmas.List.{with_items_is}
 use Rattle.cost_table.specs.Table.{Table, order_count}
@@ -6,9 +6,10 @@ use Rattle.cost_table.specs.Plan.{IsPlanList}
 use Rattle.price_checker.specs.Certificate.{IsCertificate}
 use Rattle.price_checker.proofs.Duality.{certificates_optimal}
 use Rattle.assignment.specs.declared.state.State.{State}
-use Rattle.assignment.specs.State.{IsState, AreCounted, taken_at}
+use Rattle.assignment.specs.State.{IsState, AreCounted, order_at, taken_at}
 use Rattle.assignment.specs.Pairs.{pairs_below}
 use Rattle.assignment.proofs.Serving.{IsServing}
+use Rattle.assignment.proofs.Limits.{cell_order}
 use Rattle.assignment.proofs.FirstPrices.{state_first, counted_first}
 use Rattle.assignment.proofs.Final.{plan_list, certificate_counted}
 use Rattle.assignment.proofs.planner.Planner.plan.Goals as goal
@@ -33,11 +34,20 @@ orders-init c =
     let eh : s1.order_of.items ≡ s0.order_of.items = ap (λ (x : State). x.order_of.items) others in
     rw (et, ec, eu, eh) serving
 
+pub write_pairs-count-requires-clause-held : goal.write_pairs-count-requires-clause-held
+write_pairs-count-requires-clause-held c = λ i k is.
+    let t = c.orders.state.cells.now in
+    let held : order_at c.orders.state.order_of.items i ≡ Some k = ap (λ x. order_at x i) (sym c.deref.ensures.value) ∙ is in
+    let tight = c.orders.invariant.state.held.tight i k held in
+    let within : k < order_count t = cell_order t i k tight.cost c.orders.invariant.state.table tight.allowed in
+    let a : length c.deref_mut-2.result.now ≡ order_count t = ap length c.deref_mut-2.ensures.value ∙ c.self.invariant.order_ends ∙ ap order_count (sym (c.orders.invariant.table ∙ ap (λ (x : State). x.cells.now) c.first_prices.ensures.others)) in
+    omega (arith, within, a)
+
 pub new-requires : goal.new-requires
 new-requires c =
     let ep : (with_items c.self.inside.pairs c.write_pairs-count.new.pairs).items ≡ c.write_pairs-count.new.pairs = with_items_is c.self.inside.pairs c.write_pairs-count.new.pairs (c.write_pairs-count.auto.pairs ∙ c.deref_mut.ensures.len) in
-    let items : c.truncate.new.self.items ≡ pairs_below c.orders-2.result c.deref.result.now = c.truncate.ensures.items ∙ ap (take c.write_pairs-count.result) ep ∙ c.write_pairs-count.ensures.pairs in
-    subst IsPlanList (sym items) (plan_list c.orders-2.result c.deref.result.now)
+    let items : c.truncate.new.self.items ≡ pairs_below (length c.deref_mut-2.result.now) c.deref.result.now = c.truncate.ensures.items ∙ ap (take c.write_pairs-count.result) ep ∙ c.write_pairs-count.ensures.pairs in
+    subst IsPlanList (sym items) (plan_list (length c.deref_mut-2.result.now) c.deref.result.now)
 
 pub returns-clause-certificate : goal.returns-clause-certificate
 returns-clause-certificate c =
@@ -46,11 +56,11 @@ returns-clause-certificate c =
     let u = s.u.items in
     let v = s.v.items in
     let h = s.order_of.items in
-    let n = c.orders-2.result in
+    let n = length c.deref_mut-2.result.now in
     let ep : (with_items c.self.inside.pairs c.write_pairs-count.new.pairs).items ≡ c.write_pairs-count.new.pairs = with_items_is c.self.inside.pairs c.write_pairs-count.new.pairs (c.write_pairs-count.auto.pairs ∙ c.deref_mut.ensures.len) in
     let items : c.new.result ≡ pairs_below n h = c.new.ensures ∙ c.truncate.ensures.items ∙ ap (take c.write_pairs-count.result) ep ∙ c.write_pairs-count.ensures.pairs ∙ ap (pairs_below n) c.deref.ensures.value in
     let same : order_count t ≡ order_count c.first_prices.new.state.cells.now = ap order_count c.orders.invariant.table in
-    let a = c.orders-2.ensures.count in
+    let a : n ≡ order_count t = ap length c.deref_mut-2.ensures.value ∙ c.self.invariant.order_ends ∙ ap order_count (sym (c.orders.invariant.table ∙ ap (λ (x : State). x.cells.now) c.first_prices.ensures.others)) in
     let b = c.orders-j-end.ensures.count in
     let end : c.orders.j ≡ n = omega arith in
     let counted : AreCounted t v h (taken_at t n 0) = subst (λ (j : ℕ). AreCounted t v h (taken_at t j 0)) end c.orders.invariant.counted in
@@ -65,11 +75,11 @@ returns-clause-optimal c =
     let u = s.u.items in
     let v = s.v.items in
     let h = s.order_of.items in
-    let n = c.orders-2.result in
+    let n = length c.deref_mut-2.result.now in
     let ep : (with_items c.self.inside.pairs c.write_pairs-count.new.pairs).items ≡ c.write_pairs-count.new.pairs = with_items_is c.self.inside.pairs c.write_pairs-count.new.pairs (c.write_pairs-count.auto.pairs ∙ c.deref_mut.ensures.len) in
     let items : c.new.result ≡ pairs_below n h = c.new.ensures ∙ c.truncate.ensures.items ∙ ap (take c.write_pairs-count.result) ep ∙ c.write_pairs-count.ensures.pairs ∙ ap (pairs_below n) c.deref.ensures.value in
     let same : order_count t ≡ order_count c.first_prices.new.state.cells.now = ap order_count c.orders.invariant.table in
-    let a = c.orders-2.ensures.count in
+    let a : n ≡ order_count t = ap length c.deref_mut-2.ensures.value ∙ c.self.invariant.order_ends ∙ ap order_count (sym (c.orders.invariant.table ∙ ap (λ (x : State). x.cells.now) c.first_prices.ensures.others)) in
     let b = c.orders-j-end.ensures.count in
     let end : c.orders.j ≡ n = omega arith in
     let counted : AreCounted t v h (taken_at t n 0) = subst (λ (j : ℕ). AreCounted t v h (taken_at t j 0)) end c.orders.invariant.counted in
