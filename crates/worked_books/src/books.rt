@@ -82,6 +82,14 @@ pub fn last_answer(alloc: Global, lines: &[&str]) -> Result<Answer, Fail> {
     Ok(*answers.last().ok_or("no line")?)
 }
 
+/// The number that the last of these lines is refused with by such a book; 0 where it isn't refused.
+pub fn refused(alloc: Global, lines: &[&str]) -> Result<u32, Fail> {
+    match last_answer(alloc, lines)? {
+        Answer::Refused(refusal) => Ok(refusal.number()),
+        _ => Ok(0),
+    }
+}
+
 /// What is begun at 01:00 after these lines: the version, and how many wagons and orders its problem has.
 pub fn begun(alloc: Global, lines: &[&str]) -> Result<(u64, usize, usize), Fail> {
     let mut book = sample(alloc)?;

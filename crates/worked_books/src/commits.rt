@@ -1,11 +1,12 @@
 //! Commits that are accepted, and each reason why one is refused.
 
-use crate::books::{last_answer, limited_book, run, sample};
+use crate::books::{last_answer, limited_book, refused, run, sample};
 use crate::lines::{BEGIN, COMMIT, DEPARTURE, ORDER};
 use commit_book::Answer::{Begun, Done, Refused};
-use commit_book::Refusal;
 use commit_book::Reply::Accepted;
+use commit_book::{Answer, Refusal};
 use rail_codes::{OrderId, WagonNumber};
+use std::alloc::Global;
 use std::test::Fail;
 
 /// Two callers plan the same problem.
@@ -174,33 +175,52 @@ const NO_CERTIFICATES: [(u32, &str); 9] = [
     ),
 ];
 
-/// What these commits are refused with.
-fn refusals() -> Result<[Refusal; 9], Fail> {
-    let (far, near) = (
-        WagonNumber::read("338447961008")?,
-        WagonNumber::read("218124712173")?,
-    );
-    let (order, unknown) = (OrderId::read("O1")?, OrderId::read("O9")?);
-    Ok([
-        Refusal::WrongLengths,
-        Refusal::WrongLengths,
-        Refusal::UsedTwice(near, order),
-        Refusal::UsedTwice(near, order),
-        Refusal::PriceGap(near, order),
-        Refusal::OverPenalty(order),
-        Refusal::SumsDiffer(60, 50),
-        Refusal::NotInProblem(WagonNumber::read("338447961040")?, order),
-        Refusal::NotInProblem(near, unknown),
-    ])
-}
-
 #[test]
 fn no_certificates(rt: HostRuntime) -> Result<(), Fail> {
-    for ((number, line), refusal) in NO_CERTIFICATES.into_iter().zip(refusals()?) {
-        let answer = last_answer(rt.alloc(), &[ORDER, BEGIN, line])?;
-        assert_eq!(rt; answer, Refused(refusal), "{line}");
-        assert_eq!(rt; refusal.number(), number);
+    for (number, line) in NO_CERTIFICATES {
+        let refused = refused(rt.alloc(), &[ORDER, BEGIN, line])?;
+        assert_eq!(rt; refused, number, "{line}");
     }
+    Ok(())
+}
+
+/// What one of these commits is answered.
+fn answer_to(alloc: Global, k: usize) -> Result<Answer, Fail> {
+    let (_, line) = *NO_CERTIFICATES.get(k).ok_or("a commit")?;
+    last_answer(alloc, &[ORDER, BEGIN, line])
+}
+
+/// A refusal names the wagon and the order.
+#[test]
+fn named_pairs(rt: HostRuntime) -> Result<(), Fail> {
+    let alloc = rt.alloc();
+    let (near, order) = (WagonNumber::read("218124712173")?, OrderId::read("O1")?);
+    let twice = Refusal::UsedTwice(near, order);
+    assert_eq!(rt; answer_to(alloc, 2)?, Refused(twice));
+    assert_eq!(rt; answer_to(alloc, 3)?, Refused(twice));
+    assert_eq!(rt;
+        answer_to(alloc, 4)?,
+        Refused(Refusal::PriceGap(near, order))
+    );
+    assert_eq!(rt; answer_to(alloc, 5)?, Refused(Refusal::OverPenalty(order)));
+    assert_eq!(rt; answer_to(alloc, 6)?, Refused(Refusal::SumsDiffer(60, 50)));
+    Ok(())
+}
+
+/// So does one of a pair that isn't in the problem.
+#[test]
+fn unknown_names(rt: HostRuntime) -> Result<(), Fail> {
+    let alloc = rt.alloc();
+    let (near, order) = (WagonNumber::read("218124712173")?, OrderId::read("O1")?);
+    let (third, unknown) = (WagonNumber::read("338447961040")?, OrderId::read("O9")?);
+    assert_eq!(rt;
+        answer_to(alloc, 7)?,
+        Refused(Refusal::NotInProblem(third, order))
+    );
+    assert_eq!(rt;
+        answer_to(alloc, 8)?,
+        Refused(Refusal::NotInProblem(near, unknown))
+    );
     Ok(())
 }
 

@@ -1,12 +1,11 @@
 //! Messages, their ids and what is full.
 
-use crate::books::{last_answer, limited_book, run, sample};
+use crate::books::{last_answer, limited_book, refused, run, sample};
 use crate::lines::{DEPARTURE, ORDER};
 use commit_book::Answer::{Done, Refused};
 use commit_book::Refusal;
 use commit_book::Reply::{Accepted, Repeated};
 use std::test::Fail;
-use wagon_state::StepFault;
 
 /// The id of the sample's departure, with another place.
 const OTHER_PLACE: &str =
@@ -45,47 +44,38 @@ fn a_message_comes_again(rt: HostRuntime) -> Result<(), Fail> {
 fn an_id_is_used_again(rt: HostRuntime) -> Result<(), Fail> {
     let alloc = rt.alloc();
     for line in OTHERS {
-        let answer = last_answer(alloc, &[DEPARTURE, line])?;
-        assert_eq!(rt; answer, Refused(Refusal::IdReused), "{line}");
+        assert_eq!(rt; refused(alloc, &[DEPARTURE, line])?, 71, "{line}");
     }
-    let answer = last_answer(alloc, &[DEPARTURE, OTHER_COMPANY])?;
-    assert_eq!(rt; answer, Refused(Refusal::Step(StepFault::WrongStatus)));
+    assert_eq!(rt; refused(alloc, &[DEPARTURE, OTHER_COMPANY])?, 32);
     Ok(())
 }
 
-/// Messages that no book of the sample takes first, and why.
-const REFUSED: [(&str, Refusal, u32); 4] = [
+/// Messages that a book of the sample refuses, with their numbers of refusal.
+const REFUSED: [(u32, &str); 4] = [
     (
-        r#"{"type":"departure","company":"0080","number":1,"wagon":"338447961040","place":"DE00001","moment":"2026-03-01T03:00:00Z"}"#,
-        Refusal::UnknownWagon,
         73,
+        r#"{"type":"departure","company":"0080","number":1,"wagon":"338447961040","place":"DE00001","moment":"2026-03-01T03:00:00Z"}"#,
     ),
     (
-        r#"{"type":"departure","company":"0080","number":1,"wagon":"338447961008","place":"DE00002","moment":"2026-02-28T23:59:59Z"}"#,
-        Refusal::Step(StepFault::Earlier),
         31,
+        r#"{"type":"departure","company":"0080","number":1,"wagon":"338447961008","place":"DE00002","moment":"2026-02-28T23:59:59Z"}"#,
     ),
     (
-        r#"{"type":"release","company":"0080","number":1,"wagon":"338447961008","place":"DE00002","moment":"2026-03-01T02:00:00Z"}"#,
-        Refusal::Step(StepFault::WrongStatus),
         32,
+        r#"{"type":"release","company":"0080","number":1,"wagon":"338447961008","place":"DE00002","moment":"2026-03-01T02:00:00Z"}"#,
     ),
-    (OTHER_PLACE, Refusal::Step(StepFault::WrongPlace), 33),
+    (33, OTHER_PLACE),
 ];
 
 /// The id of a refused message is free.
 #[test]
 fn refused_messages(rt: HostRuntime) -> Result<(), Fail> {
     let alloc = rt.alloc();
-    for (line, refusal, number) in REFUSED {
-        let mut book = sample(alloc)?;
-        let answers = run(alloc, &mut book, &[line, line, DEPARTURE])?;
-        assert_eq!(rt;
-            answers.as_slice(),
-            [Refused(refusal), Refused(refusal), Done(Accepted(1))].as_slice(),
-            "{line}"
-        );
-        assert_eq!(rt; refusal.number(), number);
+    for (number, line) in REFUSED {
+        assert_eq!(rt; refused(alloc, &[line])?, number, "{line}");
+        assert_eq!(rt; refused(alloc, &[line, line])?, number, "{line}");
+        let answer = last_answer(alloc, &[line, DEPARTURE])?;
+        assert_eq!(rt; answer, Done(Accepted(1)), "{line}");
     }
     Ok(())
 }

@@ -84,14 +84,9 @@ fn a_plan_of_the_second_network(rt: HostRuntime) -> Result<(), Fail> {
 fn refused_revisions(rt: HostRuntime) -> Result<(), Fail> {
     let alloc = rt.alloc();
     let mut book = sample(alloc)?;
-    for (network, refusal, number) in [
-        (0, Refusal::UnknownNetwork, 79),
-        (2, Refusal::UnknownNetwork, 79),
-        (1, Refusal::SameNetwork, 80),
-    ] {
-        let answer = book.revise(alloc, network);
-        assert_eq!(rt; answer.err(), Some(refusal), "{network}");
-        assert_eq!(rt; refusal.number(), number);
+    for (network, number) in [(0, 79), (2, 79), (1, 80)] {
+        let refusal = book.revise(alloc, network).err();
+        assert_eq!(rt; refusal.map(|refusal| refusal.number()), Some(number));
     }
     let mut full = limited_book(alloc, 1, 8)?;
     run(alloc, &mut full, &[ORDER])?;

@@ -1,5 +1,5 @@
 //! What a book shows: its entries, and its problems for a planner.
-ghost use Rattle.std.specs.Prelude.{◌→◌, All, IsTrue};
+ghost use Rattle.std.specs.Prelude.{All, IsTrue};
 ghost use Rattle.commit_book.specs.Snap.{IsInRange};
 
 use crate::books::{NETWORK, book_of, call, run, sample};
