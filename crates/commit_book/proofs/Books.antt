@@ -1,138 +1,155 @@
--- What a book keeps through its changes.
-use Rattle.std.proofs.Common.{◌≡◌, ◌∙◌, ◌+◌, ◌≤◌, ℕ, Bool, true, false, cond, List, [], ◌∷◌, ◌++◌, length, map, drop, take, Option, Some, None, is_some, All, refl, sym, ap, subst, arith}
-use Rattle.std.specs.Prelude.{◌||◌, nat_le, nat_lt, IsOk, Result, Ok, Err, slice_get}
-use Rattle.std.specs.List.{AllByRecursion, find, list_any}
-use Rattle.std.proofs.Math.Seq.{take-length}
-use Rattle.std.proofs.lemmas.Bool.Decides.{nat_tests}
-use Rattle.std.proofs.lemmas.List.Elements.{All-append, All-drop, All-weaker, recursion_from_All, All-from_recursion}
-use Rattle.line_network.specs.Network.{NetworkValue}
-use Rattle.cost_table.specs.Table.{Table}
+-- What a book keeps, call by call, and what it says of a commit of a kept problem.
+use Rattle.std.proofs.Common.{◌≡◌, ◌∙◌, ◌+◌, ◌≤◌, ℕ, Bool, true, false, cond, ◌||◌, List, [], ◌∷◌, ◌++◌, length, drop, map, refl, sym, ap, arith, subst, length-append}
+use Rattle.std.specs.Prelude.{◌==◌, nat_lt, Option, Some, None, is_some, All}
+use Rattle.std.specs.List.{find}
+use Rattle.std.proofs.lemmas.List.{length-map}
+use Rattle.std.proofs.lemmas.List.Elements.{All-drop, All-head, All-nil, All-push, All-tail, All-weaker}
 use Rattle.move_messages.specs.declared.commit_text.CommitText.{CommitText}
-use Rattle.operating_db.specs.After.{after_call}
 use Rattle.operating_db.specs.Commits.{CanPromise}
-use Rattle.operating_db.specs.Office.{Office, first_office}
-use Rattle.operating_db.specs.Steps.{IsPromised}
 use Rattle.operating_db.specs.declared.event.Event.{Event}
-use Rattle.commit_book.specs.BookStep.{BookState, is_full, is_kept, is_this, kept_after, refusal_in}
-use Rattle.commit_book.specs.History.{IsEntry, IsLeast, IsTableAt, Owes, after_all, problem_at, replay}
-use Rattle.commit_book.specs.Kept.{IsBook, IsBookOf, IsKeptAt, book_of, setting_of, which_of, with_kept}
-use Rattle.commit_book.specs.Ledger.{LedgerValue, office_of}
-use Rattle.commit_book.specs.Limits.{LimitNumbers}
+use Rattle.commit_book.specs.BookStep.{IsJudged, accepted_unless, is_kept, is_this, kept_after, refusal_in}
+use Rattle.commit_book.specs.History.{IsLeast, IsTableAt, problem_at, replay}
+use Rattle.commit_book.specs.Kept.{IsBook, IsKeptAt, which_of, with_kept}
 use Rattle.commit_book.specs.Setting.{Setting}
 use Rattle.commit_book.specs.declared.kept_problems.KeptProblem.{KeptProblem}
-use Rattle.commit_book.proofs.CommitLaws.{commit_owed}
-use Rattle.commit_book.proofs.Histories.{legal_push, problem_kept, table_kept}
+use Rattle.commit_book.specs.declared.refusal.Refusal.{Refusal}
+use Rattle.commit_book.proofs.CommitLaws.{both_true, commit_owed, same_number}
+use Rattle.commit_book.proofs.Histories.{empty_legal, problem_kept, table_kept}
+use Rattle.commit_book.proofs.Runs.{IsLegalEntry, entered_legal}
 
--- the office of a ledger is the replay
-pub office_is : (ledger : LedgerValue) (networks : List NetworkValue) (limits : LimitNumbers) → ledger.networks ≡ length networks → office_of ledger ≡ replay (setting_of ledger networks limits) ledger.events
-office_is ledger networks limits h = ap (λ (n : ℕ). after_all n (first_office ledger.roster) ledger.events) h
+pub empty_book : (setting : Setting) → IsBook setting [] []
+empty_book setting = record { legal = empty_legal setting; problems = All-nil (IsKeptAt setting []) }
 
-length_push : (history : List Event) (event : Event) → length (history ++ event ∷ []) ≡ length history + 1
-length_push [] event = refl
-length_push (x ∷ history) event = ap (λ (n : ℕ). n + 1) (length_push history event)
+-- ---- one more entry
 
--- what is kept stays that of its version
-kept_push : (setting : Setting) (history : List Event) (event : Event) (kept : List KeptProblem) → All (IsKeptAt setting history) kept → All (IsKeptAt setting (history ++ event ∷ [])) kept
-kept_push setting history event kept all =
-    All-weaker (IsKeptAt setting history) (IsKeptAt setting (history ++ event ∷ [])) (λ one h. record {
-      had = omega (arith, h.had, length_push history event);
-      is_problem = h.is_problem ∙ sym (problem_kept setting history event one.version one.problem.at h.had);
-      is_table = table_kept setting history event one.version one.problem.at one.cells h.had h.is_table;
-    }) kept all
+still_kept : (setting : Setting) (history : List Event) (event : Event) (kept : KeptProblem) → IsKeptAt setting history kept → IsKeptAt setting (history ++ event ∷ []) kept
+still_kept setting history event kept h = record {
+  had = let longer = length-append history (event ∷ []) in let had = h.had in omega (arith, longer, had);
+  is_problem = h.is_problem ∙ sym (problem_kept setting history event kept.version kept.problem.at h.had);
+  is_table = table_kept setting history event kept.version kept.problem.at kept.cells h.had h.is_table;
+}
 
-room : (entries n : ℕ) → nat_le entries n ≡ false → n + 1 ≤ entries
-room entries n h = grind (arith, nat_tests, h)
+pub book_push : (setting : Setting) (history : List Event) (event : Event) (kept : List KeptProblem) → IsBook setting history kept → IsLegalEntry setting history event → IsBook setting (history ++ event ∷ []) kept
+book_push setting history event kept book entry = record {
+  legal = entered_legal setting history event book.legal entry;
+  problems = All-weaker (IsKeptAt setting history) (IsKeptAt setting (history ++ event ∷ [])) (still_kept setting history event) kept book.problems;
+}
 
--- a book with one more entry
-pub book_pushed : (ledger : LedgerValue) (networks : List NetworkValue) (limits : LimitNumbers) (kept : List KeptProblem) (event : Event) → IsBookOf ledger networks limits kept
-    → IsPromised (replay (setting_of ledger networks limits) ledger.events) event → Owes (setting_of ledger networks limits) ledger.events event → is_full (setting_of ledger networks limits) ledger.events ≡ false
-    → IsOk (after_call ledger.networks (office_of ledger) event) → IsBookOf (record ledger { events = ledger.events ++ event ∷ [] }) networks limits kept
-book_pushed ledger networks limits kept event is promised owed open possible =
-    let setting = setting_of ledger networks limits in
-    let there : IsOk (after_call (length networks) (replay setting ledger.events) event) =
-    subst (λ (o : Office). IsOk (after_call (length networks) o event)) (office_is ledger networks limits is.counted) (subst (λ (n : ℕ). IsOk (after_call n (office_of ledger) event)) is.counted possible) in
-    let entry : IsEntry setting ledger.events event = record { promised = promised; possible = there; owed = owed } in
-    record {
-      counted = is.counted;
-      book = record {
-        legal = legal_push setting ledger.events event is.book.legal entry (room limits.entries (length ledger.events) open);
-        problems = kept_push setting ledger.events event kept is.book.problems;
-      };
-    }
+-- ---- one more kept problem
 
-kept_by : (P : KeptProblem → Type 0) (kept : List KeptProblem) (one : KeptProblem) (b : Bool) → All P kept → All P (one ∷ []) → All P (cond b (kept ++ one ∷ []) (drop 1 kept ++ one ∷ []))
-kept_by P kept one true all last = All-append P kept (one ∷ []) all last
-kept_by P kept one false all last = All-append P (drop 1 kept) (one ∷ []) (All-drop P 1 kept all) last
+all_kept : (P : KeptProblem → Type 0) (room : Bool) (kept : List KeptProblem) (one : KeptProblem) → All P kept → P one → All P (cond room (kept ++ one ∷ []) (drop 1 kept ++ one ∷ []))
+all_kept P true kept one all here = All-push P kept one all here
+all_kept P false kept one all here = All-push P (drop 1 kept) one (All-drop P 1 kept all) here
 
--- a book that keeps one more problem
-pub book_kept : (ledger : LedgerValue) (networks : List NetworkValue) (limits : LimitNumbers) (kept : List KeptProblem) (most : ℕ) (one : KeptProblem) → IsBookOf ledger networks limits kept
-    → IsKeptAt (setting_of ledger networks limits) ledger.events one → IsBookOf ledger networks limits (with_kept most kept one)
-book_kept ledger networks limits kept most one is h =
-    let P = IsKeptAt (setting_of ledger networks limits) ledger.events in
-    let last : All P (one ∷ []) = All-from_recursion P (one ∷ []) (h, tt) in
-    record {
-      counted = is.counted;
-      book = record { legal = is.book.legal; problems = kept_by P kept one (nat_lt (length kept) most) is.book.problems last };
-    }
+pub book_keep : (setting : Setting) (history : List Event) (most : ℕ) (kept : List KeptProblem) (one : KeptProblem) → IsBook setting history kept → IsKeptAt setting history one → IsBook setting history (with_kept most kept one)
+book_keep setting history most kept one book here = record {
+  legal = book.legal;
+  problems = all_kept (IsKeptAt setting history) (nat_lt (length kept) most) kept one book.problems here;
+}
 
--- ---- the kept pairs
-
-pub map-push : (kept : List KeptProblem) (one : KeptProblem) → map which_of (kept ++ one ∷ []) ≡ map which_of kept ++ which_of one ∷ []
+map-push : (kept : List KeptProblem) (one : KeptProblem) → map which_of (kept ++ one ∷ []) ≡ map which_of kept ++ which_of one ∷ []
 map-push [] one = refl
-map-push (x ∷ kept) one = ap (λ rest. which_of x ∷ rest) (map-push kept one)
+map-push (first ∷ kept) one = ap (λ rest. which_of first ∷ rest) (map-push kept one)
 
-map-drop1 : (kept : List KeptProblem) → map which_of (drop 1 kept) ≡ drop 1 (map which_of kept)
-map-drop1 [] = refl
-map-drop1 (x ∷ kept) = refl
+map-drop_one : (kept : List KeptProblem) → map which_of (drop 1 kept) ≡ drop 1 (map which_of kept)
+map-drop_one [] = refl
+map-drop_one (first ∷ kept) = refl
 
-map-count : (kept : List KeptProblem) → length (map which_of kept) ≡ length kept
-map-count [] = refl
-map-count (x ∷ kept) = ap (λ (n : ℕ). n + 1) (map-count kept)
+which_by : (room : Bool) (kept : List KeptProblem) (one : KeptProblem)
+    → map which_of (cond room (kept ++ one ∷ []) (drop 1 kept ++ one ∷ [])) ≡ cond room (map which_of kept ++ which_of one ∷ []) (drop 1 (map which_of kept) ++ which_of one ∷ [])
+which_by true kept one = map-push kept one
+which_by false kept one = map-push (drop 1 kept) one ∙ ap (λ rest. rest ++ which_of one ∷ []) (map-drop_one kept)
 
-with_by : (kept : List KeptProblem) (one : KeptProblem) (b : Bool) → map which_of (cond b (kept ++ one ∷ []) (drop 1 kept ++ one ∷ [])) ≡ cond b (map which_of kept ++ which_of one ∷ []) (drop 1 (map which_of kept) ++ which_of one ∷ [])
-with_by kept one true = map-push kept one
-with_by kept one false = map-push (drop 1 kept) one ∙ ap (λ rest. rest ++ which_of one ∷ []) (map-drop1 kept)
+-- which problems are kept then
+pub which_kept : (most : ℕ) (kept : List KeptProblem) (one : KeptProblem)
+    → map which_of (with_kept most kept one) ≡ cond (nat_lt (length (map which_of kept)) most) (map which_of kept ++ which_of one ∷ []) (drop 1 (map which_of kept) ++ which_of one ∷ [])
+which_kept most kept one =
+    which_by (nat_lt (length kept) most) kept one
+    ∙ ap (λ (n : ℕ). cond (nat_lt n most) (map which_of kept ++ which_of one ∷ []) (drop 1 (map which_of kept) ++ which_of one ∷ [])) (sym (length-map kept which_of))
 
-pub kept_is : (setting : Setting) (kept : List KeptProblem) (one : KeptProblem) (which : ℕ × ℕ) → which_of one ≡ which → is_kept (map which_of kept) which ≡ false → map which_of (with_kept setting.kept kept one) ≡ kept_after setting (map which_of kept) which
-kept_is setting kept one which same out =
-    rw (out, map-count kept, ← same) (with_by kept one (nat_lt (length kept) setting.kept))
+-- a problem that isn't kept goes last
+pub keeps_new : (setting : Setting) (kept : List KeptProblem) (one : KeptProblem) → is_kept (map which_of kept) (which_of one) ≡ false → map which_of (with_kept setting.kept kept one) ≡ kept_after setting (map which_of kept) (which_of one)
+keeps_new setting kept one new = which_kept setting.kept kept one ∙ sym (ap (λ is. cond is (map which_of kept) (cond (nat_lt (length (map which_of kept)) setting.kept) (map which_of kept ++ which_of one ∷ []) (drop 1 (map which_of kept) ++ which_of one ∷ []))) new)
 
-pub kept_stays : (setting : Setting) (kept : List (ℕ × ℕ)) (which : ℕ × ℕ) → is_kept kept which ≡ true → kept ≡ kept_after setting kept which
-kept_stays setting kept which is = rw is refl
+-- one that is kept stays
+pub keeps_known : (setting : Setting) (kept : List (ℕ × ℕ)) (which : ℕ × ℕ) → is_kept kept which ≡ true → kept_after setting kept which ≡ kept
+keeps_known setting kept which known = ap (λ is. cond is kept (cond (nat_lt (length kept) setting.kept) (kept ++ which ∷ []) (drop 1 kept ++ which ∷ []))) known
 
-by_test : (b : Bool) (x : KeptProblem) (rest : Option KeptProblem) (others : Bool) → others ≡ is_some rest → (b || others) ≡ is_some (cond b (Some x) rest)
-by_test true x rest others h = refl
-by_test false x rest others h = h
+-- ---- looking for a kept problem
 
--- what a search of the kept problems finds
-pub kept_test : (kept : List KeptProblem) (which : ℕ × ℕ) → is_kept (map which_of kept) which ≡ is_some (find (λ one. is_this which (which_of one)) kept)
-kept_test [] which = refl
-kept_test (x ∷ kept) which = by_test (is_this which (which_of x)) x (find (λ one. is_this which (which_of one)) kept) (is_kept (map which_of kept) which) (kept_test kept which)
+-- the kept problem of a version and a moment
+abbrev pub kept_as : List KeptProblem → ℕ × ℕ → Option KeptProblem
+kept_as kept which = find (λ one. is_this which (which_of one)) kept
 
-found_by : (P : KeptProblem → Type 0) (test : KeptProblem → Bool) (x : KeptProblem) (rest : Option KeptProblem) (one : KeptProblem) (b : Bool) → test x ≡ b → P x → (rest ≡ Some one → P one × (test one ≡ true)) → cond b (Some x) rest ≡ Some one
-    → P one × (test one ≡ true)
-found_by P test x rest one true is holds later h = let same : x ≡ one = cc in subst (λ (y : KeptProblem). P y × (test y ≡ true)) same (holds, is)
-found_by P test x rest one false is holds later h = later h
+found_by : (this : Bool) (one : KeptProblem) (rest : Option KeptProblem) (any : Bool) → any ≡ is_some rest → (this || any) ≡ is_some (cond this (Some one) rest)
+found_by true one rest any h = refl
+found_by false one rest any h = h
 
-found_has : (P : KeptProblem → Type 0) (test : KeptProblem → Bool) (kept : List KeptProblem) (one : KeptProblem) → AllByRecursion P kept → find test kept ≡ Some one → P one × (test one ≡ true)
-found_has P test [] one all h = absurd cc
-found_has P test (x ∷ kept) one all h = found_by P test x (find test kept) one (test x) refl all.0 (λ e. found_has P test kept one all.1 e) h
+pub kept_is_found : (kept : List KeptProblem) (which : ℕ × ℕ) → is_kept (map which_of kept) which ≡ is_some (kept_as kept which)
+kept_is_found [] which = refl
+kept_is_found (first ∷ kept) which = found_by (is_this which (which_of first)) first (kept_as kept which) (is_kept (map which_of kept) which) (kept_is_found kept which)
 
-this_is : (which other : ℕ × ℕ) → is_this which other ≡ true → (other.0 ≡ which.0) × (other.1 ≡ which.1)
-this_is which other h = (grind (arith, nat_tests, h), grind (arith, nat_tests, h))
+same_which : (which kept : ℕ × ℕ) → is_this which kept ≡ true → kept ≡ which
+same_which which kept h =
+    let f = both_true (kept.0 == which.0) (kept.1 == which.1) h in
+    let version = same_number kept.0 which.0 f.0 in
+    let at = same_number kept.1 which.1 f.1 in
+    let parts : ◌≡◌ {A = ℕ × ℕ} (kept.0, kept.1) (which.0, which.1) = cc in
+    parts
 
--- the kept problem of a version and moment
-pub record IsFound (setting : Setting) (history : List Event) (which : ℕ × ℕ) (one : KeptProblem) : Type 0 where
-  pub had : which.0 ≤ length history
-  pub is_problem : one.problem ≡ problem_at setting history which.0 which.1
-  pub is_table : IsTableAt setting history which.0 which.1 one.cells
+same_problem : (a b : KeptProblem) → let o : Option KeptProblem = Some a in o ≡ Some b → a ≡ b
+same_problem a b h = cc
 
-pub found_kept : (setting : Setting) (history : List Event) (kept : List KeptProblem) (which : ℕ × ℕ) (one : KeptProblem) → All (IsKeptAt setting history) kept → find (λ other. is_this which (which_of other)) kept ≡ Some one → IsFound setting history which one
-found_kept setting history kept which one all h =
-    let f = found_has (IsKeptAt setting history) (λ other. is_this which (which_of other)) kept one (recursion_from_All (IsKeptAt setting history) kept all) h in
-    let w = this_is which (which_of one) f.1 in
+-- what is found is that problem, and kept
+pub record IsFound (P : KeptProblem → Type 0) (which : ℕ × ℕ) (one : KeptProblem) : Type 0 where
+  pub holds : P one
+  pub is_which : which_of one ≡ which
+
+found_step : (P : KeptProblem → Type 0) (which : ℕ × ℕ) (first one : KeptProblem) (rest : Option KeptProblem) (this : Bool) → is_this which (which_of first) ≡ this → P first → (rest ≡ Some one → IsFound P which one) → cond this (Some first) rest ≡ Some one → IsFound P which one
+found_step P which first one rest true is here later h = subst (IsFound P which) (same_problem first one h) (record { holds = here; is_which = same_which which (which_of first) is })
+found_step P which first one rest false is here later h = later h
+
+pub found_kept : (P : KeptProblem → Type 0) (kept : List KeptProblem) (which : ℕ × ℕ) (one : KeptProblem) → All P kept → kept_as kept which ≡ Some one → IsFound P which one
+found_kept P [] which one all h = absurd cc
+found_kept P (first ∷ kept) which one all h =
+    found_step P which first one (kept_as kept which) (is_this which (which_of first)) refl (All-head P first kept all) (found_kept P kept which one (All-tail P first kept all)) h
+
+-- ---- a commit of a kept problem
+
+-- the problem that a commit names, and its table
+pub record IsNamed (setting : Setting) (history : List Event) (commit : CommitText) (one : KeptProblem) : Type 0 where
+  pub had : commit.version ≤ length history
+  pub is_problem : one.problem ≡ problem_at setting history commit.version commit.at
+  pub is_table : IsTableAt setting history commit.version commit.at one.cells
+
+named_by : (setting : Setting) (history : List Event) (commit : CommitText) (one : KeptProblem) (version at : ℕ) → commit.version ≡ version → commit.at ≡ at → version ≤ length history → one.problem ≡ problem_at setting history version at → IsTableAt setting history version at one.cells → IsNamed setting history commit one
+named_by setting history commit one version at same_version same_at had is_problem is_table = record {
+  had = omega (arith, same_version, had);
+  is_problem = is_problem ∙ sym (ap (λ (n : ℕ). problem_at setting history n at) same_version) ∙ sym (ap (problem_at setting history commit.version) same_at);
+  is_table = subst (λ (n : ℕ). IsTableAt setting history n commit.at one.cells) (sym same_version) (subst (λ (m : ℕ). IsTableAt setting history version m one.cells) (sym same_at) is_table);
+}
+
+pub named_problem : (setting : Setting) (history : List Event) (kept : List KeptProblem) (commit : CommitText) (one : KeptProblem) → IsBook setting history kept → kept_as kept (commit.version, commit.at) ≡ Some one → IsNamed setting history commit one
+named_problem setting history kept commit one book h =
+    let found = found_kept (IsKeptAt setting history) kept (commit.version, commit.at) one book.problems h in
+    let version : commit.version ≡ one.version = ap (λ (w : ℕ × ℕ). w.0) (sym found.is_which) in
+    let at : commit.at ≡ one.problem.at = ap (λ (w : ℕ × ℕ). w.1) (sym found.is_which) in
+    named_by setting history commit one one.version one.problem.at version at found.holds.had found.holds.is_problem found.holds.is_table
+
+-- what the tests of a commit find is what it is answered
+pub commit_judged : (setting : Setting) (history : List Event) (kept : List KeptProblem) (commit : CommitText) (one : KeptProblem) (refusal : Option Refusal) → IsBook setting history kept → kept_as kept (commit.version, commit.at) ≡ Some one
+    → refusal_in one.problem (replay setting history) commit one.cells ≡ refusal → IsJudged setting history commit (accepted_unless (length history + 1) refusal)
+commit_judged setting history kept commit one refusal book found h =
+    let named = named_problem setting history kept commit one book found in
     record {
-      had = omega (arith, f.0.had, w.0);
-      is_problem = f.0.is_problem ∙ rw (w.0, w.1) refl;
-      is_table = subst (λ (at : ℕ). IsTableAt setting history which.0 at one.cells) w.1 (subst (λ (n : ℕ). IsTableAt setting history n one.problem.at one.cells) w.0 f.0.is_table);
+      table = one.cells;
+      is_table = named.is_table;
+      answered = ap (accepted_unless (length history + 1)) (sym h ∙ ap (λ problem. refusal_in problem (replay setting history) commit one.cells) named.is_problem);
     }
+
+-- where they find nothing, it pays what it owes, and can be promised
+pub commit_passed : (setting : Setting) (history : List Event) (kept : List KeptProblem) (commit : CommitText) (one : KeptProblem) → IsBook setting history kept → kept_as kept (commit.version, commit.at) ≡ Some one
+    → refusal_in one.problem (replay setting history) commit one.cells ≡ None → IsLeast setting history commit × CanPromise (replay setting history) commit.pairs
+commit_passed setting history kept commit one book found h =
+    let named = named_problem setting history kept commit one book found in
+    commit_owed setting history commit one.cells named.had named.is_table (sym (ap (λ problem. refusal_in problem (replay setting history) commit one.cells) named.is_problem) ∙ h)

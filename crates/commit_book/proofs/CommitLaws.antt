@@ -1,10 +1,9 @@
 -- A commit that is not refused pays what it owes, and can be promised.
-use Rattle.std.proofs.Common.{◌≡◌, ◌∙◌, ◌+◌, ◌<◌, ◌≤◌, ℕ, Bool, true, false, cond, ◌&&◌, List, [], ◌∷◌, ◌++◌, length, refl, sym, ap, arith, subst, append_assoc, append-nil, nat_eq}
+use Rattle.std.proofs.Common.{◌≡◌, ◌+◌, ◌<◌, ◌≤◌, ℕ, Bool, true, false, cond, ◌&&◌, List, [], ◌∷◌, ◌++◌, length, refl, sym, ap, arith, subst, append_assoc, append-nil}
 use Rattle.std.specs.Prelude.{◌==◌, nat_lt, Option, Some, None, is_some, Result, Ok, Err, All, option_and_then}
 use Rattle.std.proofs.lemmas.Bool.Decides.{nat_tests}
 use Rattle.std.proofs.lemmas.List.Elements.{All-cons, All-head, All-nil, All-tail}
 use Rattle.std.proofs.lemmas.List.Sums.{sum_by_push}
-use Rattle.std.specs.Cmp.Lexicographic.{pointwise}
 use Rattle.move_messages.specs.declared.commit_text.CommitText.{CommitText}
 use Rattle.wagon_state.specs.declared.free_wagon.FreeWagon.{FreeWagon}
 use Rattle.wagon_state.specs.declared.wagon_row.WagonRow.{WagonRow}
@@ -15,6 +14,7 @@ use Rattle.cost_table.specs.Table.{Table}
 use Rattle.price_checker.specs.Faults.{first_fault}
 use Rattle.price_checker.specs.declared.check_fault.CheckFault.{CheckFault}
 use Rattle.price_checker.proofs.Duality.{certificates_optimal}
+use Rattle.price_checker.proofs.FaultFree.{in_range_certified}
 use Rattle.price_checker.proofs.FirstBelow.{none_first, none_second}
 use Rattle.operating_db.specs.Commits.{CanPromise, IsPromisable, Pair, is_free_row, lack_in, times_of_order, times_of_wagon}
 use Rattle.operating_db.specs.Office.{Office}
@@ -26,16 +26,19 @@ use Rattle.commit_book.specs.History.{IsLeast, IsTableAt, IsUnchanged, problem_a
 use Rattle.commit_book.specs.Setting.{Setting}
 use Rattle.commit_book.specs.declared.refusal.Refusal.{Refusal}
 use Rattle.commit_book.specs.declared.refusal.Refusal.TheVariants.{OrderChanged, WagonChanged}
-use Rattle.commit_book.proofs.Certified.{certified, tail_allowed}
 use Rattle.commit_book.proofs.Placed.{named_once, placed_in_range, positions_placed}
+
+tail_allowed : {A : Type 0} (b : Bool) (rest : Option A) (x : A) → cond b rest (Some x) ≡ None → (b ≡ true) × (rest ≡ None)
+tail_allowed true rest x h = (refl, h)
+tail_allowed false rest x h = cc
 
 -- ---- wagons
 
-both_true : (a b : Bool) → (a && b) ≡ true → (a ≡ true) × (b ≡ true)
+pub both_true : (a b : Bool) → (a && b) ≡ true → (a ≡ true) × (b ≡ true)
 both_true true b h = (refl, h)
 both_true false b h = cc
 
-same_number : (a b : ℕ) → (a == b) ≡ true → a ≡ b
+pub same_number : (a b : ℕ) → (a == b) ≡ true → a ≡ b
 same_number a b h = grind (arith, nat_tests, h)
 
 alike : (a b : FreeWagon) → a.number ≡ b.number → a.class ≡ b.class → a.load_limit ≡ b.load_limit → a.place ≡ b.place → a.ready ≡ b.ready → a ≡ b
@@ -148,7 +151,7 @@ commit_owed setting history commit table had is_table h =
     let un = unrefused problem now commit table h in
     let placed = positions_placed problem commit.pairs un.positions un.are_positions in
     let range = placed_in_range is_table.network problem table is_table.of_problem commit.pairs un.positions placed in
-    let certificate = certified table un.positions commit.u commit.v range un.no_fault in
+    let certificate = in_range_certified table un.positions commit.u commit.v range un.no_fault in
     let unchanged = all_unchanged problem now commit.pairs un.wagons in
     let once = named_once problem commit.pairs un.positions placed certificate.plan.once in (
       record {

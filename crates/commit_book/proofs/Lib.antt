@@ -1,8 +1,15 @@
+pub mod BookCalls
+pub mod BookParts
 pub mod Books
-pub mod Certified
 pub mod CommitLaws
+pub mod CommitWalks
 pub mod Histories
 pub mod Ids
+pub mod Judging
+pub mod Named
 pub mod Placed
 pub mod Positions
 pub mod Replays
+pub mod Runs
+pub mod Sound
+pub mod Versions

@@ -1,5 +1,5 @@
 -- The positions of a commit's pairs: which wagon and order each names, and that a name stands as often as its position.
-use Rattle.std.proofs.Common.{◌≡◌, ◌+◌, ◌<◌, ◌≤◌, ℕ, zero, suc, Bool, true, false, cond, List, [], ◌∷◌, length, map, refl, sym, ◌∙◌, ap, arith, subst}
+use Rattle.std.proofs.Common.{◌≡◌, ◌≤◌, ℕ, zero, suc, Bool, true, false, cond, List, [], ◌∷◌, length, map, refl, sym, ◌∙◌, ap, arith, subst}
 use Rattle.std.specs.Prelude.{◌==◌, Option, Some, None, Result, Ok, Err, count_by, position, slice_get}
 use Rattle.std.proofs.lemmas.Bool.Decides.{nat_tests}
 use Rattle.std.proofs.lemmas.List.{length-map}
@@ -15,6 +15,7 @@ use Rattle.cost_table.specs.Plan.{serves, uses}
 use Rattle.cost_table.specs.Problem.{ProblemValue, names_of_problem, order_names, wagon_names}
 use Rattle.cost_table.specs.Table.{Table, order_count, wagon_count}
 use Rattle.cost_table.proofs.NameLemmas.{found_at}
+use Rattle.price_checker.proofs.FaultFree.{AllInRange}
 use Rattle.operating_db.specs.Commits.{Pair, times_of_order, times_of_wagon}
 use Rattle.operating_db.proofs.Names.{same, same_is, same_self}
 use Rattle.commit_book.specs.Commits.{found_or, positions_of}
@@ -62,7 +63,7 @@ positions_placed problem (pair ∷ pairs) positions h =
 
 -- ---- what stands at a place
 
-some_same : {A : Type 0} (x y : A) → let o : Option A = Some x in o ≡ Some y → x ≡ y
+pub some_same : {A : Type 0} (x y : A) → let o : Option A = Some x in o ≡ Some y → x ≡ y
 some_same x y h = cc
 
 -- the item at a place has that name
@@ -80,11 +81,7 @@ wagon_there problem number i h = named_at (λ (w : FreeWagon). w.number) problem
 pub order_there : (problem : ProblemValue) (id : List ℕ) (j : ℕ) → order_place problem id ≡ Some j → HasName (λ (o : WantedOrder). o.order.id) problem.orders id j
 order_there problem id j h = named_at (λ (o : WantedOrder). o.order.id) problem.orders id j (found_at (order_names problem.orders) id j h)
 
--- each pair is one of the table's
-abbrev pub AllInRange : Table → List (ℕ × ℕ) → Type 0
-AllInRange t [] = Unit {0}
-AllInRange t (p ∷ ps) = (p.0 < wagon_count t) × (p.1 < order_count t) × AllInRange t ps
-
+-- each position is one of the table's
 pub placed_in_range : (net : NetworkValue) (problem : ProblemValue) (t : Table) → IsTableOf net problem t → (pairs : List Pair) (places : List (ℕ × ℕ)) → ArePlaced problem pairs places → AllInRange t places
 placed_in_range net problem t table [] [] h = tt
 placed_in_range net problem t table (pair ∷ pairs) (place ∷ places) h =
@@ -119,7 +116,7 @@ orders_indexed problem (pair ∷ pairs) (place ∷ places) h = (h.0.order, order
 orders_indexed problem [] (place ∷ places) h = h
 orders_indexed problem (pair ∷ pairs) [] h = h
 
-
+-- two names at one place are one
 wagons_one_to_one : (problem : ProblemValue) (a b : List ℕ) (i : ℕ) → wagon_place problem a ≡ Some i → wagon_place problem b ≡ Some i → a ≡ b
 wagons_one_to_one problem a b i h g = some_same a b (sym (found_at (wagon_names problem.wagons) a i h) ∙ found_at (wagon_names problem.wagons) b i g)
 

@@ -1,12 +1,12 @@
 -- The positions of pairs, one more at a time.
-use Rattle.std.proofs.Common.{◌≡◌, ℕ, suc, ◌+◌, ◌≤◌, ◌<◌, List, [], ◌∷◌, ◌++◌, length, drop, get_or, refl, sym, ap, ◌∙◌, subst, arith, append_assoc, add-one, drop_of_length-le}
-use Rattle.std.specs.Prelude.{Option, Some, None, Result, Ok, Err}
+use Rattle.std.proofs.Common.{◌≡◌, ℕ, ◌+◌, ◌≤◌, ◌<◌, List, [], ◌∷◌, ◌++◌, length, drop, get_or, refl, sym, ap, ◌∙◌, append_assoc, add-one, drop_of_length-le}
+use Rattle.std.specs.Prelude.{Some, None, Result, Ok, Err}
 use Rattle.std.proofs.lemmas.List.{append-nil}
 use Rattle.std.proofs.Math.Seq.{drop-cons}
 use Rattle.cost_table.specs.Names.{pair_of}
 use Rattle.cost_table.specs.Problem.{ProblemValue, names_of_problem}
 use Rattle.move_messages.specs.Values.{◌>>=◌}
-use Rattle.commit_book.specs.Commits.{found_or, positions_of}
+use Rattle.commit_book.specs.Commits.{positions_of}
 use Rattle.commit_book.specs.declared.refusal.Refusal.{Refusal}
 use Rattle.commit_book.specs.declared.refusal.Refusal.TheVariants.{NotInProblem}
 

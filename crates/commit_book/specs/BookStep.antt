@@ -39,6 +39,10 @@ abbrev pub answer_of : Result Reply Refusal → Answer
 answer_of (Ok reply) = Done reply
 answer_of (Err refusal) = Refused refusal
 
+abbrev pub answer_or : Result Answer Refusal → Answer
+answer_or (Ok answer) = answer
+answer_or (Err refusal) = Refused refusal
+
 abbrev pub begun_of : Result SnapValue AllocError → Answer
 begun_of (Ok snap) = Begun snap.version
 begun_of (Err error) = Refused OutOfMemory

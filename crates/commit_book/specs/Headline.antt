@@ -5,7 +5,7 @@ use Rattle.wagon_roster.specs.Roster.{IsRoster}
 use Rattle.wagon_state.specs.declared.free_wagon.FreeWagon.{FreeWagon}
 use Rattle.load_orders.specs.Wanted.{WantedOrder}
 use Rattle.line_network.specs.Network.{NetworkValue}
-use Rattle.distance_tables.specs.Networks.{IsNetworkCount, network_at}
+use Rattle.distance_tables.specs.Networks.{network_at}
 use Rattle.cost_table.specs.Allowed.{IsTableOf, Reaches}
 use Rattle.cost_table.specs.Plan.{IsOptimal}
 use Rattle.cost_table.specs.Problem.{ProblemValue}

@@ -1,6 +1,8 @@
 -- The accepted events, as a book keeps them.
-use Rattle.std.specs.Prelude.{◌≡◌, ◌+◌, ℕ, List, [], ◌∷◌}
+use Rattle.std.specs.Prelude.{◌≡◌, ◌+◌, ℕ, List, [], ◌∷◌, Option, Some, None, slice_get}
+use Rattle.std.specs.Option.{option_and_then}
 use Rattle.rail_codes.specs.declared.message_id.MessageId.{MessageId}
+use Rattle.move_messages.specs.declared.message.Message as movement
 use Rattle.wagon_state.specs.declared.wagon_row.WagonRow.{WagonRow}
 use Rattle.operating_db.specs.Office.{Office, StateValue, first_office}
 use Rattle.operating_db.specs.declared.event.Event.{Event}
@@ -28,6 +30,17 @@ ids_from first (Place text ∷ events) = ids_from (first + 1) events
 ids_from first (Withdraw id ∷ events) = ids_from (first + 1) events
 ids_from first (Commit commit ∷ events) = ids_from (first + 1) events
 ids_from first (Revise network ∷ events) = ids_from (first + 1) events
+
+-- the message at a place, where there is one
+abbrev pub message_of : Event → Option movement.Message
+message_of (Message message) = Some message
+message_of (Place text) = None
+message_of (Withdraw id) = None
+message_of (Commit commit) = None
+message_of (Revise network) = None
+
+abbrev pub message_at : List Event → ℕ → Option movement.Message
+message_at events place = option_and_then message_of (slice_get events place)
 
 -- a message has a new id
 abbrev pub IsFreshEvent : Event → List Event → Type 0

@@ -1,19 +1,21 @@
 //! The book.
-ghost use Rattle.std.specs.Prelude.{◌≡◌, [], IfErr, IfOk, OnErr, OnOk, length, option_map};
+ghost use Rattle.std.specs.Prelude.{◌≡◌, [], IfErr, IfOk, OnErr, OnOk, Some, length, option_map};
+ghost use Rattle.distance_tables.specs.Networks.{network_at};
 ghost use Rattle.operating_db.specs.Steps.{IsPromised};
-ghost use Rattle.commit_book.specs.BookStep.{IsCall, IsRun, IsEntered, answer_of, begun_of, is_full};
+ghost use Rattle.commit_book.specs.BookStep.{IsCall, IsEntered, answer_of, begun_of, is_full, is_kept, kept_after};
 ghost use Rattle.commit_book.specs.CommitTests.{IsAccepted, IsRefused};
 ghost use Rattle.commit_book.specs.History.{IsLegal, Owes, entry_at, replay};
 ghost use Rattle.commit_book.specs.Kept.{IsKeptAt, which_of};
-ghost use Rattle.commit_book.specs.Snap.{snap_of};
+ghost use Rattle.commit_book.specs.Snap.{IsVersionNumber, snap_of};
 ghost use Rattle.commit_book.specs.declared.call.Call.TheVariants as call;
 
 use crate::commits::judge;
 use crate::kept_problems::{KeptProblem, find_kept, keep};
 use crate::ledger::Ledger;
-use crate::{Answer, Call, Limits, Refusal, Reply, Snap};
+use crate::same_messages::is_same;
+use crate::{Limits, Refusal, Reply, Snap};
 use cost_table::cells;
-use distance_tables::Networks;
+use distance_tables::{Networks, Tables};
 use move_messages::{CommitText, Message, OrderText};
 use operating_db::{Event, OfficeState};
 use rail_codes::{Moment, OrderId};
@@ -63,10 +65,12 @@ impl Book {
         })
     }
 
-    /// How many entries there are. Takes no memory.
+    /// How many entries there are, at most 1,000,000. Takes no memory.
     pub fn len(&self) -> u64
-        ensures { result ≡ length self.now.state.history }
+        ensures value { result ≡ length self.now.state.history }
+        ensures limit { IsVersionNumber result }
     {
+        let _most = self.limits.entries();
         self.ledger.len() as u64
     }
 
@@ -94,11 +98,10 @@ impl Book {
         ensures setting { self.new.setting ≡ self.old.setting }
     {
         if let Some((place, other)) = self.ledger.find(message.id) {
-            return if *other == *message {
-                Ok(Reply::Repeated(place as u64 + 1))
-            } else {
-                Err(Refusal::IdReused)
-            };
+            if !is_same(other, message) {
+                return Err(Refusal::IdReused);
+            }
+            return Ok(Reply::Repeated(place as u64 + 1));
         }
         self.enter(alloc, Event::Message(*message))
     }
@@ -138,10 +141,7 @@ impl Book {
         ensures setting { self.new.setting ≡ self.old.setting }
     {
         let snap = self.snap(alloc, at)?;
-        if find_kept(&self.kept, snap.version(), at).is_none() {
-            let one = self.present_problem(alloc, at)?;
-            keep(&mut self.kept, self.limits.kept() as usize, one)?;
-        }
+        self.keep_present(alloc, at)?;
         Ok(snap)
     }
 
@@ -160,62 +160,19 @@ impl Book {
         self.enter(alloc, Event::Commit(commit))
     }
 
-    /// Makes these calls one after the other, and gives their answers. Where the memory for the answers is refused, no
-    /// call is made.
-    pub fn run(&mut self, alloc: Global, calls: &[Call]) -> Result<Vec<Answer>, AllocError>
-        ensures run { IfOk result (λ answers. IsRun self.old.setting self.old.state calls.now answers.items self.new.state) }
-        ensures setting { self.new.setting ≡ self.old.setting }
-        ensures unchanged { OnErr result (self.new ≡ self.old) }
-    {
-        let mut answers = Vec::with_capacity(alloc, calls.len())?;
-        for call in calls {
-            answers.push(self.answer(alloc, call)).unwrap();
-        }
-        Ok(answers)
-    }
-
-    /// Makes a call.
-    fn answer(&mut self, alloc: Global, call: &Call) -> Answer
-        ensures call { IsCall self.old.setting self.old.state call.now result self.new.state }
-        ensures setting { self.new.setting ≡ self.old.setting }
-    {
-        let reply = match call {
-            Call::Message(message) => self.message(alloc, message),
-            Call::Place(text) => self.place(alloc, text),
-            Call::Withdraw(id) => self.withdraw(alloc, *id),
-            Call::Begin(at) => return self.begin_answer(alloc, *at),
-            Call::Commit(commit) => self.commit(alloc, commit),
-            Call::Revise(network) => self.revise(alloc, *network),
-        };
-        match reply {
-            Ok(reply) => Answer::Done(reply),
-            Err(refusal) => Answer::Refused(refusal),
-        }
-    }
-
-    /// Begins, and answers the version.
-    fn begin_answer(&mut self, alloc: Global, at: Moment) -> Answer
-        ensures call { IsCall self.old.setting self.old.state (call.Begin at) result self.new.state }
-        ensures setting { self.new.setting ≡ self.old.setting }
-    {
-        match self.begin(alloc, at) {
-            Ok(snap) => Answer::Begun(snap.version()),
-            Err(_) => Answer::Refused(Refusal::OutOfMemory),
-        }
-    }
-
     /// Tests a commit.
     fn judged(&self, alloc: Global, commit: &CommitText) -> Result<(), Refusal>
         ensures accepted { OnOk result (IsAccepted self.now.setting self.now.state commit.now) }
         ensures refused { IfErr result (λ refusal. IsRefused self.now.setting self.now.state commit.now refusal) }
     {
-        let Some(kept) = find_kept(&self.kept, commit.version, commit.at) else {
-            return Err(Refusal::NotKept);
+        let kept = match find_kept(&self.kept, commit.version, commit.at) {
+            Some(kept) => kept,
+            None => return Err(Refusal::NotKept),
         };
         if self.is_full() {
             return Err(Refusal::BookFull);
         }
-        judge(alloc, kept, self.ledger.state(), commit)
+        judge(alloc, kept, self.state(), commit)
     }
 
     /// Whether there are as many entries as there may be.
@@ -243,9 +200,31 @@ impl Book {
     fn snap(&self, alloc: Global, at: Moment) -> Result<Snap, AllocError>
         ensures { IfOk result (λ snap. snap ≡ snap_of self.now.setting self.now.state.history at) }
     {
-        let state = self.ledger.state();
+        let state = self.state();
         let problem = state.problem(alloc, at)?;
         Ok(Snap::of(self.len(), state.network(), problem))
+    }
+
+    /// Keeps the problem of the present version at a moment, unless it is kept.
+    fn keep_present(&mut self, alloc: Global, at: Moment) -> Result<(), AllocError>
+        ensures kept { OnOk result (self.new.state ≡ record self.old.state { kept = kept_after self.old.setting self.old.state.kept (length self.old.state.history, at) }) }
+        ensures setting { self.new.setting ≡ self.old.setting }
+        ensures unchanged { OnErr result (self.new ≡ self.old) }
+    {
+        if self.is_kept(self.len(), at) {
+            return Ok(());
+        }
+        let one = self.present_problem(alloc, at)?;
+        let most = self.limits.kept() as usize;
+        keep(&mut self.kept, most, one)?;
+        Ok(())
+    }
+
+    /// Whether the problem of a version at a moment is kept.
+    fn is_kept(&self, version: u64, at: Moment) -> bool
+        ensures { result ≡ is_kept self.now.state.kept (version, at) }
+    {
+        find_kept(&self.kept, version, at).is_some()
     }
 
     /// The problem of the present version at a moment, with its table over the network in force.
@@ -253,14 +232,20 @@ impl Book {
         ensures kept { IfOk result (λ one. IsKeptAt self.now.setting self.now.state.history one) }
         ensures which { IfOk result (λ one. which_of one ≡ (length self.now.state.history, at)) }
     {
-        let state = self.ledger.state();
-        let problem = state.problem(alloc, at)?;
-        let tables = self.networks.get(state.network()).unwrap();
-        let cells = cells(alloc, &problem, tables)?;
+        let problem = self.state().problem(alloc, at)?;
+        let cells = cells(alloc, &problem, self.tables())?;
         Ok(KeptProblem {
             version: self.len(),
             problem,
             cells,
         })
+    }
+
+    /// The distances of the network in force.
+    fn tables(&self) -> &Tables
+        ensures { network_at self.now.setting.networks (replay self.now.setting self.now.state.history).network ≡ Some result.now }
+    {
+        let network = self.state().network();
+        self.networks.get(network).unwrap()
     }
 }

@@ -1,8 +1,9 @@
 //! The tests of a commit.
-ghost use Rattle.std.specs.Prelude.{◌≡◌, ◌≢◌, [], IfErr, IfOk, None, OnOk, Some, nat_lt, option_copied};
+ghost use Rattle.std.specs.Prelude.{◌≡◌, ◌≢◌, [], IfErr, IfOk, None, OnOk, Some, length, nat_lt, option_copied};
 ghost use Rattle.std.specs.List.{find};
 ghost use Rattle.std.specs.Result.{result_err};
 ghost use Rattle.cost_table.specs.Names.{is_name};
+ghost use Rattle.cost_table.specs.Table.{order_count, wagon_count};
 ghost use Rattle.commit_book.specs.BookStep.{refusal_in};
 ghost use Rattle.commit_book.specs.Commits.{free_in, is_same_free, order_changed, wagon_changed, wagon_of as wagon_in_problem};
 ghost use Rattle.commit_book.specs.declared.refusal.Refusal.TheVariants.{OutOfMemory};
@@ -29,6 +30,8 @@ pub(crate) fn judge(
     now: &OfficeState,
     commit: &CommitText,
 ) -> Result<(), Refusal>
+    requires wagons { wagon_count kept.now.cells ≡ length kept.now.problem.wagons }
+    requires orders { order_count kept.now.cells ≡ length kept.now.problem.orders }
     ensures accepted { OnOk result (refusal_in kept.now.problem now.now.office commit.now kept.now.cells ≡ None) }
     ensures refused { IfErr result (λ refusal. refusal ≢ OutOfMemory → refusal_in kept.now.problem now.now.office commit.now kept.now.cells ≡ Some refusal) }
 {

@@ -1,11 +1,11 @@
 //! The accepted events, and the office after them.
-ghost use Rattle.std.specs.Prelude.{◌≡◌, ◌<◌, ◌≤◌, ◌++◌, ◌∷◌, [], Some, IfErr, IfNone, IfOk, IfSome, IsOk, OnErr, OnOk, length, option_map, slice_get};
+ghost use Rattle.std.specs.Prelude.{◌≡◌, ◌<◌, ◌≤◌, ◌++◌, ◌∷◌, [], Some, IfErr, IfNone, IfOk, IfSome, IsOk, OnErr, OnOk, length, option_copied, option_map, slice_get};
 ghost use Rattle.operating_db.specs.After.{after_call};
 ghost use Rattle.operating_db.specs.ApplyFault.{IsRefusal};
 ghost use Rattle.operating_db.specs.Steps.{IsPromised};
 ghost use Rattle.operating_db.specs.declared.event.Event.TheVariants as event;
 ghost use Rattle.commit_book.specs.History.{IsFresh};
-ghost use Rattle.commit_book.specs.Ledger.{IsFreshEvent, ids_from, office_of, state_of};
+ghost use Rattle.commit_book.specs.Ledger.{IsFreshEvent, ids_from, message_at, office_of, state_of};
 ghost use Rattle.indexmap.specs.IndexMap.{spare};
 
 use indexmap::IndexMap;
@@ -113,8 +113,16 @@ fn find_message<'a>(
     ensures fresh { IfNone result (IsFresh id events.now) }
 {
     let place = *ids.get(&id)?;
-    match &events[place] {
-        Event::Message(message) => Some((place, message)),
+    let message = message_at(events, place)?;
+    Some((place, message))
+}
+
+/// The message at a place, where there is one.
+fn message_at(events: &[Event], place: usize) -> Option<&Message>
+    ensures { option_copied result ≡ message_at events.now place }
+{
+    match events.get(place)? {
+        Event::Message(message) => Some(message),
         _ => None,
     }
 }

@@ -5,6 +5,7 @@
 mod answer;
 mod book;
 mod call;
+mod call_runs;
 mod commits;
 mod kept_problems;
 mod laws;
@@ -13,6 +14,7 @@ mod limits;
 mod names;
 mod refusal;
 mod reply;
+mod same_messages;
 mod snap;
 
 pub use answer::Answer;

@@ -11,12 +11,11 @@ use Rattle.wagon_state.specs.declared.wagon_row.WagonRow.{WagonRow}
 use Rattle.load_orders.specs.OrderRow.{OrderRowValue}
 use Rattle.office_rows.specs.Kept.{IsWagonRows}
 use Rattle.office_rows.specs.Rows.{wagon_in, order_in, at_wagon}
-use Rattle.office_rows.proofs.Wagons.{numbers_distinct, wagon_in-there}
+use Rattle.office_rows.proofs.Wagons.{number-wagon_in, numbers_distinct, wagon_in-there}
 use Rattle.operating_db.specs.After.{unpromised, unpromised_among}
 use Rattle.operating_db.specs.Commits.{with_promise}
 use Rattle.operating_db.specs.Office.{Office}
 use Rattle.operating_db.specs.Promises.{is_among, is_promise_to, promise_of, promised_of, PromisesAgree}
-use Rattle.operating_db.proofs.Lookups.{wagon_has}
 use Rattle.operating_db.proofs.Names.{same, same_is, same_sym, among_contains}
 
 -- ---- a row that is put in place of its wagon's row
@@ -123,12 +122,12 @@ some_row x = refl
 
 pub put_known : (rows : List WagonRow) (n : List ℕ) (row : WagonRow) → Some row ≡ wagon_in rows n → IsSome (wagon_in rows row.number)
 put_known rows n row h =
-    let there : wagon_in rows row.number ≡ Some row = ap (wagon_in rows) (wagon_has rows n row (sym h)) ∙ sym h in
+    let there : wagon_in rows row.number ≡ Some row = ap (wagon_in rows) (number-wagon_in rows n row (sym h)) ∙ sym h in
     subst (λ (o : Option WagonRow). IsSome o) (sym there) (some_row row)
 
 pub put_promise : (rows : List WagonRow) (n : List ℕ) (promise : Option (List ℕ)) (row : WagonRow) → IsWagonRows rows → Some row ≡ wagon_in rows n → at_wagon row.number (λ _. with_promise promise row) rows ≡ at_wagon n (with_promise promise) rows
 put_promise rows n promise row kept h =
-    ap (λ (m : List ℕ). at_wagon m (λ _. with_promise promise row) rows) (wagon_has rows n row (sym h)) ∙ put_is_change n (with_promise promise) row rows kept (sym h)
+    ap (λ (m : List ℕ). at_wagon m (λ _. with_promise promise row) rows) (number-wagon_in rows n row (sym h)) ∙ put_is_change n (with_promise promise) row rows kept (sym h)
 
 pub ended_next : (numbers : List (List ℕ)) (i : ℕ) (n : List ℕ) (before rows after : List WagonRow) → n ≡ get_or numbers i n → i < length numbers → rows ≡ unpromised_among (take i numbers) before → after ≡ at_wagon n (with_promise None) rows → after ≡ unpromised_among (take (i + 1) numbers) before
 ended_next numbers i n before rows after is below so_far now =

@@ -14,6 +14,7 @@ use Rattle.wagon_state.specs.StatusTable.{step_of, fitted, change_by, promise_af
 use Rattle.wagon_roster.specs.Roster.{IsRosterRow}
 use Rattle.load_orders.specs.Lack.{is_open}
 use Rattle.load_orders.specs.OrderRow.{OrderRowValue, placed_row}
+use Rattle.office_rows.proofs.Wagons.{number-wagon_in}
 use Rattle.office_rows.specs.declared.limits.TheConstants.{MAX_OPEN_WAGONS}
 use Rattle.office_rows.specs.Rows.{wagon_in, order_in, at_wagon, at_order, open_wagons, filled_by, freed_of, taken_back, promised_to}
 use Rattle.operating_db.specs.declared.apply_fault.ApplyFault.TheVariants.{OrderKnown, TooManyOpen, OrderClosed, UnknownNetwork, SameNetwork}
@@ -27,7 +28,6 @@ use Rattle.operating_db.specs.Promises.{is_promise_to, promise_of, PromisesAgree
 use Rattle.operating_db.specs.Steps.{Steps}
 use Rattle.operating_db.proofs.Agree.{kept_agree, released_agree, withdrawn_agree, ordered_agree, number-unpromised}
 use Rattle.operating_db.proofs.Commits.{next_of_can, all_agree, AreNext}
-use Rattle.operating_db.proofs.Lookups.{changed, wagon_has}
 use Rattle.operating_db.proofs.Names.{same, same_is}
 
 same_ok : {A E : Type 0} (x y : A) → let r : Result A E = Ok x in r ≡ Ok y → x ≡ y
@@ -70,6 +70,10 @@ step_keeps row m place change h =
 part_stays : {R K : Type 0} (part : R → K) (f : R → R) (row : R) (here : Bool) → (here ≡ true → part (f row) ≡ part row) → part (cond here (f row) row) ≡ part row
 part_stays part f row true h = h refl
 part_stays part f row false h = refl
+
+-- the rows with a change at a name
+abbrev changed : {R : Type 0} → (R → List ℕ) → List ℕ → (R → R) → List R → List R
+changed key name change rows = map (λ row. cond (same name (key row)) (change row) row) rows
 
 map-changed : {R K : Type 0} (key : R → List ℕ) (part : R → K) (n : List ℕ) (f : R → R) → ((row : R) → key row ≡ n → part (f row) ≡ part row) → (rows : List R) → map part (changed key n f rows) ≡ map part rows
 map-changed key part n f keeps [] = refl
@@ -120,7 +124,7 @@ effect_texts effect.Ends (Some id) w orders = texts-at id (freed_of w) (λ r. re
 
 pub change_kept : (office : Office) (w : List ℕ) (row : WagonRow) (change : Change) → wagon_in office.wagons w ≡ Some row → KeepsRow row change → PromisesAgree office → IsKept office (after_change office w row.promise change)
 change_kept office w row change found keeps agree =
-    let number = keeps.number ∙ wagon_has office.wagons w row found in
+    let number = keeps.number ∙ number-wagon_in office.wagons w row found in
     kept_of_same office (after_change office w row.promise change)
     (effect_agree office w row change.row change.effect row.promise found number refl keeps.promise agree)
     (numbers-at w (λ _. change.row) (λ r e. number ∙ sym e) office.wagons, effect_texts change.effect row.promise w office.orders)

@@ -9,6 +9,7 @@ use Rattle.wagon_roster.specs.Roster.{IsRoster}
 use Rattle.load_orders.specs.Lack.{is_open}
 use Rattle.load_orders.specs.OrderRow.{OrderRowValue, placed_row}
 use Rattle.office_rows.specs.Kept.{IsWagonRows}
+use Rattle.office_rows.proofs.Wagons.{number-wagon_in}
 use Rattle.office_rows.specs.Rows.{wagon_in, order_in, at_wagon, at_order, promised_to, taken_back}
 use Rattle.operating_db.specs.declared.apply_fault.ApplyFault.{ApplyFault}
 use Rattle.operating_db.specs.declared.apply_fault.ApplyFault.TheVariants.{OrderClosed}
@@ -22,7 +23,6 @@ use Rattle.operating_db.proofs.Agree.{ordered_agree, withdrawn_agree}
 use Rattle.operating_db.proofs.Changes.{among_known, withdrawn_wagons}
 use Rattle.operating_db.proofs.Commits.{next_agree}
 use Rattle.operating_db.proofs.Events.{change_kept, rosters_agree, step_keeps}
-use Rattle.operating_db.proofs.Lookups.{wagon_has}
 use Rattle.operating_db.proofs.Names.{same_self}
 
 -- the state with other rows
@@ -82,7 +82,7 @@ place_there office n row r found is agree = place_by office n row r row.promise 
 
 change_number : (office : Office) (m : message.Message) (change : Change) (promise : Option (List ℕ)) → IsChange office m change promise → change.row.number ≡ m.wagon
 change_number office m change promise h =
-    (step_keeps h.row m (order_place office.orders h.row.promise) change h.stepped).number ∙ wagon_has office.wagons m.wagon h.row h.found
+    (step_keeps h.row m (order_place office.orders h.row.promise) change h.stepped).number ∙ number-wagon_in office.wagons m.wagon h.row h.found
 
 pub change_known : (office : Office) (m : message.Message) (change : Change) (promise : Option (List ℕ)) → IsChange office m change promise → IsSome (wagon_in office.wagons change.row.number)
 change_known office m change promise h =

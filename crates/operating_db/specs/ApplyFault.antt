@@ -2,6 +2,8 @@ use Rattle.std.specs.Prelude.{◌≡◌, ◌⊎◌, ℕ, Result, Err, IsOk}
 use Rattle.wagon_state.specs.StepFault as step
 use Rattle.operating_db.specs.declared.apply_fault.ApplyFault.{ApplyFault}
 use Rattle.operating_db.specs.declared.apply_fault.ApplyFault.TheVariants.{OutOfMemory, UnknownWagon, Step, OrderKnown, TooManyOpen, UnknownOrder, OrderClosed, UnknownNetwork, SameNetwork}
+use Rattle.operating_db.specs.declared.event.Event.{Event}
+use Rattle.operating_db.specs.declared.event.Event.TheVariants.{Place}
 use Rattle.operating_db.specs.Office.{Office}
 
 -- the number that stands for a fault in a reply
@@ -19,3 +21,13 @@ fault_number SameNetwork = 80
 -- why an event was refused: the office that it would make is the refusal; or memory was, where nothing else is wrong
 abbrev pub IsRefusal : Result Office ApplyFault → ApplyFault → Type 0
 IsRefusal after fault = (after ≡ Err fault) ⊎ ((fault ≡ OutOfMemory) × IsOk after)
+
+-- the same of this event: memory is wanted for a new order alone
+abbrev pub IsRefusalOf : Event → Result Office ApplyFault → ApplyFault → Type 0
+IsRefusalOf (Place text) after fault = IsRefusal after fault
+IsRefusalOf event after fault = after ≡ Err fault
+
+-- whether an event is a new order
+abbrev pub IsPlace : Event → Type 0
+IsPlace (Place text) = Unit {0}
+IsPlace event = ⊥

@@ -4,23 +4,23 @@ ghost use Rattle.std.specs.List.{list_all};
 ghost use Rattle.office_rows.specs.Kept.{IsOrderRows, IsWagonRows};
 ghost use Rattle.office_rows.specs.Rows.{order_in, wagon_in};
 ghost use Rattle.operating_db.specs.After.{IsChange, after_call, after_order, after_revision, message_to, order_place, withdrawn_from};
-ghost use Rattle.operating_db.specs.ApplyFault.{IsRefusal};
+ghost use Rattle.operating_db.specs.ApplyFault.{IsPlace, IsRefusal, IsRefusalOf};
 ghost use Rattle.operating_db.specs.Commits.{CanPromise, IsNext, is_free_row, is_promisable, lack_in, promise_all, promise_pair, times_of_order, times_of_wagon};
 ghost use Rattle.operating_db.specs.Office.{first_office};
-ghost use Rattle.operating_db.specs.Problem.{problem_of};
+ghost use Rattle.operating_db.specs.Problem.{free_count, problem_of};
 ghost use Rattle.operating_db.specs.Promises.{PromisesAgree};
 ghost use Rattle.operating_db.specs.State.{IsState};
 ghost use Rattle.operating_db.specs.Steps.{IsPromised};
 
 use crate::limits::MAX_NETWORKS;
-use crate::lists::{free_wagons, waiting_orders};
+use crate::lists::{free_count, free_wagons, waiting_orders};
 use crate::promises::{end_promises, set_promise, settle};
 use crate::{ApplyFault, Event};
 use cost_table::Problem;
 use load_orders::OrderRow;
 use move_messages::{Message, OrderText};
 use office_rows::{MAX_OPEN_WAGONS, OrderRows, WagonRows};
-use rail_codes::{Moment, OrderId, Place, WagonNumber};
+use rail_codes::{ClassCode, Moment, OrderId, Place, WagonNumber};
 use std::alloc::{AllocError, Global};
 use std::marker::Model;
 use wagon_roster::Roster;
@@ -122,6 +122,13 @@ impl OfficeState {
         Ok(Problem::new(at, wagons, orders).unwrap())
     }
 
+    /// How many free wagons of a class stand at a place. Takes no memory.
+    pub fn free_count(&self, class: ClassCode, place: Place) -> usize
+        ensures { result ≡ free_count self.now.office.wagons class place }
+    {
+        free_count(self.wagons.as_slice(), class, place)
+    }
+
     /// Whether these pairs can be promised together: no wagon stands twice, each is free now, and each order lacks as
     /// many wagons now as it is given. Takes no memory.
     pub fn can_promise(&self, pairs: &[(WagonNumber, OrderId)]) -> bool
@@ -198,6 +205,8 @@ impl OfficeState {
         requires { IsPromised self.old.office event.now }
         ensures done { OnOk result (after_call self.old.networks self.old.office event.now ≡ Ok self.new.office) }
         ensures refused { IfErr result (λ fault. IsRefusal (after_call self.old.networks self.old.office event.now) fault) }
+        ensures by_event { IfErr result (λ fault. IsRefusalOf event.now (after_call self.old.networks self.old.office event.now) fault) }
+        ensures memory { IfErr result (λ fault. fault ≡ ApplyFault.OutOfMemory → IsPlace event.now) }
         ensures unchanged { OnErr result (self.new ≡ self.old) }
         ensures networks { self.new.networks ≡ self.old.networks }
     {
@@ -217,6 +226,7 @@ impl OfficeState {
     fn change_by(&self, message: &Message) -> Result<(Change, Option<OrderId>), ApplyFault>
         ensures change { IfOk result (λ found. IsChange self.now.office message.now found.0 found.1) }
         ensures refused { IfErr result (λ fault. message_to self.now.office message.now (wagon_in self.now.office.wagons message.now.wagon) ≡ Err fault) }
+        ensures memory { IfErr result (λ fault. ¬ (fault ≡ ApplyFault.OutOfMemory)) }
     {
         let Some(row) = self.wagons.get(message.wagon) else {
             return Err(ApplyFault::UnknownWagon);
@@ -239,6 +249,7 @@ impl OfficeState {
     fn accept(&mut self, message: &Message) -> Result<(), ApplyFault>
         ensures done { OnOk result (message_to self.old.office message.now (wagon_in self.old.office.wagons message.now.wagon) ≡ Ok self.new.office) }
         ensures refused { IfErr result (λ fault. message_to self.old.office message.now (wagon_in self.old.office.wagons message.now.wagon) ≡ Err fault) }
+        ensures memory { IfErr result (λ fault. ¬ (fault ≡ ApplyFault.OutOfMemory)) }
         ensures unchanged { OnErr result (self.new ≡ self.old) }
         ensures networks { self.new.networks ≡ self.old.networks }
     {
@@ -298,6 +309,7 @@ impl OfficeState {
     fn withdraw(&mut self, id: OrderId) -> Result<(), ApplyFault>
         ensures done { OnOk result (withdrawn_from self.old.office id (order_in self.old.office.orders id) ≡ Ok self.new.office) }
         ensures refused { IfErr result (λ fault. withdrawn_from self.old.office id (order_in self.old.office.orders id) ≡ Err fault) }
+        ensures memory { IfErr result (λ fault. ¬ (fault ≡ ApplyFault.OutOfMemory)) }
         ensures unchanged { OnErr result (self.new ≡ self.old) }
         ensures networks { self.new.networks ≡ self.old.networks }
     {
@@ -336,6 +348,7 @@ impl OfficeState {
     fn revisable(&self, network: u32) -> Result<(), ApplyFault>
         ensures possible { OnOk result (IsOk (after_revision self.now.networks self.now.office network)) }
         ensures refused { IfErr result (λ fault. after_revision self.now.networks self.now.office network ≡ Err fault) }
+        ensures memory { IfErr result (λ fault. ¬ (fault ≡ ApplyFault.OutOfMemory)) }
     {
         if network == 0 || self.networks < network {
             return Err(ApplyFault::UnknownNetwork);
@@ -350,6 +363,7 @@ impl OfficeState {
     fn revise(&mut self, network: u32) -> Result<(), ApplyFault>
         ensures done { OnOk result (after_revision self.old.networks self.old.office network ≡ Ok self.new.office) }
         ensures refused { IfErr result (λ fault. after_revision self.old.networks self.old.office network ≡ Err fault) }
+        ensures memory { IfErr result (λ fault. ¬ (fault ≡ ApplyFault.OutOfMemory)) }
         ensures unchanged { OnErr result (self.new ≡ self.old) }
         ensures networks { self.new.networks ≡ self.old.networks }
     {

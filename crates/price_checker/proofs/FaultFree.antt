@@ -37,13 +37,28 @@ cost_there : (t : Table) (p : ℕ × ℕ) (o : Option ℕ) → cost_at t p.0 p.1
 cost_there t p None is h = cc
 cost_there t p (Some c) is h = (c, is)
 
-pub all_allowed : (t : Table) (ps : List (ℕ × ℕ)) → IsTable t → not_allowed t ps ≡ None → AllAllowed t ps
-all_allowed t [] legal h = tt
-all_allowed t (p ∷ ps) legal h =
+-- each pair is one of the table's
+abbrev pub AllInRange : Table → List (ℕ × ℕ) → Type 0
+AllInRange t [] = Unit {0}
+AllInRange t (p ∷ ps) = (p.0 < wagon_count t) × (p.1 < order_count t) × AllInRange t ps
+
+in_range_allowed : (t : Table) (ps : List (ℕ × ℕ)) → AllInRange t ps → not_allowed t ps ≡ None → AllAllowed t ps
+in_range_allowed t [] range h = tt
+in_range_allowed t (p ∷ ps) range h =
+    let f = tail_allowed (is_some (cost_at t p.0 p.1)) (not_allowed t ps) (NotAllowed p.0 p.1) h in
+    ((range.0, range.1, cost_there t p (cost_at t p.0 p.1) refl f.0), in_range_allowed t ps range.2 f.1)
+
+-- a pair with a cost is in range, where the table is one that the program keeps
+all_in_range : (t : Table) (ps : List (ℕ × ℕ)) → IsTable t → not_allowed t ps ≡ None → AllInRange t ps
+all_in_range t [] legal h = tt
+all_in_range t (p ∷ ps) legal h =
     let f = tail_allowed (is_some (cost_at t p.0 p.1)) (not_allowed t ps) (NotAllowed p.0 p.1) h in
     let c = cost_there t p (cost_at t p.0 p.1) refl f.0 in
     let within = cost_at_within t p.0 p.1 c.0 legal c.1 in
-    ((within.wagon, within.order, c), all_allowed t ps legal f.1)
+    (within.wagon, within.order, all_in_range t ps legal f.1)
+
+pub all_allowed : (t : Table) (ps : List (ℕ × ℕ)) → IsTable t → not_allowed t ps ≡ None → AllAllowed t ps
+all_allowed t ps legal h = in_range_allowed t ps (all_in_range t ps legal h) h
 
 allowed_free : (t : Table) (ps : List (ℕ × ℕ)) → AllAllowed t ps → not_allowed t ps ≡ None
 allowed_free t [] h = refl
@@ -84,10 +99,13 @@ all_within t before (p ∷ ps) w h =
     subst (Within t) (append_assoc before (p ∷ []) ps) (all_within t (before ++ p ∷ []) ps (one_more t before p w f.0) f.1)
 
 -- pairs without the first three faults are a plan
-pub plan_of_pairs : (t : Table) (ps : List (ℕ × ℕ)) → IsTable t → not_allowed t ps ≡ None → used_twice t [] ps ≡ None → IsPlan t ps
-plan_of_pairs t ps legal h k =
+in_range_plan : (t : Table) (ps : List (ℕ × ℕ)) → AllInRange t ps → not_allowed t ps ≡ None → used_twice t [] ps ≡ None → IsPlan t ps
+in_range_plan t ps range h k =
     let within = all_within t [] ps (record { once = λ i. omega arith; lacked = λ j. omega arith }) k in
-    record { allowed = all_allowed t ps legal h; once = within.once; within = λ j l. within.lacked j }
+    record { allowed = in_range_allowed t ps range h; once = within.once; within = λ j l. within.lacked j }
+
+pub plan_of_pairs : (t : Table) (ps : List (ℕ × ℕ)) → IsTable t → not_allowed t ps ≡ None → used_twice t [] ps ≡ None → IsPlan t ps
+plan_of_pairs t ps legal h k = in_range_plan t ps (all_in_range t ps legal h) h k
 
 uses_split : (i : ℕ) (before ps : List (ℕ × ℕ)) (p : ℕ × ℕ) → uses i (before ++ p ∷ ps) ≡ uses i before + (cond (p.0 == i) 1 0 + uses i ps)
 uses_split i before ps p =
@@ -141,9 +159,9 @@ sums_same a b h = let f = tail_allowed (a == b) None (SumsDiffer a b) h in grind
 sums_free : (a b : ℕ) → a ≡ b → cond (a == b) None (Some (SumsDiffer a b)) ≡ None
 sums_free a b h = none_where_true (a == b) None (SumsDiffer a b) (grind (arith, nat_tests, h)) refl
 
--- pairs and prices with no fault are a certificate
-pub certified : (t : Table) (ps : List (ℕ × ℕ)) (u v : List ℕ) → IsTable t → first_fault t ps u v ≡ None → IsCertificate t ps u v
-certified t ps u v legal h0 =
+-- pairs in range and prices with no fault are a certificate
+pub in_range_certified : (t : Table) (ps : List (ℕ × ℕ)) (u v : List ℕ) → AllInRange t ps → first_fault t ps u v ≡ None → IsCertificate t ps u v
+in_range_certified t ps u v range h0 =
     let h1 = none_second (wrong_lengths t u v) _ h0 in
     let h2 = none_second (not_allowed t ps) _ h1 in
     let h3 = none_second (used_twice t [] ps) _ h2 in
@@ -152,11 +170,14 @@ certified t ps u v legal h0 =
     record {
       wagons = lengths.0;
       orders = lengths.1;
-      plan = plan_of_pairs t ps legal (none_first _ _ h1) (none_first _ _ h2);
+      plan = in_range_plan t ps range (none_first _ _ h1) (none_first _ _ h2);
       no_gap = λ i j c li lj is. no_gap_at i j (cost_at t i j) (slice_index u i) (slice_index v j) c is (none_below (order_count t) _ (none_below (wagon_count t) _ (none_first _ _ h3) i li) j lj);
       below_penalty = λ j l. below_at (penalty_at t j) (slice_index v j) j (none_below (order_count t) _ (none_first _ _ h4) j l);
       balance = sums_same _ _ (none_second (over_penalty t v) _ h4);
     }
+
+pub certified : (t : Table) (ps : List (ℕ × ℕ)) (u v : List ℕ) → IsTable t → first_fault t ps u v ≡ None → IsCertificate t ps u v
+certified t ps u v legal h = in_range_certified t ps u v (all_in_range t ps legal (none_first _ _ (none_second (wrong_lengths t u v) _ h))) h
 
 -- a certificate has no fault
 pub fault_free : (t : Table) (ps : List (ℕ × ℕ)) (u v : List ℕ) → IsCertificate t ps u v → first_fault t ps u v ≡ None

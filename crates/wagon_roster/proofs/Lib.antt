@@ -1,4 +1,5 @@
 pub mod ReadingLemmas
 pub mod RecordLemmas
+pub mod Requests
 pub mod RosterLemmas
 pub mod RosterOfLemmas

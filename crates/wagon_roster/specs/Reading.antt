@@ -1,7 +1,7 @@
 -- The rows of wagons that the records of a file say, or the first fault.
-use Rattle.std.specs.Prelude.{◌≡◌, ℕ, ◌+◌, Bool, true, false, IfSome, if◌then◌else◌, nat_lt, List, [], ◌∷◌, ◌++◌, Option, Some, None, Result, Ok, Err}
+use Rattle.std.specs.Prelude.{◌≡◌, ℕ, ◌+◌, ◌≤◌, Bool, true, false, IfSome, if◌then◌else◌, nat_lt, List, [], ◌∷◌, ◌++◌, Option, Some, None, Result, Ok, Err}
 use Rattle.std.specs.List.Sorted.{IsPermutation}
-use Rattle.csv.specs.Reading.{AreRecords, Ready, default_config, is_flexible, reader_config, reader_state, reader_trim, source_of, strip_bom}
+use Rattle.csv.specs.Reading.{AreRecords, ReadRecord, Ready, default_config, has_failed, is_flexible, reader_config, reader_state, reader_trim, source_of, strip_bom}
 use Rattle.csv.specs.declared.parser.State.TheVariants as st
 use Rattle.csv.specs.declared.reader.Reader.{Reader}
 use Rattle.csv.specs.declared.reader.Trim.TheVariants as trim
@@ -86,3 +86,21 @@ is_failure ReadFailed = true
 is_failure (DuplicateWagon number) = false
 is_failure TooLarge = false
 is_failure (BadRosterRow n) = false
+
+-- ---- how often a reader of records was asked for one
+
+-- one request for a record: it was answered, or the reader failed
+pub data IsRequest {R : Type 0} (remaining : R → Option (List ℕ)) (before after : Reader R) : Type 0 where
+  answered : (found : Bool) (fields : List (List ℕ)) → ReadRecord remaining before after found fields → IsRequest remaining before after
+  failed : has_failed after ≡ true → IsRequest remaining before after
+
+-- so many requests, one after another
+pub data AreRequests {R : Type 0} (remaining : R → Option (List ℕ)) (before : Reader R) : ℕ → Reader R → Type 0 where
+  none_yet : AreRequests remaining before 0 before
+  one_more : (count : ℕ) (between after : Reader R) → AreRequests remaining before count between → IsRequest remaining between after → AreRequests remaining before (count + 1) after
+
+-- at most so many
+pub record AsksAtMost {R : Type 0} (remaining : R → Option (List ℕ)) (before : Reader R) (most : ℕ) (after : Reader R) : Type 0 where
+  pub count : ℕ
+  pub few : count ≤ most
+  pub requests : AreRequests remaining before count after

@@ -1,7 +1,7 @@
-ghost use Rattle.std.specs.Prelude.{◌≡◌, [], IfErr, IfOk, IsErrOf, IsTrue, true, List, OnOk, if◌then◌else◌};
+ghost use Rattle.std.specs.Prelude.{◌≡◌, ◌+◌, [], IfErr, IfOk, IsErrOf, IsTrue, true, List, OnOk, if◌then◌else◌};
 ghost use Rattle.csv.specs.Reading.{ReadRecord, error_kind, has_failed, is_io, stops_reader};
 ghost use Rattle.csv.specs.Records.{fields_of};
-ghost use Rattle.wagon_roster.specs.Reading.{AreLeft, Gives, IsSetUp, is_failure, rows_of, with_records};
+ghost use Rattle.wagon_roster.specs.Reading.{AreLeft, AsksAtMost, Gives, IsRequest, IsSetUp, is_failure, rows_of, with_records};
 ghost use Rattle.wagon_roster.specs.Records.{Record};
 ghost use Rattle.wagon_roster.specs.Roster.{IsRoster};
 ghost use Rattle.wagon_roster.specs.RosterOf.{IsReadFrom};
@@ -46,6 +46,7 @@ fn read_all<R: Read>(alloc: Global, records: &mut Reader<R>) -> Result<Roster, R
     ensures meaning { (all : List Record) × AreLeft R.remaining records.old all × Gives result (rows_of all) }
     ensures roster { IfOk result IsRoster }
     ensures stopped { IsErrOf result RosterFault.ReadFailed → has_failed records.new ≡ true }
+    ensures asked { AsksAtMost R.remaining records.old (MAX_WAGONS + 2) records.new }
 {
     let mut fields = ByteRecord::new(alloc);
     if !next_record(records, &mut fields)? {
@@ -68,6 +69,7 @@ fn read_below_header<R: Read>(
     ensures meaning { (rest : List Record) × AreLeft R.remaining records.old rest × Gives result (with_records 2 [] rest) }
     ensures roster { IfOk result IsRoster }
     ensures stopped { IsErrOf result RosterFault.ReadFailed → has_failed records.new ≡ true }
+    ensures asked { AsksAtMost R.remaining records.old (MAX_WAGONS + 1) records.new }
 {
     let mut roster = empty;
     for number in 2..MAX_WAGONS + 2 {
@@ -95,6 +97,7 @@ fn next_record<R: Read>(
     ensures still { OnOk result (IsSetUp records.new) }
     ensures failed { IfErr result (λ fault. IsTrue (is_failure fault)) }
     ensures stopped { IsErrOf result RosterFault.ReadFailed → has_failed records.new ≡ true }
+    ensures asked { IsRequest R.remaining records.old records.new }
 {
     match records.read_byte_record(fields) {
         Ok(found) => Ok(found),

@@ -1,9 +1,10 @@
-use Rattle.std.proofs.Common.{◌∷◌, List, arith, ap, sym, subst, length}
+use Rattle.std.proofs.Common.{◌∷◌, ◌+◌, ◌-◌, List, arith, ap, sym, subst, length}
 use Rattle.std.proofs.lemmas.List.Sorted.{length_permutation}
 use Rattle.std.proofs.lemmas.Result.{err_from_is_err_and}
 use Rattle.csv.specs.Records.{fields_of}
 use Rattle.wagon_state.specs.declared.wagon_row.WagonRow.{WagonRow}
 use Rattle.wagon_roster.proofs.ReadingLemmas.{Answers-end, Answers-failure, Answers-fault, HasRead, HasRead-more, HasRead-start, stops_refused, with_record-other, with_record-past}
+use Rattle.wagon_roster.proofs.Requests.{asks_none, asks_more}
 use Rattle.wagon_roster.specs.declared.roster_fault.RosterFault.TheVariants.{BadRosterRow, TooLarge}
 use Rattle.wagon_roster.proofs.reading.read_below_header.Goals as goal
 
@@ -12,6 +13,7 @@ loop-number-init g c = record {
   set_up = c.requires.set_up;
   read = subst (λ (roster : List WagonRow). HasRead g.R.Read.remaining c.args.records.now c.args.records.now 2 roster) (sym c.requires.none) (HasRead-start g.R.Read.remaining c.args.records.now);
   few = omega (arith, ap (λ (roster : List WagonRow). length roster) c.requires.none);
+  asked = asks_none g.R.Read.remaining c.args.records.now 0;
 }
 
 pub returns-in_err-next_record-clause-meaning : goal.returns-in_err-next_record-clause-meaning
@@ -46,6 +48,7 @@ loop-number-preserved g c = record {
       (fields_of c.next_record.new.fields) c.in-Some.row c.loop-number.invariant.read c.loop-number.invariant.set_up (rw c.if-not-branch.false at c.in_ok-next_record.ensures.reads)
       (omega arith) (sym c.in-Some.ensures.meaning) c.in_ok-roster.ensures.new c.in_ok-roster.ensures.added;
   few = omega (arith, c.loop-number.invariant.few, length_permutation (c.in-Some.row ∷ c.loop-number.roster) c.in_ok-roster.roster c.in_ok-roster.ensures.added);
+  asked = asks_more g.R.Read.remaining c.args.records.now (c.loop-number.number - 2) (c.loop-number.number + 1 - 2) c.loop-number.records c.next_record.new.records (omega arith) c.loop-number.invariant.asked c.next_record.ensures.asked;
 }
 
 pub returns-in_err-next_record-2-clause-meaning : goal.returns-in_err-next_record-2-clause-meaning
@@ -63,3 +66,31 @@ pub returns-clause-meaning : goal.returns-clause-meaning
 returns-clause-meaning g c =
     Answers-end g.R.Read.remaining c.args.records.now c.loop-number.records c.next_record-2.new.records c.loop-number.number c.loop-number.roster (fields_of c.next_record-2.new.fields)
     c.loop-number.invariant.read c.loop-number.invariant.set_up (rw c.if-branch.false at c.in_ok-next_record-2.ensures.reads)
+
+pub returns-in_err-next_record-clause-asked : goal.returns-in_err-next_record-clause-asked
+returns-in_err-next_record-clause-asked g c =
+    asks_more g.R.Read.remaining c.args.records.now (c.loop-number.number - 2) 1001 c.loop-number.records c.next_record.new.records (omega arith) c.loop-number.invariant.asked c.next_record.ensures.asked
+
+pub returns-then-not-branch-clause-asked : goal.returns-then-not-branch-clause-asked
+returns-then-not-branch-clause-asked g c =
+    asks_more g.R.Read.remaining c.args.records.now (c.loop-number.number - 2) 1001 c.loop-number.records c.next_record.new.records (omega arith) c.loop-number.invariant.asked c.next_record.ensures.asked
+
+pub returns-in_default-clause-asked : goal.returns-in_default-clause-asked
+returns-in_default-clause-asked g c =
+    asks_more g.R.Read.remaining c.args.records.now (c.loop-number.number - 2) 1001 c.loop-number.records c.next_record.new.records (omega arith) c.loop-number.invariant.asked c.next_record.ensures.asked
+
+pub returns-in_err-roster-clause-asked : goal.returns-in_err-roster-clause-asked
+returns-in_err-roster-clause-asked g c =
+    asks_more g.R.Read.remaining c.args.records.now (c.loop-number.number - 2) 1001 c.loop-number.records c.next_record.new.records (omega arith) c.loop-number.invariant.asked c.next_record.ensures.asked
+
+pub returns-in_err-next_record-2-clause-asked : goal.returns-in_err-next_record-2-clause-asked
+returns-in_err-next_record-2-clause-asked g c =
+    asks_more g.R.Read.remaining c.args.records.now (c.loop-number.number - 2) 1001 c.loop-number.records c.next_record-2.new.records (omega arith) c.loop-number.invariant.asked c.next_record-2.ensures.asked
+
+pub returns-then-branch-clause-asked : goal.returns-then-branch-clause-asked
+returns-then-branch-clause-asked g c =
+    asks_more g.R.Read.remaining c.args.records.now (c.loop-number.number - 2) 1001 c.loop-number.records c.next_record-2.new.records (omega arith) c.loop-number.invariant.asked c.next_record-2.ensures.asked
+
+pub returns-clause-asked : goal.returns-clause-asked
+returns-clause-asked g c =
+    asks_more g.R.Read.remaining c.args.records.now (c.loop-number.number - 2) 1001 c.loop-number.records c.next_record-2.new.records (omega arith) c.loop-number.invariant.asked c.next_record-2.ensures.asked

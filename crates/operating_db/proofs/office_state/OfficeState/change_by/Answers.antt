@@ -1,11 +1,11 @@
 use Rattle.std.proofs.Common.{sym}
+use Rattle.office_rows.proofs.Wagons.{number-wagon_in}
 use Rattle.operating_db.specs.Office.{Office}
-use Rattle.operating_db.proofs.Lookups.{wagon_has}
 use Rattle.operating_db.proofs.States.{place_there}
 use Rattle.operating_db.proofs.office_state.OfficeState.change_by.Goals as goal
 
 pub step-requires-clause-same_wagon : goal.step-requires-clause-same_wagon
-step-requires-clause-same_wagon c = sym (wagon_has c.self.inside.wagons c.args.message.now.wagon c.in-Some.row.now (sym c.in-Some.ensures))
+step-requires-clause-same_wagon c = sym (number-wagon_in c.self.inside.wagons c.args.message.now.wagon c.in-Some.row.now (sym c.in-Some.ensures))
 
 pub step-requires-clause-promised : goal.step-requires-clause-promised
 step-requires-clause-promised c =

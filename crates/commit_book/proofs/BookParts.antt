@@ -1,0 +1,70 @@
+-- A book's parts, when an event is entered and when a problem is kept.
+use Rattle.std.proofs.Common.{◌≡◌, ◌∙◌, ℕ, false, List, [], ◌∷◌, ◌++◌, length, map, Option, Some, None, is_some, refl, sym, ap, arith, subst}
+use Rattle.std.specs.Prelude.{IsOk, option_map}
+use Rattle.std.proofs.Math.Seq.{take-length}
+use Rattle.line_network.specs.Network.{NetworkValue}
+use Rattle.distance_tables.specs.Networks.{network_at}
+use Rattle.cost_table.specs.Allowed.{IsTableOf}
+use Rattle.cost_table.specs.Problem.{ProblemValue}
+use Rattle.operating_db.specs.After.{after_call}
+use Rattle.operating_db.specs.Office.{Office, first_office}
+use Rattle.operating_db.specs.Problem.{problem_of}
+use Rattle.operating_db.specs.Steps.{IsPromised}
+use Rattle.operating_db.specs.declared.event.Event.{Event}
+use Rattle.commit_book.specs.BookStep.{is_full, is_kept}
+use Rattle.commit_book.specs.History.{IsEntry, Owes, after_all, problem_at, replay, version}
+use Rattle.commit_book.specs.Kept.{IsBookOf, IsKeptAt, setting_of, which_of, with_kept}
+use Rattle.commit_book.specs.Ledger.{LedgerValue, office_of}
+use Rattle.commit_book.specs.Limits.{LimitNumbers}
+use Rattle.commit_book.specs.Setting.{Setting}
+use Rattle.commit_book.specs.declared.kept_problems.KeptProblem.{KeptProblem}
+use Rattle.commit_book.proofs.Books.{book_keep, book_push, kept_as, kept_is_found}
+use Rattle.commit_book.proofs.Runs.{IsLegalEntry, room_of}
+
+-- the office of a ledger is the replay
+pub office_is : (ledger : LedgerValue) (networks : List NetworkValue) (limits : LimitNumbers) → ledger.networks ≡ length networks → office_of ledger ≡ replay (setting_of ledger networks limits) ledger.events
+office_is ledger networks limits h = ap (λ (n : ℕ). after_all n (first_office ledger.roster) ledger.events) h
+
+pub parts_pushed : (ledger : LedgerValue) (networks : List NetworkValue) (limits : LimitNumbers) (kept : List KeptProblem) (event : Event) → IsBookOf ledger networks limits kept
+    → IsPromised (replay (setting_of ledger networks limits) ledger.events) event → Owes (setting_of ledger networks limits) ledger.events event → is_full (setting_of ledger networks limits) ledger.events ≡ false
+    → IsOk (after_call ledger.networks (office_of ledger) event) → IsBookOf (record ledger { events = ledger.events ++ event ∷ [] }) networks limits kept
+parts_pushed ledger networks limits kept event is promised owed unfilled possible =
+    let setting = setting_of ledger networks limits in
+    let there : IsOk (after_call (length networks) (replay setting ledger.events) event) =
+    subst (λ (o : Office). IsOk (after_call (length networks) o event)) (office_is ledger networks limits is.counted) (subst (λ (n : ℕ). IsOk (after_call n (office_of ledger) event)) is.counted possible) in
+    let entry : IsEntry setting ledger.events event = record { promised = promised; possible = there; owed = owed } in
+    let legal : IsLegalEntry setting ledger.events event = record { room = room_of limits.entries (length ledger.events) unfilled; is_entry = entry } in
+    record { counted = is.counted; book = book_push setting ledger.events event kept is.book legal }
+
+pub parts_kept : (ledger : LedgerValue) (networks : List NetworkValue) (limits : LimitNumbers) (kept : List KeptProblem) (most : ℕ) (one : KeptProblem) → IsBookOf ledger networks limits kept
+    → IsKeptAt (setting_of ledger networks limits) ledger.events one → IsBookOf ledger networks limits (with_kept most kept one)
+parts_kept ledger networks limits kept most one is h =
+    record { counted = is.counted; book = book_keep (setting_of ledger networks limits) ledger.events most kept one is.book h }
+
+-- the version of all entries is the replay of them
+pub last_version : (setting : Setting) (history : List Event) → version setting history (length history) ≡ replay setting history
+last_version setting history = ap (replay setting) (take-length history)
+
+-- the problem of the last version is that of a version
+pub present_kept : (setting : Setting) (history : List Event) (at : ℕ) (one : KeptProblem) (network : NetworkValue) → one.version ≡ length history → one.problem ≡ problem_of (replay setting history) at
+    → network_at setting.networks (replay setting history).network ≡ Some network → IsTableOf network one.problem one.cells → IsKeptAt setting history one
+present_kept setting history at one network version_is problem_is in_force of_problem =
+    let office : version setting history one.version ≡ replay setting history = ap (λ (n : ℕ). version setting history n) version_is ∙ last_version setting history in
+    let its_at : one.problem.at ≡ at = ap (λ (p : ProblemValue). p.at) problem_is in
+    let problem : one.problem ≡ problem_at setting history one.version one.problem.at = problem_is ∙ ap (λ (k : ℕ). problem_of (replay setting history) k) (sym its_at) ∙ ap (λ (o : Office). problem_of o one.problem.at) (sym office) in
+    record {
+      had = omega (arith, version_is);
+      is_problem = problem;
+      is_table = record { network = network; in_force = rw office in_force; of_problem = subst (λ (p : ProblemValue). IsTableOf network p one.cells) problem of_problem };
+    }
+
+pub some_mapped : {A B : Type 0} (f : A → B) (o : Option A) → is_some (option_map f o) ≡ is_some o
+some_mapped f None = refl
+some_mapped f (Some x) = refl
+
+none_of : {A B : Type 0} (f : A → B) (o : Option A) → o ≡ None → option_map f o ≡ None
+none_of f o h = ap (option_map f) h
+
+-- what was looked for among the kept problems
+pub kept_none : {A : Type 0} (f : A → KeptProblem) (kept : List KeptProblem) (which : ℕ × ℕ) (o : Option A) → option_map f o ≡ kept_as kept which → is_kept (map which_of kept) which ≡ is_some o
+kept_none f kept which o h = kept_is_found kept which ∙ ap is_some (sym h) ∙ some_mapped f o

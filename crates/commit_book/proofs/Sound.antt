@@ -1,0 +1,71 @@
+-- A commit that pays what it owes is what the headline says of it.
+use Rattle.std.proofs.Common.{◌≡◌, ◌∙◌, ◌<◌, ◌≤◌, ℕ, zero, suc, List, [], ◌∷◌, map, ap, arith}
+use Rattle.std.specs.Prelude.{Some, All, slice_get, slice_index}
+use Rattle.std.proofs.lemmas.List.Elements.{All-cons, All-nil}
+use Rattle.move_messages.specs.declared.commit_text.CommitText.{CommitText}
+use Rattle.load_orders.specs.Wanted.{WantedOrder}
+use Rattle.line_network.specs.Network.{NetworkValue}
+use Rattle.cost_table.specs.Allowed.{IsTableOf}
+use Rattle.cost_table.specs.Plan.{AllAllowed, serves}
+use Rattle.cost_table.specs.Problem.{ProblemValue}
+use Rattle.cost_table.specs.Table.{Table, lack_at, order_count}
+use Rattle.operating_db.specs.Commits.{Pair, times_of_order}
+use Rattle.operating_db.specs.declared.event.Event.{Event}
+use Rattle.commit_book.specs.Headline.{IsReached, IsSound}
+use Rattle.commit_book.specs.History.{IsLeast, problem_at}
+use Rattle.commit_book.specs.Setting.{Setting}
+use Rattle.commit_book.proofs.Placed.{ArePlaced, named_once, order_there, order_times, positions_placed, some_same, wagon_there}
+
+-- what a column has at the place of an item
+index-map : {A : Type 0} (f : A → ℕ) (xs : List A) (i : ℕ) (x : A) → slice_get xs i ≡ Some x → slice_index (map f xs) i ≡ f x
+index-map f [] i x h = cc
+index-map f (y ∷ xs) zero x h = ap f (some_same y x h)
+index-map f (y ∷ xs) (suc i) x h = index-map f xs i x h
+
+-- the pairs of some places that are allowed, where `all` are the pairs of all places
+reached_by : (net : NetworkValue) (problem : ProblemValue) (t : Table) (all : List Pair) (all_places : List (ℕ × ℕ)) → IsTableOf net problem t → ArePlaced problem all all_places → ((j : ℕ) → j < order_count t → serves j all_places ≤ lack_at t j)
+    → (pairs : List Pair) (places : List (ℕ × ℕ)) → ArePlaced problem pairs places → AllAllowed t places → All (IsReached net problem all) pairs
+reached_by net problem t all all_places table are_all lacks [] [] placed allowed = All-nil (IsReached net problem all)
+reached_by net problem t all all_places table are_all lacks (pair ∷ pairs) (place ∷ places) placed allowed =
+    let wagon = wagon_there problem pair.0 place.0 placed.0.wagon in
+    let order = order_there problem pair.1 place.1 placed.0.order in
+    let km = allowed.0.2 in
+    let reaches = (table.cells place.0 place.1 km.0 wagon.0 order.0 wagon.1 order.1).0 km.1 in
+    let count = order_times problem all all_places are_all pair.1 place.1 placed.0.order in
+    let bound = lacks place.1 allowed.0.1 in
+    let column : lack_at t place.1 ≡ order.0.lack = ap (λ ls. slice_index ls place.1) table.lacks ∙ index-map (λ (o : WantedOrder). o.lack) problem.orders place.1 order.0 order.1 in
+    let no_more : times_of_order pair.1 all ≤ order.0.lack = omega (arith, count, bound, column) in
+    All-cons (IsReached net problem all) pair pairs
+    (record {
+      i = place.0;
+      wagon = wagon.0;
+      is_free = wagon.1;
+      its_number = wagon.2;
+      j = place.1;
+      wanted = order.0;
+      is_waiting = order.1;
+      its_id = order.2;
+      km = km.0;
+      reaches = reaches;
+      no_more = no_more;
+    })
+    (reached_by net problem t all all_places table are_all lacks pairs places placed.1 allowed.1)
+reached_by net problem t all all_places table are_all lacks [] (place ∷ places) placed allowed = absurd placed
+reached_by net problem t all all_places table are_all lacks (pair ∷ pairs) [] placed allowed = absurd placed
+
+pub sound : (setting : Setting) (before : List Event) (commit : CommitText) → IsLeast setting before commit → IsSound setting before commit
+sound setting before commit least =
+    let problem = problem_at setting before commit.version commit.at in
+    let placed = positions_placed problem commit.pairs least.positions least.are_positions in
+    record {
+      network = least.is_table.network;
+      in_force = least.is_table.in_force;
+      distinct = named_once problem commit.pairs least.positions placed least.certificate.plan.once;
+      reached = reached_by least.is_table.network problem least.table commit.pairs least.positions least.is_table.of_problem placed least.certificate.plan.within commit.pairs least.positions placed least.certificate.plan.allowed;
+      table = least.table;
+      is_table = least.is_table.of_problem;
+      positions = least.positions;
+      are_positions = least.are_positions;
+      optimal = least.optimal;
+      certificate = least.certificate;
+    }

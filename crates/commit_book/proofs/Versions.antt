@@ -1,0 +1,42 @@
+-- The promises agree in every version of a legal history.
+use Rattle.std.proofs.Common.{◌≡◌, ℕ, zero, suc, List, [], ◌∷◌, ◌++◌, length, take, refl, sym, ap, subst, append-nil}
+use Rattle.std.specs.Prelude.{Option, Some, None, option_to_list, Result, Ok, Err, slice_get}
+use Rattle.std.specs.Result.{result_unwrap_or}
+use Rattle.std.proofs.lemmas.List.Sums.{fold-append}
+use Rattle.wagon_roster.specs.Roster.{IsRoster}
+use Rattle.operating_db.specs.After.{after_call}
+use Rattle.operating_db.specs.Office.{Office, first_office}
+use Rattle.operating_db.specs.Promises.{PromisesAgree}
+use Rattle.operating_db.specs.Steps.{IsPromised}
+use Rattle.operating_db.specs.declared.apply_fault.ApplyFault.{ApplyFault}
+use Rattle.operating_db.specs.declared.event.Event.{Event}
+use Rattle.operating_db.proofs.Events.{rosters_agree, step_kept}
+use Rattle.commit_book.specs.History.{IsLegal, after, replay, version}
+use Rattle.commit_book.specs.Setting.{Setting}
+
+replay-push : (setting : Setting) (entries : List Event) (event : Event) → replay setting (entries ++ event ∷ []) ≡ after (length setting.networks) (replay setting entries) event
+replay-push setting entries event = fold-append (after (length setting.networks)) (first_office setting.roster) entries (event ∷ [])
+
+after_agrees : (networks : ℕ) (office : Office) (event : Event) (r : Result Office ApplyFault) → after_call networks office event ≡ r → IsPromised office event → PromisesAgree office → PromisesAgree (result_unwrap_or r office)
+after_agrees networks office event (Ok new) is promised agree = (step_kept networks office event new (promised, is) agree).promises
+after_agrees networks office event (Err fault) is promised agree = agree
+
+take_next : (events : List Event) (n : ℕ) (o : Option Event) → slice_get events n ≡ o → take (suc n) events ≡ take n events ++ option_to_list o
+take_next [] zero None is = refl
+take_next [] (suc n) None is = refl
+take_next [] n (Some event) is = absurd cc
+take_next (first ∷ events) zero o is = ap (λ (e : Option Event). option_to_list e) is
+take_next (first ∷ events) (suc n) o is = ap (λ (rest : List Event). first ∷ rest) (take_next events n o is)
+
+next_agrees : (setting : Setting) (history : List Event) → IsLegal setting history → (n : ℕ) (o : Option Event) → slice_get history n ≡ o → PromisesAgree (version setting history n) → PromisesAgree (replay setting (take n history ++ option_to_list o))
+next_agrees setting history legal n None is agree = subst (λ (entries : List Event). PromisesAgree (replay setting entries)) (sym (append-nil (take n history))) agree
+next_agrees setting history legal n (Some event) is agree =
+    let now = version setting history n in
+    subst PromisesAgree (sym (replay-push setting (take n history) event))
+    (after_agrees (length setting.networks) now event (after_call (length setting.networks) now event) refl (legal.entries n event is).promised agree)
+
+pub versions_agree : (setting : Setting) → IsRoster setting.roster → (history : List Event) → IsLegal setting history → (n : ℕ) → PromisesAgree (version setting history n)
+versions_agree setting roster history legal zero = rosters_agree setting.roster roster
+versions_agree setting roster history legal (suc n) =
+    subst (λ (entries : List Event). PromisesAgree (replay setting entries)) (sym (take_next history n (slice_get history n) refl))
+    (next_agrees setting history legal n (slice_get history n) refl (versions_agree setting roster history legal n))

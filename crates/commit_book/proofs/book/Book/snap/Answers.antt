@@ -1,4 +1,0 @@
-use Rattle.commit_book.proofs.book.Book.snap.Goals as goal
-
-pub of-requires : goal.of-requires
-of-requires c = ?
