@@ -1,0 +1,21 @@
+//! Tests of the book: worked examples, with values from the rules and not from the program.
+#![tactic(auto)]
+
+#[cfg(test)]
+mod books;
+#[cfg(test)]
+mod commits;
+#[cfg(test)]
+mod limits;
+#[cfg(test)]
+mod lines;
+#[cfg(test)]
+mod messages;
+#[cfg(test)]
+mod networks;
+#[cfg(test)]
+mod orders;
+#[cfg(test)]
+mod promises;
+#[cfg(test)]
+mod snaps;
