@@ -42,7 +42,8 @@ impl Pairs {
     pub fn into_vec(self) -> Vec<(WagonNumber, OrderId)>
         ensures { result.items ≡ self }
     {
-        self.items
+        let Pairs { items } = self;
+        items
     }
 
     /// The same pairs again.
@@ -101,7 +102,8 @@ impl PriceList {
     pub fn into_vec(self) -> Vec<u64>
         ensures { result.items ≡ self }
     {
-        self.prices
+        let PriceList { prices } = self;
+        prices
     }
 
     /// The same prices again.
