@@ -1,20 +1,17 @@
 //! Command lines of the worked examples, all of 1 March 2026.
 
 /// The sample's order, for one wagon.
-pub const ORDER: &str =
+pub(crate) const ORDER: &str =
     r#"{"type":"order","order":"O1","place":"DE00003","classes":["Eanos"],"load":50000,"latest":"2026-03-01T04:00:00Z","penalty":1000}"#;
 
-pub const WITHDRAWAL: &str = r#"{"type":"withdraw","order":"O1"}"#;
+pub(crate) const WITHDRAWAL: &str = r#"{"type":"withdraw","order":"O1"}"#;
 
-/// The moment of the problems.
-pub const ONE: &str = "2026-03-01T01:00:00Z";
-
-pub const BEGIN: &str = r#"{"type":"begin","at":"2026-03-01T01:00:00Z"}"#;
+pub(crate) const BEGIN: &str = r#"{"type":"begin","at":"2026-03-01T01:00:00Z"}"#;
 
 /// The nearest wagon is to serve the sample's order, as version 1 has it.
-pub const COMMIT: &str =
+pub(crate) const COMMIT: &str =
     r#"{"type":"commit","version":1,"at":"2026-03-01T01:00:00Z","pairs":[["218124712173","O1"]],"u":[0,0],"v":[50]}"#;
 
 /// The other wagon departs where it stands.
-pub const DEPARTURE: &str =
+pub(crate) const DEPARTURE: &str =
     r#"{"type":"departure","company":"0080","number":1,"wagon":"338447961008","place":"DE00001","moment":"2026-03-01T02:00:00Z"}"#;

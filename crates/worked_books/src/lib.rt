@@ -6,6 +6,8 @@ mod books;
 #[cfg(test)]
 mod commits;
 #[cfg(test)]
+mod entries;
+#[cfg(test)]
 mod limits;
 #[cfg(test)]
 mod lines;
@@ -16,6 +18,10 @@ mod networks;
 #[cfg(test)]
 mod orders;
 #[cfg(test)]
+mod plans;
+#[cfg(test)]
 mod promises;
 #[cfg(test)]
-mod snaps;
+mod states;
+#[cfg(test)]
+mod steps;
