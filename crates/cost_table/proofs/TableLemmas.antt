@@ -8,7 +8,7 @@ use Rattle.std.proofs.lemmas.List.Elements.{recursion_from_All, All-map}
 use Rattle.std.proofs.lemmas.Bool.Decides.{nat_tests}
 use Rattle.cost_table.specs.Flat.{rows_of, AreEnds, HoldRows}
 use Rattle.cost_table.specs.Table.{Table, IsTable, IsRow, IsLack, cost_in, cost_at}
-use Rattle.cost_table.specs.Rows.{Rows, IsNumber, cells_of, table_of, number_at, is_too_large, is_even}
+use Rattle.cost_table.specs.Rows.{Rows, IsNumber, cells_of, table_of, number_at, is_too_large, is_even, rows_fault}
 
 cost_below : (k j : ℕ) (numbers : List (Option ℕ)) → j < k → cost_in (cells_of k numbers) j ≡ None
 cost_below k j [] h = refl
@@ -61,6 +61,10 @@ passes rows penalties lacks small even = record {
   row_lengths = AllPass-from_list_all (λ row. length row.items == length penalties) rows (grind (arith, nat_tests, even));
 }
 
+-- what rows without a fault are
+pub unfaulted : (rows : Rows) (penalties lacks : List ℕ) → rows_fault rows penalties lacks ≡ None → (is_too_large rows penalties lacks ≡ false) × (is_even rows penalties lacks ≡ true)
+unfaulted rows penalties lacks none = (grind (arith, nat_tests, none), grind (arith, nat_tests, none))
+
 same_length : (a b : ℕ) → (a == b) ≡ true → a ≡ b
 same_length a b h = grind (arith, nat_tests, h)
 
@@ -81,10 +85,10 @@ table_kept rows penalties lacks p numbers costs all_lacks =
     }
 
 -- the fields that hold the rows hold the table
-pub fields_kept : (entries : List (ℕ × ℕ)) (ends : List ℕ) (rows : Rows) (penalties lacks ps ls : List ℕ) → HoldRows entries ends (map (λ row. cells_of 0 row.items) rows) → ps ≡ penalties → ls ≡ lacks → IsTable (table_of rows penalties lacks) → AreEnds (length entries) 0 ends × IsTable (record { rows = rows_of entries 0 ends; penalties = ps; lacks = ls })
-fields_kept entries ends rows penalties lacks ps ls h p l t =
+pub fields_kept : (entries : List (ℕ × ℕ)) (ends : List ℕ) (rows : Rows) (penalties lacks : List ℕ) → HoldRows entries ends (map (λ row. cells_of 0 row.items) rows) → IsTable (table_of rows penalties lacks) → AreEnds (length entries) 0 ends × IsTable (record { rows = rows_of entries 0 ends; penalties = penalties; lacks = lacks })
+fields_kept entries ends rows penalties lacks h t =
     let r : rows_of entries 0 ends ≡ map (λ row. cells_of 0 row.items) rows = h.rows_are in
-    (h.ends_ascend, rw (r, p, l) t)
+    (h.ends_ascend, rw r t)
 
 -- what a cost of the table is known to be
 pub record CostWithin (t : Table) (i j c : ℕ) : Type 0 where

@@ -49,9 +49,10 @@ pub(crate) fn are_even(rows: &[Vec<Option<u64>>], penalties: &[u64], lacks: &[u3
 fn push_row(entries: &mut Vec<(usize, u64)>, numbers: &[Option<u64>]) -> Result<(), AllocError>
     ensures { OnOk result (entries.new.items ≡ entries.old.items ++ cells_of 0 numbers.now) }
 {
+    entries.reserve(numbers.len())?;
     for (order, number) in numbers.iter().enumerate() {
         if let Some(cost) = number {
-            entries.push((order, *cost))?;
+            entries.push_reserved((order, *cost));
         }
     }
     Ok(())

@@ -1,4 +1,5 @@
 ghost use Rattle.std.specs.Prelude.{◌≡◌, ◌<◌, ◌≤◌, ℕ, [], ◌∷◌, length, slice_index, slice_index_or, All, IfOk, OnOk, IfSome, OnSome, IfErr, unwrap_or};
+ghost use Rattle.std.specs.Result.{result_err};
 ghost use Rattle.cost_table.specs.Rows.{IsNumber, table_of, number_at, rows_fault};
 ghost use Rattle.cost_table.specs.declared.table_fault.TableFault.TheVariants.{OutOfMemory};
 ghost use Rattle.cost_table.specs.Table.{IsTable, IsLack, IsRow, IsAscendingRow, row_at, cost_in, cost_at, penalty_at, lack_at, wagon_count, order_count};
@@ -7,7 +8,7 @@ ghost use Rattle.cost_table.specs.Flat.{rows_of, AreEnds};
 use crate::limits::MAX_COST;
 use crate::rows::{are_even, are_too_large, flatten};
 use crate::table_fault::TableFault;
-use std::alloc::Global;
+use std::alloc::{AllocError, Global};
 use std::marker::Model;
 
 /// The table of a distribution: per wagon the orders that it may serve with their costs, per order the penalty of
@@ -72,21 +73,28 @@ impl Cells {
         ensures no_fault { OnOk result (rows_fault rows.now penalties.now lacks.now ≡ None) }
         ensures fault { IfErr result (λ fault. fault ≡ unwrap_or (rows_fault rows.now penalties.now lacks.now) OutOfMemory) }
     {
-        if are_too_large(rows, penalties, lacks) {
-            return Err(TableFault::TooLarge);
-        }
-        if !are_even(rows, penalties, lacks) {
-            return Err(TableFault::UnevenRows);
-        }
-        let (entries, ends) = flatten(alloc, rows)?;
+        test_lists(rows, penalties, lacks)?;
         let penalties = Vec::from_slice(alloc, penalties)?;
         let lacks = Vec::from_slice(alloc, lacks)?;
-        Ok(Cells {
-            entries,
-            ends,
-            penalties,
-            lacks,
-        })
+        Ok(of_lists(alloc, rows, penalties, lacks)?)
+    }
+
+    /// The same as `from_rows`; the table keeps the lists, which are dropped where it is refused.
+    pub fn from_lists(
+        alloc: Global,
+        rows: &[Vec<Option<u64>>],
+        penalties: Vec<u64>,
+        lacks: Vec<u32>,
+    ) -> Result<Cells, TableFault>
+        requires numbers { All (λ row. All IsNumber row.items) rows.now }
+        requires penalties { All (λ penalty. penalty ≤ MAX_COST) penalties.items }
+        requires lacks { All IsLack lacks.items }
+        ensures ok { IfOk result (λ cells. cells ≡ table_of rows.now penalties.items lacks.items) }
+        ensures no_fault { OnOk result (rows_fault rows.now penalties.items lacks.items ≡ None) }
+        ensures fault { IfErr result (λ fault. fault ≡ unwrap_or (rows_fault rows.now penalties.items lacks.items) OutOfMemory) }
+    {
+        test_lists(rows, &penalties, &lacks)?;
+        Ok(of_lists(alloc, rows, penalties, lacks)?)
     }
 
     /// How many wagons the table has.
@@ -143,6 +151,42 @@ impl Cells {
         }
         find_cost(self.row(i), j)
     }
+}
+
+/// Tests the limits of a table, and whether its lists fit together.
+fn test_lists(rows: &[Vec<Option<u64>>], penalties: &[u64], lacks: &[u32]) -> Result<(), TableFault>
+    requires { All IsLack lacks.now }
+    ensures { result_err result ≡ rows_fault rows.now penalties.now lacks.now }
+{
+    if are_too_large(rows, penalties, lacks) {
+        return Err(TableFault::TooLarge);
+    }
+    if !are_even(rows, penalties, lacks) {
+        return Err(TableFault::UnevenRows);
+    }
+    Ok(())
+}
+
+/// The table of lists that fit together.
+fn of_lists(
+    alloc: Global,
+    rows: &[Vec<Option<u64>>],
+    penalties: Vec<u64>,
+    lacks: Vec<u32>,
+) -> Result<Cells, AllocError>
+    requires fit { rows_fault rows.now penalties.items lacks.items ≡ None }
+    requires numbers { All (λ row. All IsNumber row.items) rows.now }
+    requires penalties { All (λ penalty. penalty ≤ MAX_COST) penalties.items }
+    requires lacks { All IsLack lacks.items }
+    ensures { IfOk result (λ cells. cells ≡ table_of rows.now penalties.items lacks.items) }
+{
+    let (entries, ends) = flatten(alloc, rows)?;
+    Ok(Cells {
+        entries,
+        ends,
+        penalties,
+        lacks,
+    })
 }
 
 /// Where row `i` begins.

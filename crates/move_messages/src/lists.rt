@@ -33,7 +33,7 @@ pub(crate) fn each<K: ItemKind>(
     let mut found = Vec::with_capacity(alloc, items.len())?;
     for item in items {
         let read = in_field(field, kind.read(item))?;
-        found.push(read)?;
+        found.push_reserved(read);
     }
     Ok(found)
 }

@@ -116,21 +116,21 @@ fn even_cells(
     wagons: usize,
     orders: usize,
     cells: &[Vec<Option<u64>>],
-    penalties: &[u64],
-    lacks: &[u32],
+    penalties: Vec<u64>,
+    lacks: Vec<u32>,
 ) -> Result<Cells, Refusal>
     requires wagons { wagons ≤ MAX_WAGONS }
     requires orders { orders ≤ MAX_ORDERS }
-    requires lacked { sum lacks.now ≤ MAX_LACK_IN_ALL }
+    requires lacked { sum lacks.items ≤ MAX_LACK_IN_ALL }
     requires costs { All (λ row. All IsNumber row.items) cells.now }
-    requires penalties { All (λ penalty. penalty ≤ MAX_COST) penalties.now }
-    requires lacks { All IsLack lacks.now }
-    ensures { Yields (λ table. table) result (even_table wagons orders (map (λ row. row.items) cells.now) penalties.now lacks.now) }
+    requires penalties { All (λ penalty. penalty ≤ MAX_COST) penalties.items }
+    requires lacks { All IsLack lacks.items }
+    ensures { Yields (λ table. table) result (even_table wagons orders (map (λ row. row.items) cells.now) penalties.items lacks.items) }
 {
     if cells.len() != wagons || penalties.len() != orders {
         return Err(Refusal::UnevenRows);
     }
-    Ok(Cells::from_rows(alloc, cells, penalties, lacks)?)
+    Ok(Cells::from_lists(alloc, cells, penalties, lacks)?)
 }
 
 /// The cost of the pairs in a table, where they and the prices are a certificate of it.
@@ -169,14 +169,8 @@ fn cost_of(alloc: Global, table: TableLine) -> Result<u128, Refusal>
     }
     let (wagons, orders) = (table.wagons.len(), table.orders.len());
     let names = Names::new(table.wagons, table.orders)?;
-    let cells = even_cells(
-        alloc,
-        wagons,
-        orders,
-        &table.cells,
-        &table.penalties,
-        &lacks,
-    )?;
+    let penalties = table.penalties;
+    let cells = even_cells(alloc, wagons, orders, &table.cells, penalties, lacks)?;
     let prices = Prices {
         u: table.u,
         v: table.v,

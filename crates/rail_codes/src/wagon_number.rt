@@ -1,9 +1,10 @@
 //! Wagon numbers.
-ghost use Rattle.std.specs.Prelude.{◌≡◌, ℕ, ◌%◌, ◌==◌, ◌↔◌, IsTrue, if◌then◌else◌, Some, None, Ok, IsOk, IfOk, IfSome, List, slice_index, string_bytes};
-ghost use Rattle.rail_codes.specs.WagonNumber.{kept_characters, are_twelve_digits, value_of_digit, weighted_digit_sum, wagon_number_of, IsWagonNumber};
+ghost use Rattle.std.specs.Prelude.{◌≡◌, ◌≤◌, ◌*◌, ℕ, ◌%◌, ◌==◌, ◌↔◌, IsTrue, if◌then◌else◌, Some, None, Ok, IsOk, IfOk, IfSome, List, slice_index, string_bytes};
+ghost use Rattle.rail_codes.specs.WagonNumber.{kept_characters, are_twelve_digits, value_of_digit, digit_sum, weighted_digit_sum, wagon_number_of, IsWagonNumber};
 
 use crate::CodeFault;
 use crate::ascii_text::ascii_text;
+use crate::characters::are_digits;
 use std::alloc::{AllocError, Global};
 use std::marker::Model;
 
@@ -66,6 +67,29 @@ fn twelve_digits(text: &[u8]) -> Option<[u8; 12]>
     ensures meaning { result ≡ (if are_twelve_digits (kept_characters text.now) then Some (kept_characters text.now) else None) }
     ensures digits { IfSome result (λ digits. IsTrue (are_twelve_digits digits)) }
 {
+    match plain_digits(text) {
+        Some(digits) => Some(digits),
+        None => kept_digits(text),
+    }
+}
+
+/// A text of twelve digits and nothing else, as most are. It is read at once, where `kept_digits` goes byte by byte.
+fn plain_digits(text: &[u8]) -> Option<[u8; 12]>
+    ensures { IfSome result (λ digits. (digits ≡ text.now) × IsTrue (are_twelve_digits digits)) }
+{
+    let digits = <[u8; 12]>::try_from(text).ok()?;
+    if are_digits(&digits) {
+        Some(digits)
+    } else {
+        None
+    }
+}
+
+/// The same as `twelve_digits`, for any text.
+fn kept_digits(text: &[u8]) -> Option<[u8; 12]>
+    ensures meaning { result ≡ (if are_twelve_digits (kept_characters text.now) then Some (kept_characters text.now) else None) }
+    ensures digits { IfSome result (λ digits. IsTrue (are_twelve_digits digits)) }
+{
     let mut digits = [b'0'; 12];
     let mut count = 0;
     for byte in text {
@@ -89,9 +113,23 @@ fn check_digit(digits: &[u8; 12]) -> u8
     let mut sum = 0;
     let mut weight = 2;
     for digit in &digits[..11] {
-        let product = weight * (*digit - b'0');
-        sum += product / 10 + product % 10;
+        sum += weighted_digit(weight, *digit - b'0');
         weight = 3 - weight;
     }
     (10 - sum % 10) % 10
+}
+
+/// The two decimal digits of a weight's product with a digit, added.
+fn weighted_digit(weight: u8, digit: u8) -> u8
+    requires weight { (1 ≤ weight) × (weight ≤ 2) }
+    requires digit { digit ≤ 9 }
+    ensures { result ≡ digit_sum (weight * digit) }
+{
+    if weight == 1 {
+        digit
+    } else if digit > 4 {
+        2 * digit - 9
+    } else {
+        2 * digit
+    }
 }

@@ -41,7 +41,7 @@ fn rows_of(alloc: Global, rows: &[Value]) -> Result<Vec<Vec<Option<u64>>>, LineF
     let mut found = Vec::with_capacity(alloc, rows.len())?;
     for row in rows {
         let cells = list_of_each(alloc, Field::Cells, &CellKind, row)?;
-        found.push(cells)?;
+        found.push_reserved(cells);
     }
     Ok(found)
 }

@@ -14,7 +14,7 @@ returns-in_err-cells-clause-meaning c =
     let small : is_too_large t ≡ false = sym c.is_too_large.ensures ∙ c.if-is_too_large.false in
     let wagons : length t.wagons ≡ c.len-wagons.result = omega (arith, c.len-wagons.ensures, c.args.table.wagons.ok.0) in
     let orders : length t.orders ≡ c.len-orders.result = omega (arith, c.len-orders.ensures, c.args.table.orders.ok.0) in
-    let same = same_even _ _ _ _ _ _ _ _ _ _ wagons orders (ap cells_in (sym c.deref-2.ensures.value)) (sym c.deref-3.ensures.value) (sym c.in_ok-lacks.ensures.lacks ∙ sym c.deref-4.ensures.value) in
+    let same = same_even _ _ _ _ _ _ t.penalties t.penalties _ _ wagons orders (ap cells_in (sym c.deref-2.ensures.value)) refl (sym c.in_ok-lacks.ensures.lacks) in
     rw (p.1, p.2) (λ not_memory. cost_in-named t c.in_ok-names.names small (sym c.in_ok-names.ensures) ∙ rw (same, c.in_err-cells.ensures not_memory) refl)
 
 pub checked_cost-requires-clause-wagons : goal.checked_cost-requires-clause-wagons
@@ -37,15 +37,15 @@ returns-clause-meaning c =
     let small : is_too_large t ≡ false = sym c.is_too_large.ensures ∙ c.if-is_too_large.false in
     let wagons : length t.wagons ≡ c.len-wagons.result = omega (arith, c.len-wagons.ensures, c.args.table.wagons.ok.0) in
     let orders : length t.orders ≡ c.len-orders.result = omega (arith, c.len-orders.ensures, c.args.table.orders.ok.0) in
-    let same = same_even _ _ _ _ _ _ _ _ _ _ wagons orders (ap cells_in (sym c.deref-2.ensures.value)) (sym c.deref-3.ensures.value) (sym c.in_ok-lacks.ensures.lacks ∙ sym c.deref-4.ensures.value) in
+    let same = same_even _ _ _ _ _ _ t.penalties t.penalties _ _ wagons orders (ap cells_in (sym c.deref-2.ensures.value)) refl (sym c.in_ok-lacks.ensures.lacks) in
     let whole : cost_in t ≡ checked c.in_ok-names.names c.in_ok-cells.cells t.pairs t.u t.v =
     cost_in-named t c.in_ok-names.names small (sym c.in_ok-names.ensures) ∙ rw (same, c.in_ok-cells.ensures) refl in
-    subst (λ (meaning : Result ℕ Refusal). Yields (λ cost. cost) c.checked_cost.result meaning) (sym whole) (rw c.deref-5.ensures.value at c.checked_cost.ensures.meaning)
+    subst (λ (meaning : Result ℕ Refusal). Yields (λ cost. cost) c.checked_cost.result meaning) (sym whole) (rw c.deref-3.ensures.value at c.checked_cost.ensures.meaning)
 
 pub returns-clause-optimal : goal.returns-clause-optimal
 returns-clause-optimal c =
     let t = table_text c.args.table in
     let wagons : length t.wagons ≡ c.len-wagons.result = omega (arith, c.len-wagons.ensures, c.args.table.wagons.ok.0) in
     let orders : length t.orders ≡ c.len-orders.result = omega (arith, c.len-orders.ensures, c.args.table.orders.ok.0) in
-    let same = same_even _ _ _ _ _ _ _ _ _ _ wagons orders (ap cells_in (sym c.deref-2.ensures.value)) (sym c.deref-3.ensures.value) (sym c.in_ok-lacks.ensures.lacks ∙ sym c.deref-4.ensures.value) in
-    IfOk-weaker c.checked_cost.result _ (IsCertified t) (λ cost. certifies_text t c.in_ok-names.names c.in_ok-cells.cells cost (sym c.in_ok-names.ensures) (same ∙ c.in_ok-cells.ensures)) (rw c.deref-5.ensures.value at c.checked_cost.ensures.optimal)
+    let same = same_even _ _ _ _ _ _ t.penalties t.penalties _ _ wagons orders (ap cells_in (sym c.deref-2.ensures.value)) refl (sym c.in_ok-lacks.ensures.lacks) in
+    IfOk-weaker c.checked_cost.result _ (IsCertified t) (λ cost. certifies_text t c.in_ok-names.names c.in_ok-cells.cells cost (sym c.in_ok-names.ensures) (same ∙ c.in_ok-cells.ensures)) (rw c.deref-3.ensures.value at c.checked_cost.ensures.optimal)

@@ -2,12 +2,11 @@ use Rattle.std.proofs.Common.{◌≡◌, ◌-◌, arith, length, length-take-le,
 use Rattle.rail_codes.proofs.WagonNumbers.{are_twelve_digits-cases, list_all-digit, first_eleven-digit, digit_sum-product, summed-more, weighted_from-last, completes}
 use Rattle.rail_codes.proofs.wagon_number.check_digit.Goals as goal
 
-pub overflow_mul-product : goal.overflow_mul-product
-overflow_mul-product c =
+pub weighted_digit-sum-requires : goal.weighted_digit-sum-requires
+weighted_digit-sum-requires c =
     let eleven : length (take 11 c.args.digits.now) ≡ 11 = length-take-le 11 c.args.digits.now (omega arith) in
     let digit = first_eleven-digit c.args.digits.now c.loop-digit.digit-index c.requires (omega arith) in
-    let product = digit_sum-product c.loop-digit.weight (get_or (take 11 c.args.digits.now) c.loop-digit.digit-index 0 - 48) (omega arith) (omega arith) in
-    omega arith
+    record { weight = (omega arith, omega arith); digit = omega arith }
 
 pub loop-digit-preserved : goal.loop-digit-preserved
 loop-digit-preserved c =
@@ -17,7 +16,7 @@ loop-digit-preserved c =
     record {
       small = omega arith;
       weight = omega arith;
-      summed = rw digit.0 (summed-more c.loop-digit.weight c.loop-digit.sum c.args.digits.now c.loop-digit.digit-index (omega arith) c.loop-digit.invariant.summed);
+      summed = rw (c.weighted_digit-sum.ensures, digit.0) (summed-more c.loop-digit.weight c.loop-digit.sum c.args.digits.now c.loop-digit.digit-index (omega arith) c.loop-digit.invariant.summed);
     }
 
 pub returns : goal.returns

@@ -2,7 +2,7 @@ use Rattle.std.proofs.Common.{◌≡◌, ◌≤◌, true, ◌++◌, length, take
 use Rattle.std.specs.List.{list_all}
 use Rattle.std.specs.Char.{is_ascii_digit}
 use Rattle.rail_codes.specs.WagonNumber.{kept_characters}
-use Rattle.rail_codes.proofs.wagon_number.twelve_digits.Given as goal
+use Rattle.rail_codes.proofs.wagon_number.kept_digits.Given as goal
 
 -- the digits so far and what is kept of the rest are what is kept of the text
 abbrev pub invariant-loop-byte : goal.invariant-loop-byte
