@@ -8,7 +8,7 @@ run: build
 	@crates/wagons/out/wagons check < examples/tables.jsonl || test $$? -eq 1
 
 build:
-	@echo "== proving and building wagons (the first time some five to ten minutes, later seconds)"
+	@echo "== proving and building wagons (the first time ten to twenty minutes, later seconds)"
 	@cd crates/wagons && rt run < /dev/null > /dev/null
 
 # Proves every crate from nothing, tries the edits that must fail, runs every test and the stored run.

@@ -2,7 +2,7 @@
 
 use crate::books::{SAMPLE, Start};
 use crate::lines::{BEGIN, COMMIT, DEPARTURE, ORDER};
-use crate::steps::Step::{Accepted, Begun, Entries, Refused};
+use crate::steps::Step::{Accepted, Begun, Entries, Problem, Refused};
 use crate::steps::first_other;
 use std::test::Fail;
 
@@ -90,9 +90,9 @@ const LET_GO: &str =
 fn an_order_is_promised_already(rt: HostRuntime) -> Result<(), Fail> {
     let steps = [
         Accepted(ORDER, 1),
-        Begun(BEGIN, 1),
+        Problem(1, 1, 2, 1),
         Accepted(HELD, 2),
-        Begun(BEGIN, 2),
+        Problem(2, 1, 1, 1),
         Accepted(OTHER_WAGON, 3),
         Accepted(LET_GO, 4),
         Refused(COMMIT, 83, "O1"),

@@ -1,7 +1,7 @@
 //! Entries of a book, and a run of calls.
 
 use crate::books::{SAMPLE, Start, book_of, run};
-use crate::lines::{BEGIN, COMMIT, DEPARTURE, ORDER};
+use crate::lines::{BEGIN, COMMIT, DEPARTURE, ORDER, OTHER_PLACE};
 use crate::steps::Step::{Accepted, Begun, Entries, Entry, Event, Refused};
 use crate::steps::first_other;
 use commit_book::{Answer, Refusal, Reply};
@@ -51,6 +51,18 @@ fn a_run_of_calls(rt: HostRuntime) -> Result<(), Fail> {
         Answer::Done(Reply::Repeated(3)),
         Answer::Refused(Refusal::OrderKnown),
     ];
+    assert!(rt; answers(rt.alloc(), SAMPLE, &lines, &wanted)?);
+    Ok(())
+}
+
+#[test]
+fn a_run_of_messages(rt: HostRuntime) -> Result<(), Fail> {
+    let wanted = [
+        Answer::Done(Reply::Accepted(1)),
+        Answer::Done(Reply::Repeated(1)),
+        Answer::Refused(Refusal::IdReused),
+    ];
+    let lines = [DEPARTURE, DEPARTURE, OTHER_PLACE];
     assert!(rt; answers(rt.alloc(), SAMPLE, &lines, &wanted)?);
     Ok(())
 }

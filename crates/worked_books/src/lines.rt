@@ -15,3 +15,7 @@ pub(crate) const COMMIT: &str =
 /// The other wagon departs where it stands.
 pub(crate) const DEPARTURE: &str =
     r#"{"type":"departure","company":"0080","number":1,"wagon":"338447961008","place":"DE00001","moment":"2026-03-01T02:00:00Z"}"#;
+
+/// The id of the sample's departure, with another place.
+pub(crate) const OTHER_PLACE: &str =
+    r#"{"type":"departure","company":"0080","number":1,"wagon":"338447961008","place":"DE00002","moment":"2026-03-01T02:00:00Z"}"#;

@@ -1,14 +1,10 @@
 //! Messages, their ids and what is full.
 
 use crate::books::{SAMPLE, Start};
-use crate::lines::{DEPARTURE, ORDER};
+use crate::lines::{DEPARTURE, ORDER, OTHER_PLACE};
 use crate::steps::Step::{Accepted, Entries, Refused, Repeated};
 use crate::steps::first_other;
 use std::test::Fail;
-
-/// The id of the sample's departure, with another place.
-const OTHER_PLACE: &str =
-    r#"{"type":"departure","company":"0080","number":1,"wagon":"338447961008","place":"DE00002","moment":"2026-03-01T02:00:00Z"}"#;
 
 /// The same id with another kind, another wagon, another moment.
 const OTHER_KIND: &str =

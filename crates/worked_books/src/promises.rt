@@ -23,10 +23,10 @@ const OTHER_WAGON: &str =
 fn a_wagon_is_held(rt: HostRuntime) -> Result<(), Fail> {
     let steps = [
         Accepted(ORDER, 1),
-        Begun(BEGIN, 1),
+        Problem(1, 1, 2, 1),
         Accepted(COMMIT, 2),
         Accepted(HELD, 3),
-        Begun(BEGIN, 3),
+        Problem(3, 1, 1, 1),
         Accepted(LET_GO, 4),
         Accepted(OTHER_WAGON, 5),
         Refused(OTHER_WAGON, 82, FAR),

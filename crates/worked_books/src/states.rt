@@ -28,13 +28,14 @@ pub(crate) fn has_problem(
     Ok(is_of && (problem.wagons().len(), problem.orders().len()) == (wagons, orders))
 }
 
-/// Whether the entry of a number is the event of a line's commit.
+/// Whether the entry of a number is the event of a line's commit, and of that commit's copy.
 pub(crate) fn has_entry(alloc: Global, book: &Book, n: u64, line: &str) -> Result<bool, Fail> {
     let Call::Commit(commit) = call(alloc, line)? else {
         return Err(Fail::new("no commit"));
     };
+    let copy = commit.copy(alloc)?;
     let entry = book.entry(n).ok_or("no entry")?;
-    Ok(*entry == Event::Commit(commit))
+    Ok(*entry == Event::Commit(commit) && *entry == Event::Commit(copy))
 }
 
 /// The row of a wagon, as a book's office has it.
