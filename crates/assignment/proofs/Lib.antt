@@ -20,6 +20,7 @@ pub mod Placing
 pub mod Placed
 pub mod ColumnParts
 pub mod ColumnSteps
+pub mod FullRows
 pub mod Beginning
 pub mod PairSteps
 pub mod Transposed

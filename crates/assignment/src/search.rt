@@ -159,6 +159,8 @@ impl Search {
 
     /// Relaxes the cells of the order settled last. Where the path may end at that order's distance, the others are
     /// no nearer.
+    // In a function of its own, so that its loop keeps its registers whatever stands around it.
+    #[inline(never)]
     fn scan_order(&mut self, state: &State, front: Front, best: Best) -> Best
         requires state { IsState state.now.cells.now state.now.columns state.now.u.items state.now.v.items state.now.order_of.items }
         requires search { IsSearch state.now.cells.now state.now.u.items state.now.v.items state.now.order_of.items self.old front.distance front.place best }
