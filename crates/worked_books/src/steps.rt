@@ -36,7 +36,7 @@ pub(crate) enum Step<'a> {
     Ready(&'a str, &'a str, &'a str),
     /// A wagon is loaded at a place.
     Loading(&'a str, &'a str),
-    /// A wagon is promised to an order and isn't held; or neither.
+    /// A wagon is promised to an order, and the order has it; or not.
     Promised(&'a str, &'a str, bool),
     /// An order has come so far, and has been filled by so many wagons.
     State(&'a str, OrderState, usize),
