@@ -7,7 +7,7 @@ use Rattle.std.proofs.lemmas.List.{take_all, length-take, length-append, drop-ta
 use Rattle.std.proofs.Math.Seq.{drop-cons, drop-append_seam}
 use Rattle.std.proofs.lemmas.Bool.Decides.{nat_tests}
 use Rattle.memchr.specs.Find.{IsFirstByte, is_byte}
-use Rattle.line_engine.specs.Cutting.{Moves}
+use Rattle.line_engine.specs.inner.Cutting.{Moves}
 use Rattle.line_engine.specs.Lines.{line_feed, has_feed, lines_of, first_line}
 
 not_true : (b : Bool) → (b ≡ true → ⊥) → b ≡ false

@@ -5,7 +5,7 @@ use Rattle.std.proofs.lemmas.List.{length-append}
 use Rattle.std.specs.Io.KnownBytes.{Consumes}
 use Rattle.std.proofs.KnownBytes.{Consumes-trans}
 use Rattle.line_engine.specs.Lines.{has_feed, first_line}
-use Rattle.line_engine.specs.Cutting.{Moves}
+use Rattle.line_engine.specs.inner.Cutting.{Moves}
 use Rattle.line_engine.proofs.Feeds.{has_feed-append, first_line-within}
 
 -- what was taken off the reader so far is in the line and the window

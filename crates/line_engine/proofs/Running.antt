@@ -1,20 +1,20 @@
 -- How a run goes on from line to line.
-use Rattle.std.proofs.Common.{◌≡◌, ℕ, ◌+◌, ◌<◌, ◌≤◌, Bool, true, false, List, [], ◌∷◌, ◌++◌, length, refl, sym, ap, ◌∙◌, subst, arith, append_assoc}
+use Rattle.std.proofs.Common.{◌≡◌, ℕ, ◌+◌, ◌<◌, ◌≤◌, ◌⊎◌, Bool, true, false, List, [], ◌∷◌, ◌++◌, length, refl, sym, ap, ◌∙◌, subst, inl, inr, arith, append_assoc}
 use Rattle.std.specs.Prelude.{Option}
 use mir.Val.{bool_byte}
 use Rattle.std.specs.List.{AllByRecursion}
+use Rattle.std.proofs.Math.Nat.{eq-or-lt_of_le}
 use Rattle.std.proofs.lemmas.List.{length-append, append-nil}
 use Rattle.std.proofs.lemmas.List.Concat.{flat_map-cons, flat_map-append}
 use Rattle.std.specs.Io.KnownBytes.{Consumes, Appends, IsAtEnd}
 use Rattle.std.proofs.KnownBytes.{Consumes-nil, Consumes-trans, Appends-nil, Appends-trans}
-use Rattle.line_engine.specs.Lines.{line_feed, has_feed, lines_of, first_line, with_feeds}
-use Rattle.line_engine.specs.Cutting.{CutsLine, StopsLine}
-use Rattle.line_engine.specs.Replies.{Answering, Starving, AnswersLine, Replies, refusal_count}
-use Rattle.line_engine.specs.Runs.{Ends, StandsAt, Stops}
+use Rattle.line_engine.specs.Lines.{line_feed, has_feed, lines_of, first_line, most_lines, most_bytes, with_feeds}
+use Rattle.line_engine.specs.inner.Cutting.{CutsLine, StopsLine}
+use Rattle.line_engine.specs.Replies.{Answering, RunningOut, AnswersLine, Replies, refusal_count}
+use Rattle.line_engine.specs.Runs.{Run, Failures, Ends, IsLineOrNext, StandsAt, Stops}
 use Rattle.line_engine.specs.RunFault.{fault_at}
-use Rattle.line_engine.specs.declared.line_buffer.TheConstants.{MAX_LINE}
 use Rattle.line_engine.specs.declared.run.RunCount.{RunCount}
-use Rattle.line_engine.specs.declared.run.RunFault.TheVariants.{WriteFailed}
+use Rattle.line_engine.specs.declared.run.RunFault.TheVariants.{ReadFailed, WriteFailed}
 use Rattle.line_engine.specs.declared.window.LineEnd.{LineEnd}
 use Rattle.line_engine.specs.declared.window.LineEnd.TheVariants.{Feed, Input}
 use Rattle.line_engine.specs.declared.window.LineStop.{LineStop}
@@ -48,14 +48,20 @@ free-push (first ∷ lines) line free one = (free.0, free-push lines line free.1
 
 -- ---- a run before a line
 
+abbrev pub run_of : {H : Type 0} → (from to held holds : Option (List ℕ)) (old new : H) → Run H
+run_of from to held holds old new = record { from = from; to = to; held = held; holds = holds; old = old; new = new }
+
 -- The run stands before line n, and what it read behind the lines before it is in the window.
-pub record StandsHere {H : Type 0} (answers : Answering H) (starves : Starving H) (from to held holds : Option (List ℕ)) (old new : H) (n : ℕ) (window : List ℕ) (refused : ℕ) : Type 0 where
-  pub at : StandsAt answers starves from to held holds old new n
+pub record StandsHere {H : Type 0} (answers : Answering H) (runs_out : RunningOut H) (from to held holds : Option (List ℕ)) (old new : H) (n : ℕ) (window : List ℕ) (refused : ℕ) : Type 0 where
+  pub at : StandsAt answers runs_out (run_of from to held holds old new) n
   pub here : at.rest ≡ window
   pub counted : at.refusals ≡ refused
 
-module _ {H : Type 0} (answers : Answering H) (starves : Starving H) where
-  pub begins_run : (from held : Option (List ℕ)) (old : H) → StandsHere answers starves from from held held old old 1 [] 0
+is_line_or_next : (n : ℕ) (rest : List ℕ) → n ≤ most_lines + 1 → rest ≡ [] → IsLineOrNext n rest
+is_line_or_next n rest few none = elim (eq-or-lt_of_le few) [ inl next ↦ inr (next, none) | inr within ↦ inl (omega (arith, within)) ]
+
+module _ {H : Type 0} (answers : Answering H) (runs_out : RunningOut H) where
+  pub begins_run : (from held : Option (List ℕ)) (old : H) → StandsHere answers runs_out from from held held old old 1 [] 0
   begins_run from held old = record {
     at = record {
       input = [];
@@ -74,8 +80,8 @@ module _ {H : Type 0} (answers : Answering H) (starves : Starving H) where
   }
 
   -- more was read
-  pub reads_more : (from to then held holds : Option (List ℕ)) (old new : H) (n : ℕ) (window more filled : List ℕ) (refused : ℕ) → StandsHere answers starves from to held holds old new n window refused
-      → filled ≡ window ++ more → Consumes to then more → StandsHere answers starves from then held holds old new n filled refused
+  pub reads_more : (from to then held holds : Option (List ℕ)) (old new : H) (n : ℕ) (window more filled : List ℕ) (refused : ℕ) → StandsHere answers runs_out from to held holds old new n window refused
+      → filled ≡ window ++ more → Consumes to then more → StandsHere answers runs_out from then held holds old new n filled refused
   reads_more from to then held holds old new n window more filled refused so is consumed =
       let at = so.at in
       record {
@@ -99,21 +105,21 @@ module _ {H : Type 0} (answers : Answering H) (starves : Starving H) where
         counted = so.counted;
       }
 
-  replied : (from to held holds : Option (List ℕ)) (old mid new : H) (n : ℕ) (window line text : List ℕ) (refused : ℕ) (flag : Bool) → (so : StandsHere answers starves from to held holds old mid n window refused)
-      → AnswersLine answers starves n mid line text flag new
-      → Replies answers starves 1 old (so.at.lines ++ line ∷ []) (so.at.output ++ text) (refused + refusal_count flag) new
+  replied : (from to held holds : Option (List ℕ)) (old mid new : H) (n : ℕ) (window line text : List ℕ) (refused : ℕ) (flag : Bool) → (so : StandsHere answers runs_out from to held holds old mid n window refused)
+      → AnswersLine answers runs_out n mid line text flag new
+      → Replies answers runs_out 1 old (so.at.lines ++ line ∷ []) (so.at.output ++ text) (refused + refusal_count flag) new
   replied from to held holds old mid new n window line text refused flag so reply =
       let at = so.at in
       let number : n ≡ 1 + length at.lines = omega (arith, at.number) in
-      let one = subst (λ (k : ℕ). AnswersLine answers starves k mid line text flag new) number reply in
-      let all = Replies-push answers starves 1 old at.lines line at.output text at.refusals flag mid new at.replies one in
-      subst (λ (k : ℕ). Replies answers starves 1 old (at.lines ++ line ∷ []) (at.output ++ text) (k + refusal_count flag) new) so.counted all
+      let one = subst (λ (k : ℕ). AnswersLine answers runs_out k mid line text flag new) number reply in
+      let all = Replies-push answers runs_out 1 old at.lines line at.output text at.refusals flag mid new at.replies one in
+      subst (λ (k : ℕ). Replies answers runs_out 1 old (at.lines ++ line ∷ []) (at.output ++ text) (k + refusal_count flag) new) so.counted all
 
   -- a line that a line feed ends was read and answered
   pub passes_line : (from to then held holds holding : Option (List ℕ)) (old mid new : H) (n : ℕ) (window taken line left text : List ℕ) (refused : ℕ) (flag : Bool)
-      → StandsHere answers starves from to held holds old mid n window refused → Consumes to then taken → CutsLine window taken line left Feed
-      → AnswersLine answers starves n mid line text flag new → Appends holds holding text
-      → StandsHere answers starves from then held holding old new (n + 1) left (refused + refusal_count flag)
+      → StandsHere answers runs_out from to held holds old mid n window refused → Consumes to then taken → CutsLine window taken line left Feed
+      → AnswersLine answers runs_out n mid line text flag new → Appends holds holding text
+      → StandsHere answers runs_out from then held holding old new (n + 1) left (refused + refusal_count flag)
   passes_line from to then held holds holding old mid new n window taken line left text refused flag so consumed cut reply wrote =
       let more = reads_more from to then held holds old mid n window taken (window ++ taken) refused so refl consumed in
       let at = more.at in
@@ -138,9 +144,9 @@ module _ {H : Type 0} (answers : Answering H) (starves : Starving H) where
       }
 
   -- the reader was at its end behind a line feed, or before anything
-  pub ends_run : (from to held holds : Option (List ℕ)) (old new : H) (n : ℕ) (window : List ℕ) (count : RunCount) → StandsHere answers starves from to held holds old new n window count.refused
-      → n ≡ count.lines + 1 → window ≡ [] → IsAtEnd to → Ends answers starves from to held holds old new count
-  ends_run from to held holds old new n window count so number none ended =
+  pub ends_run : (from to held holds : Option (List ℕ)) (old new : H) (n : ℕ) (window : List ℕ) (count : RunCount) → StandsHere answers runs_out from to held holds old new n window count.refused
+      → n ≡ count.lines + 1 → count.lines ≤ most_lines → window ≡ [] → IsAtEnd to → Ends answers runs_out (run_of from to held holds old new) count
+  ends_run from to held holds old new n window count so number few none ended =
       let at = so.at in
       let input : at.input ≡ with_feeds at.lines ++ [] = at.begins.bytes ∙ ap (λ (xs : List ℕ). with_feeds at.lines ++ xs) (so.here ∙ none) in
       let lines : lines_of at.input ≡ at.lines = ap lines_of input ∙ lines_of-with_feeds at.lines [] at.begins.free ∙ append-nil at.lines in
@@ -149,18 +155,19 @@ module _ {H : Type 0} (answers : Answering H) (starves : Starving H) where
         output = at.output;
         consumed = at.consumed;
         ended = ended;
-        replies = subst (λ (ls : List (List ℕ)). Replies answers starves 1 old ls at.output count.refused new) (sym lines)
-            (subst (λ (k : ℕ). Replies answers starves 1 old at.lines at.output k new) so.counted at.replies);
+        replies = subst (λ (ls : List (List ℕ)). Replies answers runs_out 1 old ls at.output count.refused new) (sym lines)
+            (subst (λ (k : ℕ). Replies answers runs_out 1 old at.lines at.output k new) so.counted at.replies);
         lines = omega (arith, number, at.number, ap length lines);
+        few = few;
         written = at.written;
       }
 
   -- the last line was ended by the input
   pub ends_line : (from to then held holds holding : Option (List ℕ)) (old mid new : H) (n : ℕ) (window taken line left text : List ℕ) (refused : ℕ) (flag : Bool) (count : RunCount)
-      → StandsHere answers starves from to held holds old mid n window refused → Consumes to then taken → CutsLine window taken line left Input
-      → AnswersLine answers starves n mid line text flag new → Appends holds holding text → IsAtEnd then
-      → count.lines ≡ n → count.refused ≡ refused + refusal_count flag → Ends answers starves from then held holding old new count
-  ends_line from to then held holds holding old mid new n window taken line left text refused flag count so consumed cut reply wrote ended number counted =
+      → StandsHere answers runs_out from to held holds old mid n window refused → Consumes to then taken → CutsLine window taken line left Input
+      → AnswersLine answers runs_out n mid line text flag new → Appends holds holding text → IsAtEnd then
+      → count.lines ≡ n → n ≤ most_lines → count.refused ≡ refused + refusal_count flag → Ends answers runs_out (run_of from then held holding old new) count
+  ends_line from to then held holds holding old mid new n window taken line left text refused flag count so consumed cut reply wrote ended number few counted =
       let more = reads_more from to then held holds old mid n window taken (window ++ taken) refused so refl consumed in
       let at = more.at in
       let input : at.input ≡ with_feeds at.lines ++ line = at.begins.bytes ∙ ap (λ (xs : List ℕ). with_feeds at.lines ++ xs) (more.here ∙ cut.0) in
@@ -170,35 +177,45 @@ module _ {H : Type 0} (answers : Answering H) (starves : Starving H) where
         output = at.output ++ text;
         consumed = at.consumed;
         ended = ended;
-        replies = subst (λ (ls : List (List ℕ)). Replies answers starves 1 old ls (at.output ++ text) count.refused new) (sym lines)
-            (subst (λ (k : ℕ). Replies answers starves 1 old (at.lines ++ line ∷ []) (at.output ++ text) k new) (sym counted)
+        replies = subst (λ (ls : List (List ℕ)). Replies answers runs_out 1 old ls (at.output ++ text) count.refused new) (sym lines)
+            (subst (λ (k : ℕ). Replies answers runs_out 1 old (at.lines ++ line ∷ []) (at.output ++ text) k new) (sym counted)
             (replied from then held holds old mid new n (window ++ taken) line text refused flag more reply));
         lines = omega (arith, number, at.number, ap length lines, length-append at.lines (line ∷ []));
+        few = omega (arith, number, few);
         written = Appends-trans held holds holding at.output text at.written wrote;
       }
 
+  -- the reader failed before a line of which nothing was read
+  pub stops_before : (from to then held holds : Option (List ℕ)) (write_failed : Bool) (old new : H) (n : ℕ) (window taken : List ℕ) (refused : ℕ)
+      → StandsHere answers runs_out from to held holds old new n window refused → Consumes to then taken → window ++ taken ≡ [] → n ≤ most_lines + 1
+      → Stops answers runs_out (run_of from then held holds old new) (record { reader = true; writer = write_failed }) (ReadFailed n)
+  stops_before from to then held holds write_failed old new n window taken refused so consumed none few =
+      let more = reads_more from to then held holds old new n window taken (window ++ taken) refused so refl consumed in
+      (more.at, is_line_or_next n more.at.rest few (more.here ∙ none), ap has_feed (more.here ∙ none), refl)
+
   -- a line was too long, or the reader failed in it
   pub stops_reading : (from to then held holds : Option (List ℕ)) (read_failed write_failed : Bool) (old new : H) (n : ℕ) (window taken : List ℕ) (refused : ℕ) (s : LineStop)
-      → StandsHere answers starves from to held holds old new n window refused → Consumes to then taken → StopsLine (window ++ taken) read_failed s
-      → Stops answers starves from then held holds read_failed write_failed old new (fault_at s n)
-  stops_reading from to then held holds read_failed write_failed old new n window taken refused stop.TooLong so consumed stopped =
+      → StandsHere answers runs_out from to held holds old new n window refused → Consumes to then taken → StopsLine (window ++ taken) read_failed s → n ≤ most_lines
+      → Stops answers runs_out (run_of from then held holds old new) (record { reader = read_failed; writer = write_failed }) (fault_at s n)
+  stops_reading from to then held holds read_failed write_failed old new n window taken refused stop.TooLong so consumed stopped few =
       let more = reads_more from to then held holds old new n window taken (window ++ taken) refused so refl consumed in
-      (more.at, subst (λ (xs : List ℕ). MAX_LINE < length (first_line xs)) (sym more.here) stopped)
-  stops_reading from to then held holds read_failed write_failed old new n window taken refused stop.ReadFailed so consumed stopped =
+      (more.at, few, subst (λ (xs : List ℕ). most_bytes < length (first_line xs)) (sym more.here) stopped)
+  stops_reading from to then held holds read_failed write_failed old new n window taken refused stop.ReadFailed so consumed stopped few =
       let more = reads_more from to then held holds old new n window taken (window ++ taken) refused so refl consumed in
-      (more.at, ap has_feed more.here ∙ stopped.0, stopped.1)
+      (more.at, inl few, ap has_feed more.here ∙ stopped.0, stopped.1)
 
   -- the writer failed in the reply to a line
   pub stops_writing : (from to then held holds holding : Option (List ℕ)) (read_failed write_failed : Bool) (old mid new : H) (n : ℕ) (window taken line text part unwritten : List ℕ) (refused : ℕ) (flag : Bool)
-      → StandsHere answers starves from to held holds old mid n window refused → Consumes to then taken
+      → StandsHere answers runs_out from to held holds old mid n window refused → Consumes to then taken
       → (after : List ℕ) → lines_of (window ++ taken) ≡ line ∷ lines_of after
-      → AnswersLine answers starves n mid line text flag new → text ≡ part ++ unwritten → Appends holds holding part → write_failed ≡ true
-      → Stops answers starves from then held holding read_failed write_failed old new (WriteFailed n)
-  stops_writing from to then held holds holding read_failed write_failed old mid new n window taken line text part unwritten refused flag so consumed after front reply parts wrote failed =
+      → AnswersLine answers runs_out n mid line text flag new → text ≡ part ++ unwritten → Appends holds holding part → write_failed ≡ true → n ≤ most_lines
+      → Stops answers runs_out (run_of from then held holding old new) (record { reader = read_failed; writer = write_failed }) (WriteFailed n)
+  stops_writing from to then held holds holding read_failed write_failed old mid new n window taken line text part unwritten refused flag so consumed after front reply parts wrote failed few =
       let more = reads_more from to then held holds old mid n window taken (window ++ taken) refused so refl consumed in (
         mid,
         holds,
         more.at,
+        few,
         record {
           line = line;
           after = after;

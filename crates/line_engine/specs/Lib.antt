@@ -1,5 +1,5 @@
 pub mod Lines
-pub mod Cutting
+pub mod inner
 pub mod Outcome
 pub mod Replies
 pub mod Runs

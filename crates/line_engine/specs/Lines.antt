@@ -5,6 +5,14 @@ use Rattle.std.specs.List.{list_all, list_any, flat_map, AllByRecursion}
 abbrev pub line_feed : ℕ
 line_feed = 10
 
+-- the most lines of an input
+abbrev pub most_lines : ℕ
+most_lines = 1000000
+
+-- the most bytes of a line, its line feed not counted
+abbrev pub most_bytes : ℕ
+most_bytes = 65536
+
 abbrev pub has_feed : List ℕ → Bool
 has_feed bytes = list_any (λ c. c == line_feed) bytes
 

@@ -1,60 +1,76 @@
--- What a run over all lines of an input has done when it ends or stops. A reader goes from the known bytes
--- `from` to `to`, a writer from `held` to `holds`, a handler from `old` to `new`.
-use Rattle.std.specs.Prelude.{◌≡◌, ℕ, ◌+◌, ◌<◌, Bool, true, false, List, ◌∷◌, ◌++◌, length, Option}
+-- What a run over all lines of an input has done when it ends or stops.
+use Rattle.std.specs.Prelude.{◌≡◌, ℕ, ◌+◌, ◌<◌, ◌≤◌, Bool, true, false, ◌⊎◌, List, [], ◌∷◌, ◌++◌, length, Option}
 use Rattle.std.specs.Io.KnownBytes.{Consumes, Appends, Keeps, IsAtEnd}
-use Rattle.line_engine.specs.Lines.{lines_of, first_line, has_feed, BeginsWith}
-use Rattle.line_engine.specs.Replies.{Answering, Starving, AnswersLine, Replies}
-use Rattle.line_engine.specs.declared.line_buffer.TheConstants.{MAX_LINE}
-use Rattle.line_engine.specs.declared.run.TheConstants.{MAX_LINES}
+use Rattle.line_engine.specs.Lines.{lines_of, first_line, has_feed, most_lines, most_bytes, BeginsWith}
+use Rattle.line_engine.specs.Replies.{Answering, RunningOut, AnswersLine, Replies}
 use Rattle.line_engine.specs.declared.run.RunCount.{RunCount}
 use Rattle.line_engine.specs.declared.run.RunFault.{RunFault}
 use Rattle.line_engine.specs.declared.run.RunFault.TheVariants.{OutOfMemory, TooManyLines, LineTooLong, ReadFailed, WriteFailed}
 
--- The reader came to its end. What was read are the lines, and what was written their replies and nothing else.
-pub record Ends {H : Type 0} (answers : Answering H) (starves : Starving H) (from to held holds : Option (List ℕ)) (old new : H) (count : RunCount) : Type 0 where
+-- What a run goes over: the bytes that the reader has left before and after it, where they are known; the bytes that
+-- the writer holds before and after it, where they are known; the handler's state before and after it.
+pub record Run (H : Type 0) : Type 0 where
+  pub from : Option (List ℕ)
+  pub to : Option (List ℕ)
+  pub held : Option (List ℕ)
+  pub holds : Option (List ℕ)
+  pub old : H
+  pub new : H
+
+-- whether the reader has failed by the end of a run; whether the writer has
+pub record Failures : Type 0 where
+  pub reader : Bool
+  pub writer : Bool
+
+-- The reader came to its end. What was read are the lines, at most 1,000,000 of them, and what was written are their
+-- replies and nothing else.
+pub record Ends {H : Type 0} (answers : Answering H) (runs_out : RunningOut H) (run : Run H) (count : RunCount) : Type 0 where
   pub input : List ℕ
   pub output : List ℕ
-  pub consumed : Consumes from to input
-  pub ended : IsAtEnd to
-  pub replies : Replies answers starves 1 old (lines_of input) output count.refused new
+  pub consumed : Consumes run.from run.to input
+  pub ended : IsAtEnd run.to
+  pub replies : Replies answers runs_out 1 run.old (lines_of input) output count.refused run.new
   pub lines : count.lines ≡ length (lines_of input)
-  pub written : Appends held holds output
+  pub few : count.lines ≤ most_lines
+  pub written : Appends run.held run.holds output
 
 -- The run stands before line number n: what was read are the lines before it, whose replies were written, and the rest.
-pub record StandsAt {H : Type 0} (answers : Answering H) (starves : Starving H) (from to held holds : Option (List ℕ)) (old new : H) (n : ℕ) : Type 0 where
+pub record StandsAt {H : Type 0} (answers : Answering H) (runs_out : RunningOut H) (run : Run H) (n : ℕ) : Type 0 where
   pub input : List ℕ
   pub lines : List (List ℕ)
   pub rest : List ℕ
   pub output : List ℕ
   pub refusals : ℕ
-  pub consumed : Consumes from to input
+  pub consumed : Consumes run.from run.to input
   pub begins : BeginsWith input lines rest
   pub number : n ≡ length lines + 1
-  pub replies : Replies answers starves 1 old lines output refusals new
-  pub written : Appends held holds output
+  pub replies : Replies answers runs_out 1 run.old lines output refusals run.new
+  pub written : Appends run.held run.holds output
 
 -- The line at the front of the rest was answered, and a part of its reply written.
-pub record WritesPart {H : Type 0} (answers : Answering H) (starves : Starving H) (held holds : Option (List ℕ)) (old new : H) (rest : List ℕ) (n : ℕ) : Type 0 where
+pub record WritesPart {H : Type 0} (answers : Answering H) (runs_out : RunningOut H) (run : Run H) (rest : List ℕ) (n : ℕ) : Type 0 where
   pub line : List ℕ
   pub after : List ℕ
   pub front : lines_of rest ≡ line ∷ lines_of after
   pub text : List ℕ
   pub refused : Bool
-  pub reply : AnswersLine answers starves n old line text refused new
+  pub reply : AnswersLine answers runs_out n run.old line text refused run.new
   pub part : List ℕ
   pub unwritten : List ℕ
   pub parts : text ≡ part ++ unwritten
-  pub written : Appends held holds part
+  pub written : Appends run.held run.holds part
 
--- Why a run stops, and what it leaves. Want of memory comes before any line.
-abbrev pub Stops : {H : Type 0} → Answering H → Starving H → Option (List ℕ) → Option (List ℕ) → Option (List ℕ) → Option (List ℕ) → Bool → Bool → H → H → RunFault → Type 0
-Stops {H} answers starves from to held holds read_failed write_failed old new OutOfMemory = Keeps from to × Keeps held holds × (new ≡ old)
-Stops {H} answers starves from to held holds read_failed write_failed old new (TooManyLines n) =
-    (at : StandsAt answers starves from to held holds old new n) × (n ≡ MAX_LINES + 1) × (0 < length at.rest)
-Stops {H} answers starves from to held holds read_failed write_failed old new (LineTooLong n) =
-    (at : StandsAt answers starves from to held holds old new n) × (MAX_LINE < length (first_line at.rest))
-Stops {H} answers starves from to held holds read_failed write_failed old new (ReadFailed n) =
-    (at : StandsAt answers starves from to held holds old new n) × (has_feed at.rest ≡ false) × (read_failed ≡ true)
-Stops {H} answers starves from to held holds read_failed write_failed old new (WriteFailed n) =
-    (mid : H) × (between : Option (List ℕ)) × (at : StandsAt answers starves from to held between old mid n)
-    × WritesPart answers starves between holds mid new at.rest n × (write_failed ≡ true)
+-- the number of a line of an input, or of the one past the most where nothing of it was read
+abbrev pub IsLineOrNext : ℕ → (rest : List ℕ) → Type 0
+IsLineOrNext n rest = (n ≤ most_lines) ⊎ ((n ≡ most_lines + 1) × (rest ≡ []))
+
+-- Why a run stops, and what it leaves. Out of memory comes before any line.
+abbrev pub Stops : {H : Type 0} → Answering H → RunningOut H → Run H → Failures → RunFault → Type 0
+Stops {H} answers runs_out run failed OutOfMemory = Keeps run.from run.to × Keeps run.held run.holds × (run.new ≡ run.old)
+Stops {H} answers runs_out run failed (TooManyLines n) = (at : StandsAt answers runs_out run n) × (n ≡ most_lines + 1) × (0 < length at.rest)
+Stops {H} answers runs_out run failed (LineTooLong n) = (at : StandsAt answers runs_out run n) × (n ≤ most_lines) × (most_bytes < length (first_line at.rest))
+Stops {H} answers runs_out run failed (ReadFailed n) =
+    (at : StandsAt answers runs_out run n) × IsLineOrNext n at.rest × (has_feed at.rest ≡ false) × (failed.reader ≡ true)
+Stops {H} answers runs_out run failed (WriteFailed n) =
+    (mid : H) × (between : Option (List ℕ)) × (at : StandsAt answers runs_out (record run { holds = between; new = mid }) n) × (n ≤ most_lines)
+    × WritesPart answers runs_out (record run { held = between; old = mid }) at.rest n × (failed.writer ≡ true)

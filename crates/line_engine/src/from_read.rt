@@ -1,3 +1,4 @@
+//! Reading from std's `Read`.
 ghost use Rattle.std.specs.Prelude.{◌≡◌, false};
 
 use crate::device::{DeviceFailed, Source};

@@ -1,3 +1,4 @@
+//! What answers the lines of a run.
 ghost use Rattle.std.specs.Prelude.{◌≡◌, ℕ, Bool, List, ◌++◌, MatchResult};
 ghost use Rattle.line_engine.specs.Outcome.{is_refusal};
 
@@ -27,10 +28,10 @@ pub trait Handler {
     /// From a state, a line may get this reply behind its number, be refused or not, and leave that state.
     ghost answers: { Self → List ℕ → List ℕ → Bool → Self → Type 0 };
 
-    /// What want of memory may leave of a state at a line.
-    ghost starves: { Self → List ℕ → Self → Type 0 };
+    /// What a state may become at a line whose reply is refused for memory.
+    ghost runs_out: { Self → List ℕ → Self → Type 0 };
 
-    /// Adds the reply to a line, with its line feed. Where memory is wanted, what was added is dropped
+    /// Adds the reply to a line, with its line feed. Where memory is refused, what was added is dropped
     /// and the reply is `refused 1`.
     fn answer(
         &mut self,
@@ -40,5 +41,5 @@ pub trait Handler {
     ) -> Result<Outcome, AllocError>
         ensures { MatchResult result
             (λ outcome. (body : List ℕ) × (reply.new ≡ reply.old ++ body) × answers self.old line.now body (is_refusal outcome) self.new)
-            (λ _. starves self.old line.now self.new) };
+            (λ _. runs_out self.old line.now self.new) };
 }

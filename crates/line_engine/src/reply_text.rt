@@ -1,11 +1,12 @@
+//! The text of a reply.
 ghost use Rattle.std.specs.Prelude.{◌≡◌, ◌+◌, ◌<◌, ◌≤◌, ◌^◌, ◌++◌, [], ◌∷◌, length, decimal, OnOk, IfOk};
-ghost use Rattle.line_engine.specs.Replies.{starved_body};
+ghost use Rattle.line_engine.specs.Replies.{out_of_memory_body};
 
 use itoa::Buffer;
 use std::alloc::{AllocError, Global};
 use std::marker::Model;
 
-/// Room for the number of a line and the reply that memory was wanted, got once.
+/// Room for the number of a line and the reply `refused 1`, allocated once.
 const LEAST_ROOM: usize = 64;
 
 /// A reply while it is put together.
@@ -46,9 +47,9 @@ impl ReplyText {
         let _ = self.bytes.push(b' ');
     }
 
-    /// Replies to this line that memory was wanted, whatever stood here. Takes no memory.
-    pub(crate) fn starve(&mut self, number: u64)
-        ensures { self.new ≡ decimal number ++ 32 ∷ starved_body }
+    /// Makes this line's reply `refused 1`, whatever stood here. Takes no memory.
+    pub(crate) fn refuse_for_memory(&mut self, number: u64)
+        ensures { self.new ≡ decimal number ++ 32 ∷ out_of_memory_body }
     {
         self.begin(number);
         let _ = self.bytes.extend_from_slice(b"refused 1\n");

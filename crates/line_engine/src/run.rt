@@ -1,3 +1,4 @@
+//! The loop over the lines of an input, and why it may stop early.
 ghost use Rattle.std.specs.Prelude.{◌≡◌, ℕ, ◌+◌, ◌++◌, List, [], ◌∷◌, Bool, false, true, decimal, IsOk, IfOk, IfErr, OnOk, OnErr};
 ghost use Rattle.std.specs.Io.KnownBytes.{Appends};
 ghost use Rattle.line_engine.specs.Lines.{is_blank as is_blank_line};
@@ -13,9 +14,9 @@ use std::alloc::{AllocError, Global};
 use thiserror::Error;
 
 /// The most lines of an input.
-pub const MAX_LINES: u64 = 1_000_000;
+pub const MAX_INPUT_LINES: u64 = 1_000_000;
 
-/// How many lines a run has read, skipped ones too, and how many of its replies are refusals.
+/// How many lines a run has read, blank ones too, and how many of its replies are refusals.
 #[derive(Clone, Copy, Debug, PartialEq, Eq)]
 pub struct RunCount {
     pub lines: u64,
@@ -25,13 +26,13 @@ pub struct RunCount {
 /// Why a run stopped before the end of its input, with the number of the line, counted from 1.
 #[derive(Clone, Copy, Debug, PartialEq, Eq, Error)]
 pub enum RunFault {
-    /// Memory for the lines was wanted, before any of them (1).
+    /// Memory for the lines was refused, before any of them was read (1).
     #[error("OutOfMemory")]
     OutOfMemory,
-    /// A byte of a line past the most was read (91).
+    /// A byte of line 1,000,001 was read (91).
     #[error("TooManyLines")]
     TooManyLines(u64),
-    /// The line has more bytes than it may (92).
+    /// The line has over 65,536 bytes (92).
     #[error("LineTooLong")]
     LineTooLong(u64),
     /// The reader failed before this line's end (93).
@@ -122,13 +123,13 @@ fn respond<H: Handler>(
     line: &[u8],
     reply: &mut ReplyText,
 ) -> bool
-    ensures { (body : List ℕ) × (reply.new ≡ decimal number ++ 32 ∷ body) × Responds H.answers H.starves handler.old line.now body result handler.new }
+    ensures { (body : List ℕ) × (reply.new ≡ decimal number ++ 32 ∷ body) × Responds H.answers H.runs_out handler.old line.now body result handler.new }
 {
     reply.begin(number);
     match handler.answer(alloc, line, reply) {
         Ok(outcome) => outcome.is_refusal(),
         Err(_) => {
-            reply.starve(number);
+            reply.refuse_for_memory(number);
             true
         }
     }
@@ -143,9 +144,9 @@ fn serve<W: Sink, H: Handler>(
     line: &[u8],
     reply: &mut ReplyText,
 ) -> Result<bool, DeviceFailed>
-    ensures ok { IfOk result (λ refused. (text : List ℕ) × AnswersLine H.answers H.starves number handler.old line.now text refused handler.new
+    ensures ok { IfOk result (λ refused. (text : List ℕ) × AnswersLine H.answers H.runs_out number handler.old line.now text refused handler.new
         × Appends (W.contents writer.old) (W.contents writer.new) text) }
-    ensures err { OnErr result ((text : List ℕ) × (refused : Bool) × AnswersLine H.answers H.starves number handler.old line.now text refused handler.new
+    ensures err { OnErr result ((text : List ℕ) × (refused : Bool) × AnswersLine H.answers H.runs_out number handler.old line.now text refused handler.new
         × (part : List ℕ) × (unwritten : List ℕ) × (text ≡ part ++ unwritten)
         × Appends (W.contents writer.old) (W.contents writer.new) part × (W.has_failed writer.new ≡ true)) }
 {
@@ -159,10 +160,10 @@ fn serve<W: Sink, H: Handler>(
 
 /// Answers all lines of a reader, each by one write to a writer.
 ///
-/// A line ends with a line feed or, where it isn't empty, at the end; lines are numbered from 1. Blank
-/// lines are skipped. Memory for the lines is got first (1). Else the run stops only where a byte of a
-/// line past `MAX_LINES` was read (91), a line has over `MAX_LINE` bytes (92), or the reader (93) or the
-/// writer (94) failed in this call; replies to the lines before are then written.
+/// A line ends with a line feed or, where it isn't empty, at the end of the input; lines are numbered from 1. Blank
+/// lines are skipped. Memory for the lines is allocated first (1). After that the run stops only where a byte of
+/// line 1,000,001 was read (91), a line has over 65,536 bytes (92), or the reader (93) or the writer (94) failed in
+/// this call; the replies to the lines before are then written.
 pub fn run_lines<R: Source, W: Sink, H: Handler>(
     alloc: Global,
     reader: &mut R,
@@ -171,10 +172,15 @@ pub fn run_lines<R: Source, W: Sink, H: Handler>(
 ) -> Result<RunCount, RunFault>
     requires reader { R.has_failed reader.old ≡ false }
     requires writer { W.has_failed writer.old ≡ false }
-    ensures ok { IfOk result (λ count. Ends H.answers H.starves (R.remaining reader.old) (R.remaining reader.new)
-        (W.contents writer.old) (W.contents writer.new) handler.old handler.new count) }
-    ensures err { IfErr result (λ fault. Stops H.answers H.starves (R.remaining reader.old) (R.remaining reader.new)
-        (W.contents writer.old) (W.contents writer.new) (R.has_failed reader.new) (W.has_failed writer.new) handler.old handler.new fault) }
+    ensures ok { IfOk result (λ count. Ends H.answers H.runs_out (record {
+        from = R.remaining reader.old; to = R.remaining reader.new;
+        held = W.contents writer.old; holds = W.contents writer.new;
+        old = handler.old; new = handler.new }) count) }
+    ensures err { IfErr result (λ fault. Stops H.answers H.runs_out (record {
+        from = R.remaining reader.old; to = R.remaining reader.new;
+        held = W.contents writer.old; holds = W.contents writer.new;
+        old = handler.old; new = handler.new })
+        (record { reader = R.has_failed reader.new; writer = W.has_failed writer.new }) fault) }
 {
     let mut window = Window::new(alloc)?;
     let mut line = LineBuffer::new(alloc)?;
@@ -190,7 +196,7 @@ pub fn run_lines<R: Source, W: Sink, H: Handler>(
             Ok(false) => return Ok(count),
             Err(stop) => return Err(RunFault::at_line(stop, number)),
         }
-        if number > MAX_LINES {
+        if number > MAX_INPUT_LINES {
             return Err(RunFault::TooManyLines(number));
         }
         let end = match window.read_line(reader, &mut line) {

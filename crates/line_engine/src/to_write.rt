@@ -1,3 +1,4 @@
+//! Writing to std's `Write`.
 ghost use Rattle.std.specs.Prelude.{◌≡◌, false};
 
 use crate::device::{DeviceFailed, Sink};

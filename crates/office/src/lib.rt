@@ -7,7 +7,7 @@ mod table_answer;
 mod table_checker;
 
 pub use line_engine::{
-    DeviceFailed, FromRead, MAX_LINE, MAX_LINES, RunCount, RunFault, Sink, Source, ToWrite,
+    DeviceFailed, FromRead, MAX_INPUT_LINES, MAX_LINE_BYTES, RunCount, RunFault, Sink, Source, ToWrite,
 };
 pub use refusal::Refusal;
 pub use table_answer::table_cost;

@@ -15,7 +15,7 @@ pub struct TableChecker;
 impl Handler for TableChecker {
     ghost answers = { ChecksLine };
 
-    ghost starves = { λ _ _ _. Unit {0} };
+    ghost runs_out = { λ _ _ _. Unit {0} };
 
     fn answer(
         &mut self,
@@ -46,10 +46,13 @@ pub fn check_run<R: Source, W: Sink>(
 ) -> Result<RunCount, RunFault>
     requires reader { R.has_failed reader.old ≡ false }
     requires writer { W.has_failed writer.old ≡ false }
-    ensures ok { IfOk result (λ count. Ends {H = TableChecker} ChecksLine (λ _ _ _. Unit {0}) (R.remaining reader.old) (R.remaining reader.new)
-        (W.contents writer.old) (W.contents writer.new) (record {}) (record {}) count) }
-    ensures err { IfErr result (λ fault. Stops {H = TableChecker} ChecksLine (λ _ _ _. Unit {0}) (R.remaining reader.old) (R.remaining reader.new)
-        (W.contents writer.old) (W.contents writer.new) (R.has_failed reader.new) (W.has_failed writer.new) (record {}) (record {}) fault) }
+    ensures ok { IfOk result (λ count. Ends {H = TableChecker} ChecksLine (λ _ _ _. Unit {0}) (record {
+        from = R.remaining reader.old; to = R.remaining reader.new;
+        held = W.contents writer.old; holds = W.contents writer.new; old = record {}; new = record {} }) count) }
+    ensures err { IfErr result (λ fault. Stops {H = TableChecker} ChecksLine (λ _ _ _. Unit {0}) (record {
+        from = R.remaining reader.old; to = R.remaining reader.new;
+        held = W.contents writer.old; holds = W.contents writer.new; old = record {}; new = record {} })
+        (record { reader = R.has_failed reader.new; writer = W.has_failed writer.new }) fault) }
 {
     run_lines(alloc, reader, writer, &mut TableChecker)
 }

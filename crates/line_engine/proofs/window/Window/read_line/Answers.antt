@@ -1,6 +1,6 @@
 use Rattle.std.proofs.Common.{◌++◌, false, rules}
 use Rattle.std.proofs.lemmas.Result.{err_from_is_err_and}
-use Rattle.line_engine.specs.Cutting.{Moves}
+use Rattle.line_engine.specs.inner.Cutting.{Moves}
 use Rattle.line_engine.proofs.Reading.{reads_on, is_overlong}
 use Rattle.line_engine.proofs.window.Window.read_line.Goals as goal
 
