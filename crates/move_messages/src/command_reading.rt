@@ -25,7 +25,7 @@ use std::alloc::Global;
 /// The bytes are no JSON value (21), or no object (22); the `type` is missing (24), no text (25),
 /// or none of those known (23); else the fields of its type are tried in their order, and the first
 /// that is missing (24) or bad (25) is the answer. An order's `wagons` may be missing and is then 1.
-/// `OutOfMemory` (1) may come in place of any answer.
+/// `OutOfMemory` (1) may be the answer in place of any other.
 #[tactic(auto, unfolding(crate::specs::Commands::command_of))]
 pub fn read_line(alloc: Global, bytes: &[u8]) -> Result<Command, LineFault>
     ensures { Gives (λ command. command) result (meaning.command_of bytes.now) }
