@@ -10,8 +10,7 @@ use Rattle.wagon_state.specs.declared.wagon_row.WagonRow.{WagonRow}
 use Rattle.wagon_state.specs.StatusTable.{step_of}
 use Rattle.load_orders.specs.Lack.{is_open}
 use Rattle.load_orders.specs.OrderRow.{OrderRowValue, placed_row}
-use Rattle.office_rows.specs.declared.limits.TheConstants.{MAX_OPEN_WAGONS}
-use Rattle.office_rows.specs.Rows.{wagon_in, order_in, at_wagon, at_order, open_wagons, filled_by, freed_of, taken_back}
+use Rattle.database_rows.specs.Rows.{wagon_in, order_in, at_wagon, at_order, max_open_wagons, open_wagons, filled_by, freed_of, taken_back}
 use Rattle.operating_db.specs.declared.apply_fault.ApplyFault.{ApplyFault}
 use Rattle.operating_db.specs.declared.apply_fault.ApplyFault.TheVariants.{UnknownWagon, Step, OrderKnown, TooManyOpen, UnknownOrder, OrderClosed, UnknownNetwork, SameNetwork}
 use Rattle.operating_db.specs.declared.event.Event.{Event}
@@ -58,7 +57,7 @@ message_to office message (Some row) = moved office message.wagon row.promise (s
 abbrev pub after_order : Office → Order → Result Office ApplyFault
 after_order office text =
     if is_some (order_in office.orders text.id) then Err OrderKnown
-    else if nat_lt MAX_OPEN_WAGONS (open_wagons office.orders + text.wagons) then Err TooManyOpen
+    else if nat_lt max_open_wagons (open_wagons office.orders + text.wagons) then Err TooManyOpen
     else Ok (record office { orders = office.orders ++ placed_row text ∷ [] })
 
 -- A withdrawal ends each promise to the order, on the wagons too. The wagons that filled it stay.

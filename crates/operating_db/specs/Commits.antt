@@ -5,7 +5,7 @@ use Rattle.wagon_state.specs.declared.wagon_row.WagonRow.{WagonRow}
 use Rattle.wagon_state.specs.Free.{free_of}
 use Rattle.load_orders.specs.Lack.{lack_of}
 use Rattle.load_orders.specs.OrderRow.{OrderRowValue}
-use Rattle.office_rows.specs.Rows.{wagon_in, order_in, at_wagon, at_order, promised_to}
+use Rattle.database_rows.specs.Rows.{wagon_in, order_in, at_wagon, at_order, promised_to}
 use Rattle.operating_db.specs.Office.{Office}
 
 abbrev pub Pair : Type 0

@@ -1,25 +1,24 @@
 //! The state of an office.
 ghost use Rattle.std.specs.Prelude.{◌≡◌, ◌≤◌, ◌↔◌, IsTrue, Ok, Err, IfOk, IfErr, IsOk, OnErr, OnOk, MatchResult, option_copied, option_map};
 ghost use Rattle.std.specs.List.{list_all};
-ghost use Rattle.office_rows.specs.Kept.{IsOrderRows, IsWagonRows};
-ghost use Rattle.office_rows.specs.Rows.{order_in, wagon_in};
+ghost use Rattle.database_rows.specs.Kept.{IsOrderRows, IsWagonRows};
+ghost use Rattle.database_rows.specs.Rows.{order_in, wagon_in};
 ghost use Rattle.operating_db.specs.After.{IsChange, after_call, after_order, after_revision, message_to, order_place, withdrawn_from};
 ghost use Rattle.operating_db.specs.ApplyFault.{IsPlace, IsRefusal, IsRefusalOf};
 ghost use Rattle.operating_db.specs.Commits.{CanPromise, IsNext, is_free_row, is_promisable, lack_in, promise_all, promise_pair, times_of_order, times_of_wagon};
 ghost use Rattle.operating_db.specs.Office.{first_office};
 ghost use Rattle.operating_db.specs.Problem.{free_count, problem_of};
 ghost use Rattle.operating_db.specs.Promises.{PromisesAgree};
-ghost use Rattle.operating_db.specs.State.{IsState};
+ghost use Rattle.operating_db.specs.State.{IsState, max_networks};
 ghost use Rattle.operating_db.specs.Steps.{IsPromised};
 
-use crate::limits::MAX_NETWORKS;
 use crate::lists::{free_count, free_wagons, waiting_orders};
 use crate::promises::{end_promises, set_promise, settle};
 use crate::{ApplyFault, Event};
 use cost_table::Problem;
 use load_orders::OrderRow;
 use move_messages::{Message, OrderText};
-use office_rows::{MAX_OPEN_WAGONS, OrderRows, WagonRows};
+use database_rows::{MAX_OPEN_WAGONS, OrderRows, WagonRows};
 use rail_codes::{ClassCode, Moment, OrderId, Place, WagonNumber};
 use std::alloc::{AllocError, Global};
 use std::marker::Model;
@@ -53,7 +52,7 @@ impl OfficeState {
     /// The office of a roster, where there are so many networks: no order, and the first network is in force.
     pub fn new(alloc: Global, roster: &Roster, networks: u32) -> Result<OfficeState, AllocError>
         requires from_one { 1 ≤ networks }
-        requires few { networks ≤ MAX_NETWORKS }
+        requires few { networks ≤ max_networks }
         ensures { IfOk result (λ state. state ≡ record { office = first_office roster.now; networks = networks }) }
     {
         let _rows = roster.rows();
