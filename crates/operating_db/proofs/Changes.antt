@@ -12,8 +12,9 @@ use Rattle.load_orders.specs.OrderRow.{OrderRowValue}
 use Rattle.database_rows.specs.Kept.{IsWagonRows}
 use Rattle.database_rows.specs.Rows.{wagon_in, order_in, at_wagon}
 use Rattle.database_rows.proofs.Wagons.{number-wagon_in, numbers_distinct, wagon_in-there}
-use Rattle.operating_db.specs.After.{unpromised, unpromised_among}
+use Rattle.operating_db.specs.After.{unpromised}
 use Rattle.operating_db.specs.Commits.{with_promise}
+use Rattle.operating_db.specs.inner.EventParts.{unpromised_among}
 use Rattle.operating_db.specs.Office.{Office}
 use Rattle.operating_db.specs.Promises.{is_among, is_promise_to, promise_of, promised_of, SidesAgree}
 use Rattle.operating_db.proofs.Names.{same, same_is, same_self, same_sym, among_contains}

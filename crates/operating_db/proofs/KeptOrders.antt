@@ -19,7 +19,8 @@ use Rattle.database_rows.proofs.Named.{nothing_named, same_name}
 use Rattle.database_rows.proofs.Orders.{names-at_order, order_in-there}
 use Rattle.database_rows.proofs.Wagons.{ascending_distinct}
 use Rattle.operating_db.specs.After.{orders_after}
-use Rattle.operating_db.specs.Commits.{IsNext, Pair, promise_all, promise_pair}
+use Rattle.operating_db.specs.Commits.{Pair, promise_all, promise_pair}
+use Rattle.operating_db.specs.inner.EventParts.{IsNext}
 use Rattle.operating_db.specs.Office.{Office}
 use Rattle.operating_db.specs.Promises.{KeepsPromises, PromisesAgree, SidesAgree}
 use Rattle.operating_db.proofs.Changes.{among_promised}

@@ -11,10 +11,11 @@ use Rattle.load_orders.specs.OrderRow.{OrderRowValue, placed_row}
 use Rattle.database_rows.specs.Kept.{IsWagonRows}
 use Rattle.database_rows.proofs.Wagons.{number-wagon_in}
 use Rattle.database_rows.specs.Rows.{wagon_in, order_in, at_wagon, at_order, max_open_wagons, open_wagons, promised_to, taken_back}
+use Rattle.operating_db.specs.inner.EventParts.{IsChange, IsNext, unpromised_among}
 use Rattle.operating_db.specs.declared.apply_fault.ApplyFault.{ApplyFault}
 use Rattle.operating_db.specs.declared.apply_fault.ApplyFault.TheVariants.{OrderClosed, OrderKnown, TooManyOpen}
-use Rattle.operating_db.specs.After.{IsChange, after_order, message_to, moved, order_place, orders_after, unpromised, unpromised_among, withdrawn_from}
-use Rattle.operating_db.specs.Commits.{Pair, IsNext, with_promise}
+use Rattle.operating_db.specs.After.{after_order, message_to, moved, order_place, orders_after, unpromised, withdrawn_from}
+use Rattle.operating_db.specs.Commits.{Pair, with_promise}
 use Rattle.operating_db.specs.Office.{Office, StateValue, first_office}
 use Rattle.operating_db.specs.Promises.{is_promise_to, is_among, promise_of, promised_of, PromisesAgree}
 use Rattle.operating_db.specs.State.{IsState, max_networks}
