@@ -5,7 +5,7 @@ use Rattle.indexmap.specs.IndexMap.{insert_entry}
 use Rattle.indexmap.proofs.CallerLemmas.{insert_entry-new}
 use Rattle.operating_db.specs.declared.event.Event.TheVariants.{Message}
 use Rattle.commit_book.specs.History.{IsFresh}
-use Rattle.commit_book.specs.Ledger.{ids_from}
+use Rattle.commit_book.specs.inner.Ledger.{ids_from}
 use Rattle.commit_book.proofs.Ids.{ids_push, is_id, no_message, unfound_by}
 use Rattle.commit_book.proofs.ledger.note.Goals as goal
 
