@@ -1,4 +1,4 @@
--- The numbers of the refusals.
+-- The numbers of the faults of a line and of its fields.
 use Rattle.std.specs.Prelude.{ℕ}
 use Rattle.rail_codes.specs.CodeFault.{fault_number}
 use Rattle.json_fields.specs.declared.fault.FieldFault.{FieldFault}

@@ -1,4 +1,4 @@
--- What the fields of an object d are read as, or the first fault.
+-- The fields of a JSON object d: what each is read as, or its fault.
 use Rattle.std.specs.Prelude.{◌≡◌, ◌≢◌, List, Option, Some, None, Result, Ok, Err}
 use Rattle.std.specs.Option.{ok_or}
 use Rattle.serde_json.specs.Data.{Data}

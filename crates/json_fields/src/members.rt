@@ -117,23 +117,20 @@ pub fn order_id_at(object: &Value, field: Field) -> Result<OrderId, LineFault>
     in_field(field, order_id_from(member(object, field)?))
 }
 
-/// The company, in the field of that name.
+/// A field that is a company.
 #[tactic(auto, unfolding(crate::specs::Fields::field_of))]
-pub fn company_at(object: &Value) -> Result<Company, LineFault>
-    ensures { result ≡ meaning.field_of values.company_from Field.Company (view object.now) }
+pub fn company_at(object: &Value, field: Field) -> Result<Company, LineFault>
+    ensures { result ≡ meaning.field_of values.company_from field (view object.now) }
 {
-    in_field(
-        Field::Company,
-        company_from(member(object, Field::Company)?),
-    )
+    in_field(field, company_from(member(object, field)?))
 }
 
-/// The place, in the field of that name.
+/// A field that is a place.
 #[tactic(auto, unfolding(crate::specs::Fields::field_of))]
-pub fn place_at(object: &Value) -> Result<Place, LineFault>
-    ensures { result ≡ meaning.field_of values.place_from Field.Place (view object.now) }
+pub fn place_at(object: &Value, field: Field) -> Result<Place, LineFault>
+    ensures { result ≡ meaning.field_of values.place_from field (view object.now) }
 {
-    in_field(Field::Place, place_from(member(object, Field::Place)?))
+    in_field(field, place_from(member(object, field)?))
 }
 
 /// A field that is a moment.

@@ -1,4 +1,4 @@
--- Pairs of a wagon and an order, compared as texts.
+-- The pairs of a commit, a wagon and an order each, compared as texts.
 use Rattle.std.specs.Prelude.{ℕ, Bool, ◌&&◌, nat_eq, List}
 use Rattle.std.specs.Cmp.{IsEquivalence, and_equiv, on_equiv}
 use Rattle.std.specs.Cmp.Lexicographic.{pointwise, nat_list_eq_equiv}

@@ -69,10 +69,10 @@ fn command_at(alloc: Global, line_type: LineType, object: &Value) -> Result<Comm
 fn message_at(object: &Value, kind: MessageKind) -> Result<Message, LineFault>
     ensures { result ≡ meaning.message_of kind (view object.now) }
 {
-    let company = company_at(object)?;
+    let company = company_at(object, Field::Company)?;
     let number = count_at(object, Field::Number, 0, u32::MAX)?;
     let wagon = wagon_number_at(object, Field::Wagon)?;
-    let place = place_at(object)?;
+    let place = place_at(object, Field::Place)?;
     let moment = moment_at(object, Field::Moment)?;
     Ok(Message {
         id: MessageId { company, number },
@@ -102,7 +102,7 @@ fn order_at(object: &Value) -> Result<OrderText, LineFault>
     ensures { result ≡ meaning.order_text_of (view object.now) }
 {
     let id = order_id_at(object, Field::Order)?;
-    let place = place_at(object)?;
+    let place = place_at(object, Field::Place)?;
     let classes = classes_at(object)?;
     let load = count_at(object, Field::Load, 0, MAX_LOAD)?;
     let latest = moment_at(object, Field::Latest)?;

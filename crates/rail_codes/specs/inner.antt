@@ -1,3 +1,3 @@
--- What only private functions and proofs need.
+-- What only private functions and proofs of rail_codes need.
 pub mod CheckDigit
 pub mod ShortText

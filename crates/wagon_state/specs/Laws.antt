@@ -1,4 +1,4 @@
--- What holds of every message that is accepted, whatever the status table says.
+-- What holds of every movement message that is accepted, whatever the status table says.
 use Rattle.std.specs.Prelude.{◌≡◌, ◌⊎◌, ℕ, List, Option, None, IsSome}
 use Rattle.move_messages.specs.declared.message.Message.{Message}
 use Rattle.move_messages.specs.declared.message.MessageKind.TheVariants.{Release, Delivery}

@@ -96,8 +96,8 @@ fitted row message None = Err WrongStatus
 fitted row message (Some line) = placed row message line
 
 -- what a message makes of a row, where `order_place` is the place of the order that the wagon is promised to; or
--- the first fault: the message is older than the last one, no line fits, the message names a place
--- that the line does not allow
+-- the first fault: the message is older than the last one, no line fits, or the message names a place that the
+-- line does not allow
 unfoldable pub step_of : WagonRow → Message → (order_place : Option (List ℕ)) → Result Change StepFault
 step_of row message order_place =
     if nat_lt message.moment row.last then Err Earlier
