@@ -4,6 +4,7 @@
 mod allowed;
 mod limits;
 mod names;
+mod pair_names;
 mod plan;
 mod plan_cost;
 mod problem;
@@ -14,6 +15,7 @@ mod table_fault;
 pub use allowed::cells;
 pub use limits::{MAX_COST, MAX_LACK, MAX_LACK_IN_ALL, MAX_ORDERS, MAX_WAGONS};
 pub use names::Names;
+pub use pair_names::PairNames;
 pub use plan::Plan;
 pub use plan_cost::cost;
 pub use problem::Problem;

@@ -2,6 +2,7 @@ ghost use Rattle.std.specs.Prelude.{◌≡◌, ℕ, Some, IfSome, position, slic
 ghost use Rattle.cost_table.specs.Names.{is_name, first_repeated, names_of, pair_of};
 
 use crate::limits::{MAX_ORDERS, MAX_WAGONS};
+use crate::pair_names::PairNames;
 use crate::table_fault::TableFault;
 use rail_codes::{OrderId, WagonNumber};
 use std::marker::Model;
@@ -66,6 +67,22 @@ impl Names {
         let i = position_of_wagon(&self.wagons, number)?;
         let j = position_of_order(&self.orders, id)?;
         Some((i, j))
+    }
+}
+
+impl PairNames for Names {
+    ghost names = { λ names. names };
+
+    fn pair_of(&self, number: WagonNumber, id: OrderId) -> Option<(usize, usize)> {
+        Names::pair_of(self, number, id)
+    }
+
+    fn wagon_at(&self, i: usize) -> Option<WagonNumber> {
+        Names::wagon_at(self, i)
+    }
+
+    fn order_at(&self, j: usize) -> Option<OrderId> {
+        Names::order_at(self, j)
     }
 }
 

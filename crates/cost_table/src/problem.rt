@@ -5,6 +5,7 @@ ghost use Rattle.cost_table.specs.Names.{both, is_name, first_repeated, pair_of}
 ghost use Rattle.cost_table.specs.Problem.{problem_of, wagon_names, order_names, lacks_of, names_of_problem, is_too_much, IsProblem};
 
 use crate::limits::{MAX_LACK_IN_ALL, MAX_ORDERS, MAX_WAGONS};
+use crate::pair_names::PairNames;
 use crate::table_fault::TableFault;
 use load_orders::Wanted;
 use rail_codes::{Moment, OrderId, WagonNumber};
@@ -84,6 +85,38 @@ impl Problem {
     {
         positions(&self.wagons, &self.orders, number, id)
     }
+}
+
+impl PairNames for Problem {
+    ghost use Rattle.cost_table.specs.Problem.{names_of_problem};
+
+    ghost names = { names_of_problem };
+
+    fn pair_of(&self, number: WagonNumber, id: OrderId) -> Option<(usize, usize)> {
+        Problem::pair_of(self, number, id)
+    }
+
+    fn wagon_at(&self, i: usize) -> Option<WagonNumber> {
+        number_at(&self.wagons, i)
+    }
+
+    fn order_at(&self, j: usize) -> Option<OrderId> {
+        id_at(&self.orders, j)
+    }
+}
+
+/// The wagon at a position, `None` past the end.
+fn number_at(wagons: &[FreeWagon], i: usize) -> Option<WagonNumber>
+    ensures { result ≡ slice_get (wagon_names wagons.now) i }
+{
+    wagons.get(i).map(|wagon| wagon.number)
+}
+
+/// The order at a position, `None` past the end.
+fn id_at(orders: &[Wanted], j: usize) -> Option<OrderId>
+    ensures { result ≡ slice_get (order_names orders.now) j }
+{
+    orders.get(j).map(|wanted| wanted.order().id())
 }
 
 /// Where a wagon and an order first stand.

@@ -1,8 +1,9 @@
 -- What a line is as a command: its type, and the fields of that type in the order in which they are tried.
 use Rattle.std.specs.Prelude.{ℕ, ◌^◌, ◌-◌, false, List, unwrap_or, Result, Ok}
 use Rattle.serde_json.specs.Data.{Data}
-use Rattle.move_messages.specs.declared.field.Field.TheVariants as field
-use Rattle.move_messages.specs.declared.fault.LineFault.{LineFault}
+use Rattle.json_fields.specs.declared.field.Field.TheVariants as field
+use Rattle.json_fields.specs.declared.fault.FieldFault.{FieldFault}
+use Rattle.json_fields.specs.declared.fault.LineFault.{LineFault}
 use Rattle.move_messages.specs.declared.line_type.LineType.{LineType}
 use Rattle.move_messages.specs.declared.line_type.LineType.TheVariants as of_type
 use Rattle.move_messages.specs.declared.message.MessageKind.{MessageKind}
@@ -12,9 +13,9 @@ use Rattle.move_messages.specs.declared.commit_text.CommitText.{CommitText}
 use Rattle.move_messages.specs.declared.command.Command.{Command}
 use Rattle.move_messages.specs.declared.command.Command.TheVariants.{Message, Place, Withdraw, Begin, Plan, Commit, Sheet, Revise}
 use Rattle.move_messages.specs.Order.{Order}
-use Rattle.move_messages.specs.Values.{◌>>=◌, number_within, boolean_of, company_from, wagon_number_from, place_from, moment_from, order_id_from, classes_from, text_of, pair_of}
-use Rattle.move_messages.specs.Fields.{field_of, optional_field_of, list_at}
-use Rattle.move_messages.specs.Line.{object_of}
+use Rattle.json_fields.specs.Values.{◌>>=◌, number_within, boolean_of, company_from, wagon_number_from, place_from, moment_from, order_id_from, class_from, list_within, each, text_of, pair_of}
+use Rattle.json_fields.specs.Fields.{field_of, optional_field_of, list_at}
+use Rattle.json_fields.specs.Line.{object_of}
 use Rattle.move_messages.specs.LineType.{line_type_of}
 
 -- a movement message
@@ -33,6 +34,10 @@ exception_of d = do
   message ← message_of (Exception false) d
   hold ← field_of boolean_of field.Hold d
   Ok (record message { kind = Exception hold })
+
+-- 1 to 8 classes
+unfoldable pub classes_from : Data → Result (List (List ℕ)) FieldFault
+classes_from d = list_within 1 8 d >>= each class_from
 
 unfoldable pub order_text_of : Data → Result Order LineFault
 order_text_of d = do

@@ -1,10 +1,5 @@
-pub mod Field
-pub mod Faults
 pub mod Classes
 pub mod Order
 pub mod Pairs
 pub mod LineType
-pub mod Values
-pub mod Fields
-pub mod Line
 pub mod Commands

@@ -2,23 +2,20 @@
 
 ghost use Rattle.std.specs.Prelude.{◌≡◌};
 ghost use Rattle.serde_json.specs.View.{view};
-ghost use Rattle.move_messages.specs.Fields.{Gives};
+ghost use Rattle.json_fields.specs.Fields.{Gives};
 ghost use Rattle.move_messages.specs.Commands as meaning;
 
+use crate::class_reading::classes_at;
 use crate::command::Command;
 use crate::commit_text::{CommitText, Pairs, PriceList};
-use crate::fault::LineFault;
-use crate::field::Field;
-use crate::limits::{MAX_LOAD, MAX_NETWORKS, MAX_PENALTY, MAX_VERSION, MAX_WAGONS};
-use crate::line::object_of;
+use crate::limits::{MAX_LOAD, MAX_ORDER_WAGONS, MAX_PENALTY, MAX_REVISION, MAX_VERSION};
 use crate::line_type::LineType;
-use crate::lists::{numbers_at, pairs_at};
-use crate::members::{
-    boolean_at, classes_at, company_at, count_at, moment_at, number_at, optional_count_at,
-    order_id_at, place_at, text_at, wagon_number_at,
-};
 use crate::message::{Message, MessageKind};
 use crate::order_text::OrderText;
+use json_fields::{
+    Field, LineFault, boolean_at, company_at, count_at, moment_at, number_at, numbers_at,
+    object_of, optional_count_at, order_id_at, pairs_at, place_at, text_at, wagon_number_at,
+};
 use rail_codes::MessageId;
 use serde_json::Value;
 use std::alloc::Global;
@@ -61,7 +58,7 @@ fn command_at(alloc: Global, line_type: LineType, object: &Value) -> Result<Comm
         LineType::Commit => Command::Commit(commit_at(alloc, object)?),
         LineType::Sheet => Command::Sheet,
         LineType::Network => {
-            Command::Revise(count_at(object, Field::Revision, 1, MAX_NETWORKS)?)
+            Command::Revise(count_at(object, Field::Revision, 1, MAX_REVISION)?)
         }
     };
     Ok(command)
@@ -110,7 +107,7 @@ fn order_at(object: &Value) -> Result<OrderText, LineFault>
     let load = count_at(object, Field::Load, 0, MAX_LOAD)?;
     let latest = moment_at(object, Field::Latest)?;
     let penalty = number_at(object, Field::Penalty, 0, MAX_PENALTY)?;
-    let wagons = optional_count_at(object, Field::Wagons, 1, MAX_WAGONS)?.unwrap_or(1);
+    let wagons = optional_count_at(object, Field::Wagons, 1, MAX_ORDER_WAGONS)?.unwrap_or(1);
     let order = OrderText::new(id, place, classes, load, latest, penalty, wagons);
     Ok(order.unwrap())
 }

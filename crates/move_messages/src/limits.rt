@@ -10,10 +10,10 @@ pub const MAX_LOAD: u32 = 200_000;
 pub const MAX_PENALTY: u64 = 1_000_000_000;
 
 /// The most wagons that one order asks for; it asks for one at least.
-pub const MAX_WAGONS: u32 = 20;
+pub const MAX_ORDER_WAGONS: u32 = 20;
 
 /// The greatest version that a commit names.
 pub const MAX_VERSION: u64 = 1_000_000;
 
-/// The most networks; they are numbered from 1.
-pub const MAX_NETWORKS: u32 = 8;
+/// The highest number of a network that a line may name; networks are numbered from 1.
+pub const MAX_REVISION: u32 = 8;

@@ -4,7 +4,7 @@ ghost use Rattle.std.specs.Prelude.{◌≡◌, ◌≤◌};
 ghost use Rattle.move_messages.specs.Order.{IsOrder, order_of};
 
 use crate::classes::Classes;
-use crate::limits::{MAX_LOAD, MAX_PENALTY, MAX_WAGONS};
+use crate::limits::{MAX_LOAD, MAX_ORDER_WAGONS, MAX_PENALTY};
 use rail_codes::{Moment, OrderId, Place};
 use std::marker::Model;
 
@@ -48,7 +48,7 @@ impl OrderText {
     ) -> Option<OrderText>
         ensures { result ≡ order_of (record { id = id; place = place; classes = classes; load = load; latest = latest; penalty = penalty; wagons = wagons }) }
     {
-        if MAX_LOAD < load || MAX_PENALTY < penalty || wagons < 1 || MAX_WAGONS < wagons {
+        if MAX_LOAD < load || MAX_PENALTY < penalty || wagons < 1 || MAX_ORDER_WAGONS < wagons {
             return None;
         }
         Some(OrderText {

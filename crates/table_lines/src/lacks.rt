@@ -1,11 +1,11 @@
 ghost use Rattle.std.specs.Prelude.{All, IfOk, IfSome, option_map};
 ghost use Rattle.serde_json.specs.View.{view};
-ghost use Rattle.move_messages.specs.Fields.{Gives};
+ghost use Rattle.json_fields.specs.Fields.{Gives};
 ghost use Rattle.table_lines.specs.TableLine as meaning;
 ghost use Rattle.cost_table.specs.Table.{IsLack};
 
 use cost_table::MAX_LACK;
-use move_messages::{CountKind, Field, LineFault, optional_list_at};
+use json_fields::{CountKind, Field, LineFault, optional_list_at};
 use serde_json::Value;
 use std::alloc::Global;
 

@@ -1,6 +1,6 @@
 ghost use Rattle.std.specs.Prelude.{◌≤◌, All, IfOk, IfSome};
 ghost use Rattle.serde_json.specs.View.{view};
-ghost use Rattle.move_messages.specs.Fields.{Gives};
+ghost use Rattle.json_fields.specs.Fields.{Gives};
 ghost use Rattle.table_lines.specs.TableLine.{table_text, table_text_of, table_line_of};
 ghost use Rattle.cost_table.specs.Rows.{IsNumber};
 ghost use Rattle.cost_table.specs.Table.{IsLack};
@@ -9,7 +9,7 @@ use crate::cells::cells_at;
 use crate::lacks::lacks_at;
 use crate::table_line::TableLine;
 use cost_table::MAX_COST;
-use move_messages::{
+use json_fields::{
     Field, LineFault, numbers_at, object_of, order_ids_at, pairs_at, wagon_numbers_at,
 };
 use serde_json::Value;

@@ -1,0 +1,5 @@
+pub mod Field
+pub mod Faults
+pub mod Values
+pub mod Fields
+pub mod Line

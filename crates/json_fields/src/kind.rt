@@ -1,0 +1,105 @@
+//! The kinds of items that a list may have.
+
+ghost use Rattle.std.specs.Prelude.{◌≡◌, Result};
+ghost use Rattle.serde_json.specs.Data.{Data};
+ghost use Rattle.serde_json.specs.View.{view};
+ghost use Rattle.json_fields.specs.declared.fault.FieldFault.{FieldFault};
+ghost use Rattle.json_fields.specs.Values as values;
+
+use crate::fault::FieldFault;
+use crate::values::{count_within, list_of, number_within, order_id_from, wagon_number_from};
+use rail_codes::{OrderId, WagonNumber};
+use serde_json::Value;
+
+/// How an item of a list is read.
+pub trait ItemKind {
+    type Item: Drop;
+
+    /// What a value is read as, or its fault.
+    ghost meaning: { Self → Data → Result Self.Item FieldFault };
+
+    fn read(&self, value: &Value) -> Result<Self::Item, FieldFault>
+        ensures { result ≡ meaning self.now (view value.now) };
+}
+
+/// Wagon numbers.
+#[derive(Clone, Copy, Debug)]
+pub(crate) struct WagonNumberKind;
+
+impl ItemKind for WagonNumberKind {
+    type Item = WagonNumber;
+
+    ghost meaning = { λ _. values.wagon_number_from };
+
+    fn read(&self, value: &Value) -> Result<WagonNumber, FieldFault> {
+        wagon_number_from(value)
+    }
+}
+
+/// Names of orders.
+#[derive(Clone, Copy, Debug)]
+pub(crate) struct OrderIdKind;
+
+impl ItemKind for OrderIdKind {
+    type Item = OrderId;
+
+    ghost meaning = { λ _. values.order_id_from };
+
+    fn read(&self, value: &Value) -> Result<OrderId, FieldFault> {
+        order_id_from(value)
+    }
+}
+
+/// Whole numbers from `low` to `high`.
+#[derive(Clone, Copy, Debug)]
+pub(crate) struct NumberKind {
+    pub low: u64,
+    pub high: u64,
+}
+
+impl ItemKind for NumberKind {
+    type Item = u64;
+
+    ghost meaning = { λ k. values.number_within k.low k.high };
+
+    fn read(&self, value: &Value) -> Result<u64, FieldFault> {
+        number_within(value, self.low, self.high)
+    }
+}
+
+/// Small whole numbers from `low` to `high`.
+#[derive(Clone, Copy, Debug)]
+pub struct CountKind {
+    pub low: u32,
+    pub high: u32,
+}
+
+impl ItemKind for CountKind {
+    type Item = u32;
+
+    ghost meaning = { λ k. values.number_within k.low k.high };
+
+    fn read(&self, value: &Value) -> Result<u32, FieldFault> {
+        count_within(value, self.low, self.high)
+    }
+}
+
+/// Pairs of a wagon number and the name of an order, each a list of two texts.
+#[derive(Clone, Copy, Debug)]
+pub(crate) struct PairKind;
+
+impl ItemKind for PairKind {
+    type Item = (WagonNumber, OrderId);
+
+    ghost meaning = { λ _. values.pair_of };
+
+    #[tactic(auto, unfolding(crate::specs::Values::pair_of))]
+    fn read(&self, value: &Value) -> Result<(WagonNumber, OrderId), FieldFault> {
+        let [wagon, order] = list_of(value)? else {
+            return Err(FieldFault::OutOfRange);
+        };
+        let wagon = wagon_number_from(wagon)?;
+        let order = order_id_from(order)?;
+        Ok((wagon, order))
+    }
+}

@@ -1,8 +1,0 @@
-use Rattle.std.proofs.Common.{◌≡◌, ◌+◌, [], ◌∷◌, length, drop}
-use Rattle.serde_json.specs.View.{items_view}
-use Rattle.move_messages.specs.Values.{after, each, class_from}
-use Rattle.move_messages.proofs.values.with_more_classes.Given as goal
-
-abbrev pub invariant-loop-item : goal.invariant-loop-item
-invariant-loop-item l =
-    (after l.classes (each class_from (items_view (drop l.item-index l.rest))) ≡ after (l.fn.first ∷ []) (each class_from (items_view l.rest))) × (length l.classes ≡ l.item-index + 1)

@@ -1,0 +1,52 @@
+//! The classes of an order, read from a line.
+
+ghost use Rattle.std.specs.Prelude.{◌≡◌, ◌<◌, [], ◌∷◌, length};
+ghost use Rattle.serde_json.specs.View.{view, items_view};
+ghost use Rattle.json_fields.specs.Fields.{field_of};
+ghost use Rattle.json_fields.specs.Values.{after, each, class_from};
+ghost use Rattle.json_fields.specs.declared.field.Field.TheVariants as field;
+ghost use Rattle.move_messages.specs.Commands as meaning;
+
+use crate::classes::Classes;
+use crate::limits::MAX_CLASSES;
+use json_fields::{Field, FieldFault, LineFault, class_from, in_field, list_within, member};
+use rail_codes::ClassCode;
+use serde_json::Value;
+
+/// The classes, in the field of that name.
+#[tactic(auto, unfolding(json_fields::specs::Fields::field_of))]
+pub(crate) fn classes_at(object: &Value) -> Result<Classes, LineFault>
+    ensures { result ≡ field_of meaning.classes_from field.Classes (view object.now) }
+{
+    in_field(
+        Field::Classes,
+        classes_from(member(object, Field::Classes)?),
+    )
+}
+
+/// 1 to 8 classes. What is no list is `WrongKind` (19), a list of another count `OutOfRange` (20),
+/// and the first item that is refused has its own fault.
+#[tactic(auto, unfolding(crate::specs::Commands::classes_from, json_fields::specs::Values::list_within, json_fields::specs::Values::each))]
+fn classes_from(value: &Value) -> Result<Classes, FieldFault>
+    ensures { result ≡ meaning.classes_from (view value.now) }
+{
+    let items = list_within(value, 1, MAX_CLASSES)?;
+    let [first, rest @ ..] = items else {
+        return Err(FieldFault::OutOfRange);
+    };
+    let first = class_from(first)?;
+    with_more_classes(first, rest)
+}
+
+/// The class and those behind it, up to the first that is refused.
+fn with_more_classes(first: ClassCode, rest: &[Value]) -> Result<Classes, FieldFault>
+    requires { length rest.now < 8 }
+    ensures { result ≡ after (first ∷ []) (each class_from (items_view rest.now)) }
+{
+    let mut classes = Classes::one(first);
+    for item in rest {
+        let class = class_from(item)?;
+        classes.push(class);
+    }
+    Ok(classes)
+}

@@ -1,0 +1,3 @@
+pub mod Checked
+mod Named
+pub mod Fronts

@@ -1,0 +1,3 @@
+pub mod NamedFaults
+pub mod NamedPairs
+pub mod inner
