@@ -1,4 +1,4 @@
 pub mod Asking
 pub mod Collecting
-pub mod Digits
+pub mod FieldLemmas
 pub mod Remaining

@@ -1,7 +1,8 @@
-//! The fields of a record: texts and whole numbers.
+//! The fields of a record: texts, places and whole numbers.
 ghost use Rattle.std.specs.Prelude.{◌≡◌, ◌≤◌, ◌<◌, IfSome, length, option_map};
-ghost use Rattle.csv_records.specs.Fields.{digits_in, is_text, max_number_digits, number_in, text_in};
+ghost use Rattle.csv_records.specs.Fields.{digits_in, is_text, max_number_digits, whole_number_in, place_in, text_in};
 
+use rail_codes::Place;
 use std::str;
 
 /// The most digits of a whole number in a field.
@@ -21,9 +22,17 @@ pub fn text_of(field: &[u8]) -> Option<&str>
     str::from_utf8(field).ok()
 }
 
+/// The place that a field names.
+pub fn place_of(field: &[u8]) -> Option<Place>
+    ensures { result ≡ place_in field.now }
+{
+    let text = str::from_utf8(field).ok()?;
+    Place::read(text).ok()
+}
+
 /// The whole number that 1 to 7 digits spell.
 pub fn whole_number(field: &[u8]) -> Option<u32>
-    ensures { result ≡ number_in field.now }
+    ensures { result ≡ whole_number_in field.now }
 {
     if field.is_empty() || field.len() > MAX_NUMBER_DIGITS {
         return None;
@@ -32,7 +41,7 @@ pub fn whole_number(field: &[u8]) -> Option<u32>
 }
 
 /// The number that a field of digits spells.
-#[tactic(auto, using(crate::proofs::Digits::of_digits))]
+#[tactic(auto, using(crate::proofs::FieldLemmas::of_digits))]
 fn read_digits(field: &[u8]) -> Option<u32>
     requires { length field.now ≤ max_number_digits }
     ensures { result ≡ digits_in field.now }

@@ -1,5 +1,5 @@
 use Rattle.std.proofs.Common.{arith, ◌<◌}
-use Rattle.csv_records.proofs.Digits.{six_digits}
+use Rattle.csv_records.proofs.FieldLemmas.{six_digits}
 use Rattle.csv_records.proofs.fields.read_digits.Goals as goal
 
 pub overflow_mul-number : goal.overflow_mul-number

@@ -1,4 +1,4 @@
-use Rattle.csv_records.proofs.Digits.{text_in-read}
+use Rattle.csv_records.proofs.FieldLemmas.{text_in-read}
 use Rattle.csv_records.proofs.fields.text_of.Goals as goal
 
 pub returns : goal.returns
