@@ -9,7 +9,7 @@ use Rattle.json_fields.specs.declared.fault.LineFault.{LineFault}
 use Rattle.json_fields.specs.Values.{◌>>=◌, number_within, wagon_number_from, order_id_from, list_of_each, pair_of}
 use Rattle.json_fields.specs.Fields.{list_at, optional_list_at}
 use Rattle.json_fields.specs.Line.{object_of}
-use Rattle.cost_table.specs.declared.limits.TheConstants.{MAX_COST, MAX_LACK}
+use Rattle.cost_table.specs.TableLimits.{max_cost}
 use Rattle.table_lines.specs.declared.table_line.TableLine.{TableLine}
 
 -- a table line without where it lies in memory; numbers and names of codes are texts
@@ -29,9 +29,9 @@ table_text line =
 
 -- ---- fields
 
--- null where the pair is not allowed
+-- the cost of a cell in km, null where the pair is not allowed
 unfoldable pub cell_of : Data → Result (Option ℕ) FieldFault
-cell_of d = if is_some (as_null d) then Ok None else number_within 0 MAX_COST d >>= λ cost. Ok (Some cost)
+cell_of d = if is_some (as_null d) then Ok None else number_within 0 max_cost d >>= λ cost. Ok (Some cost)
 
 abbrev pub row_of : Data → Result (List (Option ℕ)) FieldFault
 row_of d = list_of_each cell_of d
@@ -39,10 +39,11 @@ row_of d = list_of_each cell_of d
 abbrev pub cells_of : Data → Result (List (List (Option ℕ))) LineFault
 cells_of d = list_at row_of Cells d
 
+-- how many wagons each order lacks: one at least, and no more than an order wants
 abbrev pub lacks_of : Data → Result (Option (List ℕ)) LineFault
-lacks_of d = optional_list_at (number_within 1 MAX_LACK) Lacks d
+lacks_of d = optional_list_at (number_within 1 20) Lacks d
 
--- the dual prices of the wagons, or those of the orders
+-- the dual prices of the wagons, or those of the orders, in km
 abbrev pub prices_of : Field → Data → Result (List ℕ) LineFault
 prices_of field d = list_at (number_within 0 (2 ^ 64 - 1)) field d
 
@@ -54,7 +55,7 @@ table_text_of d = do
   wagons ← list_at wagon_number_from Wagons d
   orders ← list_at order_id_from Orders d
   cells ← cells_of d
-  penalties ← list_at (number_within 0 MAX_COST) Penalties d
+  penalties ← list_at (number_within 0 max_cost) Penalties d
   lacks ← lacks_of d
   pairs ← list_at pair_of Pairs d
   u ← prices_of WagonPrices d

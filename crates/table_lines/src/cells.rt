@@ -1,3 +1,4 @@
+//! Reading the cells of a table line.
 ghost use Rattle.std.specs.Prelude.{◌≡◌, All, IfOk, Result, map};
 ghost use Rattle.serde_json.specs.Data.{Data};
 ghost use Rattle.serde_json.specs.View.{view, items_view};

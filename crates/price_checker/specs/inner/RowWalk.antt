@@ -1,3 +1,4 @@
+-- A wagon's row, walked cell by cell.
 use Rattle.std.specs.Prelude.{◌+◌, nat_lt, ℕ, if◌then◌else◌, List, [], ◌∷◌, Option, Some, None, slice_index}
 use Rattle.price_checker.specs.declared.check_fault.CheckFault.{CheckFault}
 use Rattle.price_checker.specs.declared.check_fault.CheckFault.TheVariants.{PriceGap}

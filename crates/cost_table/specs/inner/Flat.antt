@@ -1,3 +1,4 @@
+-- Rows that lie one after another in one list.
 use Rattle.std.specs.Prelude.{◌≡◌, ◌≤◌, ℕ, List, [], ◌∷◌, length, slice_range}
 
 -- the rows that lie one after another in `entries`, each from the end of the one before to its own end
