@@ -1,3 +1,4 @@
+-- Lists of numbers that grow within their room.
 use Rattle.std.specs.Prelude.{◌≡◌, ◌<◌, ◌-◌, ℕ, List, length, take, slice_index, slice_set}
 
 -- a list that grows within its room

@@ -1,7 +1,8 @@
+-- The way back from the end of a path to its first order.
 use Rattle.std.specs.Prelude.{◌≡◌, ◌≢◌, ◌<◌, ◌⊎◌, ◌==◌, ℕ, if◌then◌else◌, List, length, Option, Some, None, slice_index}
 use Rattle.assignment.specs.declared.search.End.{End}
 use Rattle.assignment.specs.declared.search.End.TheVariants.{Wagon, Refusal}
-use Rattle.assignment.specs.State.{order_at}
+use Rattle.assignment.specs.inner.State.{order_at}
 
 -- The wagon that led to the order at place x has that order, and was reached from an order settled before.
 pub record IsStep (order_of : List (Option ℕ)) (from orders via : List ℕ) (x : ℕ) : Type 0 where

@@ -1,9 +1,10 @@
+-- What a planner keeps before it plans.
 use Rattle.std.specs.Prelude.{◌≡◌, ℕ, List, length, Option, None, slice_index}
 use Rattle.cost_table.specs.Table.{Table, IsTable, wagon_count, order_count}
 use Rattle.assignment.specs.declared.search.Search.{Search}
-use Rattle.assignment.specs.Columns.{AreColumns}
-use Rattle.assignment.specs.State.{order_at}
-use Rattle.assignment.specs.Search.{IsAtRest}
+use Rattle.assignment.specs.inner.Columns.{AreColumns}
+use Rattle.assignment.specs.inner.State.{order_at}
+use Rattle.assignment.specs.inner.Search.{IsAtRest}
 
 -- the memory that planning a table takes, and its cells by order
 pub record IsReady (t : Table) (by_order : List (List (ℕ × ℕ))) (u v : List ℕ) (order_of : List (Option ℕ)) (s : Search) (pairs : List (ℕ × ℕ)) (ends : List ℕ) : Type 0 where

@@ -1,16 +1,17 @@
+-- The search for the shortest path from an order.
 use Rattle.std.specs.Prelude.{◌≡◌, ◌≢◌, ◌+◌, ◌-◌, ◌<◌, ◌≤◌, nat_lt, ℕ, Bool, List, length, Option, Some, None, slice_index}
 use Rattle.std.specs.Prelude.{min}
 use Rattle.std.specs.List.{count_by}
 use Rattle.cost_table.specs.Table.{Table, cost_at, penalty_at, wagon_count, order_count}
-use Rattle.cost_table.specs.declared.limits.TheConstants.{MAX_COST}
+use Rattle.cost_table.specs.TableLimits.{max_cost}
 use Rattle.assignment.specs.declared.search.TheConstants.{FAR}
 use Rattle.assignment.specs.declared.search.Search.{Search}
 use Rattle.assignment.specs.declared.search.Front.{Front}
 use Rattle.assignment.specs.declared.search.Best.{Best}
 use Rattle.assignment.specs.declared.search.End.{End}
 use Rattle.assignment.specs.declared.search.End.TheVariants.{Wagon, Refusal}
-use Rattle.assignment.specs.IndexList.{At}
-use Rattle.assignment.specs.State.{order_at}
+use Rattle.assignment.specs.inner.IndexList.{At}
+use Rattle.assignment.specs.inner.State.{order_at}
 
 -- whether a distance is that of something reached
 abbrev pub is_near : ℕ → Bool
@@ -82,7 +83,7 @@ IsEnd t v order_of order_far wagon_far orders distance (Refusal x) =
 
 pub record IsBest (t : Table) (v : List ℕ) (order_of : List (Option ℕ)) (order_far wagon_far orders : List ℕ) (front : ℕ) (best : Best) : Type 0 where
   pub beyond : front ≤ best.distance
-  pub limit : best.distance ≤ MAX_COST
+  pub limit : best.distance ≤ max_cost
   pub end : IsEnd t v order_of order_far wagon_far orders best.distance best.end
 
 -- the wagons reached, and those of them that may lead on

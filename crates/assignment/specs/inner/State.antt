@@ -1,7 +1,8 @@
+-- What is kept between searches: prices, and the order of each wagon.
 use Rattle.std.specs.Prelude.{◌≡◌, ◌+◌, ◌<◌, ◌≤◌, ◌==◌, nat_lt, ℕ, Bool, false, if◌then◌else◌, List, length, Option, Some, None, slice_index, slice_index_or}
 use Rattle.std.specs.List.{count_by}
 use Rattle.cost_table.specs.Table.{Table, IsTable, cost_at, penalty_at, lack_at, wagon_count, order_count}
-use Rattle.assignment.specs.Columns.{AreColumns}
+use Rattle.assignment.specs.inner.Columns.{AreColumns}
 
 -- the order that wagon i has, if it has one
 abbrev pub order_at : List (Option ℕ) → ℕ → Option ℕ
