@@ -1,4 +1,5 @@
-//! Reading how many wagons each order lacks.
+//! How many wagons each order of a table line lacks.
+
 ghost use Rattle.std.specs.Prelude.{All, IfOk, IfSome, option_map};
 ghost use Rattle.serde_json.specs.View.{view};
 ghost use Rattle.json_fields.specs.Fields.{Gives};

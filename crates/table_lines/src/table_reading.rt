@@ -1,4 +1,5 @@
-//! Reading a table line, field by field.
+//! Table lines, read field by field.
+
 ghost use Rattle.std.specs.Prelude.{◌≤◌, All, IfOk, IfSome};
 ghost use Rattle.serde_json.specs.View.{view};
 ghost use Rattle.json_fields.specs.Fields.{Gives};
@@ -21,7 +22,8 @@ use std::alloc::Global;
 ///
 /// The bytes are no JSON value (21), or no object (22); else the fields are tried in the order
 /// wagons, orders, cells, penalties, lacks, pairs, u, v, and the first that is missing (24) or bad
-/// (25) is the answer. `lacks` may be missing. `OutOfMemory` (1) may come in place of any answer.
+/// (25) is the answer. `lacks` may be missing. `OutOfMemory` (1) may be the
+/// answer in place of any other.
 #[tactic(auto, unfolding(crate::specs::TableLine::table_line_of))]
 pub fn read_table_line(alloc: Global, bytes: &[u8]) -> Result<TableLine, LineFault>
     ensures meaning { Gives table_text result (table_line_of bytes.now) }
@@ -34,6 +36,7 @@ pub fn read_table_line(alloc: Global, bytes: &[u8]) -> Result<TableLine, LineFau
     table_of(alloc, &object)
 }
 
+/// The table that an object gives.
 #[tactic(auto, unfolding(crate::specs::TableLine::table_text_of))]
 fn table_of(alloc: Global, object: &Value) -> Result<TableLine, LineFault>
     ensures meaning { Gives table_text result (table_text_of (view object.now)) }

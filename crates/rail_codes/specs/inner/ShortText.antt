@@ -1,3 +1,4 @@
+-- A short text in a field of fixed size.
 use Rattle.std.specs.Prelude.{◌≡◌, ℕ, ◌-◌, ◌≤◌, ◌++◌, List, length, replicate, take}
 use Rattle.std.proofs.Common.{arith, length-take-le}
 
