@@ -1,8 +1,9 @@
+//! The search for the shortest path from an order.
 ghost use Rattle.std.specs.Prelude.{◌≡◌, ◌<◌, ◌≤◌, ◌+◌, ◌-◌, ◌⊎◌, ℕ, [], ◌∷◌, ◌++◌, ◌==◌, ◌&&◌, not, nat_lt, if◌then◌else◌, length, min, slice_index, slice_set, Some, IfOk, IfSome, IfNone, MatchOption};
 ghost use Rattle.cost_table.specs.Table.{Table, cost_at, penalty_at, wagon_count, order_count};
-ghost use Rattle.assignment.specs.IndexList.{without};
-ghost use Rattle.assignment.specs.State.{IsState};
-ghost use Rattle.assignment.specs.Search.{IsAtRest, IsSearch, IsFront, refusal_of};
+ghost use Rattle.assignment.specs.inner.IndexList.{without};
+ghost use Rattle.assignment.specs.inner.State.{IsState};
+ghost use Rattle.assignment.specs.inner.Search.{IsAtRest, IsSearch, IsFront, refusal_of};
 
 use crate::index_list::IndexList;
 use crate::state::State;

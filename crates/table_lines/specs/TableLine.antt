@@ -9,15 +9,9 @@ use Rattle.json_fields.specs.declared.fault.LineFault.{LineFault}
 use Rattle.json_fields.specs.Values.{◌>>=◌, number_within, wagon_number_from, order_id_from, list_of_each, pair_of}
 use Rattle.json_fields.specs.Fields.{list_at, optional_list_at}
 use Rattle.json_fields.specs.Line.{object_of}
+use Rattle.move_messages.specs.Order.{max_order_wagons}
+use Rattle.cost_table.specs.TableLimits.{max_cost}
 use Rattle.table_lines.specs.declared.table_line.TableLine.{TableLine}
-
--- the greatest cost of a cell and the greatest penalty, in km, as a table of costs has them
-abbrev pub max_cost : ℕ
-max_cost = 1_000_000_000
-
--- the most wagons that an order lacks, as a table of costs has it; it lacks one at least
-abbrev pub max_lack : ℕ
-max_lack = 20
 
 -- a table line, as a contract sees it: wagon numbers and the names of orders are texts
 pub record TableText : Type 0 where
@@ -37,7 +31,7 @@ table_text line =
 
 -- ---- fields
 
--- a cost, or null where the pair is not allowed
+-- the cost of a cell in km, null where the pair is not allowed
 unfoldable pub cell_of : Data → Result (Option ℕ) FieldFault
 cell_of d = if is_some (as_null d) then Ok None else number_within 0 max_cost d >>= λ cost. Ok (Some cost)
 
@@ -49,11 +43,11 @@ row_of d = list_of_each cell_of d
 abbrev pub cells_of : Data → Result (List (List (Option ℕ))) LineFault
 cells_of d = list_at row_of Cells d
 
--- how many wagons each order lacks, where the field is there
+-- how many wagons each order lacks: one at least, and no more than an order wants
 abbrev pub lacks_of : Data → Result (Option (List ℕ)) LineFault
-lacks_of d = optional_list_at (number_within 1 max_lack) Lacks d
+lacks_of d = optional_list_at (number_within 1 max_order_wagons) Lacks d
 
--- the dual prices of the wagons, or those of the orders
+-- the dual prices of the wagons, or those of the orders, in km
 abbrev pub prices_of : Field → Data → Result (List ℕ) LineFault
 prices_of field d = list_at (number_within 0 (2 ^ 64 - 1)) field d
 

@@ -2,8 +2,8 @@
 
 use rail_codes::{OrderId, WagonNumber};
 
-/// A table with a plan and its prices, as a line gives them. Nothing ties the lists' lengths to one
-/// another, and a name may stand more than once.
+/// A table with a plan and its prices, as a line gives them. The lists may be of any lengths, and a
+/// name may be there more than once.
 #[derive(Debug, Drop)]
 pub struct TableLine {
     /// The wagons, in the order of `cells` and `u`.

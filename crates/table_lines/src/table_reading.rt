@@ -3,9 +3,10 @@
 ghost use Rattle.std.specs.Prelude.{◌≤◌, All, IfOk, IfSome};
 ghost use Rattle.serde_json.specs.View.{view};
 ghost use Rattle.json_fields.specs.Fields.{Gives};
-ghost use Rattle.table_lines.specs.TableLine.{max_cost, table_text, table_text_of, table_line_of};
+ghost use Rattle.table_lines.specs.TableLine.{table_text, table_text_of, table_line_of};
 ghost use Rattle.cost_table.specs.Rows.{IsNumber};
-ghost use Rattle.cost_table.specs.Table.{IsLack};
+ghost use Rattle.cost_table.specs.TableLimits.{max_cost};
+ghost use Rattle.load_orders.specs.Wanted.{IsLack};
 
 use crate::cells::cells_at;
 use crate::lacks::lacks_at;
