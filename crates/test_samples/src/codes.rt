@@ -33,7 +33,11 @@ pub fn time(alloc: Global, text: &str) -> Result<Moment, Fail> {
 /// The first message of company 0080.
 pub fn message_id() -> Result<MessageId, Fail> {
     Ok(MessageId {
-        company: Company::read("0080")?,
+        company: company("0080")?,
         number: 1,
     })
+}
+
+pub fn company(text: &str) -> Result<Company, Fail> {
+    Ok(Company::read(text)?)
 }

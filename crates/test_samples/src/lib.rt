@@ -10,7 +10,7 @@ mod texts;
 mod wagons;
 mod writing;
 
-pub use codes::{class, message_id, moment, order_id, place, time, wagon};
+pub use codes::{class, company, message_id, moment, order_id, place, time, wagon};
 pub use messages::misnamed;
 pub use orders::order_text;
 pub use reading::{MemoryReader, MemorySource};
