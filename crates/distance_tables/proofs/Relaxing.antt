@@ -11,10 +11,10 @@ use Rattle.line_network.specs.declared.line.Line.{Line}
 use Rattle.line_network.specs.Network.{IsLine}
 use Rattle.distance_tables.specs.declared.distance.Distance.{Distance}
 use Rattle.distance_tables.specs.declared.step.Step.{Step}
-use Rattle.distance_tables.specs.Steps.{line_from}
+use Rattle.distance_tables.specs.inner.Steps.{line_from}
 use Rattle.distance_tables.specs.declared.waiting.Waiting.{Waiting}
-use Rattle.distance_tables.specs.Rows.{IsPathPair}
-use Rattle.distance_tables.specs.Search.{plus_line, label_at, LabelAtMost, LabelAbove, IsBelow, is_label_below, below_count, AreBounded, AreLabels, IsRelaxed, IsSettled, entry, label_weight, Relaxes, stays, falls, Improves}
+use Rattle.distance_tables.specs.inner.Rows.{IsPathPair}
+use Rattle.distance_tables.specs.inner.Search.{plus_line, label_at, LabelAtMost, LabelAbove, IsBelow, is_label_below, below_count, AreBounded, AreLabels, IsRelaxed, IsSettled, entry, label_weight, Relaxes, stays, falls, Improves}
 use Rattle.distance_tables.proofs.Labels.{IsBelow-plus_line, not_below_itself, fallen_below, not_below, below_more, is_below_itself_more, not_above, LabelAtMost-fallen, LabelAtMost-itself, label_weight-falls}
 use Rattle.distance_tables.proofs.Paths.{IsPathPair-plus}
 use Rattle.distance_tables.proofs.Totals.{count_by-mono, count_by-more}

@@ -11,8 +11,8 @@ use Rattle.std.proofs.lemmas.Nat.{mod_below}
 use Rattle.line_network.specs.declared.line.Line.{Line}
 use Rattle.distance_tables.specs.declared.distance.Distance.{Distance}
 use Rattle.distance_tables.specs.declared.share.OriginRow.{OriginRow}
-use Rattle.distance_tables.specs.Rows.{IsRow, AreRows}
-use Rattle.distance_tables.specs.Shares.{origins_of, IsShare, AreShares, put_rows}
+use Rattle.distance_tables.specs.inner.Rows.{IsRow, AreRows}
+use Rattle.distance_tables.specs.inner.Shares.{origins_of, IsShare, AreShares, put_rows}
 use Rattle.distance_tables.proofs.Searching.{Contains-nil, Contains-cons_cases}
 
 -- one number more

@@ -12,7 +12,7 @@ pub(crate) struct Step {
 }
 
 impl Step {
-    ghost use Rattle.distance_tables.specs.Steps.{step_of, line_from};
+    ghost use Rattle.distance_tables.specs.inner.Steps.{step_of, line_from};
 
     /// A line's.
     pub(crate) fn of_line(line: &Line) -> Step

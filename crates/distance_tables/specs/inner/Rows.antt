@@ -1,7 +1,8 @@
+-- The rows of tables: the distances from each place to each place, by their numbers.
 use Rattle.std.specs.Prelude.{◌≡◌, ℕ, ◌*◌, ◌<◌, ◌≤◌, List, length, Option, Some, None, slice_index_or}
 use Rattle.std.specs.declared.alloc.Global.{Global}
 use Rattle.std.specs.declared.vec.Vec.{Vec}
-use Rattle.line_network.specs.declared.limits.TheConstants.{MAX_LENGTH}
+use Rattle.line_network.specs.Network.{max_line_km, max_line_minutes}
 use Rattle.line_network.specs.declared.line.Line.{Line}
 use Rattle.distance_tables.specs.declared.distance.Distance.{Distance}
 use Rattle.distance_tables.specs.Walk.{IsPath, km_of, minutes_of}
@@ -27,7 +28,7 @@ IsAnswer lines a b (Some d) = IsLeast lines a b d
 -- no longer than as many lines of the greatest length as there are places
 abbrev pub IsNear : ℕ → Option Distance → Type 0
 IsNear places None = Unit {0}
-IsNear places (Some d) = (d.km ≤ MAX_LENGTH * places) × (d.minutes ≤ MAX_LENGTH * places)
+IsNear places (Some d) = (d.km ≤ max_line_km * places) × (d.minutes ≤ max_line_minutes * places)
 
 -- the distances from one place to each of so many
 pub record IsRow (lines : List Line) (places a : ℕ) (row : List (Option Distance)) : Type 0 where

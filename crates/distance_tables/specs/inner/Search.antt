@@ -1,11 +1,12 @@
+-- The search from one place: labels, what waits, and what relaxing a line keeps.
 use Rattle.std.specs.Prelude.{◌≡◌, ℕ, ◌+◌, ◌*◌, ◌^◌, ◌<◌, ◌≤◌, ◌⊎◌, ⊤, Bool, false, ◌&&◌, ◌||◌, ◌==◌, nat_lt, List, ◌∷◌, length, Option, Some, None, All, Contains, count_by, sum_by, slice_set, slice_index_or, IsSomeAnd}
 use Rattle.std.specs.List.Sorted.{IsPermutation}
-use Rattle.line_network.specs.declared.limits.TheConstants.{MAX_LENGTH}
+use Rattle.line_network.specs.Network.{max_line_km, max_line_minutes}
 use Rattle.line_network.specs.declared.line.Line.{Line}
 use Rattle.distance_tables.specs.declared.distance.Distance.{Distance}
 use Rattle.distance_tables.specs.declared.waiting.Waiting.{Waiting}
 use Rattle.distance_tables.specs.Distance.{AtMost}
-use Rattle.distance_tables.specs.Rows.{IsPathPair}
+use Rattle.distance_tables.specs.inner.Rows.{IsPathPair}
 
 -- the label of a place, `None` where it isn't reached
 abbrev pub label_at : List (Option Distance) → ℕ → Option Distance
@@ -35,8 +36,8 @@ below_count labels d = count_by (is_label_below d) labels
 
 -- each label is of so many lines at most as labels lie below it, so none is too large
 pub record AreBounded (labels : List (Option Distance)) : Type 0 where
-  pub km : (k : ℕ) (d : Distance) → label_at labels k ≡ Some d → d.km ≤ MAX_LENGTH * below_count labels d
-  pub minutes : (k : ℕ) (d : Distance) → label_at labels k ≡ Some d → d.minutes ≤ MAX_LENGTH * below_count labels d
+  pub km : (k : ℕ) (d : Distance) → label_at labels k ≡ Some d → d.km ≤ max_line_km * below_count labels d
+  pub minutes : (k : ℕ) (d : Distance) → label_at labels k ≡ Some d → d.minutes ≤ max_line_minutes * below_count labels d
 
 -- each label is the pair of a path from the origin, which is reached at no length
 pub record AreLabels (lines : List Line) (origin : ℕ) (labels : List (Option Distance)) : Type 0 where

@@ -1,3 +1,4 @@
+-- Lines without the place where they begin.
 use Rattle.std.specs.Prelude.{ℕ}
 use Rattle.line_network.specs.declared.line.Line.{Line}
 use Rattle.distance_tables.specs.declared.step.Step.{Step}

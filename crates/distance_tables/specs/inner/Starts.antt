@@ -1,3 +1,4 @@
+-- Where the lines from each place begin in a list of lines.
 use Rattle.std.specs.Prelude.{ℕ, ◌<◌, ◌≤◌, List, length, slice_index}
 use Rattle.std.specs.List.{AllWithin}
 use Rattle.line_network.specs.declared.line.Line.{Line}

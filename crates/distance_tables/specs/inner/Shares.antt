@@ -1,24 +1,18 @@
 -- How the origins are shared out over workers.
-use Rattle.std.specs.Prelude.{◌≡◌, ℕ, ◌+◌, ◌%◌, ◌<◌, ◌≤◌, ◌==◌, ◌⊎◌, List, All, Option, Result, IfOk, filter, fold, length, map, slice_index_or, slice_set}
+use Rattle.std.specs.Prelude.{◌≡◌, ℕ, ◌+◌, ◌%◌, ◌<◌, ◌≤◌, ◌==◌, List, All, Option, Result, IfOk, filter, fold, length, map, slice_index_or, slice_set}
 use Rattle.std.specs.List.{range_with_len}
 use Rattle.std.specs.declared.alloc.AllocError.{AllocError}
 use Rattle.std.specs.declared.alloc.Global.{Global}
 use Rattle.std.specs.declared.vec.Vec.{Vec}
-use Rattle.line_network.specs.Network.{IsLine}
-use Rattle.line_network.specs.declared.limits.TheConstants.{MAX_PLACES}
+use Rattle.line_network.specs.Network.{IsLine, max_places}
 use Rattle.line_network.specs.declared.line.Line.{Line}
 use Rattle.distance_tables.specs.declared.distance.Distance.{Distance}
 use Rattle.distance_tables.specs.declared.share.OriginRow.{OriginRow}
-use Rattle.distance_tables.specs.declared.many_threads.TheConstants.{MAX_WORKERS}
-use Rattle.distance_tables.specs.Rows.{IsRow}
-
--- no worker, or more than 64
-abbrev pub IsBadWorkerCount : ℕ → Type 0
-IsBadWorkerCount workers = (workers < 1) ⊎ (MAX_WORKERS < workers)
+use Rattle.distance_tables.specs.inner.Rows.{IsRow}
 
 -- lines between so many places, indexed by their origins, and a worker at least
 pub record IsWork (lines : List Line) (starts : List ℕ) (places workers : ℕ) : Type 0 where
-  pub few : places ≤ MAX_PLACES
+  pub few : places ≤ max_places
   pub indexed : length starts ≡ places + 1
   pub each_line : All (IsLine places) lines
   pub some : 0 < workers
