@@ -1,4 +1,4 @@
-//! What is made of the records of a file.
+//! Values that are collected from the records of a file.
 ghost use Rattle.std.specs.Prelude.{◌≡◌, ◌≤◌, ◌<◌, ◌+◌, ◌^◌, ◌++◌, ◌∷◌, [], ℕ, IfErr, IfOk, List, length};
 ghost use Rattle.csv.specs.Records.{fields_of};
 ghost use Rattle.csv_records.specs.Fields.{Record};
@@ -9,29 +9,29 @@ use crate::RecordFault;
 use csv::ByteRecord;
 use std::alloc::Global;
 
-/// What is made of a file's header and the records below it, one record after another.
+/// A value that is collected from a file's records: from the header first, and then from each record below it.
 pub trait FromRecords: Drop {
     /// Why a file is refused.
     type Fault: From<RecordFault>;
 
-    /// The most records below the header.
+    /// The most records that a file may have below its header.
     const MOST_RECORDS: u32;
 
     ghost MOST_RECORDS: { ℕ };
 
-    // what was made of these records, the header among them
+    // the value is that of these records, the header among them
     ghost made_of: { Self → List Record → Type 0 };
 
     // a file of these records is refused with this fault
     ghost refuses: { Self.Fault → List Record → Type 0 };
 
-    /// What is made of a first record, which is the header.
+    /// The value of the header alone. Refused where the record is no header.
     fn of_header(alloc: Global, header: &ByteRecord) -> Result<Self, Self::Fault>
         ensures made { IfOk result (λ made. made_of made (fields_of header.now ∷ [])) }
         ensures refused { IfErr result (λ fault. (rest : List Record) → refuses fault (fields_of header.now ∷ rest)) }
         ensures no_reader { IfErr result (λ fault. Self.Fault.from_gives ReadFailed fault → ⊥) };
 
-    /// What is made of one record more, which is that of a number.
+    /// The value with one more record. `number` is the record's, the header being record 1.
     fn with_record(self, number: u32, fields: &ByteRecord) -> Result<Self, Self::Fault>
         requires { (done : List Record) × made_of self done × (length done + 1 ≡ number) × (number ≤ MOST_RECORDS + 1) }
         ensures made { IfOk result (λ made. (done : List Record) → made_of self done → length done + 1 ≡ number → made_of made (done ++ fields_of fields.now ∷ [])) }
@@ -51,9 +51,9 @@ pub trait FromRecords: Drop {
     // records are counted in 32 bits
     ghost counted: { MOST_RECORDS + 2 < 2 ^ 32 };
 
-    // where memory was refused or the reader failed, nothing is said of the records
+    // a failure, of memory or of the reader, says nothing of the records
     ghost failures: { (failure : RecordFault) (fault : Self.Fault) (records : List Record) → Self.Fault.from_gives failure fault → refuses fault records };
 
-    // and the two aren't taken for one another
+    // no fault stands for both failures
     ghost told_apart: { (fault : Self.Fault) → Self.Fault.from_gives OutOfMemory fault → Self.Fault.from_gives ReadFailed fault → ⊥ };
 }

@@ -11,7 +11,7 @@ use csv::{ByteRecord, Error, Reader, ReaderBuilder};
 use std::alloc::Global;
 use std::io::Read;
 
-/// A reader of records of any length, which takes the header for a record.
+/// A reader whose records may have any number of fields, and whose first record is the header.
 pub fn open_records<R: Read>(alloc: Global, reader: R) -> Reader<R>
     ensures set_up { IsSetUp result }
     ensures source { source_of R.remaining result ≡ option_map strip_bom (R.remaining reader) }
@@ -24,8 +24,9 @@ pub fn open_records<R: Read>(alloc: Global, reader: R) -> Reader<R>
         .from_reader(alloc, reader)
 }
 
-/// Reads a header and the records below it, which are counted from 2. At most two records more are asked for
-/// than there may be below the header, so it returns wherever `csv` answers each request for a record.
+/// Collects a value from a header and the records below it, which are numbered from 2. At most two records more
+/// are asked for than a file may have below its header, so it returns wherever `csv` answers each request for a
+/// record.
 pub fn read_records<R: Read, T: FromRecords>(
     alloc: Global,
     reader: &mut Reader<R>,
@@ -69,7 +70,7 @@ fn next_record<R: Read>(
     }
 }
 
-/// Why the reader of records stopped: its reader failed, or memory was refused.
+/// Why the reader of records stopped: its reader failed, or it was out of memory.
 fn fault_of(error: &Error) -> RecordFault
     requires { IsTrue (stops_reader (error_kind error.now)) }
     ensures { result ≡ (if is_io (error_kind error.now) then RecordFault.ReadFailed else RecordFault.OutOfMemory) }

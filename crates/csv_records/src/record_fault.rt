@@ -5,7 +5,7 @@ use thiserror::Error;
 /// Why a reader of records gave no record. The message is the fault's name.
 #[derive(Clone, Copy, Debug, PartialEq, Eq, Error)]
 pub enum RecordFault {
-    /// Memory was refused.
+    /// Out of memory.
     #[error("OutOfMemory")]
     OutOfMemory,
     /// The reader under it failed.

@@ -1,3 +1,4 @@
+-- Lines in the order of their origins, and those that begin at a place.
 use Rattle.std.proofs.Common.{◌≡◌, ℕ, [], ◌∷◌, ◌++◌, true, false, ltb, subst, ◌+◌, ◌-◌, ◌<◌, ◌≤◌, List, length, take, drop, sym, ◌∙◌, arith, ap, inl, inr, get_or, map}
 use Rattle.std.specs.List.{All, AllWithin, Contains}
 use Rattle.std.specs.List.Sorted.{IsPartitionPoint}

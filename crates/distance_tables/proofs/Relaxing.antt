@@ -1,3 +1,4 @@
+-- Relaxing a line: labels stay those of paths, and what is left to do falls.
 use Rattle.std.proofs.Common.{◌≡◌, ℕ, suc, ◌+◌, ◌*◌, ◌^◌, ◌<◌, ◌≤◌, ◌⊎◌, true, false, List, ◌∷◌, length, refl, sym, ◌∙◌, subst, arith, inl, inr, Some, None, Option, get_or, set, length-set, get_or-set_same, get_or-set_other}
 use Rattle.std.specs.List.{All, AllWithin, Contains}
 use Rattle.std.specs.List.Sorted.{IsPermutation}

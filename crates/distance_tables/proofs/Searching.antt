@@ -1,3 +1,4 @@
+-- What a search keeps, and that its labels are the distances at its end.
 use Rattle.std.proofs.Common.{◌≡◌, ℕ, zero, suc, ◌*◌, ◌<◌, ◌≤◌, ◌⊎◌, List, [], ◌∷◌, length, replicate, refl, sym, ◌∙◌, ap, subst, arith, inl, inr, Some, None, Option, get_or, set, length-set, take, drop, ◌++◌}
 use Rattle.std.proofs.lemmas.List.{length-replicate, take-append-le, take_all}
 use Rattle.std.specs.List.{Contains}

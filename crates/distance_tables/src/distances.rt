@@ -8,9 +8,6 @@ use line_network::Network;
 use rail_codes::Place;
 use std::marker::Model;
 
-/// The most kilometres, and the most minutes, of a distance: a line of the greatest length to each place.
-pub const MAX_DISTANCE: u32 = 20_000_000;
-
 /// The distances between the places of a network, which is kept with them. A contract sees the network.
 #[derive(Drop)]
 pub struct Tables {

@@ -16,14 +16,14 @@ pub(crate) struct Label {
 }
 
 impl Label {
-    /// That of a place to which no way is found.
+    /// The label of a place to which no way is found.
     pub(crate) fn unreached() -> Label
         ensures { distance_of result ≡ None }
     {
         Label { number: u64::MAX }
     }
 
-    /// That of a place at a distance.
+    /// The label of a place at a distance.
     pub(crate) fn at(distance: Distance) -> Label
         requires { distance.km < 2 ^ 25 }
         ensures { distance_of result ≡ Some distance }

@@ -19,7 +19,7 @@ mod turn;
 mod waiting;
 mod work_fault;
 
-pub use distances::{MAX_DISTANCE, Tables};
+pub use distances::Tables;
 pub use gate::{Gate, OpenGate};
 pub use laws::{distance_is_unique, place_is_at_itself, triangle_holds};
 pub use many_threads::{MAX_WORKERS, tables_by_workers};

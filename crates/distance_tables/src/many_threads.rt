@@ -137,7 +137,7 @@ fn joined<'e, R: Threads>(
     }
 }
 
-/// Waits for workers whose answers are not wanted.
+/// Waits for workers whose answers are no longer needed.
 fn drop_answers<R: Threads>(rt: &R, running: Vec<Running<'_>>) {
     for worker in running {
         drop(worker.join(rt));

@@ -24,7 +24,7 @@ impl Queue {
         Ok(Queue { turns })
     }
 
-    /// Has a place wait.
+    /// Adds a place that waits.
     pub(crate) fn push(&mut self, next: Waiting) -> Result<(), AllocError>
         requires { IsShort next }
         ensures { OnOk result (IsPermutation (next ∷ waits self.old) (waits self.new)) }

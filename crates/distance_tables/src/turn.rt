@@ -19,7 +19,7 @@ pub(crate) struct Turn {
 }
 
 impl Turn {
-    /// That of a place that waits.
+    /// The turn of a place that waits.
     pub(crate) fn of(waiting: Waiting) -> Turn
         requires { IsShort waiting }
         ensures { waiting_of result ≡ waiting }
