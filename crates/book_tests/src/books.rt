@@ -7,22 +7,8 @@ use move_messages::{Command, read_line};
 use std::alloc::Global;
 use std::sync::Arc;
 use std::test::Fail;
+use test_samples::{NETWORK, ROSTER};
 use wagon_roster::Roster;
-
-/// The sample's wagons: the greater number stands at DE00001, the lesser at DE00002, nearer to the place of the order.
-pub(crate) const FAR: &str = "338447961008";
-
-pub(crate) const NEAR: &str = "218124712173";
-
-/// A roster without a wagon, and that of the sample.
-pub(crate) const HEADER: &str = "wagon,class,load,status,place,moment\n";
-
-pub(crate) const ROSTER: &str =
-    "wagon,class,load,status,place,moment\n338447961008,Eanos,60000,empty,DE00001,2026-03-01T00:00:00Z\n218124712173,Eanos,60000,empty,DE00002,2026-03-01T00:00:00Z\n";
-
-/// From the first place to the third it is shorter by the second, and quicker without.
-pub(crate) const NETWORK: &str =
-    "from,to,km,minutes,way\nDE00001,DE00002,100,120,both\nDE00002,DE00003,50,60,both\nDE00001,DE00003,160,90,one\n";
 
 /// A book's roster and networks, and how many entries and problems it may have.
 #[derive(Clone, Copy)]

@@ -1,80 +1,11 @@
 //! Commits that are accepted, and each reason why one is refused.
 
 use crate::books::{SAMPLE, Start};
-use crate::lines::{BEGIN, COMMIT, DEPARTURE, ORDER};
+use crate::lines::{BEGIN, COMMIT, DEPARTURE};
 use crate::steps::Step::{Accepted, Begun, Entries, Problem, Refused};
-use crate::steps::first_other;
+use crate::steps::{Case, first_other};
 use std::test::Fail;
-
-/// Two callers plan the same problem.
-#[test]
-fn a_wagon_is_promised_twice(rt: HostRuntime) -> Result<(), Fail> {
-    let steps = [
-        Accepted(ORDER, 1),
-        Begun(BEGIN, 1),
-        Begun(BEGIN, 1),
-        Accepted(COMMIT, 2),
-        Refused(COMMIT, 82, "218124712173"),
-        Entries(2),
-    ];
-    assert_eq!(rt; first_other(rt.alloc(), SAMPLE, &steps)?, None);
-    Ok(())
-}
-
-/// Where one problem is kept, the second drops the first.
-#[test]
-fn a_problem_is_dropped(rt: HostRuntime) -> Result<(), Fail> {
-    let start = Start { kept: 1, ..SAMPLE };
-    let steps = [
-        Accepted(ORDER, 1),
-        Begun(BEGIN, 1),
-        Accepted(DEPARTURE, 2),
-        Begun(BEGIN, 2),
-        Refused(COMMIT, 81, ""),
-    ];
-    assert_eq!(rt; first_other(rt.alloc(), start, &steps)?, None);
-    Ok(())
-}
-
-/// A problem that is begun again stands where it stood, and is the first to be dropped.
-#[test]
-fn a_problem_is_begun_again(rt: HostRuntime) -> Result<(), Fail> {
-    let start = Start { kept: 2, ..SAMPLE };
-    let later = r#"{"type":"begin","at":"2026-03-01T02:00:00Z"}"#;
-    let last = r#"{"type":"begin","at":"2026-03-01T03:00:00Z"}"#;
-    let steps = [
-        Accepted(ORDER, 1),
-        Begun(BEGIN, 1),
-        Begun(later, 1),
-        Begun(BEGIN, 1),
-        Begun(last, 1),
-        Refused(COMMIT, 81, ""),
-    ];
-    assert_eq!(rt; first_other(rt.alloc(), start, &steps)?, None);
-    Ok(())
-}
-
-/// A problem that isn't kept comes before a full book, and that before the rest.
-#[test]
-fn a_full_book(rt: HostRuntime) -> Result<(), Fail> {
-    let start = Start {
-        entries: 1,
-        ..SAMPLE
-    };
-    let unkept =
-        r#"{"type":"commit","version":0,"at":"2026-03-01T01:00:00Z","pairs":[],"u":[0,0],"v":[]}"#;
-    let wrong =
-        r#"{"type":"commit","version":1,"at":"2026-03-01T01:00:00Z","pairs":[],"u":[],"v":[]}"#;
-    let steps = [
-        Accepted(ORDER, 1),
-        Begun(BEGIN, 1),
-        Refused(unkept, 81, ""),
-        Refused(wrong, 72, ""),
-        Refused(COMMIT, 72, ""),
-    ];
-    assert_eq!(rt; first_other(rt.alloc(), start, &steps)?, None);
-    Ok(())
-}
+use test_samples::ORDER;
 
 const HELD: &str =
     r#"{"type":"exception","company":"0080","number":1,"wagon":"218124712173","place":"DE00002","moment":"2026-03-01T00:00:00Z","hold":true}"#;
@@ -85,91 +16,161 @@ const OTHER_WAGON: &str =
 const LET_GO: &str =
     r#"{"type":"exception","company":"0080","number":2,"wagon":"218124712173","place":"DE00002","moment":"2026-03-01T00:00:00Z","hold":false}"#;
 
-/// The wagon is free again as it was; its order waits no more.
-#[test]
-fn an_order_is_promised_already(rt: HostRuntime) -> Result<(), Fail> {
-    let steps = [
-        Accepted(ORDER, 1),
-        Problem(1, 1, 2, 1),
-        Accepted(HELD, 2),
-        Problem(2, 1, 1, 1),
-        Accepted(OTHER_WAGON, 3),
-        Accepted(LET_GO, 4),
-        Refused(COMMIT, 83, "O1"),
-    ];
-    assert_eq!(rt; first_other(rt.alloc(), SAMPLE, &steps)?, None);
-    Ok(())
-}
+const CASES: &[Case] = &[
+    // Two callers plan the same problem.
+    Case {
+        name: "a wagon is promised twice",
+        start: SAMPLE,
+        steps: &[
+            Accepted(ORDER, 1),
+            Begun(BEGIN, 1),
+            Begun(BEGIN, 1),
+            Accepted(COMMIT, 2),
+            Refused(COMMIT, 82, "218124712173"),
+            Entries(2),
+        ],
+    },
+    // Where one problem is kept, the second drops the first.
+    Case {
+        name: "a problem is dropped",
+        start: Start { kept: 1, ..SAMPLE },
+        steps: &[
+            Accepted(ORDER, 1),
+            Begun(BEGIN, 1),
+            Accepted(DEPARTURE, 2),
+            Begun(BEGIN, 2),
+            Refused(COMMIT, 81, ""),
+        ],
+    },
+    // A problem that is begun again stands where it stood, and is the first to be dropped.
+    Case {
+        name: "a problem is begun again",
+        start: Start { kept: 2, ..SAMPLE },
+        steps: &[
+            Accepted(ORDER, 1),
+            Begun(BEGIN, 1),
+            Begun(r#"{"type":"begin","at":"2026-03-01T02:00:00Z"}"#, 1),
+            Begun(BEGIN, 1),
+            Begun(r#"{"type":"begin","at":"2026-03-01T03:00:00Z"}"#, 1),
+            Refused(COMMIT, 81, ""),
+        ],
+    },
+    // A problem that isn't kept comes before a full book, and that before the rest.
+    Case {
+        name: "a full book",
+        start: Start {
+            entries: 1,
+            ..SAMPLE
+        },
+        steps: &[
+            Accepted(ORDER, 1),
+            Begun(BEGIN, 1),
+            Refused(
+                r#"{"type":"commit","version":0,"at":"2026-03-01T01:00:00Z","pairs":[],"u":[0,0],"v":[]}"#,
+                81,
+                "",
+            ),
+            Refused(
+                r#"{"type":"commit","version":1,"at":"2026-03-01T01:00:00Z","pairs":[],"u":[],"v":[]}"#,
+                72,
+                "",
+            ),
+            Refused(COMMIT, 72, ""),
+        ],
+    },
+    // The wagon is free again as it was; its order waits no more.
+    Case {
+        name: "an order is promised already",
+        start: SAMPLE,
+        steps: &[
+            Accepted(ORDER, 1),
+            Problem(1, 1, 2, 1),
+            Accepted(HELD, 2),
+            Problem(2, 1, 1, 1),
+            Accepted(OTHER_WAGON, 3),
+            Accepted(LET_GO, 4),
+            Refused(COMMIT, 83, "O1"),
+        ],
+    },
+    // Commits of the sample's first problem that are no certificate, or name what isn't in the problem.
+    Case {
+        name: "no certificates",
+        start: SAMPLE,
+        steps: &[
+            Accepted(ORDER, 1),
+            Begun(BEGIN, 1),
+            Refused(
+                r#"{"type":"commit","version":1,"at":"2026-03-01T01:00:00Z","pairs":[["218124712173","O1"]],"u":[0],"v":[50]}"#,
+                61,
+                "",
+            ),
+            Refused(
+                r#"{"type":"commit","version":1,"at":"2026-03-01T01:00:00Z","pairs":[["218124712173","O1"]],"u":[0,0],"v":[50,0]}"#,
+                61,
+                "",
+            ),
+            Refused(
+                r#"{"type":"commit","version":1,"at":"2026-03-01T01:00:00Z","pairs":[["338447961008","O1"],["218124712173","O1"]],"u":[0,0],"v":[50]}"#,
+                63,
+                "218124712173 O1",
+            ),
+            Refused(
+                r#"{"type":"commit","version":1,"at":"2026-03-01T01:00:00Z","pairs":[["218124712173","O1"],["218124712173","O1"]],"u":[0,0],"v":[50]}"#,
+                63,
+                "218124712173 O1",
+            ),
+            Refused(
+                r#"{"type":"commit","version":1,"at":"2026-03-01T01:00:00Z","pairs":[["218124712173","O1"]],"u":[0,0],"v":[51]}"#,
+                64,
+                "218124712173 O1",
+            ),
+            Refused(
+                r#"{"type":"commit","version":1,"at":"2026-03-01T01:00:00Z","pairs":[["218124712173","O1"]],"u":[951,851],"v":[1001]}"#,
+                65,
+                "O1",
+            ),
+            Refused(
+                r#"{"type":"commit","version":1,"at":"2026-03-01T01:00:00Z","pairs":[["218124712173","O1"]],"u":[10,0],"v":[50]}"#,
+                66,
+                "60 50",
+            ),
+            Refused(
+                r#"{"type":"commit","version":1,"at":"2026-03-01T01:00:00Z","pairs":[["218124712173","O1"],["338447961040","O1"]],"u":[],"v":[]}"#,
+                84,
+                "338447961040 O1",
+            ),
+            Refused(
+                r#"{"type":"commit","version":1,"at":"2026-03-01T01:00:00Z","pairs":[["218124712173","O9"]],"u":[0,0],"v":[50]}"#,
+                84,
+                "218124712173 O9",
+            ),
+            Accepted(COMMIT, 2),
+        ],
+    },
+    // The farther wagon would be there at 04:00:00.
+    Case {
+        name: "a wagon comes late",
+        start: SAMPLE,
+        steps: &[
+            Accepted(
+                r#"{"type":"order","order":"O1","place":"DE00003","classes":["Eanos"],"load":50000,"latest":"2026-03-01T03:59:59Z","penalty":1000}"#,
+                1,
+            ),
+            Begun(BEGIN, 1),
+            Refused(
+                r#"{"type":"commit","version":1,"at":"2026-03-01T01:00:00Z","pairs":[["338447961008","O1"]],"u":[0,0],"v":[50]}"#,
+                62,
+                "338447961008 O1",
+            ),
+        ],
+    },
+];
 
-/// Commits of the sample's first problem that are no certificate, or name what isn't in the problem.
 #[test]
-fn no_certificates(rt: HostRuntime) -> Result<(), Fail> {
-    let steps = [
-        Accepted(ORDER, 1),
-        Begun(BEGIN, 1),
-        Refused(
-            r#"{"type":"commit","version":1,"at":"2026-03-01T01:00:00Z","pairs":[["218124712173","O1"]],"u":[0],"v":[50]}"#,
-            61,
-            "",
-        ),
-        Refused(
-            r#"{"type":"commit","version":1,"at":"2026-03-01T01:00:00Z","pairs":[["218124712173","O1"]],"u":[0,0],"v":[50,0]}"#,
-            61,
-            "",
-        ),
-        Refused(
-            r#"{"type":"commit","version":1,"at":"2026-03-01T01:00:00Z","pairs":[["338447961008","O1"],["218124712173","O1"]],"u":[0,0],"v":[50]}"#,
-            63,
-            "218124712173 O1",
-        ),
-        Refused(
-            r#"{"type":"commit","version":1,"at":"2026-03-01T01:00:00Z","pairs":[["218124712173","O1"],["218124712173","O1"]],"u":[0,0],"v":[50]}"#,
-            63,
-            "218124712173 O1",
-        ),
-        Refused(
-            r#"{"type":"commit","version":1,"at":"2026-03-01T01:00:00Z","pairs":[["218124712173","O1"]],"u":[0,0],"v":[51]}"#,
-            64,
-            "218124712173 O1",
-        ),
-        Refused(
-            r#"{"type":"commit","version":1,"at":"2026-03-01T01:00:00Z","pairs":[["218124712173","O1"]],"u":[951,851],"v":[1001]}"#,
-            65,
-            "O1",
-        ),
-        Refused(
-            r#"{"type":"commit","version":1,"at":"2026-03-01T01:00:00Z","pairs":[["218124712173","O1"]],"u":[10,0],"v":[50]}"#,
-            66,
-            "60 50",
-        ),
-        Refused(
-            r#"{"type":"commit","version":1,"at":"2026-03-01T01:00:00Z","pairs":[["218124712173","O1"],["338447961040","O1"]],"u":[],"v":[]}"#,
-            84,
-            "338447961040 O1",
-        ),
-        Refused(
-            r#"{"type":"commit","version":1,"at":"2026-03-01T01:00:00Z","pairs":[["218124712173","O9"]],"u":[0,0],"v":[50]}"#,
-            84,
-            "218124712173 O9",
-        ),
-        Accepted(COMMIT, 2),
-    ];
-    assert_eq!(rt; first_other(rt.alloc(), SAMPLE, &steps)?, None);
-    Ok(())
-}
-
-/// The farther wagon would be there at 04:00:00.
-#[test]
-fn a_wagon_comes_late(rt: HostRuntime) -> Result<(), Fail> {
-    let order =
-        r#"{"type":"order","order":"O1","place":"DE00003","classes":["Eanos"],"load":50000,"latest":"2026-03-01T03:59:59Z","penalty":1000}"#;
-    let commit =
-        r#"{"type":"commit","version":1,"at":"2026-03-01T01:00:00Z","pairs":[["338447961008","O1"]],"u":[0,0],"v":[50]}"#;
-    let steps = [
-        Accepted(order, 1),
-        Begun(BEGIN, 1),
-        Refused(commit, 62, "338447961008 O1"),
-    ];
-    assert_eq!(rt; first_other(rt.alloc(), SAMPLE, &steps)?, None);
+fn commits(rt: HostRuntime) -> Result<(), Fail> {
+    for case in CASES {
+        let name = case.name;
+        assert_eq!(rt; first_other(rt.alloc(), case)?, None, "{name}");
+    }
     Ok(())
 }

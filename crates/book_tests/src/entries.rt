@@ -1,33 +1,13 @@
 //! Entries of a book, and a run of calls.
 
 use crate::books::{SAMPLE, Start, book_of, run};
-use crate::lines::{BEGIN, COMMIT, DEPARTURE, ORDER, OTHER_PLACE};
+use crate::lines::{BEGIN, COMMIT, DEPARTURE, OTHER_PLACE};
 use crate::steps::Step::{Accepted, Begun, Entries, Entry, Event, Refused};
-use crate::steps::first_other;
+use crate::steps::{Case, first_other};
 use commit_book::{Answer, Refusal, Reply};
 use std::alloc::Global;
 use std::test::Fail;
-
-#[test]
-fn entries_are_counted_from_1(rt: HostRuntime) -> Result<(), Fail> {
-    let steps = [
-        Entries(0),
-        Entry(1, false),
-        Accepted(ORDER, 1),
-        Begun(BEGIN, 1),
-        Accepted(COMMIT, 2),
-        Refused(COMMIT, 82, "218124712173"),
-        Entries(2),
-        Entry(0, false),
-        Entry(1, true),
-        Entry(2, true),
-        Entry(3, false),
-        Entry(u64::MAX, false),
-        Event(2, COMMIT),
-    ];
-    assert_eq!(rt; first_other(rt.alloc(), SAMPLE, &steps)?, None);
-    Ok(())
-}
+use test_samples::ORDER;
 
 /// Whether a book that starts so answers this to a run of these lines' calls.
 fn answers(
@@ -64,5 +44,34 @@ fn a_run_of_messages(rt: HostRuntime) -> Result<(), Fail> {
     ];
     let lines = [DEPARTURE, DEPARTURE, OTHER_PLACE];
     assert!(rt; answers(rt.alloc(), SAMPLE, &lines, &wanted)?);
+    Ok(())
+}
+
+const CASES: &[Case] = &[Case {
+    name: "entries are counted from 1",
+    start: SAMPLE,
+    steps: &[
+        Entries(0),
+        Entry(1, false),
+        Accepted(ORDER, 1),
+        Begun(BEGIN, 1),
+        Accepted(COMMIT, 2),
+        Refused(COMMIT, 82, "218124712173"),
+        Entries(2),
+        Entry(0, false),
+        Entry(1, true),
+        Entry(2, true),
+        Entry(3, false),
+        Entry(u64::MAX, false),
+        Event(2, COMMIT),
+    ],
+}];
+
+#[test]
+fn entries_are_counted_from_1(rt: HostRuntime) -> Result<(), Fail> {
+    for case in CASES {
+        let name = case.name;
+        assert_eq!(rt; first_other(rt.alloc(), case)?, None, "{name}");
+    }
     Ok(())
 }

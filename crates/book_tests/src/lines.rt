@@ -1,9 +1,5 @@
 //! Command lines of the worked examples, all of 1 March 2026.
 
-/// The sample's order, for one wagon.
-pub(crate) const ORDER: &str =
-    r#"{"type":"order","order":"O1","place":"DE00003","classes":["Eanos"],"load":50000,"latest":"2026-03-01T04:00:00Z","penalty":1000}"#;
-
 pub(crate) const WITHDRAWAL: &str = r#"{"type":"withdraw","order":"O1"}"#;
 
 pub(crate) const BEGIN: &str = r#"{"type":"begin","at":"2026-03-01T01:00:00Z"}"#;

@@ -2,20 +2,20 @@
 ghost use Rattle.std.specs.Prelude.{All, IsTrue};
 ghost use Rattle.commit_book.specs.Snap.{IsInRange};
 
-use crate::books::{HEADER, NETWORK, SAMPLE, Start, call};
-use crate::lines::{COMMIT, ORDER};
+use crate::books::{SAMPLE, Start, call};
+use crate::lines::COMMIT;
 use crate::states::ONE;
 use crate::steps::Step::{Accepted, Entries, Planned, Refused};
-use crate::steps::first_other;
+use crate::steps::{Case, first_other};
 use assignment::certified_plan;
 use commit_book::{Book, Call, Reply, Snap};
 use cost_table::{Plan, Problem, cells};
 use distance_tables::tables;
 use line_network::read_lines;
 use move_messages::CommitText;
-use rail_codes::Moment;
 use std::alloc::Global;
 use std::test::Fail;
+use test_samples::{NETWORK, ORDER, ROSTER_HEADER, moment};
 
 /// Whether the positions of a plan are a problem's.
 fn is_in_range(problem: &Problem, plan: &Plan) -> bool
@@ -47,7 +47,7 @@ pub(crate) fn is_planned(
     line: &str,
     entry: u64,
 ) -> Result<bool, Fail> {
-    let snap = book.begin(alloc, Moment::read(ONE)?)?;
+    let snap = book.begin(alloc, moment(ONE)?)?;
     let (commit, least) = planned(alloc, &snap)?;
     if book.commit(alloc, &commit)? != Reply::Accepted(entry) {
         return Ok(false);
@@ -55,36 +55,43 @@ pub(crate) fn is_planned(
     Ok(least == cost && Call::Commit(commit) == call(alloc, line)?)
 }
 
-#[test]
-fn a_planned_commit(rt: HostRuntime) -> Result<(), Fail> {
-    let steps = [
-        Accepted(ORDER, 1),
-        Planned(50, COMMIT, 2),
-        Refused(COMMIT, 82, "218124712173"),
-        Entries(2),
-    ];
-    assert_eq!(rt; first_other(rt.alloc(), SAMPLE, &steps)?, None);
-    Ok(())
-}
+const CASES: &[Case] = &[
+    Case {
+        name: "a planned commit",
+        start: SAMPLE,
+        steps: &[
+            Accepted(ORDER, 1),
+            Planned(50, COMMIT, 2),
+            Refused(COMMIT, 82, "218124712173"),
+            Entries(2),
+        ],
+    },
+    // Without a wagon the plan refuses the order, whose price is its penalty.
+    Case {
+        name: "a planned refusal",
+        start: Start {
+            roster: ROSTER_HEADER,
+            ..SAMPLE
+        },
+        steps: &[
+            Accepted(
+                r#"{"type":"order","order":"O1","place":"DE00003","classes":["Eanos"],"load":50000,"latest":"2026-03-01T04:00:00Z","penalty":900}"#,
+                1,
+            ),
+            Planned(
+                900,
+                r#"{"at":"2026-03-01T01:00:00Z","pairs":[],"type":"commit","u":[],"v":[900],"version":1}"#,
+                2,
+            ),
+        ],
+    },
+];
 
-/// Without a wagon the plan refuses the order, whose price is its penalty.
 #[test]
-fn a_planned_refusal(rt: HostRuntime) -> Result<(), Fail> {
-    let start = Start {
-        roster: HEADER,
-        ..SAMPLE
-    };
-    let steps = [
-        Accepted(
-            r#"{"type":"order","order":"O1","place":"DE00003","classes":["Eanos"],"load":50000,"latest":"2026-03-01T04:00:00Z","penalty":900}"#,
-            1,
-        ),
-        Planned(
-            900,
-            r#"{"at":"2026-03-01T01:00:00Z","pairs":[],"type":"commit","u":[],"v":[900],"version":1}"#,
-            2,
-        ),
-    ];
-    assert_eq!(rt; first_other(rt.alloc(), start, &steps)?, None);
+fn plans(rt: HostRuntime) -> Result<(), Fail> {
+    for case in CASES {
+        let name = case.name;
+        assert_eq!(rt; first_other(rt.alloc(), case)?, None, "{name}");
+    }
     Ok(())
 }

@@ -4,9 +4,9 @@ use crate::books::call;
 use commit_book::{Book, Call};
 use load_orders::OrderState;
 use operating_db::Event;
-use rail_codes::{Moment, OrderId, Place, WagonNumber};
 use std::alloc::Global;
 use std::test::Fail;
+use test_samples::{moment, order_id, place, wagon};
 use wagon_state::{Status, WagonRow};
 
 /// The moment of the problems.
@@ -21,7 +21,7 @@ pub(crate) fn has_problem(
     wagons: usize,
     orders: usize,
 ) -> Result<bool, Fail> {
-    let at = Moment::read(ONE)?;
+    let at = moment(ONE)?;
     let snap = book.begin(alloc, at)?;
     let problem = snap.problem();
     let is_of = (snap.version(), snap.at(), snap.network()) == (version, at, network);
@@ -40,38 +40,43 @@ pub(crate) fn has_entry(alloc: Global, book: &Book, n: u64, line: &str) -> Resul
 
 /// The row of a wagon, as a book's office has it.
 fn row_of(book: &Book, number: &str) -> Result<WagonRow, Fail> {
-    let row = book.state().wagon(WagonNumber::read(number)?);
+    let row = book.state().wagon(wagon(number)?);
     Ok(*row.ok_or("no wagon")?)
 }
 
 /// Whether a wagon that isn't held is empty at a place since a moment.
 pub(crate) fn is_ready(book: &Book, number: &str, place: &str, since: &str) -> Result<bool, Fail> {
     let row = row_of(book, number)?;
-    let status = Status::Empty(Place::read(place)?, Moment::read(since)?);
+    let status = Status::Empty(place(place)?, moment(since)?);
     Ok(row.status == status && !row.held)
 }
 
 /// Whether a wagon is loaded at a place.
 pub(crate) fn is_loading(book: &Book, number: &str, place: &str) -> Result<bool, Fail> {
-    let status = Status::Loading(Place::read(place)?);
+    let status = Status::Loading(place(place)?);
     Ok(row_of(book, number)?.status == status)
 }
 
-/// Whether a wagon is promised to an order, and the order has it among its promised ones.
-pub(crate) fn is_promised(book: &Book, number: &str, name: &str) -> Result<bool, Fail> {
+/// Whether a wagon's row has a promise to an order, and the order has the wagon among its promised ones; or neither.
+pub(crate) fn is_promised(
+    book: &Book,
+    number: &str,
+    name: &str,
+    promised: bool,
+) -> Result<bool, Fail> {
     let row = row_of(book, number)?;
-    let id = OrderId::read(name)?;
+    let id = order_id(name)?;
     let order = book.state().order(id).ok_or("no order")?;
-    Ok(row.promise == Some(id) && order.promised().contains(&row.number))
+    Ok((row.promise == Some(id)) == promised && order.promised().contains(&row.number) == promised)
 }
 
-/// Whether an order has come so far, and has been filled by so many wagons.
+/// Whether an order is in this state, and has been filled by so many wagons.
 pub(crate) fn has_state(
     book: &Book,
     name: &str,
     state: OrderState,
     filled: usize,
 ) -> Result<bool, Fail> {
-    let row = book.state().order(OrderId::read(name)?).ok_or("no order")?;
+    let row = book.state().order(order_id(name)?).ok_or("no order")?;
     Ok(row.state() == state && row.filled().len() == filled)
 }

@@ -36,9 +36,9 @@ pub(crate) enum Step<'a> {
     Ready(&'a str, &'a str, &'a str),
     /// A wagon is loaded at a place.
     Loading(&'a str, &'a str),
-    /// A wagon is promised to an order, and the order has it; or not.
+    /// A wagon is promised to an order, and the order has it; or neither.
     Promised(&'a str, &'a str, bool),
-    /// An order has come so far, and has been filled by so many wagons.
+    /// An order is in this state, and has been filled by so many wagons.
     State(&'a str, OrderState, usize),
 }
 
@@ -70,9 +70,7 @@ fn is_so(alloc: Global, book: &Book, step: Step<'_>) -> Result<bool, Fail> {
         Step::Event(n, line) => has_entry(alloc, book, n, line),
         Step::Ready(wagon, place, since) => is_ready(book, wagon, place, since),
         Step::Loading(wagon, place) => is_loading(book, wagon, place),
-        Step::Promised(wagon, order, promised) => {
-            Ok(is_promised(book, wagon, order)? == promised)
-        }
+        Step::Promised(wagon, order, promised) => is_promised(book, wagon, order, promised),
         Step::State(order, state, filled) => has_state(book, order, state, filled),
         _ => Ok(false),
     }
@@ -109,14 +107,18 @@ fn names(alloc: Global, refusal: Refusal) -> Result<String, Fail> {
     }
 }
 
-/// The first step that goes otherwise with a book that starts so, counted from 0.
-pub(crate) fn first_other(
-    alloc: Global,
-    start: Start<'_>,
-    steps: &[Step<'_>],
-) -> Result<Option<usize>, Fail> {
-    let mut book = book_of(alloc, start)?;
-    for (k, step) in steps.iter().enumerate() {
+/// A book that starts so, and its steps.
+#[derive(Clone, Copy)]
+pub(crate) struct Case {
+    pub(crate) name: &'static str,
+    pub(crate) start: Start<'static>,
+    pub(crate) steps: &'static [Step<'static>],
+}
+
+/// The first step of a case that goes otherwise, counted from 0.
+pub(crate) fn first_other(alloc: Global, case: &Case) -> Result<Option<usize>, Fail> {
+    let mut book = book_of(alloc, case.start)?;
+    for (k, step) in case.steps.iter().enumerate() {
         if !goes(alloc, &mut book, *step)? {
             return Ok(Some(k));
         }

@@ -1,12 +1,10 @@
-//! The tests that cross crates: worked examples, with values from the rules and not from the program.
+//! Tests of table lines and of runs over them: worked examples, with values from the rules and not from the program.
 #![tactic(auto)]
 
 #[cfg(test)]
 mod check_lines;
 #[cfg(test)]
-mod codes;
-#[cfg(test)]
-mod devices;
+mod failures;
 #[cfg(test)]
 mod runs;
 #[cfg(test)]

@@ -2,18 +2,13 @@
 
 use distance_tables::{Gate, OpenGate, Tables, WorkFault, tables, tables_by_workers};
 use line_network::{Network, NetworkFault, read_lines};
-use rail_codes::Place;
 use std::alloc::{AllocError, Global};
-use std::io::Read;
 use std::sync::Wait;
 use std::sync::atomic::{AtomicU64, Ordering};
 use std::test::Fail;
+use std::thread;
 use std::thread::Threads;
-use std::{io, thread};
-
-/// Three places: from the first to the third it is shorter by the second, and quicker without.
-const SAMPLE: &str =
-    "from,to,km,minutes,way\nDE00001,DE00002,100,120,both\nDE00002,DE00003,50,60,both\nDE00001,DE00003,160,90,one\n";
+use test_samples::{MemoryReader, NETWORK, NETWORK_HEADER, place};
 
 /// Whether two tables answer the same between any two places of a network.
 fn same_answers(network: &Network, one: &Tables, other: &Tables) -> bool {
@@ -37,7 +32,7 @@ fn like_one_thread<R: Threads + Wait, G: Gate + Sync>(
     workers: usize,
     gate: &G,
 ) -> Result<bool, Fail> {
-    let network = read_lines(alloc, SAMPLE.as_bytes())?;
+    let network = read_lines(alloc, NETWORK.as_bytes())?;
     let one = tables(alloc, &network)?;
     let many = tables_by_workers(rt, alloc, &network, workers, gate)?;
     Ok(same_answers(&network, &one, &many))
@@ -59,7 +54,7 @@ fn refusal<R: Threads + Wait>(
     alloc: Global,
     workers: usize,
 ) -> Result<Option<WorkFault>, Fail> {
-    let network = read_lines(alloc, SAMPLE.as_bytes())?;
+    let network = read_lines(alloc, NETWORK.as_bytes())?;
     Ok(tables_by_workers(rt, alloc, &network, workers, &OpenGate).err())
 }
 
@@ -72,11 +67,37 @@ fn one_to_sixty_four_workers(rt: HostRuntime) -> Result<(), Fail> {
     Ok(())
 }
 
-/// Holds the first two origins each until the other has entered, and counts who entered and who gave up.
+/// Holds each worker until so many origins have entered, and counts who entered and who gave up.
 #[derive(Drop)]
 struct MeetingGate {
+    wanted: u64,
     entered: [AtomicU64; 3],
     gave_up: AtomicU64,
+}
+
+impl MeetingGate {
+    fn new(wanted: u64) -> MeetingGate {
+        MeetingGate {
+            wanted,
+            entered: [AtomicU64::new(0), AtomicU64::new(0), AtomicU64::new(0)],
+            gave_up: AtomicU64::new(0),
+        }
+    }
+
+    /// How many origins have entered.
+    fn in_all(&self) -> u64 {
+        let mut sum: u64 = 0;
+        for entered in &self.entered {
+            sum = sum.saturating_add(entered.load(Ordering::SeqCst));
+        }
+        sum
+    }
+
+    /// Whether each of the three origins entered once, and none gave up.
+    fn is_passed(&self) -> bool {
+        self.gave_up.load(Ordering::SeqCst) == 0
+            && self.entered.iter().all(|n| n.load(Ordering::SeqCst) == 1)
+    }
 }
 
 impl Gate for MeetingGate {
@@ -85,13 +106,8 @@ impl Gate for MeetingGate {
             return;
         };
         own.fetch_add(1, Ordering::SeqCst);
-        let other = match origin {
-            0 => &self.entered[1],
-            1 => &self.entered[0],
-            _ => return,
-        };
         for _ in 0..10_000_000 {
-            if other.load(Ordering::SeqCst) > 0 {
+            if self.in_all() >= self.wanted {
                 return;
             }
             thread::yield_now();
@@ -100,24 +116,24 @@ impl Gate for MeetingGate {
     }
 }
 
+/// As many workers as there are to be are at work at once: two, and three.
 #[test]
-fn two_workers_at_once(rt: HostRuntime) -> Result<(), Fail> {
-    let gate = MeetingGate {
-        entered: [AtomicU64::new(0), AtomicU64::new(0), AtomicU64::new(0)],
-        gave_up: AtomicU64::new(0),
-    };
-    assert!(rt; like_one_thread(&rt, rt.alloc(), 2, &gate)?);
-    for entered in &gate.entered {
-        assert_eq!(rt; entered.load(Ordering::SeqCst), 1);
+fn workers_meet(rt: HostRuntime) -> Result<(), Fail> {
+    for (workers, wanted) in [(2, 2), (3, 3)] {
+        let gate = MeetingGate::new(wanted);
+        assert!(rt;
+            like_one_thread(&rt, rt.alloc(), workers, &gate)?,
+            "{workers}"
+        );
+        assert!(rt; gate.is_passed(), "{workers}");
     }
-    assert_eq!(rt; gate.gave_up.load(Ordering::SeqCst), 0);
     Ok(())
 }
 
 /// So many records of lines of one length, each from the place `step` after that of the record before, to the
 /// place behind it; the places go round after `places`.
 fn records(alloc: Global, count: u32, step: u32, places: u32, length: u32) -> Result<String, Fail> {
-    let mut text = format!(in alloc; "from,to,km,minutes,way\n")?;
+    let mut text = String::from_str(alloc, NETWORK_HEADER)?;
     for record in 0..count {
         let from = record.wrapping_mul(step) % places.max(1);
         let to = from.wrapping_add(1) % places.max(1);
@@ -133,7 +149,7 @@ fn a_ring(rt: HostRuntime) -> Result<(), Fail> {
     let ring = records(alloc, 2000, 1, 2000, 10000)?;
     let network = read_lines(alloc, ring.as_bytes())?;
     let distances = tables(alloc, &network)?;
-    let (first, last) = (Place::read("DE00000")?, Place::read("DE01999")?);
+    let (first, last) = (place("DE00000")?, place("DE01999")?);
     assert_eq!(rt; distances.between(first, last), Some((19990000, 19990000)));
     assert_eq!(rt; distances.between(last, first), Some((10000, 10000)));
     Ok(())
@@ -162,40 +178,15 @@ fn limits_of_networks(rt: HostRuntime) -> Result<(), Fail> {
     Ok(())
 }
 
-/// Gives its bytes, and then fails.
-#[derive(Drop)]
-struct FailingReader<'a> {
-    rest: &'a [u8],
-}
-
-impl Read for FailingReader<'_> {
-    fn read(&mut self, buf: &mut [u8]) -> io::Result<usize> {
-        if self.rest.is_empty() {
-            return Err(io::Error::from(io::ErrorKind::Other));
-        }
-        let count = self.rest.len().min(buf.len());
-        let (front, rest) = self.rest.split_at(count);
-        buf[..count].copy_from_slice(front);
-        self.rest = rest;
-        Ok(count)
-    }
-}
-
+/// A reader that fails behind the sample, or in its midst and then goes on.
 #[test]
-fn unreadable_networks(rt: HostRuntime) -> Result<(), Fail> {
-    let alloc = rt.alloc();
-    let failing = FailingReader {
-        rest: SAMPLE.as_bytes(),
-    };
-    let fault = read_lines(alloc, failing).err();
-    assert_eq!(rt; fault, Some(NetworkFault::ReadFailed));
-    assert_eq!(rt; fault.map(|fault| fault.number()), Some(93));
-    let bytes: &[u8] = b"from,to,km,minutes,way\nDE0000\xff,DE00002,5,5,one\n";
-    assert_eq!(rt;
-        read_lines(alloc, bytes).err(),
-        Some(NetworkFault::BadRow(2))
-    );
-    Ok(())
+fn unreadable_networks(rt: HostRuntime) {
+    for (given, once) in [(NETWORK.len(), false), (60, false), (60, true)] {
+        let reader = MemoryReader::failing(NETWORK.as_bytes(), given, once);
+        let fault = read_lines(rt.alloc(), reader).err();
+        assert_eq!(rt; fault, Some(NetworkFault::ReadFailed), "{given}");
+        assert_eq!(rt; fault.map(|fault| fault.number()), Some(93));
+    }
 }
 
 /// Numbers from a seed.
@@ -213,7 +204,7 @@ impl Random {
 
 /// A network of at most twelve places, with lines so short that many walks are as long as others.
 fn random_network(alloc: Global, random: &mut Random) -> Result<Network, Fail> {
-    let mut text = format!(in alloc; "from,to,km,minutes,way\n")?;
+    let mut text = String::from_str(alloc, NETWORK_HEADER)?;
     for _ in 0..random.below(30) {
         let (from, to) = (random.below(12), random.below(12));
         let km = random.below(4).wrapping_add(1);
