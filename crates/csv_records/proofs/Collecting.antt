@@ -8,7 +8,7 @@ use Rattle.csv_records.specs.Fields.{Record}
 use Rattle.csv_records.specs.inner.Requests.{AreLeft, IsAnswer, IsSetUp}
 
 module _ {R T F : Type 0} (remaining : R → Option (List ℕ)) (made_of : T → List Record → Type 0) (refuses : F → List Record → Type 0) (start : Reader R) where
-  -- From start on a reader has given records up to below a number, and this was made of them.
+  -- From start on a reader has given the records below a number, and this value is collected from them.
   pub record HasRead (now : Reader R) (number : ℕ) (made : T) : Type 0 where
     pub done : List Record
     pub between : Between remaining start now done

@@ -1,10 +1,10 @@
 //! Reading a network from CSV.
-ghost use Rattle.std.specs.Prelude.{◌≡◌, IsErrOf, true, List};
+ghost use Rattle.std.specs.Prelude.{◌≡◌, ◌+◌, IsErrOf, true, List};
 ghost use Rattle.csv.specs.Reading.{has_failed};
 ghost use Rattle.csv_records.specs.Fields.{Record};
 ghost use Rattle.csv_records.specs.inner.Requests.{AreLeft, AsksAtMost, IsSetUp};
 ghost use Rattle.line_network.specs.NetworkOf.{IsReadFrom};
-ghost use Rattle.line_network.specs.Reading.{Gives, network_of};
+ghost use Rattle.line_network.specs.Reading.{Gives, max_line_records, network_of};
 
 use crate::limits::MAX_LINE_RECORDS;
 use crate::line_record::{LineRecord, is_header};
@@ -36,13 +36,13 @@ fn read_rows<R: Read>(alloc: Global, rows: &mut Reader<R>) -> Result<Network, Ne
     requires { IsSetUp rows.old }
     ensures meaning { (all : List Record) × AreLeft R.remaining rows.old all × Gives result (network_of all) }
     ensures stopped { IsErrOf result NetworkFault.ReadFailed → has_failed rows.new ≡ true }
-    ensures asked { AsksAtMost R.remaining rows.old 20002 rows.new }
+    ensures asked { AsksAtMost R.remaining rows.old (max_line_records + 2) rows.new }
 {
     read_records(alloc, rows)
 }
 
 impl FromRecords for Network {
-    ghost use Rattle.line_network.specs.Reading.{Stops, max_line_records, network_of};
+    ghost use Rattle.line_network.specs.Reading.{Stops};
     ghost use Rattle.line_network.specs.inner.Reading.{IsReadSoFar, stops_failure, told_apart};
     ghost use Rattle.std.proofs.Common.{lit<};
 

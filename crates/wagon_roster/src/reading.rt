@@ -1,10 +1,10 @@
 //! Reading a roster from CSV.
-ghost use Rattle.std.specs.Prelude.{◌≡◌, IfOk, IsErrOf, true, List};
+ghost use Rattle.std.specs.Prelude.{◌≡◌, ◌+◌, IfOk, IsErrOf, true, List};
 ghost use Rattle.csv.specs.Reading.{has_failed};
 ghost use Rattle.csv_records.specs.Fields.{Record};
 ghost use Rattle.csv_records.specs.inner.Requests.{AreLeft, AsksAtMost, IsSetUp};
 ghost use Rattle.wagon_roster.specs.Reading.{Gives, rows_of};
-ghost use Rattle.wagon_roster.specs.Roster.{IsRoster};
+ghost use Rattle.wagon_roster.specs.Roster.{IsRoster, max_roster_wagons};
 ghost use Rattle.wagon_roster.specs.RosterOf.{IsReadFrom};
 
 use crate::limits::MAX_ROSTER_WAGONS;
@@ -44,15 +44,14 @@ fn read_all<R: Read>(alloc: Global, records: &mut Reader<R>) -> Result<Roster, R
     ensures meaning { (all : List Record) × AreLeft R.remaining records.old all × Gives result (rows_of all) }
     ensures roster { IfOk result IsRoster }
     ensures stopped { IsErrOf result RosterFault.ReadFailed → has_failed records.new ≡ true }
-    ensures asked { AsksAtMost R.remaining records.old 1002 records.new }
+    ensures asked { AsksAtMost R.remaining records.old (max_roster_wagons + 2) records.new }
 {
     read_records(alloc, records)
 }
 
 impl FromRecords for Roster {
     ghost use Rattle.std.proofs.Common.{lit<};
-    ghost use Rattle.wagon_roster.specs.Reading.{Stops, rows_of};
-    ghost use Rattle.wagon_roster.specs.Roster.{max_roster_wagons};
+    ghost use Rattle.wagon_roster.specs.Reading.{Stops};
     ghost use Rattle.wagon_roster.specs.inner.Reading.{IsReadSoFar, stops_failure, told_apart};
 
     type Fault = RosterFault;
