@@ -17,7 +17,7 @@ use crate::values::{
 use rail_codes::{Company, Moment, OrderId, Place, WagonNumber};
 use serde_json::Value;
 
-/// The member of an object, where it is there.
+/// The member of an object; `None` where it is missing.
 pub(crate) fn optional_member(object: &Value, field: Field) -> Option<&Value>
     ensures { option_map (λ value. view value.now) result
         ≡ get (field_name field) (view object.now) }
@@ -25,7 +25,7 @@ pub(crate) fn optional_member(object: &Value, field: Field) -> Option<&Value>
     object.get(field.name())
 }
 
-/// The member of an object, else `MissingField` (24).
+/// The member of an object; `MissingField` (24) where it is missing.
 #[tactic(auto, unfolding(crate::specs::Fields::member))]
 pub fn member(object: &Value, field: Field) -> Result<&Value, LineFault>
     ensures { seen_by (λ value. view value.now) result ≡ meaning.member field (view object.now) }
