@@ -14,7 +14,7 @@ abbrev pub answer_or : Result Answer Refusal → Answer
 answer_or (Ok answer) = answer
 answer_or (Err refusal) = Refused refusal
 
--- an event that is entered or refused; or memory is refused where it would be entered
+-- an event that is entered or refused; or memory is out where it would be entered
 pub record IsEnteredOrRefused (setting : Setting) (book : BookState) (entry : Event) (answer : Answer) (new : BookState) : Type 0 where
   pub answered : answer ≡ event_answer setting book.history entry
   pub changed : new ≡ entered book entry answer
