@@ -1,6 +1,6 @@
 -- The positions of a commit's pairs: which wagon and order each names, and that a name stands as often as its position.
 use Rattle.std.proofs.Common.{◌≡◌, ◌≤◌, ℕ, zero, suc, Bool, true, false, cond, List, [], ◌∷◌, length, map, refl, sym, ◌∙◌, ap, arith, subst}
-use Rattle.std.specs.Prelude.{◌==◌, Option, Some, None, Result, Ok, Err, count_by, position, slice_get}
+use Rattle.std.specs.Prelude.{◌==◌, Option, Some, None, Ok, count_by, position, slice_get}
 use Rattle.std.proofs.lemmas.Bool.Decides.{nat_tests}
 use Rattle.std.proofs.lemmas.List.{length-map}
 use Rattle.std.proofs.lemmas.List.Sums.{sum_by-cons}
@@ -9,7 +9,7 @@ use Rattle.wagon_state.specs.declared.free_wagon.FreeWagon.{FreeWagon}
 use Rattle.load_orders.specs.Wanted.{WantedOrder}
 use Rattle.line_network.specs.Network.{NetworkValue}
 use Rattle.cost_table.specs.Allowed.{IsTableOf}
-use Rattle.cost_table.specs.Names.{both, is_name, pair_of}
+use Rattle.cost_table.specs.Names.{both, is_name}
 use Rattle.cost_table.specs.Plan.{serves, uses}
 use Rattle.cost_table.specs.Problem.{ProblemValue, names_of_problem, order_names, wagon_names}
 use Rattle.cost_table.specs.Table.{Table, order_count, wagon_count}
