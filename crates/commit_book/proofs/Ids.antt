@@ -19,7 +19,7 @@ use Rattle.operating_db.specs.declared.apply_fault.ApplyFault.{ApplyFault}
 use Rattle.operating_db.specs.declared.event.Event.{Event}
 use Rattle.operating_db.specs.declared.event.Event.TheVariants.{Message, Place, Withdraw, Commit, Revise}
 use Rattle.commit_book.specs.History.{IsFresh}
-use Rattle.commit_book.specs.inner.Ledger.{IsFreshEvent, IsIndexOf, IsNoMessage, compare_ids, is_id, is_message_of, message_at, message_of}
+use Rattle.commit_book.specs.inner.Ledger.{IsIndexOf, IsNoMessage, compare_ids, is_id, is_message_of, message_at, message_of}
 
 -- ---- ids compared
 

@@ -1,4 +1,4 @@
-//! The book.
+//! The book: its history, the office after it, and the problems that commits may name.
 ghost use Rattle.std.specs.Prelude.{◌≡◌, [], IfErr, IfOk, OnErr, OnOk, Some, length, option_map};
 ghost use Rattle.distance_tables.specs.Networks.{network_at};
 ghost use Rattle.operating_db.specs.Steps.{IsPromised};
@@ -27,7 +27,8 @@ use std::sync::Arc;
 use wagon_roster::Roster;
 
 /// A history of events from a roster on, which is legal whatever is called; the office after it; and the problems that
-/// commits may name. A contract sees what the book was given, its history, and which problems it keeps.
+/// commits may name. Each `Book` method is one step of such a run, so any `Book` value has a history for which the
+/// headline holds. A contract sees what the book was given, its history, and which problems it keeps.
 #[derive(Drop)]
 pub struct Book {
     ledger: Ledger,
@@ -150,18 +151,23 @@ impl Book {
     }
 
     /// Promises the pairs of a commit, where its prices prove them to be a plan of least cost of the kept problem that
-    /// it names. Refused, with nothing changed: `NotKept` (81); `BookFull` (72); `NotInProblem` (84), the first pair
-    /// whose wagon or order isn't in that problem; as the checker says (61 to 66); `WagonChanged` (82), the first pair
-    /// whose wagon isn't free now as it is in the problem; `OrderChanged` (83), the first pair whose order, this pair
-    /// and those before it counted, lacks fewer wagons now; `OutOfMemory` (1), which may come in place of 84 and what
-    /// follows it.
+    /// it names. Refused, with nothing changed: `NotKept` (81); `BookFull` (72); `Check`, as the price checker says of
+    /// the pairs and the prices: `NotInProblem` (84), the first pair whose wagon or order isn't in that problem, else
+    /// one of 61 to 66; `WagonChanged` (82), the first pair whose wagon isn't free now as it is in the problem;
+    /// `OrderChanged` (83), the first pair whose order, with this pair and those before it, lacks fewer wagons now;
+    /// `OutOfMemory` (1), which may come in place of 84 and what follows it.
     pub fn commit(&mut self, alloc: Global, commit: &CommitText) -> Result<Reply, Refusal>
         ensures call { IsCall self.old.setting self.old.state (call.Commit commit.now) (answer_of result) self.new.state }
         ensures setting { self.new.setting ≡ self.old.setting }
     {
-        self.judged(alloc, commit)?;
-        let commit = commit.copy(alloc)?;
-        self.enter(alloc, Event::Commit(commit))
+        // The prover has no plan for `self.judged(..)?` here.
+        match self.judged(alloc, commit) {
+            Ok(()) => {
+                let commit = commit.copy(alloc)?;
+                self.enter(alloc, Event::Commit(commit))
+            }
+            Err(refusal) => Err(refusal),
+        }
     }
 
     /// Tests a commit.

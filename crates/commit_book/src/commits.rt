@@ -12,11 +12,11 @@ ghost use Rattle.database_rows.specs.Rows.{order_in};
 
 use crate::Refusal;
 use crate::kept_problems::KeptProblem;
-use crate::names::{named, positions_of};
 use cost_table::Problem;
 use move_messages::CommitText;
+use named_pairs::check_named;
 use operating_db::{OfficeState, times_of_order};
-use price_checker::{Prices, check};
+use price_checker::Prices;
 use rail_codes::{OrderId, WagonNumber};
 use std::alloc::{AllocError, Global};
 use wagon_state::{FreeWagon, free};
@@ -36,11 +36,8 @@ pub(crate) fn judge(
     ensures refused { IfErr result (λ refusal. refusal ≢ OutOfMemory → refusal_in kept.now.problem now.now.office commit.now kept.now.cells ≡ Some refusal) }
 {
     let pairs = commit.pairs.as_slice();
-    let positions = positions_of(alloc, &kept.problem, pairs)?;
     let prices = prices_of(alloc, commit)?;
-    if let Err(fault) = check(&kept.cells, &positions, &prices) {
-        return Err(named(&kept.problem, fault));
-    }
+    let _cost = check_named(alloc, &kept.problem, &kept.cells, pairs, &prices)?;
     wagons_unchanged(&kept.problem, now, pairs)?;
     orders_unchanged(now, pairs)
 }

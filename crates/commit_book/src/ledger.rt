@@ -93,7 +93,7 @@ impl Ledger {
     }
 
     /// Lets an event happen, as the last one; a message must have a new id, and a commit must be possible. Refused as
-    /// the office refuses it, or because memory is out where nothing else is wrong; with nothing changed then.
+    /// the office refuses it, or because memory is out where nothing else is wrong; nothing has changed then.
     pub fn enter(&mut self, alloc: Global, event: Event) -> Result<(), ApplyFault>
         requires promised { IsPromised (office_of self.old) event }
         requires fresh { IsFreshEvent event self.old.events }

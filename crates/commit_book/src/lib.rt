@@ -11,7 +11,6 @@ mod kept_problems;
 mod laws;
 mod ledger;
 mod limits;
-mod names;
 mod refusal;
 mod reply;
 mod same_messages;

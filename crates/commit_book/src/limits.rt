@@ -3,9 +3,9 @@ ghost use Rattle.std.specs.Prelude.{◌≡◌};
 
 use std::marker::Model;
 
-/// The most entries of a book.
+/// The most entries that a book may have.
 pub const MAX_ENTRIES: u64 = 1_000_000;
-/// The most problems that a book keeps.
+/// The most problems that a book may keep.
 pub const MAX_KEPT_PROBLEMS: u32 = 64;
 
 /// How many entries a book may have, 1 to 1,000,000, and how many problems it keeps, 1 to 64.

@@ -1,5 +1,5 @@
-//! The rows of a rail office, kept in memory: what it knows of each wagon and of each order, found
-//! by number and by name.
+//! The rows of the operating database, kept in memory: what the office knows of each wagon and of
+//! each order, found by number and by name.
 #![tactic(auto)]
 
 mod limits;

@@ -84,7 +84,7 @@ impl OrderRows {
         self.open_wagons
     }
 
-    /// Adds the row of an order just placed. Where memory is refused, nothing changes.
+    /// Adds the row of an order just placed. Where memory is out, nothing changes.
     pub fn push(&mut self, alloc: Global, text: OrderText) -> Result<(), AllocError>
         requires new { order_in self.old text.id ≡ None }
         requires few_open { open_wagons self.old + text.wagons ≤ max_open_wagons }

@@ -23,12 +23,12 @@ use Rattle.operating_db.proofs.Agree.{promised_agree}
 use Rattle.operating_db.proofs.Lookups.{wagon_in-at, order_in-at}
 use Rattle.operating_db.proofs.Names.{same, same_is, same_self, same_sym, contains_among}
 
--- what pairs that are promised one after the other ask for
+-- what pairs need that are promised one after the other
 abbrev pub AreNext : Office → List Pair → Type 0
 AreNext office [] = Unit {0}
 AreNext office (pair ∷ pairs) = IsNext office pair × AreNext (promise_pair office pair) pairs
 
--- what is asked of all pairs by their names, so that it lasts while they are promised
+-- what all pairs need, said of their names, so that it lasts while they are promised
 record Each (office : Office) (pairs : List Pair) : Type 0 where
   once : (n : List ℕ) → times_of_wagon n pairs ≤ 1
   free : (n : List ℕ) → 0 < times_of_wagon n pairs → is_free_row (wagon_in office.wagons n) ≡ true
@@ -161,7 +161,7 @@ pub all-more : (office : Office) (pairs : List Pair) (pair : Pair) → promise_a
 all-more office [] pair = refl
 all-more office (p ∷ ps) pair = all-more (promise_pair office p) ps pair
 
--- what the promise of a pair asks of the order's row
+-- what the promise of a pair needs of the order's row
 known_by : (office : Office) (p : Pair) (o : Option OrderRowValue) → order_in office.orders p.1 ≡ o → 0 < lack_in o → IsSome o
 known_by office p None is lacking = absurd (omega (arith, lacking))
 known_by office p (Some row) is lacking = refl
@@ -188,7 +188,7 @@ pub next_new : (office : Office) (p : Pair) → IsNext office p → SidesAgree o
 next_new office p next agree =
     new_by p.0 (order_in office.orders p.1) (sym (agree p.0 p.1) ∙ ap (λ (q : Option (List ℕ)). is_promise_to q p.1) (free_by_row (wagon_in office.wagons p.0) next.free))
 
--- the test of each pair is what a commit asks for
+-- the test of each pair is what a commit needs
 test_parts : (pair_once pair_free pair_lacks : Bool) → (pair_once && pair_free && pair_lacks) ≡ true → (pair_once ≡ true) × (pair_free ≡ true) × (pair_lacks ≡ true)
 test_parts true true true h = (refl, refl, refl)
 test_parts true true false h = cc h

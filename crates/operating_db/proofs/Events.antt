@@ -128,7 +128,7 @@ change_kept office w row change found keeps agree =
     let number = keeps.number ∙ number-wagon_in office.wagons w row found in
     kept_of_same office (after_change office w row.promise change)
     (both_agree (after_change office w row.promise change) (effect_agree office w row change.row change.effect row.promise found number refl keeps.promise agree.agree)
-        (kept_settled change.effect row.promise w office.orders (λ id had. among_promised w (order_in office.orders id) (order_known office w row id (sym found) had agree.agree)) (kept_orders office agree)))
+    (kept_settled change.effect row.promise w office.orders (λ id had. among_promised w (order_in office.orders id) (order_known office w row id (sym found) had agree.agree)) (kept_orders office agree)))
     (numbers-at w (λ _. change.row) (λ r e. number ∙ sym e) office.wagons, effect_texts change.effect row.promise w office.orders)
 
 moved_kept : (office : Office) (w : List ℕ) (row : WagonRow) (r : Result Change StepFault) (new : Office) → wagon_in office.wagons w ≡ Some row → ((change : Change) → r ≡ Ok change → KeepsRow row change) → moved office w row.promise r ≡ Ok new → PromisesAgree office → IsKept office new

@@ -1,8 +1,7 @@
 -- What the orders of an office keep of their promises, through each change.
-use Rattle.std.proofs.Common.{◌≡◌, ◌∙◌, ℕ, ◌<◌, Bool, true, false, cond, List, [], ◌∷◌, ◌++◌, length, map, refl, ap, sym, subst, inl, inr}
+use Rattle.std.proofs.Common.{◌≡◌, ◌∙◌, ℕ, ◌<◌, Bool, true, false, cond, List, [], ◌∷◌, ◌++◌, refl, ap, sym, subst}
 use Rattle.std.specs.Prelude.{Option, Some, None, IfSome, All}
 use Rattle.std.specs.List.{Contains, IsDistinct, slice_get, slice_index_or}
-use Rattle.std.proofs.lemmas.Bool.{cases_Bool}
 use Rattle.std.proofs.lemmas.List.{map-append}
 use Rattle.std.proofs.lemmas.List.Elements.{All-append, All-cons, All-map, All-nil}
 use Rattle.std.proofs.lemmas.Map.Keys.{IsDistinct-push}
@@ -14,7 +13,7 @@ use Rattle.load_orders.proofs.Rows.{row_filled, row_placed, row_with, row_withou
 use Rattle.wagon_state.specs.declared.change.Effect.{Effect}
 use Rattle.wagon_state.specs.declared.change.Effect.TheVariants as effect
 use Rattle.database_rows.specs.Kept.{names_of}
-use Rattle.database_rows.specs.Rows.{at_order, filled_by, freed_of, is_order, order_in, promised_to, taken_back}
+use Rattle.database_rows.specs.Rows.{at_order, filled_by, freed_of, order_in, promised_to, taken_back}
 use Rattle.database_rows.proofs.Named.{nothing_named, same_name}
 use Rattle.database_rows.proofs.Orders.{names-at_order, order_in-there}
 use Rattle.database_rows.proofs.Wagons.{ascending_distinct}
@@ -23,7 +22,6 @@ use Rattle.operating_db.specs.Commits.{Pair, promise_all, promise_pair}
 use Rattle.operating_db.specs.inner.EventParts.{IsNext}
 use Rattle.operating_db.specs.Office.{Office}
 use Rattle.operating_db.specs.Promises.{KeepsPromises, PromisesAgree, SidesAgree}
-use Rattle.operating_db.proofs.Changes.{among_promised}
 use Rattle.operating_db.proofs.Commits.{AreNext, next_agree, next_lacks, next_new}
 use Rattle.operating_db.proofs.Names.{same, same_is}
 

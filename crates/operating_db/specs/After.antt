@@ -1,5 +1,5 @@
 -- What each event makes of an office, or its first refusal.
-use Rattle.std.specs.Prelude.{◌≡◌, ◌+◌, ◌==◌, nat_lt, ℕ, if◌then◌else◌, ◌||◌, List, [], ◌∷◌, ◌++◌, map, Option, Some, None, is_some, option_map, Result, Ok, Err}
+use Rattle.std.specs.Prelude.{◌+◌, ◌==◌, nat_lt, ℕ, if◌then◌else◌, ◌||◌, List, [], ◌∷◌, ◌++◌, map, Option, Some, None, is_some, option_map, Result, Ok, Err}
 use Rattle.move_messages.specs.Order.{Order}
 use Rattle.move_messages.specs.declared.message.Message as message
 use Rattle.wagon_state.specs.declared.change.Effect.{Effect}
@@ -15,9 +15,9 @@ use Rattle.operating_db.specs.declared.apply_fault.ApplyFault.{ApplyFault}
 use Rattle.operating_db.specs.declared.apply_fault.ApplyFault.TheVariants.{UnknownWagon, Step, OrderKnown, TooManyOpen, UnknownOrder, OrderClosed, UnknownNetwork, SameNetwork}
 use Rattle.operating_db.specs.declared.event.Event.{Event}
 use Rattle.operating_db.specs.declared.event.Event.TheVariants.{Message, Place, Withdraw, Commit, Revise}
-use Rattle.operating_db.specs.Commits.{promise_all, with_promise}
+use Rattle.operating_db.specs.Commits.{promise_all}
 use Rattle.operating_db.specs.Office.{Office}
-use Rattle.operating_db.specs.Promises.{is_among, is_promise_to}
+use Rattle.operating_db.specs.Promises.{is_promise_to}
 
 -- A message: the row of its wagon as the status table says. A promise that ends does so on the order too, which may then be
 -- filled by the wagon.

@@ -18,9 +18,9 @@ use crate::pair_counts::{times_of_order, times_of_wagon};
 use crate::promises::{end_promises, set_promise, settle};
 use crate::{ApplyFault, Event};
 use cost_table::Problem;
+use database_rows::{MAX_OPEN_WAGONS, OrderRows, WagonRows};
 use load_orders::OrderRow;
 use move_messages::{Message, OrderText};
-use database_rows::{MAX_OPEN_WAGONS, OrderRows, WagonRows};
 use rail_codes::{ClassCode, Moment, OrderId, Place, WagonNumber};
 use std::alloc::{AllocError, Global};
 use std::marker::Model;
@@ -28,7 +28,8 @@ use wagon_roster::Roster;
 use wagon_state::{Change, WagonRow, free, step};
 
 /// The rows of the wagons and of the orders, and the network in force. A wagon is promised to an order exactly where
-/// the order has it among its promised wagons. A contract sees the office of the definitions, and how many networks
+/// the order has it among its promised wagons; no two orders have one name; and each order has every promised wagon
+/// once, together with those that filled it at most as many as it wants. A contract sees the office of the definitions, and how many networks
 /// there are.
 #[derive(Debug, Drop)]
 pub struct OfficeState {
@@ -175,7 +176,7 @@ impl OfficeState {
         }
     }
 
-    /// What an event would be answered by `apply`, but for want of memory (1). Takes no memory.
+    /// What `apply` would answer to an event, were there memory enough. Takes no memory.
     #[tactic(auto, unfolding(crate::specs::After::after_call))]
     pub fn possible(&self, event: &Event) -> Result<(), ApplyFault>
         requires { IsPromised self.now.office event.now }
@@ -199,7 +200,7 @@ impl OfficeState {
     ///
     /// Refused, with the office unchanged: a message with `UnknownWagon` (73), else as the status table says (31 to
     /// 33); an order with `OrderKnown` (74), else with `TooManyOpen` (75) where the open orders and this one want over
-    /// 500 wagons in all, else for want of memory (1); a withdrawal with `UnknownOrder` (76), else with `OrderClosed`
+    /// 500 wagons in all, else with `OutOfMemory` (1); a withdrawal with `UnknownOrder` (76), else with `OrderClosed`
     /// (77); a revision with `UnknownNetwork` (79), else with `SameNetwork` (80).
     #[tactic(auto, unfolding(crate::specs::After::after_call))]
     pub fn apply(&mut self, alloc: Global, event: &Event) -> Result<(), ApplyFault>

@@ -22,7 +22,7 @@ pub record IsAccepted (setting : Setting) (book : BookState) (commit : CommitTex
   pub least : IsLeast setting book.history commit
   pub promised : CanPromise (replay setting book.history) commit.pairs
 
--- a commit is refused, or memory was where it may be
+-- a commit is refused, or memory is out where that may be
 abbrev pub IsRefused : Setting → BookState → CommitText → Refusal → Type 0
 IsRefused setting book commit refusal =
     IsCommitAnswer (is_kept book.kept (commit.version, commit.at)) (is_full setting book.history) setting book.history commit (Refused refusal)

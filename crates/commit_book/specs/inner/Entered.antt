@@ -1,5 +1,5 @@
 -- What the private calls of a book answer: an event that is entered, and a call of a list.
-use Rattle.std.specs.Prelude.{◌≡◌, ◌+◌, ◌⊎◌, List, length, Result, Ok, Err}
+use Rattle.std.specs.Prelude.{◌≡◌, ◌+◌, ◌⊎◌, length, Result, Ok, Err}
 use Rattle.operating_db.specs.declared.event.Event.{Event}
 use Rattle.commit_book.specs.BookStep.{BookState, entered, event_answer}
 use Rattle.commit_book.specs.Setting.{Setting}
@@ -14,7 +14,7 @@ abbrev pub answer_or : Result Answer Refusal → Answer
 answer_or (Ok answer) = answer
 answer_or (Err refusal) = Refused refusal
 
--- an event that is entered or refused; or memory is refused where it would be entered
+-- an event that is entered or refused; or memory is out where it would be entered
 pub record IsEnteredOrRefused (setting : Setting) (book : BookState) (entry : Event) (answer : Answer) (new : BookState) : Type 0 where
   pub answered : answer ≡ event_answer setting book.history entry
   pub changed : new ≡ entered book entry answer

@@ -26,7 +26,7 @@ abbrev pub is_promisable : Office → List Pair → Pair → Bool
 is_promisable office pairs pair =
     nat_le (times_of_wagon pair.0 pairs) 1 && is_free_row (wagon_in office.wagons pair.0) && nat_le (times_of_order pair.1 pairs) (lack_in (order_in office.orders pair.1))
 
--- what a pair that is promised now asks for
+-- what a pair needs in order to be promised now
 pub record IsNext (office : Office) (pair : Pair) : Type 0 where
   pub free : is_free_row (wagon_in office.wagons pair.0) ≡ true
   pub lacking : 0 < lack_in (order_in office.orders pair.1)
