@@ -7,15 +7,16 @@ use Rattle.move_messages.specs.declared.message.Message as movement
 use Rattle.operating_db.specs.After.{after_call}
 use Rattle.operating_db.specs.declared.event.Event.{Event}
 use Rattle.operating_db.specs.declared.event.Event.TheVariants as event
-use Rattle.commit_book.specs.BookStep.{BookState, IsCall, IsCommitAnswer, IsEntered, IsRun, event_answer, is_full, is_kept}
-use Rattle.commit_book.specs.CommitTests.{IsAccepted, IsRefused}
+use Rattle.commit_book.specs.BookStep.{BookState, IsCall, IsCommitAnswer, IsRun, event_answer, is_full, is_kept}
+use Rattle.commit_book.specs.inner.Entered.{IsEntered}
+use Rattle.commit_book.specs.inner.CommitTests.{IsAccepted, IsRefused}
 use Rattle.commit_book.specs.Setting.{Setting}
 use Rattle.commit_book.specs.declared.answer.Answer.{Answer}
 use Rattle.commit_book.specs.declared.answer.Answer.TheVariants.{Done, Refused}
 use Rattle.commit_book.specs.declared.call.Call.{Call}
 use Rattle.commit_book.specs.declared.call.Call.TheVariants as call
 use Rattle.commit_book.specs.declared.refusal.Refusal.{Refusal}
-use Rattle.commit_book.specs.declared.refusal.Refusal.TheVariants.{OutOfMemory, Step, WrongLengths, NotAllowed, UsedTwice, PriceGap, OverPenalty, SumsDiffer, IdReused, BookFull, UnknownWagon, OrderKnown, TooManyOpen, UnknownOrder, OrderClosed, UnknownNetwork, SameNetwork, NotKept, WagonChanged, OrderChanged, NotInProblem}
+use Rattle.commit_book.specs.declared.refusal.Refusal.TheVariants.{OutOfMemory, Step, Check, IdReused, BookFull, UnknownWagon, OrderKnown, TooManyOpen, UnknownOrder, OrderClosed, UnknownNetwork, SameNetwork, NotKept, WagonChanged, OrderChanged}
 use Rattle.commit_book.specs.declared.reply.Reply.TheVariants.{Accepted, Repeated}
 
 -- ---- commits
@@ -48,16 +49,11 @@ refused_call setting book commit refusal h = elim h [
   | inr memory ↦ inr (record { may = (memory.1.kept, memory.1.room); refused = ap (λ (r : Refusal). Refused r) memory.0; unchanged = refl })
 ]
 
--- either want of memory or not
+-- either memory is out, or it is not
 pub memory_or : (P : Type 0) (refusal : Refusal) → (refusal ≢ OutOfMemory → P) → P ⊎ (refusal ≡ OutOfMemory)
 memory_or P OutOfMemory h = inr refl
 memory_or P (Step fault) h = inl (h (λ e. absurd cc))
-memory_or P WrongLengths h = inl (h (λ e. absurd cc))
-memory_or P (NotAllowed wagon order) h = inl (h (λ e. absurd cc))
-memory_or P (UsedTwice wagon order) h = inl (h (λ e. absurd cc))
-memory_or P (PriceGap wagon order) h = inl (h (λ e. absurd cc))
-memory_or P (OverPenalty order) h = inl (h (λ e. absurd cc))
-memory_or P (SumsDiffer left right) h = inl (h (λ e. absurd cc))
+memory_or P (Check fault) h = inl (h (λ e. absurd cc))
 memory_or P IdReused h = inl (h (λ e. absurd cc))
 memory_or P BookFull h = inl (h (λ e. absurd cc))
 memory_or P UnknownWagon h = inl (h (λ e. absurd cc))
@@ -70,7 +66,6 @@ memory_or P SameNetwork h = inl (h (λ e. absurd cc))
 memory_or P NotKept h = inl (h (λ e. absurd cc))
 memory_or P (WagonChanged wagon) h = inl (h (λ e. absurd cc))
 memory_or P (OrderChanged order) h = inl (h (λ e. absurd cc))
-memory_or P (NotInProblem wagon order) h = inl (h (λ e. absurd cc))
 
 -- ---- messages
 

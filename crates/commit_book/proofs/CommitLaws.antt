@@ -1,5 +1,5 @@
 -- A commit that is not refused pays what it owes, and can be promised.
-use Rattle.std.proofs.Common.{◌≡◌, ◌+◌, ◌<◌, ◌≤◌, ℕ, Bool, true, false, cond, ◌&&◌, List, [], ◌∷◌, ◌++◌, length, refl, sym, ap, arith, subst, append_assoc, append-nil}
+use Rattle.std.proofs.Common.{◌≡◌, ◌≢◌, ◌∙◌, ◌+◌, ◌<◌, ◌≤◌, ℕ, Bool, true, false, cond, ◌&&◌, List, [], ◌∷◌, ◌++◌, length, refl, sym, ap, arith, subst, append_assoc, append-nil}
 use Rattle.std.specs.Prelude.{◌==◌, nat_lt, Option, Some, None, is_some, Result, Ok, Err, All, option_and_then}
 use Rattle.std.proofs.lemmas.Bool.Decides.{nat_tests}
 use Rattle.std.proofs.lemmas.List.Elements.{All-cons, All-head, All-nil, All-tail}
@@ -8,11 +8,14 @@ use Rattle.move_messages.specs.declared.commit_text.CommitText.{CommitText}
 use Rattle.wagon_state.specs.declared.free_wagon.FreeWagon.{FreeWagon}
 use Rattle.wagon_state.specs.declared.wagon_row.WagonRow.{WagonRow}
 use Rattle.wagon_state.specs.Free.{free_of}
-use Rattle.office_rows.specs.Rows.{order_in, wagon_in}
-use Rattle.cost_table.specs.Problem.{ProblemValue}
+use Rattle.database_rows.specs.Rows.{order_in, wagon_in}
+use Rattle.cost_table.specs.Problem.{ProblemValue, names_of_problem}
 use Rattle.cost_table.specs.Table.{Table}
 use Rattle.price_checker.specs.Faults.{first_fault}
-use Rattle.price_checker.specs.declared.check_fault.CheckFault.{CheckFault}
+use Rattle.named_pairs.specs.NamedPairs.{checked, positions_of}
+use Rattle.named_pairs.specs.declared.named_fault.NamedFault.{NamedFault}
+use Rattle.named_pairs.specs.declared.named_fault.NamedFault.TheVariants as named
+use Rattle.named_pairs.proofs.Checked.{passes}
 use Rattle.price_checker.proofs.Duality.{certificates_optimal}
 use Rattle.price_checker.proofs.FaultFree.{in_range_certified}
 use Rattle.price_checker.proofs.FirstBelow.{none_first, none_second}
@@ -20,12 +23,13 @@ use Rattle.operating_db.specs.Commits.{CanPromise, IsPromisable, Pair, is_free_r
 use Rattle.operating_db.specs.Office.{Office}
 use Rattle.operating_db.specs.declared.event.Event.{Event}
 use Rattle.operating_db.proofs.Names.{same, same_is}
-use Rattle.commit_book.specs.BookStep.{refusal_at, refusal_for, refusal_in}
-use Rattle.commit_book.specs.Commits.{free_in, is_same_free, is_same_wagon, order_changed, positions_of, wagon_changed, wagon_of}
+use Rattle.commit_book.specs.BookStep.{refusal_by, refusal_in}
+use Rattle.commit_book.specs.Commits.{free_in, is_same_free, is_same_wagon, order_changed, wagon_changed, wagon_of}
 use Rattle.commit_book.specs.History.{IsLeast, IsTableAt, IsUnchanged, problem_at, replay}
+use Rattle.commit_book.specs.Refusal.{refusal_of_fault}
 use Rattle.commit_book.specs.Setting.{Setting}
 use Rattle.commit_book.specs.declared.refusal.Refusal.{Refusal}
-use Rattle.commit_book.specs.declared.refusal.Refusal.TheVariants.{OrderChanged, WagonChanged}
+use Rattle.commit_book.specs.declared.refusal.Refusal.TheVariants.{OrderChanged, OutOfMemory, WagonChanged}
 use Rattle.commit_book.proofs.Placed.{named_once, placed_in_range, positions_placed}
 
 tail_allowed : {A : Type 0} (b : Bool) (rest : Option A) (x : A) → cond b rest (Some x) ≡ None → (b ≡ true) × (rest ≡ None)
@@ -125,23 +129,25 @@ can_promise problem now pairs once within h = promisable problem now pairs once 
 -- what a commit says that has none of the refusals
 pub record IsUnrefused (problem : ProblemValue) (now : Office) (commit : CommitText) (table : Table) : Type 0 where
   pub positions : List (ℕ × ℕ)
-  pub are_positions : positions_of problem commit.pairs ≡ Ok positions
+  pub are_positions : positions_of (names_of_problem problem) commit.pairs ≡ Ok positions
   pub no_fault : first_fault table positions commit.u commit.v ≡ None
   pub wagons : wagon_changed problem now commit.pairs ≡ None
   pub orders : order_changed now [] commit.pairs ≡ None
 
-no_fault_by : (problem : ProblemValue) (now : Office) (pairs : List Pair) (fault : Option CheckFault) → refusal_for problem now pairs fault ≡ None → (fault ≡ None) × (wagon_changed problem now pairs ≡ None) × (order_changed now [] pairs ≡ None)
-no_fault_by problem now pairs None h = (refl, none_first _ _ h, none_second (wagon_changed problem now pairs) _ h)
-no_fault_by problem now pairs (Some fault) h = cc
-
-unrefused_by : (problem : ProblemValue) (now : Office) (commit : CommitText) (table : Table) (positions : Result (List (ℕ × ℕ)) Refusal) → positions_of problem commit.pairs ≡ positions → refusal_at problem now commit table positions ≡ None → IsUnrefused problem now commit table
-unrefused_by problem now commit table (Err refusal) is h = cc
-unrefused_by problem now commit table (Ok positions) is h =
-    let f = no_fault_by problem now commit.pairs (first_fault table positions commit.u commit.v) h in
-    record { positions = positions; are_positions = is; no_fault = f.0; wagons = f.1; orders = f.2 }
+unrefused_by : (problem : ProblemValue) (now : Office) (commit : CommitText) (table : Table) (answer : Result ℕ NamedFault) → checked (names_of_problem problem) table commit.pairs commit.u commit.v ≡ answer → refusal_by problem now commit.pairs answer ≡ None → IsUnrefused problem now commit table
+unrefused_by problem now commit table (Err fault) is h = cc
+unrefused_by problem now commit table (Ok cost) is h =
+    let passed = passes (names_of_problem problem) table commit.pairs commit.u commit.v cost is in
+    record { positions = passed.positions; are_positions = passed.found; no_fault = passed.no_fault; wagons = none_first _ _ h; orders = none_second (wagon_changed problem now commit.pairs) _ h }
 
 pub unrefused : (problem : ProblemValue) (now : Office) (commit : CommitText) (table : Table) → refusal_in problem now commit table ≡ None → IsUnrefused problem now commit table
-unrefused problem now commit table h = unrefused_by problem now commit table (positions_of problem commit.pairs) refl h
+unrefused problem now commit table h = unrefused_by problem now commit table (checked (names_of_problem problem) table commit.pairs commit.u commit.v) refl h
+
+-- a commit that the price checker refuses
+pub refused_check : (problem : ProblemValue) (now : Office) (commit : CommitText) (table : Table) (fault : NamedFault) (refusal : Refusal) → refusal ≡ refusal_of_fault fault
+    → (fault ≢ named.OutOfMemory → checked (names_of_problem problem) table commit.pairs commit.u commit.v ≡ Err fault) → refusal ≢ OutOfMemory → refusal_in problem now commit table ≡ Some refusal
+refused_check problem now commit table fault refusal is says other =
+    ap (refusal_by problem now commit.pairs) (says (λ e. other (is ∙ ap refusal_of_fault e))) ∙ ap (λ (r : Refusal). Some r) (sym is)
 
 pub commit_owed : (setting : Setting) (history : List Event) (commit : CommitText) (table : Table) → commit.version ≤ length history → IsTableAt setting history commit.version commit.at table
     → refusal_in (problem_at setting history commit.version commit.at) (replay setting history) commit table ≡ None → IsLeast setting history commit × CanPromise (replay setting history) commit.pairs

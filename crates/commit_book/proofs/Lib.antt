@@ -6,9 +6,7 @@ pub mod CommitWalks
 pub mod Histories
 pub mod Ids
 pub mod Judging
-pub mod Named
 pub mod Placed
-pub mod Positions
 pub mod Replays
 pub mod Runs
 pub mod Sound

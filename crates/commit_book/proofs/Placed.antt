@@ -5,7 +5,6 @@ use Rattle.std.proofs.lemmas.Bool.Decides.{nat_tests}
 use Rattle.std.proofs.lemmas.List.{length-map}
 use Rattle.std.proofs.lemmas.List.Sums.{sum_by-cons}
 use Rattle.std.proofs.lemmas.Option.{slice_get_within}
-use Rattle.move_messages.specs.Values.{◌>>=◌}
 use Rattle.wagon_state.specs.declared.free_wagon.FreeWagon.{FreeWagon}
 use Rattle.load_orders.specs.Wanted.{WantedOrder}
 use Rattle.line_network.specs.Network.{NetworkValue}
@@ -18,8 +17,8 @@ use Rattle.cost_table.proofs.NameLemmas.{found_at}
 use Rattle.price_checker.proofs.FaultFree.{AllInRange}
 use Rattle.operating_db.specs.Commits.{Pair, times_of_order, times_of_wagon}
 use Rattle.operating_db.proofs.Names.{same, same_is, same_self}
-use Rattle.commit_book.specs.Commits.{found_or, positions_of}
-use Rattle.commit_book.specs.declared.refusal.Refusal.{Refusal}
+use Rattle.named_pairs.specs.NamedPairs.{positions_of}
+use Rattle.named_pairs.proofs.Checked.{first_position}
 
 -- where a wagon stands in a problem; an order
 abbrev pub wagon_place : ProblemValue → List ℕ → Option ℕ
@@ -40,26 +39,20 @@ ArePlaced problem (pair ∷ pairs) [] = ⊥
 
 -- ---- positions are such places
 
-placed_by : (problem : ProblemValue) (pair : Pair) (place : ℕ × ℕ) (i j : Option ℕ) → wagon_place problem pair.0 ≡ i → order_place problem pair.1 ≡ j → found_or pair (both i j) ≡ Ok place → IsPlaced problem pair place
+placed_by : (problem : ProblemValue) (pair : Pair) (place : ℕ × ℕ) (i j : Option ℕ) → wagon_place problem pair.0 ≡ i → order_place problem pair.1 ≡ j → both i j ≡ Some place → IsPlaced problem pair place
 placed_by problem pair place None j wagon order h = absurd cc
 placed_by problem pair place (Some i) None wagon order h = absurd cc
 placed_by problem pair place (Some i) (Some j) wagon order h =
     let same_place : (i, j) ≡ place = cc in
     subst (IsPlaced problem pair) same_place (record { wagon = wagon; order = order })
 
-bind_ok : {A B : Type 0} (r : Result A Refusal) (f : A → Result B Refusal) (y : B) → (r >>= f) ≡ Ok y → (x : A) × (r ≡ Ok x) × (f x ≡ Ok y)
-bind_ok (Ok x) f y e = (x, refl, e)
-bind_ok (Err d) f y e = absurd cc
-
-pub positions_placed : (problem : ProblemValue) (pairs : List Pair) (positions : List (ℕ × ℕ)) → positions_of problem pairs ≡ Ok positions → ArePlaced problem pairs positions
+pub positions_placed : (problem : ProblemValue) (pairs : List Pair) (positions : List (ℕ × ℕ)) → positions_of (names_of_problem problem) pairs ≡ Ok positions → ArePlaced problem pairs positions
 unfolding positions_of
 positions_placed problem [] positions h = let none : [] ≡ positions = cc in subst (ArePlaced problem []) none tt
 positions_placed problem (pair ∷ pairs) positions h =
-    let first = bind_ok (found_or pair (pair_of (names_of_problem problem) pair.0 pair.1)) (λ place. positions_of problem pairs >>= λ places. Ok (place ∷ places)) positions h in
-    let rest = bind_ok (positions_of problem pairs) (λ places. Ok (first.0 ∷ places)) positions first.2 in
-    let whole : first.0 ∷ rest.0 ≡ positions = cc in
-    subst (ArePlaced problem (pair ∷ pairs)) whole
-    (placed_by problem pair first.0 (wagon_place problem pair.0) (order_place problem pair.1) refl refl first.1, positions_placed problem pairs rest.0 rest.1)
+    let first = first_position (names_of_problem problem) pair pairs positions h in
+    subst (ArePlaced problem (pair ∷ pairs)) first.same
+    (placed_by problem pair first.position (wagon_place problem pair.0) (order_place problem pair.1) refl refl first.found, positions_placed problem pairs first.rest first.others)
 
 -- ---- what stands at a place
 

@@ -58,7 +58,7 @@ pub record IsLegalEntry (setting : Setting) (history : List Event) (entry : Even
 pub entered_legal : (setting : Setting) (history : List Event) (entry : Event) → IsLegal setting history → IsLegalEntry setting history entry → IsLegal setting (history ++ entry ∷ [])
 entered_legal setting history entry legal h = legal_push setting history entry legal h.is_entry h.room
 
--- an event that is accepted, where it asks for no promises and pays what it owes
+-- an event that is accepted, where it needs no free wagons and pays what it owes
 pub event_entered : (setting : Setting) (history : List Event) (entry : Event) (n : ℕ) → IsPromised (replay setting history) entry → Owes setting history entry → event_answer setting history entry ≡ Done (Accepted n) → IsLegalEntry setting history entry
 event_entered setting history entry n promised owed h =
     let r = after_call (length setting.networks) (replay setting history) entry in

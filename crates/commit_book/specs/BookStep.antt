@@ -4,19 +4,19 @@ use Rattle.std.specs.List.{list_any}
 use Rattle.std.specs.Option.{option_or}
 use Rattle.move_messages.specs.declared.message.Message as movement
 use Rattle.move_messages.specs.declared.commit_text.CommitText.{CommitText}
-use Rattle.cost_table.specs.Problem.{ProblemValue}
+use Rattle.cost_table.specs.Problem.{ProblemValue, names_of_problem}
 use Rattle.cost_table.specs.Table.{Table}
-use Rattle.price_checker.specs.Faults.{first_fault}
-use Rattle.price_checker.specs.declared.check_fault.CheckFault.{CheckFault}
+use Rattle.named_pairs.specs.NamedPairs.{checked}
+use Rattle.named_pairs.specs.declared.named_fault.NamedFault.{NamedFault}
 use Rattle.operating_db.specs.After.{after_call}
 use Rattle.operating_db.specs.Commits.{Pair}
 use Rattle.operating_db.specs.Office.{Office}
 use Rattle.operating_db.specs.declared.apply_fault.ApplyFault.{ApplyFault}
 use Rattle.operating_db.specs.declared.event.Event.{Event}
 use Rattle.operating_db.specs.declared.event.Event.TheVariants as event
-use Rattle.commit_book.specs.Commits.{positions_of, wagon_changed, order_changed}
+use Rattle.commit_book.specs.Commits.{wagon_changed, order_changed}
 use Rattle.commit_book.specs.History.{replay, problem_at, IsTableAt, IsFresh}
-use Rattle.commit_book.specs.Refusal.{refusal_of, named}
+use Rattle.commit_book.specs.Refusal.{refusal_of, refusal_of_fault}
 use Rattle.commit_book.specs.Setting.{Setting}
 use Rattle.commit_book.specs.declared.answer.Answer.{Answer}
 use Rattle.commit_book.specs.declared.answer.Answer.TheVariants.{Done, Begun, Refused}
@@ -34,14 +34,15 @@ pub record BookState : Type 0 where
   pub history : List Event
   pub kept : List (ℕ × ℕ)
 
+-- what a contract sees of a book: what it was given, its history, and which problems it keeps
+pub record BookValue : Type 0 where
+  pub setting : Setting
+  pub state : BookState
+
 -- what a call that enters an event returned, as an answer; what a begin did
 abbrev pub answer_of : Result Reply Refusal → Answer
 answer_of (Ok reply) = Done reply
 answer_of (Err refusal) = Refused refusal
-
-abbrev pub answer_or : Result Answer Refusal → Answer
-answer_or (Ok answer) = answer
-answer_or (Err refusal) = Refused refusal
 
 abbrev pub begun_of : Result SnapValue AllocError → Answer
 begun_of (Ok snap) = Begun snap.version
@@ -69,19 +70,6 @@ entered book event (Done (Accepted n)) = record book { history = book.history ++
 entered book event (Done (Repeated n)) = book
 entered book event (Begun n) = book
 entered book event (Refused refusal) = book
-
--- an event that is entered or refused; or memory is refused where it would be entered
-pub record IsEnteredOrRefused (setting : Setting) (book : BookState) (entry : Event) (answer : Answer) (new : BookState) : Type 0 where
-  pub answered : answer ≡ event_answer setting book.history entry
-  pub changed : new ≡ entered book entry answer
-
-pub record IsOutOfMemory (setting : Setting) (book : BookState) (entry : Event) (answer : Answer) (new : BookState) : Type 0 where
-  pub may : event_answer setting book.history entry ≡ Done (Accepted (length book.history + 1))
-  pub refused : answer ≡ Refused OutOfMemory
-  pub unchanged : new ≡ book
-
-abbrev pub IsEntered : Setting → BookState → Event → Answer → BookState → Type 0
-IsEntered setting book entry answer new = IsEnteredOrRefused setting book entry answer new ⊎ IsOutOfMemory setting book entry answer new
 
 -- ---- messages
 
@@ -117,18 +105,15 @@ is_this which kept = kept.0 == which.0 && kept.1 == which.1
 abbrev pub is_kept : List (ℕ × ℕ) → ℕ × ℕ → Bool
 is_kept kept which = list_any (is_this which) kept
 
--- a fault of the checker, by name; else the first wagon, else the first order, that has changed
-abbrev pub refusal_for : ProblemValue → (now : Office) → List Pair → Option CheckFault → Option Refusal
-refusal_for problem now pairs (Some fault) = Some (named problem fault)
-refusal_for problem now pairs None = option_or (wagon_changed problem now pairs) (order_changed now [] pairs)
-
-abbrev pub refusal_at : ProblemValue → (now : Office) → CommitText → Table → Result (List (ℕ × ℕ)) Refusal → Option Refusal
-refusal_at problem now commit table (Err refusal) = Some refusal
-refusal_at problem now commit table (Ok positions) = refusal_for problem now commit.pairs (first_fault table positions commit.u commit.v)
+-- a fault of the price checker over the commit's named pairs; else the first wagon, else the first order, that has
+-- changed
+abbrev pub refusal_by : ProblemValue → (now : Office) → List Pair → Result ℕ NamedFault → Option Refusal
+refusal_by problem now pairs (Err fault) = Some (refusal_of_fault fault)
+refusal_by problem now pairs (Ok cost) = option_or (wagon_changed problem now pairs) (order_changed now [] pairs)
 
 -- why a commit is refused, where this is the problem that it names, this its table, and this the office now
 abbrev pub refusal_in : ProblemValue → (now : Office) → CommitText → Table → Option Refusal
-refusal_in problem now commit table = refusal_at problem now commit table (positions_of problem commit.pairs)
+refusal_in problem now commit table = refusal_by problem now commit.pairs (checked (names_of_problem problem) table commit.pairs commit.u commit.v)
 
 abbrev pub accepted_unless : ℕ → Option Refusal → Answer
 accepted_unless n (Some refusal) = Refused refusal
@@ -155,7 +140,7 @@ kept_after setting kept which =
     else if nat_lt (length kept) setting.kept then kept ++ which ∷ []
     else drop 1 kept ++ which ∷ []
 
--- the answer to a call, and the book after it, want of memory aside
+-- the answer to a call, where there is memory enough
 abbrev pub IsAnswer : Setting → BookState → Call → Answer → Type 0
 IsAnswer setting book (Message message) answer = IsMessageAnswer setting book.history message answer
 IsAnswer setting book (Place text) answer = answer ≡ event_answer setting book.history (event.Place text)
@@ -165,6 +150,7 @@ IsAnswer setting book (Commit commit) answer =
     IsCommitAnswer (is_kept book.kept (commit.version, commit.at)) (is_full setting book.history) setting book.history commit answer
 IsAnswer setting book (Revise network) answer = answer ≡ event_answer setting book.history (event.Revise network)
 
+-- the book after a call that is answered so
 abbrev pub book_after : Setting → BookState → Call → Answer → BookState
 book_after setting book (Message message) answer = entered book (event.Message message) answer
 book_after setting book (Place text) answer = entered book (event.Place text) answer
@@ -173,27 +159,28 @@ book_after setting book (Begin at) answer = record book { kept = kept_after sett
 book_after setting book (Commit commit) answer = entered book (event.Commit commit) answer
 book_after setting book (Revise network) answer = entered book (event.Revise network) answer
 
+-- a call that is answered where there is memory enough, and the book after it
 pub record IsStep (setting : Setting) (book : BookState) (call : Call) (answer : Answer) (new : BookState) : Type 0 where
   pub answered : IsAnswer setting book call answer
   pub changed : new ≡ book_after setting book call answer
 
--- where a call may want memory: a begin; a commit of a kept problem, on a book that isn't full; another event where it
--- would be accepted
-abbrev pub MayWantMemory : Setting → BookState → Call → Type 0
-MayWantMemory setting book (Begin at) = Unit {0}
-MayWantMemory setting book (Commit commit) =
+-- where a call may be answered that memory is out: a begin; a commit of a kept problem, on a book that isn't full;
+-- another event where it would be accepted
+abbrev pub MayRunOutOfMemory : Setting → BookState → Call → Type 0
+MayRunOutOfMemory setting book (Begin at) = Unit {0}
+MayRunOutOfMemory setting book (Commit commit) =
     (is_kept book.kept (commit.version, commit.at) ≡ true) × (is_full setting book.history ≡ false)
-MayWantMemory setting book call = IsAnswer setting book call (Done (Accepted (length book.history + 1)))
+MayRunOutOfMemory setting book call = IsAnswer setting book call (Done (Accepted (length book.history + 1)))
 
--- want of memory, with nothing changed
-pub record WantsMemory (setting : Setting) (book : BookState) (call : Call) (answer : Answer) (new : BookState) : Type 0 where
-  pub may : MayWantMemory setting book call
+-- a call is answered that memory is out, and nothing has changed
+pub record RunsOutOfMemory (setting : Setting) (book : BookState) (call : Call) (answer : Answer) (new : BookState) : Type 0 where
+  pub may : MayRunOutOfMemory setting book call
   pub refused : answer ≡ Refused OutOfMemory
   pub unchanged : new ≡ book
 
--- A call of a book: its step, or want of memory.
+-- A call of a book: its step, or memory is out.
 abbrev pub IsCall : Setting → BookState → Call → Answer → BookState → Type 0
-IsCall setting book call answer new = IsStep setting book call answer new ⊎ WantsMemory setting book call answer new
+IsCall setting book call answer new = IsStep setting book call answer new ⊎ RunsOutOfMemory setting book call answer new
 
 -- a run of calls, one after the other, with their answers
 abbrev pub IsRun : Setting → BookState → List Call → List Answer → BookState → Type 0

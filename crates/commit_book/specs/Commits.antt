@@ -1,34 +1,17 @@
--- What a commit is tested for: its pairs are of the problem that it names, and what they are of has not changed.
-use Rattle.std.specs.Prelude.{ℕ, Bool, false, nat_eq, nat_lt, ◌==◌, ◌&&◌, if◌then◌else◌, List, [], ◌∷◌, ◌++◌, Option, Some, None, Result, Ok, Err}
+-- What a commit is tested for in the office as it is now: that its wagons and orders have not changed.
+use Rattle.std.specs.Prelude.{ℕ, Bool, false, nat_eq, nat_lt, ◌==◌, ◌&&◌, if◌then◌else◌, List, [], ◌∷◌, ◌++◌, Option, Some, None}
 use Rattle.std.specs.List.{find}
 use Rattle.std.specs.Option.{option_and_then}
 use Rattle.std.specs.Cmp.Lexicographic.{pointwise}
-use Rattle.move_messages.specs.Values.{◌>>=◌}
 use Rattle.wagon_state.specs.declared.free_wagon.FreeWagon.{FreeWagon}
 use Rattle.wagon_state.specs.Free.{free_of}
-use Rattle.office_rows.specs.Rows.{wagon_in, order_in}
-use Rattle.cost_table.specs.Names.{is_name, pair_of}
-use Rattle.cost_table.specs.Problem.{ProblemValue, names_of_problem}
+use Rattle.database_rows.specs.Rows.{wagon_in, order_in}
+use Rattle.cost_table.specs.Names.{is_name}
+use Rattle.cost_table.specs.Problem.{ProblemValue}
 use Rattle.operating_db.specs.Commits.{Pair, times_of_order, lack_in}
 use Rattle.operating_db.specs.Office.{Office}
 use Rattle.commit_book.specs.declared.refusal.Refusal.{Refusal}
-use Rattle.commit_book.specs.declared.refusal.Refusal.TheVariants.{WagonChanged, OrderChanged, NotInProblem}
-
--- ---- names and positions
-
-abbrev pub found_or : Pair → Option (ℕ × ℕ) → Result (ℕ × ℕ) Refusal
-found_or pair None = Err (NotInProblem pair.0 pair.1)
-found_or pair (Some position) = Ok position
-
--- the positions of the pairs in a problem, up to the first pair whose wagon or order it doesn't have
-unfoldable pub positions_of : ProblemValue → List Pair → Result (List (ℕ × ℕ)) Refusal
-positions_of problem [] = Ok []
-positions_of problem (pair ∷ pairs) = do
-  position ← found_or pair (pair_of (names_of_problem problem) pair.0 pair.1)
-  positions ← positions_of problem pairs
-  Ok (position ∷ positions)
-
--- ---- what has changed
+use Rattle.commit_book.specs.declared.refusal.Refusal.TheVariants.{WagonChanged, OrderChanged}
 
 -- a problem's wagon of a number
 abbrev pub wagon_of : ProblemValue → List ℕ → Option FreeWagon

@@ -8,15 +8,15 @@ use Rattle.line_network.specs.Network.{NetworkValue}
 use Rattle.distance_tables.specs.Networks.{network_at}
 use Rattle.cost_table.specs.Allowed.{IsTableOf, Reaches}
 use Rattle.cost_table.specs.Plan.{IsOptimal}
-use Rattle.cost_table.specs.Problem.{ProblemValue}
+use Rattle.cost_table.specs.Problem.{ProblemValue, names_of_problem}
 use Rattle.cost_table.specs.Table.{Table}
 use Rattle.price_checker.specs.Certificate.{IsCertificate}
+use Rattle.named_pairs.specs.NamedPairs.{positions_of}
 use Rattle.operating_db.specs.Commits.{Pair, times_of_wagon, times_of_order}
 use Rattle.operating_db.specs.Promises.{PromisesAgree}
 use Rattle.operating_db.specs.declared.event.Event.{Event}
 use Rattle.operating_db.specs.declared.event.Event.TheVariants.{Commit}
 use Rattle.commit_book.specs.BookStep.{BookState, IsRun}
-use Rattle.commit_book.specs.Commits.{positions_of}
 use Rattle.commit_book.specs.History.{IsLegal, problem_at, version}
 use Rattle.commit_book.specs.Setting.{Setting}
 use Rattle.commit_book.specs.declared.answer.Answer.{Answer}
@@ -48,7 +48,7 @@ pub record IsSound (setting : Setting) (before : List Event) (commit : CommitTex
   pub table : Table
   pub is_table : IsTableOf network (problem_at setting before commit.version commit.at) table
   pub positions : List (ℕ × ℕ)
-  pub are_positions : positions_of (problem_at setting before commit.version commit.at) commit.pairs ≡ Ok positions
+  pub are_positions : positions_of (names_of_problem (problem_at setting before commit.version commit.at)) commit.pairs ≡ Ok positions
   pub optimal : IsOptimal table positions
   pub certificate : IsCertificate table positions commit.u commit.v
 

@@ -11,9 +11,10 @@ use Rattle.line_network.specs.Network.{NetworkValue}
 use Rattle.distance_tables.specs.Networks.{network_at}
 use Rattle.cost_table.specs.Allowed.{IsTableOf}
 use Rattle.cost_table.specs.Plan.{IsOptimal}
-use Rattle.cost_table.specs.Problem.{ProblemValue}
+use Rattle.cost_table.specs.Problem.{ProblemValue, names_of_problem}
 use Rattle.cost_table.specs.Table.{Table}
 use Rattle.price_checker.specs.Certificate.{IsCertificate}
+use Rattle.named_pairs.specs.NamedPairs.{positions_of}
 use Rattle.operating_db.specs.After.{after_call}
 use Rattle.operating_db.specs.Commits.{Pair}
 use Rattle.operating_db.specs.Office.{Office, first_office}
@@ -21,7 +22,7 @@ use Rattle.operating_db.specs.Problem.{problem_of}
 use Rattle.operating_db.specs.Steps.{IsPromised}
 use Rattle.operating_db.specs.declared.event.Event.{Event}
 use Rattle.operating_db.specs.declared.event.Event.TheVariants.{Message, Place, Withdraw, Commit, Revise}
-use Rattle.commit_book.specs.Commits.{free_in, positions_of, wagon_of}
+use Rattle.commit_book.specs.Commits.{free_in, wagon_of}
 use Rattle.commit_book.specs.Setting.{Setting}
 
 -- ---- versions
@@ -70,7 +71,7 @@ pub record IsLeast (setting : Setting) (history : List Event) (commit : CommitTe
   pub table : Table
   pub is_table : IsTableAt setting history commit.version commit.at table
   pub positions : List (ℕ × ℕ)
-  pub are_positions : positions_of (problem_at setting history commit.version commit.at) commit.pairs ≡ Ok positions
+  pub are_positions : positions_of (names_of_problem (problem_at setting history commit.version commit.at)) commit.pairs ≡ Ok positions
   pub certificate : IsCertificate table positions commit.u commit.v
   pub optimal : IsOptimal table positions
   pub unchanged : All (IsUnchanged (problem_at setting history commit.version commit.at) (replay setting history)) commit.pairs

@@ -1,3 +1,4 @@
+-- What a book is made from.
 use Rattle.std.specs.Prelude.{ℕ, List}
 use Rattle.wagon_state.specs.declared.wagon_row.WagonRow.{WagonRow}
 use Rattle.line_network.specs.Network.{NetworkValue}

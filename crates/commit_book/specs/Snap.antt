@@ -1,13 +1,13 @@
 -- Snapshots: what a planner is given.
 use Rattle.std.specs.Prelude.{◌≤◌, ◌<◌, ℕ, List, length}
-use Rattle.cost_table.specs.Problem.{ProblemValue}
+use Rattle.cost_table.specs.Problem.{ProblemValue, wagon_names, order_names}
+use Rattle.named_pairs.specs.NamedFaults.{name_at}
 use Rattle.operating_db.specs.Commits.{Pair}
 use Rattle.operating_db.specs.Problem.{problem_of}
 use Rattle.operating_db.specs.declared.event.Event.{Event}
 use Rattle.commit_book.specs.History.{replay}
-use Rattle.commit_book.specs.Refusal.{wagon_name, order_name}
+use Rattle.commit_book.specs.Limits.{max_entries}
 use Rattle.commit_book.specs.Setting.{Setting}
-use Rattle.commit_book.specs.declared.limits.TheConstants.{MAX_ENTRIES}
 
 -- a version, the network in force in it, and its problem at a moment
 pub record SnapValue : Type 0 where
@@ -16,7 +16,7 @@ pub record SnapValue : Type 0 where
   pub problem : ProblemValue
 
 abbrev pub IsVersionNumber : ℕ → Type 0
-IsVersionNumber version = version ≤ MAX_ENTRIES
+IsVersionNumber version = version ≤ max_entries
 
 -- a pair of positions is one of the problem
 abbrev pub IsInRange : ProblemValue → ℕ × ℕ → Type 0
@@ -24,7 +24,7 @@ IsInRange problem position = (position.0 < length problem.wagons) × (position.1
 
 -- the names at a pair of positions
 abbrev pub named_pair : ProblemValue → ℕ × ℕ → Pair
-named_pair problem position = (wagon_name problem position.0, order_name problem position.1)
+named_pair problem position = (name_at (wagon_names problem.wagons) position.0, name_at (order_names problem.orders) position.1)
 
 -- the problem of a history's last version at a moment, and the network in force
 abbrev pub snap_of : Setting → List Event → (at : ℕ) → SnapValue

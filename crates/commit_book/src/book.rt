@@ -1,12 +1,13 @@
-//! The book.
+//! The book: its history, the office after it, and the problems that commits may name.
 ghost use Rattle.std.specs.Prelude.{◌≡◌, [], IfErr, IfOk, OnErr, OnOk, Some, length, option_map};
 ghost use Rattle.distance_tables.specs.Networks.{network_at};
 ghost use Rattle.operating_db.specs.Steps.{IsPromised};
-ghost use Rattle.commit_book.specs.BookStep.{IsCall, IsEntered, answer_of, begun_of, is_full, is_kept, kept_after};
-ghost use Rattle.commit_book.specs.CommitTests.{IsAccepted, IsRefused};
+ghost use Rattle.commit_book.specs.BookStep.{IsCall, answer_of, begun_of, is_full, is_kept, kept_after};
+ghost use Rattle.commit_book.specs.inner.Entered.{IsEntered};
+ghost use Rattle.commit_book.specs.inner.CommitTests.{IsAccepted, IsRefused};
 ghost use Rattle.commit_book.specs.Headline.{IsProved};
 ghost use Rattle.commit_book.specs.History.{Owes, entry_at, replay};
-ghost use Rattle.commit_book.specs.Kept.{IsKeptAt, which_of};
+ghost use Rattle.commit_book.specs.inner.Kept.{IsKeptAt, which_of};
 ghost use Rattle.commit_book.specs.Snap.{IsVersionNumber, snap_of};
 ghost use Rattle.commit_book.specs.declared.call.Call.TheVariants as call;
 
@@ -26,7 +27,8 @@ use std::sync::Arc;
 use wagon_roster::Roster;
 
 /// A history of events from a roster on, which is legal whatever is called; the office after it; and the problems that
-/// commits may name. A contract sees what the book was given, its history, and which problems it keeps.
+/// commits may name. Each `Book` method is one step of such a run, so any `Book` value has a history for which the
+/// headline holds. A contract sees what the book was given, its history, and which problems it keeps.
 #[derive(Drop)]
 pub struct Book {
     ledger: Ledger,
@@ -36,7 +38,8 @@ pub struct Book {
 }
 
 impl Model for Book {
-    ghost use Rattle.commit_book.specs.Kept.{BookValue, IsBookOf, book_of};
+    ghost use Rattle.commit_book.specs.BookStep.{BookValue};
+    ghost use Rattle.commit_book.specs.inner.Kept.{IsBookOf, book_of};
 
     ghost Value = { BookValue };
 
@@ -148,18 +151,23 @@ impl Book {
     }
 
     /// Promises the pairs of a commit, where its prices prove them to be a plan of least cost of the kept problem that
-    /// it names. Refused, with nothing changed: `NotKept` (81); `BookFull` (72); `NotInProblem` (84), the first pair
-    /// whose wagon or order isn't in that problem; as the checker says (61 to 66); `WagonChanged` (82), the first pair
-    /// whose wagon isn't free now as it is in the problem; `OrderChanged` (83), the first pair whose order, this pair
-    /// and those before it counted, lacks fewer wagons now; `OutOfMemory` (1), which may come in place of 84 and what
-    /// follows it.
+    /// it names. Refused, with nothing changed: `NotKept` (81); `BookFull` (72); `Check`, as the price checker says of
+    /// the pairs and the prices: `NotInProblem` (84), the first pair whose wagon or order isn't in that problem, else
+    /// one of 61 to 66; `WagonChanged` (82), the first pair whose wagon isn't free now as it is in the problem;
+    /// `OrderChanged` (83), the first pair whose order, with this pair and those before it, lacks fewer wagons now;
+    /// `OutOfMemory` (1), which may come in place of 84 and what follows it.
     pub fn commit(&mut self, alloc: Global, commit: &CommitText) -> Result<Reply, Refusal>
         ensures call { IsCall self.old.setting self.old.state (call.Commit commit.now) (answer_of result) self.new.state }
         ensures setting { self.new.setting ≡ self.old.setting }
     {
-        self.judged(alloc, commit)?;
-        let commit = commit.copy(alloc)?;
-        self.enter(alloc, Event::Commit(commit))
+        // The prover has no plan for `self.judged(..)?` here.
+        match self.judged(alloc, commit) {
+            Ok(()) => {
+                let commit = commit.copy(alloc)?;
+                self.enter(alloc, Event::Commit(commit))
+            }
+            Err(refusal) => Err(refusal),
+        }
     }
 
     /// Tests a commit.

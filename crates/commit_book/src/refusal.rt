@@ -1,8 +1,9 @@
 //! Why a book refuses a call.
 ghost use Rattle.std.specs.Prelude.{◌≡◌};
-ghost use Rattle.commit_book.specs.Refusal.{refusal_number, refusal_of};
+ghost use Rattle.commit_book.specs.Refusal.{refusal_number, refusal_of, refusal_of_fault};
 ghost use Rattle.commit_book.specs.declared.refusal.Refusal.TheVariants.{OutOfMemory};
 
+use named_pairs::NamedFault;
 use operating_db::ApplyFault;
 use rail_codes::{OrderId, WagonNumber};
 use std::alloc::{AllocError, AllocFailed};
@@ -12,30 +13,15 @@ use wagon_state::StepFault;
 /// Why a book refuses a call; nothing has changed then. The message is the refusal's name.
 #[derive(Clone, Copy, Debug, PartialEq, Eq, Error)]
 pub enum Refusal {
-    /// Memory was refused (1).
+    /// Out of memory (1).
     #[error("OutOfMemory")]
     OutOfMemory,
     /// The status table has no such step for the message (31 to 33).
     #[error("{0}")]
     Step(StepFault),
-    /// There is not one price per wagon and one per order of the problem (61).
-    #[error("WrongLengths")]
-    WrongLengths,
-    /// A pair that the table of the problem doesn't allow (62).
-    #[error("NotAllowed")]
-    NotAllowed(WagonNumber, OrderId),
-    /// A pair whose wagon stands before it, or whose order stands before it as often as it lacks (63).
-    #[error("UsedTwice")]
-    UsedTwice(WagonNumber, OrderId),
-    /// A wagon and an order whose price passes the cost and the wagon's price (64).
-    #[error("PriceGap")]
-    PriceGap(WagonNumber, OrderId),
-    /// An order whose price passes its penalty (65).
-    #[error("OverPenalty")]
-    OverPenalty(OrderId),
-    /// The plan's cost with all wagons' prices, and what all orders pay, which differ (66).
-    #[error("SumsDiffer")]
-    SumsDiffer(u128, u128),
+    /// As the price checker says of the named pairs and the prices (61 to 66), or a pair isn't in the problem (84).
+    #[error("{0}")]
+    Check(NamedFault),
     /// Another message has the same id (71).
     #[error("IdReused")]
     IdReused,
@@ -72,9 +58,6 @@ pub enum Refusal {
     /// An order that lacks fewer wagons now than the commit gives it (83).
     #[error("OrderChanged")]
     OrderChanged(OrderId),
-    /// A pair whose wagon or order isn't in the problem (84).
-    #[error("NotInProblem")]
-    NotInProblem(WagonNumber, OrderId),
 }
 
 impl Refusal {
@@ -85,12 +68,7 @@ impl Refusal {
         match self {
             Refusal::OutOfMemory => 1,
             Refusal::Step(fault) => fault.number(),
-            Refusal::WrongLengths => 61,
-            Refusal::NotAllowed(_, _) => 62,
-            Refusal::UsedTwice(_, _) => 63,
-            Refusal::PriceGap(_, _) => 64,
-            Refusal::OverPenalty(_) => 65,
-            Refusal::SumsDiffer(_, _) => 66,
+            Refusal::Check(fault) => fault.number(),
             Refusal::IdReused => 71,
             Refusal::BookFull => 72,
             Refusal::UnknownWagon => 73,
@@ -103,7 +81,6 @@ impl Refusal {
             Refusal::NotKept => 81,
             Refusal::WagonChanged(_) => 82,
             Refusal::OrderChanged(_) => 83,
-            Refusal::NotInProblem(_, _) => 84,
         }
     }
 }
@@ -138,6 +115,17 @@ impl From<ApplyFault> for Refusal {
             ApplyFault::OrderClosed => Refusal::OrderClosed,
             ApplyFault::UnknownNetwork => Refusal::UnknownNetwork,
             ApplyFault::SameNetwork => Refusal::SameNetwork,
+        }
+    }
+}
+
+impl From<NamedFault> for Refusal {
+    ghost from_gives = { λ fault refusal. refusal ≡ refusal_of_fault fault };
+
+    fn from(fault: NamedFault) -> Refusal {
+        match fault {
+            NamedFault::OutOfMemory => Refusal::OutOfMemory,
+            fault => Refusal::Check(fault),
         }
     }
 }

@@ -2,9 +2,9 @@
 ghost use Rattle.std.specs.Prelude.{◌≡◌, All, IfOk, map};
 ghost use Rattle.commit_book.specs.Snap.{IsInRange, IsVersionNumber, named_pair};
 
-use crate::names::{order_at, wagon_at};
 use cost_table::{Plan, Problem};
 use move_messages::{CommitText, Pairs, PriceList};
+use named_pairs::{order_name, wagon_name};
 use price_checker::Prices;
 use rail_codes::{Moment, OrderId, WagonNumber};
 use std::alloc::{AllocError, Global};
@@ -84,7 +84,7 @@ impl Snap {
         ensures pairs { IfOk result (λ commit. commit.pairs ≡ map (named_pair self.now.problem) plan.now) }
         ensures prices { IfOk result (λ commit. (commit.u ≡ prices.now.u.items) × (commit.v ≡ prices.now.v.items)) }
     {
-        let pairs = named_pairs(alloc, &self.problem, plan.pairs())?;
+        let pairs = pairs_by_name(alloc, &self.problem, plan.pairs())?;
         let u = Vec::from_slice(alloc, &prices.u)?;
         let v = Vec::from_slice(alloc, &prices.v)?;
         Ok(CommitText {
@@ -98,7 +98,7 @@ impl Snap {
 }
 
 /// The names at these positions.
-fn named_pairs(
+fn pairs_by_name(
     alloc: Global,
     problem: &Problem,
     positions: &[(usize, usize)],
@@ -108,7 +108,7 @@ fn named_pairs(
 {
     let mut pairs = Vec::with_capacity(alloc, positions.len())?;
     for (i, j) in positions {
-        pairs.push((wagon_at(problem, *i), order_at(problem, *j)))?;
+        pairs.push((wagon_name(problem, *i), order_name(problem, *j)))?;
     }
     Ok(pairs)
 }

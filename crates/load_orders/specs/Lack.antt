@@ -1,3 +1,4 @@
+-- How many wagons an order lacks, and its state.
 use Rattle.std.specs.Prelude.{ℕ, ◌+◌, ◌-◌, ◌==◌, nat_lt, Bool, true, false, not, ◌&&◌, if◌then◌else◌, length}
 use Rattle.load_orders.specs.declared.order_state.OrderState.{OrderState}
 use Rattle.load_orders.specs.declared.order_state.OrderState.TheVariants.{Waiting, Promised, Filled, Withdrawn}

@@ -1,3 +1,4 @@
+-- Which wagon suits which order.
 use Rattle.std.specs.Prelude.{◌≤◌}
 use Rattle.std.specs.List.{Contains}
 use Rattle.move_messages.specs.Order.{Order}

@@ -1,3 +1,4 @@
+-- Orders that lack wagons.
 use Rattle.std.specs.Prelude.{ℕ, ◌≤◌, nat_le, ◌&&◌, if◌then◌else◌, Option, Some, None}
 use Rattle.move_messages.specs.Order.{Order}
 

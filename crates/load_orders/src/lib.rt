@@ -1,5 +1,5 @@
-//! The orders of a rail office: who wants wagons, how many of them are still wanting, and which
-//! wagon suits.
+//! The orders of a rail office: what each asks for, how many wagons it still lacks, and which wagon
+//! suits it.
 #![tactic(auto)]
 
 mod numbers;

@@ -11,7 +11,8 @@ use std::marker::Model;
 
 /// What the office knows of an order: what it asks for, the wagons promised to it, ascending by
 /// number, and those that filled it, as delivered. Together these are never more than it wants.
-/// There is room for all of them from the beginning on, so that only `new` takes memory.
+/// There is room for all of them from the beginning on, so that only `new` allocates. A withdrawn
+/// order has no promised wagon.
 /// A contract sees a row of the definitions.
 #[derive(Debug, Drop)]
 pub struct OrderRow {
@@ -73,7 +74,7 @@ impl OrderRow {
         &self.filled
     }
 
-    /// How far the order has come.
+    /// The state of the order.
     pub fn state(&self) -> OrderState
         ensures { result ≡ state_of self.now }
     {

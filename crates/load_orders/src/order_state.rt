@@ -1,6 +1,6 @@
 //! The state of an order.
 
-/// How far an order has come.
+/// The state of an order.
 #[derive(Clone, Copy, Debug, PartialEq, Eq, Hash)]
 pub enum OrderState {
     /// It lacks a wagon.

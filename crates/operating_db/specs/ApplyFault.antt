@@ -1,3 +1,4 @@
+-- The faults of an event: their numbers, and when each comes.
 use Rattle.std.specs.Prelude.{◌≡◌, ◌⊎◌, ℕ, Result, Err, IsOk}
 use Rattle.wagon_state.specs.StepFault as step
 use Rattle.operating_db.specs.declared.apply_fault.ApplyFault.{ApplyFault}
@@ -18,11 +19,11 @@ fault_number OrderClosed = 77
 fault_number UnknownNetwork = 79
 fault_number SameNetwork = 80
 
--- why an event was refused: the office that it would make is the refusal; or memory was, where nothing else is wrong
+-- why an event is refused: with the fault that the definitions give; or because memory is out, where they give none
 abbrev pub IsRefusal : Result Office ApplyFault → ApplyFault → Type 0
 IsRefusal after fault = (after ≡ Err fault) ⊎ ((fault ≡ OutOfMemory) × IsOk after)
 
--- the same of this event: memory is wanted for a new order alone
+-- the same of this event: memory is needed for a new order alone
 abbrev pub IsRefusalOf : Event → Result Office ApplyFault → ApplyFault → Type 0
 IsRefusalOf (Place text) after fault = IsRefusal after fault
 IsRefusalOf event after fault = after ≡ Err fault

@@ -1,3 +1,4 @@
+-- What an office knows.
 use Rattle.std.specs.Prelude.{ℕ, List, [], map}
 use Rattle.move_messages.specs.Order.{Order}
 use Rattle.wagon_state.specs.declared.wagon_row.WagonRow.{WagonRow}

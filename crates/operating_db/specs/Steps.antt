@@ -6,7 +6,7 @@ use Rattle.operating_db.specs.After.{after_call}
 use Rattle.operating_db.specs.Commits.{CanPromise}
 use Rattle.operating_db.specs.Office.{Office}
 
--- what a commit asks for; the other events are refused by `after_call`
+-- what a commit needs; `after_call` says when another event is refused
 abbrev pub IsPromised : Office → Event → Type 0
 IsPromised office (Commit commit) = CanPromise office commit.pairs
 IsPromised office event = Unit {0}

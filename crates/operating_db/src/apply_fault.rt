@@ -9,7 +9,7 @@ use wagon_state::StepFault;
 /// Why an event is refused. The message is the refusal's name.
 #[derive(Clone, Copy, Debug, PartialEq, Eq, Error)]
 pub enum ApplyFault {
-    /// Memory was refused (1).
+    /// Out of memory (1).
     #[error("OutOfMemory")]
     OutOfMemory,
     /// The office has no wagon of the message's number (73).

@@ -1,4 +1,4 @@
-//! What of the rows is to be distributed.
+//! What is to be distributed: the free wagons and the waiting orders among the rows.
 ghost use Rattle.std.specs.Prelude.{◌≡◌, IfOk};
 ghost use Rattle.operating_db.specs.Problem.{free_count, free_wagons, waiting_orders, wanted_in};
 
