@@ -1,0 +1,118 @@
+//! Readers and writers that fail, each time or once: no read and no write is tried again.
+
+use crate::runs::{INPUT, OUTPUT};
+use office::{FromRead, RunFault, ToWrite, check_run};
+use std::alloc::Global;
+use test_samples::{MemoryReader, MemorySink, MemorySource, MemoryWriter};
+
+/// Whether a run stops so where the reader fails behind so many bytes, once or each time, after these bytes of output.
+fn stops_reading(alloc: Global, given: usize, once: bool, line: u64, output: &[u8]) -> bool {
+    let mut reader = MemorySource::failing(INPUT, 1, given, once);
+    let mut writer = MemorySink::new(alloc, usize::MAX);
+    let answer = check_run(alloc, &mut reader, &mut writer);
+    answer == Err(RunFault::ReadFailed(line)) && writer.bytes() == output
+}
+
+/// The same over a reader of std.
+fn stops_reading_std(alloc: Global, given: usize, once: bool, line: u64, output: &[u8]) -> bool {
+    let mut reader = FromRead::new(MemoryReader::failing(INPUT, given, once));
+    let mut writer = MemorySink::new(alloc, usize::MAX);
+    let answer = check_run(alloc, &mut reader, &mut writer);
+    answer == Err(RunFault::ReadFailed(line)) && writer.bytes() == output
+}
+
+/// After each byte of the input: the number of the line that the next byte would belong to, and how much is written.
+const READS: [(usize, u64, usize); 7] = [
+    (0, 1, 0),
+    (1, 1, 0),
+    (2, 2, 13),
+    (4, 2, 13),
+    (6, 3, 13),
+    (7, 3, 13),
+    (8, 3, 13),
+];
+
+#[test]
+fn a_reader_fails(rt: HostRuntime) {
+    for (given, line, written) in READS {
+        let output = &OUTPUT[..written];
+        assert!(rt;
+            stops_reading(rt.alloc(), given, false, line, output),
+            "{given}"
+        );
+        assert!(rt;
+            stops_reading(rt.alloc(), given, true, line, output),
+            "{given} once"
+        );
+    }
+}
+
+#[test]
+fn a_reader_of_std_fails(rt: HostRuntime) {
+    for (given, line, written) in READS {
+        let output = &OUTPUT[..written];
+        assert!(rt;
+            stops_reading_std(rt.alloc(), given, false, line, output),
+            "{given}"
+        );
+        assert!(rt;
+            stops_reading_std(rt.alloc(), given, true, line, output),
+            "{given} once"
+        );
+    }
+}
+
+/// Whether a run stops in a line's reply where the writer, which takes so many bytes at once, fails behind so many
+/// bytes, once or each time; and how many writes are tried.
+fn stops_writing(
+    alloc: Global,
+    step: usize,
+    room: usize,
+    once: bool,
+    line: u64,
+    writes: u64,
+) -> bool {
+    let mut reader = MemorySource::new(INPUT, 100);
+    let mut writer = MemorySink::failing(alloc, step, room, once);
+    let answer = check_run(alloc, &mut reader, &mut writer);
+    let is_written = writer.bytes() == OUTPUT.get(..room).unwrap_or(OUTPUT);
+    answer == Err(RunFault::WriteFailed(line)) && is_written && writer.writes() == writes
+}
+
+#[test]
+fn a_writer_fails(rt: HostRuntime) {
+    for (step, room, line, writes) in [
+        (1, 0, 1, 1),
+        (1, 5, 1, 6),
+        (1, 12, 1, 13),
+        (1, 13, 3, 14),
+        (1, 25, 3, 26),
+        (100, 0, 1, 1),
+        (100, 13, 3, 2),
+    ] {
+        for once in [false, true] {
+            let stops = stops_writing(rt.alloc(), step, room, once, line, writes);
+            assert!(rt; stops, "{step} {room} {once}");
+        }
+    }
+}
+
+/// The same over a writer of std, which takes all at once.
+fn stops_writing_std(alloc: Global, room: usize, once: bool, line: u64, writes: u64) -> bool {
+    let mut reader = MemorySource::new(INPUT, 100);
+    let mut written = MemoryWriter::failing(alloc, room, once);
+    let mut writer = ToWrite::new(&mut written);
+    let answer = check_run(alloc, &mut reader, &mut writer);
+    let is_written = written.bytes() == OUTPUT.get(..room).unwrap_or(OUTPUT);
+    answer == Err(RunFault::WriteFailed(line)) && is_written && written.writes() == writes
+}
+
+#[test]
+fn a_writer_of_std_fails(rt: HostRuntime) {
+    for (room, line, writes) in [(0, 1, 1), (13, 3, 2)] {
+        for once in [false, true] {
+            let stops = stops_writing_std(rt.alloc(), room, once, line, writes);
+            assert!(rt; stops, "{room} {once}");
+        }
+    }
+}
