@@ -1,4 +1,5 @@
-# The program and its tests. A machine needs the proof kit's command `rt`, GNU make and nothing else.
+# The program and its tests. A machine needs the proof kit's command `rt`, GNU make and nothing else; `bench` needs more
+# (bench/README.md).
 
 .PHONY: run build test bench install
 
@@ -11,12 +12,13 @@ build:
 	@echo "== proving and building wagons (the first time ten to twenty minutes, later seconds)"
 	@cd crates/wagons && rt run < /dev/null > /dev/null
 
-# Proves every crate from nothing, tries the edits that must fail, runs every test and the stored run.
+# Proves every crate from nothing, tries the edits that must fail, runs every test and the programs on their stored files.
 test:
-	@echo "== rt ci: every proof from nothing (see docs/PROOFS.md for its time)"
+	@echo "== rt ci: every proof from nothing (see docs/GATE.md for its time)"
 	@rt ci
 
-bench: build
+# Builds what it times, says what it installs, and times the program, the distances and the planner beside their peers.
+bench:
 	@bench/check/run
 	@bench/distances/run
 	@bench/plan/run

@@ -11,9 +11,9 @@ use Rattle.cost_table.proofs.CostLemmas.{wagons_below, orders_below}
 use Rattle.price_checker.specs.Certificate.{IsCertificate}
 use Rattle.price_checker.proofs.Duality.{sum_below-items}
 use Rattle.std.proofs.Math.Seq.{take-length}
-use Rattle.assignment.specs.State.{is_order, served, order_at, IsState, AreCounted, taken_at}
-use Rattle.assignment.specs.Path.{one_if}
-use Rattle.assignment.specs.Pairs.{pairs_of, pairs_below}
+use Rattle.assignment.specs.inner.State.{is_order, served, order_at, IsState, AreCounted, taken_at}
+use Rattle.assignment.specs.inner.Path.{one_if}
+use Rattle.assignment.specs.inner.Pairs.{pairs_of, pairs_below}
 use Rattle.assignment.proofs.Limits.{cell_wagon, cell_order}
 use Rattle.assignment.proofs.Pairs.{one_below, one_if-test}
 

@@ -4,8 +4,8 @@ use Rattle.std.proofs.lemmas.Bool.Decides.{nat_tests}
 use Rattle.std.proofs.lemmas.List.Sums.{sum_by-cons}
 use Rattle.cost_table.specs.Table.{Table, IsTable, wagon_count, order_count, penalty_at}
 use Rattle.assignment.specs.declared.state.State.{State}
-use Rattle.assignment.specs.Columns.{AreColumns, IsColumn, cost_in}
-use Rattle.assignment.specs.State.{IsState, IsFirstPrice, AreCounted, order_at, served, is_order, taken_at}
+use Rattle.assignment.specs.inner.Columns.{AreColumns, IsColumn, cost_in}
+use Rattle.assignment.specs.inner.State.{IsState, IsFirstPrice, AreCounted, order_at, served, is_order, taken_at}
 use Rattle.assignment.proofs.Writes.{same_at, other_at}
 use Rattle.assignment.proofs.Limits.{cell_order}
 

@@ -1,8 +1,8 @@
 use Rattle.std.proofs.Common.{◌≡◌, ◌≢◌, ◌+◌, ◌<◌, ◌≤◌, ◌⊎◌, ℕ, List, Option, Some, None, cond, length, get_or, set, refl, sym, ◌∙◌, ap, arith, inl, inr, subst}
 use Rattle.std.proofs.lemmas.Bool.{cases_eq}
 use Rattle.std.proofs.lemmas.List.Sums.{sum_by-set}
-use Rattle.assignment.specs.State.{order_at, served, is_order}
-use Rattle.assignment.specs.Path.{AreWays, IsOnWay, one_if}
+use Rattle.assignment.specs.inner.State.{order_at, served, is_order}
+use Rattle.assignment.specs.inner.Path.{AreWays, IsOnWay, one_if}
 use Rattle.assignment.proofs.Writes.{same_at, other_at, written_length}
 
 one_if-test : (k : ℕ) (o : Option ℕ) → cond (is_order k o) 1 0 ≡ one_if k o

@@ -4,7 +4,7 @@ use Rattle.std.proofs.lemmas.List.{get_or_past}
 use Rattle.std.proofs.lemmas.List.Elements.{All-get_or}
 use Rattle.cost_table.specs.Table.{Table, IsTable, cost_at, penalty_at, wagon_count, order_count}
 use Rattle.cost_table.proofs.TableLemmas.{look_up_within}
-use Rattle.assignment.specs.State.{AreHeld, IsPriced, order_at}
+use Rattle.assignment.specs.inner.State.{AreHeld, IsPriced, order_at}
 
 -- a cell is one of the table's wagons, of its orders, and within the limit
 pub cell_wagon : (t : Table) (i j c : ℕ) → IsTable t → cost_at t i j ≡ Some c → i < wagon_count t

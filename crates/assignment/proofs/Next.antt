@@ -4,8 +4,8 @@ use Rattle.std.proofs.lemmas.List.{get_or_read, length_push, get_or_push}
 use Rattle.cost_table.specs.Table.{Table, wagon_count, order_count}
 use Rattle.assignment.specs.declared.search.Search.{Search}
 use Rattle.assignment.specs.declared.search.Best.{Best}
-use Rattle.assignment.specs.State.{IsState, order_at}
-use Rattle.assignment.specs.Search.{IsSearch, IsFront}
+use Rattle.assignment.specs.inner.State.{IsState, order_at}
+use Rattle.assignment.specs.inner.Search.{IsSearch, IsFront}
 use Rattle.assignment.proofs.Writes.{same_at}
 use Rattle.assignment.proofs.Limits.{cell_order}
 use Rattle.assignment.proofs.Relabel.{near_count_below}

@@ -6,9 +6,9 @@ use Rattle.std.proofs.lemmas.List.Sums.{sum_by-cons, sum_by-append}
 use Rattle.std.proofs.lemmas.Bool.Decides.{nat_tests}
 use Rattle.cost_table.specs.Plan.{sum_below}
 use Rattle.cost_table.proofs.Sums.{sum_below-same, sum_below-add, sum_below-zero, sum_below-at}
-use Rattle.assignment.specs.State.{is_order, served}
-use Rattle.assignment.specs.Path.{one_if}
-use Rattle.assignment.specs.Pairs.{pairs_of}
+use Rattle.assignment.specs.inner.State.{is_order, served}
+use Rattle.assignment.specs.inner.Path.{one_if}
+use Rattle.assignment.specs.inner.Pairs.{pairs_of}
 
 choose_push : (a b : Bool) (h y : ℕ × ℕ) (r r' : List (ℕ × ℕ)) → r' ≡ cond b (r ++ y ∷ []) r → cond a (h ∷ r') r' ≡ cond b (cond a (h ∷ r) r ++ y ∷ []) (cond a (h ∷ r) r)
 choose_push true true h y r r' e = ap (λ x. h ∷ x) e

@@ -1,6 +1,6 @@
 use Rattle.std.proofs.Common.{◌≡◌, ◌+◌, ◌-◌, ◌<◌, ◌≤◌, ℕ, List, length, get_or, set, refl, sym, ◌∙◌, ap, arith, inl, inr, subst}
 use Rattle.std.proofs.lemmas.Bool.{cases_eq}
-use Rattle.assignment.specs.IndexList.{At}
+use Rattle.assignment.specs.inner.IndexList.{At}
 use Rattle.assignment.proofs.Writes.{same_at, other_at, written_length}
 
 -- where an item stands in a list from `start` on

@@ -6,9 +6,9 @@ use Rattle.assignment.specs.declared.search.Search.{Search}
 use Rattle.assignment.specs.declared.search.Best.{Best}
 use Rattle.assignment.specs.declared.search.End.{End}
 use Rattle.assignment.specs.declared.search.End.TheVariants.{Wagon, Refusal}
-use Rattle.assignment.specs.State.{IsState, IsPriced, IsTight, AreHeld, order_at}
-use Rattle.assignment.specs.Search.{IsSearch, IsRelaxed, IsEnd}
-use Rattle.assignment.specs.Path.{AreHandedOn, IsOnPath}
+use Rattle.assignment.specs.inner.State.{IsState, IsPriced, IsTight, AreHeld, order_at}
+use Rattle.assignment.specs.inner.Search.{IsSearch, IsRelaxed, IsEnd}
+use Rattle.assignment.specs.inner.Path.{AreHandedOn, IsOnPath}
 use Rattle.assignment.proofs.Limits.{cell_wagon, cell_order}
 
 -- Each price was raised by how much nearer than the path's end its wagon or order is.

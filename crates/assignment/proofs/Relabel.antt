@@ -5,9 +5,9 @@ use Rattle.std.proofs.lemmas.List.{length_push, get_or_push, get_or_append_left}
 use Rattle.std.proofs.lemmas.List.Sums.{sum_by-set, count_by-le-length}
 use Rattle.std.proofs.lemmas.Bool.Decides.{nat_tests}
 use Rattle.cost_table.specs.Table.{Table, cost_at, wagon_count}
-use Rattle.assignment.specs.IndexList.{At}
-use Rattle.assignment.specs.State.{order_at}
-use Rattle.assignment.specs.Search.{is_near, IsLabel, AreLabels, AreSettled, IsRelaxed, AreBeyond, AreListed}
+use Rattle.assignment.specs.inner.IndexList.{At}
+use Rattle.assignment.specs.inner.State.{order_at}
+use Rattle.assignment.specs.inner.Search.{is_near, IsLabel, AreLabels, AreSettled, IsRelaxed, AreBeyond, AreListed}
 use Rattle.assignment.proofs.Writes.{same_at, other_at, written_length}
 
 -- a label that stays

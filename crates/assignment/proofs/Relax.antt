@@ -9,8 +9,8 @@ use Rattle.assignment.specs.declared.search.Front.{Front}
 use Rattle.assignment.specs.declared.search.Best.{Best}
 use Rattle.assignment.specs.declared.search.End.{End}
 use Rattle.assignment.specs.declared.search.End.TheVariants.{Wagon, Refusal}
-use Rattle.assignment.specs.State.{IsState, order_at}
-use Rattle.assignment.specs.Search.{HasRoom, AreListed, IsEnd, IsBest, IsSearch, IsFront}
+use Rattle.assignment.specs.inner.State.{IsState, order_at}
+use Rattle.assignment.specs.inner.Search.{HasRoom, AreListed, IsEnd, IsBest, IsSearch, IsFront}
 use Rattle.assignment.proofs.Writes.{same_at, other_at, written_length}
 use Rattle.assignment.proofs.Limits.{cell_wagon, cell_limit, wagon_limit}
 use Rattle.assignment.proofs.Relabel.{labels_more, settled_same, relaxed_nearer, written_falls, beyond_same, listed_same, listed_more, near_count_below}

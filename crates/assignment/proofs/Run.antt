@@ -7,8 +7,8 @@ use Rattle.cost_table.specs.Table.{Table, penalty_at, order_count}
 use Rattle.assignment.specs.declared.search.Search.{Search}
 use Rattle.assignment.specs.declared.search.Front.{Front}
 use Rattle.assignment.specs.declared.search.Best.{Best}
-use Rattle.assignment.specs.State.{IsState}
-use Rattle.assignment.specs.Search.{is_near, IsSearch, IsFront, refusal_of}
+use Rattle.assignment.specs.inner.State.{IsState}
+use Rattle.assignment.specs.inner.Search.{is_near, IsSearch, IsFront, refusal_of}
 use Rattle.assignment.proofs.Relabel.{relaxed_nearer}
 
 -- a search whose last settled order is not scanned yet, and whose end is no farther than that order's refusal

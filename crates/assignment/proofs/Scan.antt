@@ -3,9 +3,9 @@ use Rattle.cost_table.specs.Table.{Table, cost_at, penalty_at}
 use Rattle.assignment.specs.declared.search.Search.{Search}
 use Rattle.assignment.specs.declared.search.Front.{Front}
 use Rattle.assignment.specs.declared.search.Best.{Best}
-use Rattle.assignment.specs.Columns.{wagon_in, cost_in, IsColumn}
-use Rattle.assignment.specs.State.{IsPriced}
-use Rattle.assignment.specs.Search.{IsSearch, IsFront, IsRelaxed}
+use Rattle.assignment.specs.inner.Columns.{wagon_in, cost_in, IsColumn}
+use Rattle.assignment.specs.inner.State.{IsPriced}
+use Rattle.assignment.specs.inner.Search.{IsSearch, IsFront, IsRelaxed}
 
 -- the first n cells of the order settled last are relaxed
 pub record IsScanning (t : Table) (u v : List ℕ) (order_of : List (Option ℕ)) (orders : List ℕ) (column : List (ℕ × ℕ)) (s : Search) (front : Front) (best : Best) (n : ℕ) : Type 0 where

@@ -1,8 +1,8 @@
 use Rattle.std.proofs.Common.{◌≡◌, ◌+◌, ℕ, List, Option, sym, ◌∙◌, ap}
 use Rattle.cost_table.specs.Table.{Table, lack_at}
 use Rattle.assignment.specs.declared.search.Search.{Search}
-use Rattle.assignment.specs.State.{IsState, AreCounted, taken_at, one_more}
-use Rattle.assignment.specs.Search.{IsAtRest}
+use Rattle.assignment.specs.inner.State.{IsState, AreCounted, taken_at, one_more}
+use Rattle.assignment.specs.inner.Search.{IsAtRest}
 use Rattle.assignment.proofs.Unit.{counted_same, taken_more, taken_whole}
 
 -- the state while order j is served, of which `units` units are taken in

@@ -6,9 +6,9 @@ use Rattle.assignment.specs.declared.search.Search.{Search}
 use Rattle.assignment.specs.declared.search.Best.{Best}
 use Rattle.assignment.specs.declared.search.End.{End}
 use Rattle.assignment.specs.declared.search.End.TheVariants.{Wagon, Refusal}
-use Rattle.assignment.specs.IndexList.{At, without}
-use Rattle.assignment.specs.State.{order_at}
-use Rattle.assignment.specs.Search.{HasRoom, AreLabels, IsLed, AreSettled, IsRelaxed, AreBeyond, AreListed, IsEnd, IsSearch}
+use Rattle.assignment.specs.inner.IndexList.{At, without}
+use Rattle.assignment.specs.inner.State.{order_at}
+use Rattle.assignment.specs.inner.Search.{HasRoom, AreLabels, IsLed, AreSettled, IsRelaxed, AreBeyond, AreListed, IsEnd, IsSearch}
 use Rattle.assignment.proofs.Writes.{same_at, other_at, written_length}
 use Rattle.assignment.proofs.Relabel.{at_before, at_end, each_more, near_count_more}
 use Rattle.assignment.proofs.Without.{length-without, without-kept, each-without}

@@ -6,8 +6,8 @@ use Rattle.std.proofs.lemmas.List.Sums.{sum_by-cons}
 use Rattle.cost_table.specs.Table.{Table, penalty_at, wagon_count, order_count}
 use Rattle.assignment.specs.declared.search.Search.{Search}
 use Rattle.assignment.specs.declared.search.Front.{Front}
-use Rattle.assignment.specs.State.{IsState}
-use Rattle.assignment.specs.Search.{is_near, HasRoom, IsSearch, refusal_of}
+use Rattle.assignment.specs.inner.State.{IsState}
+use Rattle.assignment.specs.inner.Search.{is_near, HasRoom, IsSearch, refusal_of}
 use Rattle.assignment.proofs.Writes.{same_at, other_at}
 use Rattle.assignment.proofs.Limits.{penalty_limit}
 use Rattle.assignment.proofs.Relabel.{near_count_more, one_near}

@@ -6,9 +6,9 @@ use Rattle.assignment.specs.declared.search.Search.{Search}
 use Rattle.assignment.specs.declared.search.Best.{Best}
 use Rattle.assignment.specs.declared.search.End.{End}
 use Rattle.assignment.specs.declared.search.End.TheVariants.{Wagon, Refusal}
-use Rattle.assignment.specs.State.{IsState, AreCounted, served, one_more, taken_at}
-use Rattle.assignment.specs.Search.{IsSearch, IsEnd}
-use Rattle.assignment.specs.Path.{AreWays, IsPathEnd, one_if, given_up}
+use Rattle.assignment.specs.inner.State.{IsState, AreCounted, served, one_more, taken_at}
+use Rattle.assignment.specs.inner.Search.{IsSearch, IsEnd}
+use Rattle.assignment.specs.inner.Path.{AreWays, IsPathEnd, one_if, given_up}
 use Rattle.assignment.proofs.Raised.{AreRaised, priced_raised}
 
 -- the ways back are there after a search

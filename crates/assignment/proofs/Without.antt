@@ -1,7 +1,7 @@
 use Rattle.std.proofs.Common.{◌≡◌, ◌≢◌, ◌+◌, ◌-◌, ◌<◌, ℕ, List, length, get_or, set, refl, sym, ◌∙◌, ap, arith, inl, inr, subst}
 use Rattle.std.proofs.lemmas.Bool.{cases_eq}
 use Rattle.std.proofs.lemmas.List.{length-take-le, get_or-take}
-use Rattle.assignment.specs.IndexList.{At, without}
+use Rattle.assignment.specs.inner.IndexList.{At, without}
 use Rattle.assignment.proofs.Writes.{same_at, other_at, written_length}
 
 pub length-without : (xs : List ℕ) (x : ℕ) → x < length xs → length (without xs x) + 1 ≡ length xs

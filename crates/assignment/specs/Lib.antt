@@ -1,8 +1,1 @@
-pub mod IndexList
-pub mod Columns
-pub mod Placing
-pub mod State
-pub mod Search
-pub mod Path
-pub mod Pairs
-pub mod Planner
+pub mod inner

@@ -1,10 +1,11 @@
+//! Lists of numbers that grow within memory that was allocated beforehand.
 ghost use Rattle.std.specs.Prelude.{◌≡◌, ◌<◌, ◌≤◌, ◌+◌, [], ◌∷◌, ◌++◌, length, slice_index, IfOk};
-ghost use Rattle.assignment.specs.IndexList.{without};
+ghost use Rattle.assignment.specs.inner.IndexList.{without};
 
 use std::alloc::{AllocError, Global};
 use std::marker::Model;
 
-/// A list of numbers that grows within room which was got beforehand. A contract sees the list and its room.
+/// A list of numbers that grows within memory that was allocated beforehand. A contract sees the list and its room.
 #[derive(Drop)]
 pub(crate) struct IndexList {
     slots: Vec<usize>,
@@ -13,7 +14,7 @@ pub(crate) struct IndexList {
 
 impl Model for IndexList {
     ghost use Rattle.std.specs.Prelude.{◌≤◌, take, length};
-    ghost use Rattle.assignment.specs.IndexList.{Bounded};
+    ghost use Rattle.assignment.specs.inner.IndexList.{Bounded};
 
     ghost Value = { Bounded };
 

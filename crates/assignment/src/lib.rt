@@ -1,4 +1,4 @@
-//! The planner: a plan of least cost, and dual prices that show it, by shortest augmenting paths.
+//! The planner: a plan at the lowest total cost, and dual prices that show it, by shortest augmenting paths.
 #![tactic(auto)]
 
 mod columns;

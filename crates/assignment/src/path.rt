@@ -1,6 +1,7 @@
+//! The way back along a path.
 ghost use Rattle.std.specs.Prelude.{◌≡◌, ◌≢◌, ◌<◌, ◌≤◌, ◌+◌, ◌⊎◌, ℕ, None, Some, length, slice_index};
-ghost use Rattle.assignment.specs.State.{order_at, served};
-ghost use Rattle.assignment.specs.Path.{AreWays, AreHandedOn, IsOnWay, IsPathEnd, one_if, given_up};
+ghost use Rattle.assignment.specs.inner.State.{order_at, served};
+ghost use Rattle.assignment.specs.inner.Path.{AreWays, AreHandedOn, IsOnWay, IsPathEnd, one_if, given_up};
 
 use crate::search::{End, Search};
 

@@ -1,10 +1,11 @@
+//! The planner and what it answers.
 ghost use Rattle.std.specs.Prelude.{◌≡◌, ◌<◌, ◌≤◌, ◌+◌, ◌++◌, ℕ, [], length, take, zero, IfOk, OnOk, Some, None, slice_index, slice_index_or, min};
 ghost use Rattle.cost_table.specs.Table.{IsTable, order_count};
 ghost use Rattle.cost_table.specs.Plan.{IsOptimal, cost_of};
 ghost use Rattle.price_checker.specs.Certificate.{IsCertificate};
-ghost use Rattle.assignment.specs.Columns.{AreColumns, cost_in};
-ghost use Rattle.assignment.specs.State.{IsState, AreCounted, IsFirstPrice, taken_at, one_more, served};
-ghost use Rattle.assignment.specs.Search.{IsAtRest};
+ghost use Rattle.assignment.specs.inner.Columns.{AreColumns, cost_in};
+ghost use Rattle.assignment.specs.inner.State.{IsState, AreCounted, IsFirstPrice, taken_at, one_more, served};
+ghost use Rattle.assignment.specs.inner.Search.{IsAtRest};
 
 use crate::columns::Columns;
 use crate::pair_list::write_pairs;
@@ -17,7 +18,7 @@ use price_checker::{Certified, Prices, check};
 use std::alloc::{AllocError, Global};
 use std::marker::Model;
 
-/// A planner of one table, which has all the memory that planning takes. A contract sees the table.
+/// A planner for one table, with all the memory that planning needs. A contract sees the table.
 #[derive(Drop)]
 pub struct Planner<'a> {
     state: State<'a>,
@@ -28,7 +29,7 @@ pub struct Planner<'a> {
 
 impl<'a> Model for Planner<'a> {
     ghost use Rattle.cost_table.specs.Table.{Table};
-    ghost use Rattle.assignment.specs.Planner.{IsReady};
+    ghost use Rattle.assignment.specs.inner.Planner.{IsReady};
 
     ghost Value = { Table };
 
@@ -38,7 +39,7 @@ impl<'a> Model for Planner<'a> {
 }
 
 impl<'a> Planner<'a> {
-    /// A planner of this table.
+    /// A planner for this table. `Err` only when out of memory.
     pub fn new(alloc: Global, cells: &'a Cells) -> Result<Planner<'a>, AllocError>
         ensures { IfOk result (λ planner. planner ≡ cells.now) }
     {
@@ -60,7 +61,8 @@ impl<'a> Planner<'a> {
         })
     }
 
-    /// A plan of the table and prices that are a certificate of it. It takes no memory.
+    /// A plan of the table at the lowest total cost, and prices in kilometres that are a certificate of it. Allocates
+    /// nothing.
     pub fn plan(self) -> (Plan, Prices)
         ensures certificate { IsCertificate self.entry result.0 result.1.u.items result.1.v.items }
         ensures optimal { IsOptimal self.entry result.0 }
@@ -85,7 +87,8 @@ impl<'a> Planner<'a> {
     }
 }
 
-/// A plan of least cost of a table, and prices that are a certificate of it. `Err` only where memory was refused.
+/// A plan of a table at the lowest total cost, and prices in kilometres that are a certificate of it. `Err` only when
+/// out of memory.
 pub fn plan(alloc: Global, cells: &Cells) -> Result<(Plan, Prices), AllocError>
     ensures certificate { IfOk result (λ r. IsCertificate cells.now r.0 r.1.u.items r.1.v.items) }
     ensures optimal { IfOk result (λ r. IsOptimal cells.now r.0) }
@@ -161,8 +164,8 @@ fn serve_unit(state: &mut State, search: &mut Search, j: usize)
     walk_back(&mut state.order_of, search, best.end);
 }
 
-/// A plan of least cost of a table, prices that are a certificate of it, and the checker's word, which tells the cost:
-/// it accepts every answer of the planner.
+/// A plan of a table at the lowest total cost, prices in kilometres that are a certificate of it, and what the checker
+/// answers, which tells the cost: the checker accepts every answer of the planner. `Err` only when out of memory.
 pub fn certified_plan(alloc: Global, cells: &Cells) -> Result<(Plan, Prices, Certified), AllocError>
     ensures certificate { IfOk result (λ r. IsCertificate cells.now r.0 r.1.u.items r.1.v.items) }
     ensures optimal { IfOk result (λ r. IsOptimal cells.now r.0) }

@@ -1,5 +1,6 @@
+//! The prices after a search.
 ghost use Rattle.std.specs.Prelude.{◌≡◌, ◌<◌, ◌≤◌, ◌+◌, ◌-◌, ◌^◌, ℕ, length, slice_index};
-ghost use Rattle.assignment.specs.IndexList.{At};
+ghost use Rattle.assignment.specs.inner.IndexList.{At};
 
 use crate::search::FAR;
 

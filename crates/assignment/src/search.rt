@@ -1,14 +1,15 @@
+//! The search for the shortest path from an order.
 ghost use Rattle.std.specs.Prelude.{◌≡◌, ◌<◌, ◌≤◌, ◌+◌, ◌-◌, ◌⊎◌, ℕ, [], ◌∷◌, ◌++◌, ◌==◌, ◌&&◌, not, nat_lt, if◌then◌else◌, length, min, slice_index, slice_set, Some, IfOk, IfSome, IfNone, MatchOption};
 ghost use Rattle.cost_table.specs.Table.{Table, cost_at, penalty_at, wagon_count, order_count};
-ghost use Rattle.assignment.specs.IndexList.{without};
-ghost use Rattle.assignment.specs.State.{IsState};
-ghost use Rattle.assignment.specs.Search.{IsAtRest, IsSearch, IsFront, refusal_of};
+ghost use Rattle.assignment.specs.inner.IndexList.{without};
+ghost use Rattle.assignment.specs.inner.State.{IsState};
+ghost use Rattle.assignment.specs.inner.Search.{IsAtRest, IsSearch, IsFront, refusal_of};
 
 use crate::index_list::IndexList;
 use crate::state::State;
 use std::alloc::{AllocError, Global};
 
-/// The distance of what a search hasn't reached.
+/// The distance of what a search hasn't reached; distances are in kilometres.
 pub(crate) const FAR: u64 = u64::MAX;
 
 /// How a path ends.
@@ -20,14 +21,14 @@ pub(crate) enum End {
     Refusal(usize),
 }
 
-/// The best end so far, and its distance.
+/// The nearest end that was found, and its distance in kilometres.
 #[derive(Clone, Copy)]
 pub(crate) struct Best {
     pub(crate) distance: u64,
     pub(crate) end: End,
 }
 
-/// The order settled last: its place among the settled ones, its distance and its price.
+/// The order settled last: its place among the settled ones, its distance and its price in kilometres.
 #[derive(Clone, Copy)]
 pub(crate) struct Front {
     pub(crate) place: usize,
@@ -56,7 +57,7 @@ pub(crate) struct Search {
 }
 
 impl Search {
-    /// A search at rest, with room for a table of so many wagons and orders.
+    /// A search at rest, with memory for a table of so many wagons and orders.
     pub(crate) fn new(alloc: Global, wagons: usize, orders: usize) -> Result<Search, AllocError>
         ensures { IfOk result (λ s. (t : Table) → wagon_count t ≡ wagons → order_count t ≡ orders → IsAtRest t s) }
     {

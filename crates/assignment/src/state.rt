@@ -1,3 +1,4 @@
+//! What is kept between searches.
 use crate::columns::Columns;
 use cost_table::Cells;
 

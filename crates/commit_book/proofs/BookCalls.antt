@@ -7,8 +7,9 @@ use Rattle.move_messages.specs.declared.message.Message as movement
 use Rattle.operating_db.specs.After.{after_call}
 use Rattle.operating_db.specs.declared.event.Event.{Event}
 use Rattle.operating_db.specs.declared.event.Event.TheVariants as event
-use Rattle.commit_book.specs.BookStep.{BookState, IsCall, IsCommitAnswer, IsEntered, IsRun, event_answer, is_full, is_kept}
-use Rattle.commit_book.specs.CommitTests.{IsAccepted, IsRefused}
+use Rattle.commit_book.specs.BookStep.{BookState, IsCall, IsCommitAnswer, IsRun, event_answer, is_full, is_kept}
+use Rattle.commit_book.specs.inner.Entered.{IsEntered}
+use Rattle.commit_book.specs.inner.CommitTests.{IsAccepted, IsRefused}
 use Rattle.commit_book.specs.Setting.{Setting}
 use Rattle.commit_book.specs.declared.answer.Answer.{Answer}
 use Rattle.commit_book.specs.declared.answer.Answer.TheVariants.{Done, Refused}

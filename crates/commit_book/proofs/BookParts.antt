@@ -13,8 +13,8 @@ use Rattle.operating_db.specs.Steps.{IsPromised}
 use Rattle.operating_db.specs.declared.event.Event.{Event}
 use Rattle.commit_book.specs.BookStep.{is_full, is_kept}
 use Rattle.commit_book.specs.History.{IsEntry, Owes, after_all, problem_at, replay, version}
-use Rattle.commit_book.specs.Kept.{IsBookOf, IsKeptAt, setting_of, which_of, with_kept}
-use Rattle.commit_book.specs.Ledger.{LedgerValue, office_of}
+use Rattle.commit_book.specs.inner.Kept.{IsBookOf, IsKeptAt, setting_of, which_of, with_kept}
+use Rattle.commit_book.specs.inner.Ledger.{LedgerValue, office_of}
 use Rattle.commit_book.specs.Limits.{LimitNumbers}
 use Rattle.commit_book.specs.Setting.{Setting}
 use Rattle.commit_book.specs.declared.kept_problems.KeptProblem.{KeptProblem}

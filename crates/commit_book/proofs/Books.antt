@@ -9,7 +9,7 @@ use Rattle.operating_db.specs.Commits.{CanPromise}
 use Rattle.operating_db.specs.declared.event.Event.{Event}
 use Rattle.commit_book.specs.BookStep.{IsJudged, accepted_unless, is_kept, is_this, kept_after, refusal_in}
 use Rattle.commit_book.specs.History.{IsLeast, IsTableAt, problem_at, replay}
-use Rattle.commit_book.specs.Kept.{IsBook, IsKeptAt, which_of, with_kept}
+use Rattle.commit_book.specs.inner.Kept.{IsBook, IsKeptAt, which_of, with_kept}
 use Rattle.commit_book.specs.Setting.{Setting}
 use Rattle.commit_book.specs.declared.kept_problems.KeptProblem.{KeptProblem}
 use Rattle.commit_book.specs.declared.refusal.Refusal.{Refusal}

@@ -8,7 +8,7 @@ use Rattle.move_messages.specs.declared.commit_text.CommitText.{CommitText}
 use Rattle.wagon_state.specs.declared.free_wagon.FreeWagon.{FreeWagon}
 use Rattle.wagon_state.specs.declared.wagon_row.WagonRow.{WagonRow}
 use Rattle.wagon_state.specs.Free.{free_of}
-use Rattle.office_rows.specs.Rows.{order_in, wagon_in}
+use Rattle.database_rows.specs.Rows.{order_in, wagon_in}
 use Rattle.cost_table.specs.Problem.{ProblemValue}
 use Rattle.cost_table.specs.Table.{Table}
 use Rattle.price_checker.specs.Faults.{first_fault}

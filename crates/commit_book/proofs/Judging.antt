@@ -7,9 +7,9 @@ use Rattle.cost_table.specs.Problem.{ProblemValue}
 use Rattle.cost_table.specs.Table.{order_count, wagon_count}
 use Rattle.operating_db.specs.declared.event.Event.{Event}
 use Rattle.commit_book.specs.BookStep.{BookState, is_full, refusal_in}
-use Rattle.commit_book.specs.CommitTests.{IsAccepted, IsRefused, IsTestable}
+use Rattle.commit_book.specs.inner.CommitTests.{IsAccepted, IsRefused, IsTestable}
 use Rattle.commit_book.specs.History.{replay}
-use Rattle.commit_book.specs.Kept.{IsBook, which_of}
+use Rattle.commit_book.specs.inner.Kept.{IsBook, which_of}
 use Rattle.commit_book.specs.Setting.{Setting}
 use Rattle.commit_book.specs.declared.answer.Answer.TheVariants.{Refused}
 use Rattle.commit_book.specs.declared.kept_problems.KeptProblem.{KeptProblem}

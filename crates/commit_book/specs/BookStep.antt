@@ -34,14 +34,15 @@ pub record BookState : Type 0 where
   pub history : List Event
   pub kept : List (ℕ × ℕ)
 
+-- what a contract sees of a book: what it was given, its history, and which problems it keeps
+pub record BookValue : Type 0 where
+  pub setting : Setting
+  pub state : BookState
+
 -- what a call that enters an event returned, as an answer; what a begin did
 abbrev pub answer_of : Result Reply Refusal → Answer
 answer_of (Ok reply) = Done reply
 answer_of (Err refusal) = Refused refusal
-
-abbrev pub answer_or : Result Answer Refusal → Answer
-answer_or (Ok answer) = answer
-answer_or (Err refusal) = Refused refusal
 
 abbrev pub begun_of : Result SnapValue AllocError → Answer
 begun_of (Ok snap) = Begun snap.version
@@ -69,19 +70,6 @@ entered book event (Done (Accepted n)) = record book { history = book.history ++
 entered book event (Done (Repeated n)) = book
 entered book event (Begun n) = book
 entered book event (Refused refusal) = book
-
--- an event that is entered or refused; or memory is refused where it would be entered
-pub record IsEnteredOrRefused (setting : Setting) (book : BookState) (entry : Event) (answer : Answer) (new : BookState) : Type 0 where
-  pub answered : answer ≡ event_answer setting book.history entry
-  pub changed : new ≡ entered book entry answer
-
-pub record IsOutOfMemory (setting : Setting) (book : BookState) (entry : Event) (answer : Answer) (new : BookState) : Type 0 where
-  pub may : event_answer setting book.history entry ≡ Done (Accepted (length book.history + 1))
-  pub refused : answer ≡ Refused OutOfMemory
-  pub unchanged : new ≡ book
-
-abbrev pub IsEntered : Setting → BookState → Event → Answer → BookState → Type 0
-IsEntered setting book entry answer new = IsEnteredOrRefused setting book entry answer new ⊎ IsOutOfMemory setting book entry answer new
 
 -- ---- messages
 

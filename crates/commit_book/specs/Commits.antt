@@ -6,7 +6,7 @@ use Rattle.std.specs.Cmp.Lexicographic.{pointwise}
 use Rattle.move_messages.specs.Values.{◌>>=◌}
 use Rattle.wagon_state.specs.declared.free_wagon.FreeWagon.{FreeWagon}
 use Rattle.wagon_state.specs.Free.{free_of}
-use Rattle.office_rows.specs.Rows.{wagon_in, order_in}
+use Rattle.database_rows.specs.Rows.{wagon_in, order_in}
 use Rattle.cost_table.specs.Names.{is_name, pair_of}
 use Rattle.cost_table.specs.Problem.{ProblemValue, names_of_problem}
 use Rattle.operating_db.specs.Commits.{Pair, times_of_order, lack_in}

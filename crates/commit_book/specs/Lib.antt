@@ -1,11 +1,9 @@
 pub mod BookStep
-pub mod CommitTests
 pub mod Commits
 pub mod Headline
 pub mod History
-pub mod Kept
-pub mod Ledger
 pub mod Limits
 pub mod Refusal
 pub mod Setting
 pub mod Snap
+pub mod inner

@@ -1,5 +1,13 @@
+-- How large a book may grow.
 use Rattle.std.specs.Prelude.{ℕ, ◌≤◌, nat_le, ◌&&◌, if◌then◌else◌, Option, Some, None}
-use Rattle.commit_book.specs.declared.limits.TheConstants.{MAX_ENTRIES, MAX_KEPT}
+
+-- the most entries that a book may have; the fewest is 1
+abbrev pub max_entries : ℕ
+max_entries = 1_000_000
+
+-- the most problems that a book may keep; the fewest is 1
+abbrev pub max_kept_problems : ℕ
+max_kept_problems = 64
 
 -- how many entries a book may have, and how many problems it keeps
 pub record LimitNumbers : Type 0 where
@@ -8,10 +16,10 @@ pub record LimitNumbers : Type 0 where
 
 pub record AreLimits (entries kept : ℕ) : Type 0 where
   pub one_entry : 1 ≤ entries
-  pub few_entries : entries ≤ MAX_ENTRIES
+  pub few_entries : entries ≤ max_entries
   pub one_problem : 1 ≤ kept
-  pub few_problems : kept ≤ MAX_KEPT
+  pub few_problems : kept ≤ max_kept_problems
 
 abbrev pub limits_of : ℕ → ℕ → Option LimitNumbers
 limits_of entries kept =
-    if (nat_le 1 entries && nat_le entries MAX_ENTRIES) && (nat_le 1 kept && nat_le kept MAX_KEPT) then Some (record { entries = entries; kept = kept }) else None
+    if (nat_le 1 entries && nat_le entries max_entries) && (nat_le 1 kept && nat_le kept max_kept_problems) then Some (record { entries = entries; kept = kept }) else None

@@ -5,9 +5,9 @@ use Rattle.operating_db.specs.Commits.{Pair}
 use Rattle.operating_db.specs.Problem.{problem_of}
 use Rattle.operating_db.specs.declared.event.Event.{Event}
 use Rattle.commit_book.specs.History.{replay}
+use Rattle.commit_book.specs.Limits.{max_entries}
 use Rattle.commit_book.specs.Refusal.{wagon_name, order_name}
 use Rattle.commit_book.specs.Setting.{Setting}
-use Rattle.commit_book.specs.declared.limits.TheConstants.{MAX_ENTRIES}
 
 -- a version, the network in force in it, and its problem at a moment
 pub record SnapValue : Type 0 where
@@ -16,7 +16,7 @@ pub record SnapValue : Type 0 where
   pub problem : ProblemValue
 
 abbrev pub IsVersionNumber : ℕ → Type 0
-IsVersionNumber version = version ≤ MAX_ENTRIES
+IsVersionNumber version = version ≤ max_entries
 
 -- a pair of positions is one of the problem
 abbrev pub IsInRange : ProblemValue → ℕ × ℕ → Type 0

@@ -2,11 +2,12 @@
 ghost use Rattle.std.specs.Prelude.{◌≡◌, [], IfErr, IfOk, OnErr, OnOk, Some, length, option_map};
 ghost use Rattle.distance_tables.specs.Networks.{network_at};
 ghost use Rattle.operating_db.specs.Steps.{IsPromised};
-ghost use Rattle.commit_book.specs.BookStep.{IsCall, IsEntered, answer_of, begun_of, is_full, is_kept, kept_after};
-ghost use Rattle.commit_book.specs.CommitTests.{IsAccepted, IsRefused};
+ghost use Rattle.commit_book.specs.BookStep.{IsCall, answer_of, begun_of, is_full, is_kept, kept_after};
+ghost use Rattle.commit_book.specs.inner.Entered.{IsEntered};
+ghost use Rattle.commit_book.specs.inner.CommitTests.{IsAccepted, IsRefused};
 ghost use Rattle.commit_book.specs.Headline.{IsProved};
 ghost use Rattle.commit_book.specs.History.{Owes, entry_at, replay};
-ghost use Rattle.commit_book.specs.Kept.{IsKeptAt, which_of};
+ghost use Rattle.commit_book.specs.inner.Kept.{IsKeptAt, which_of};
 ghost use Rattle.commit_book.specs.Snap.{IsVersionNumber, snap_of};
 ghost use Rattle.commit_book.specs.declared.call.Call.TheVariants as call;
 
@@ -36,7 +37,8 @@ pub struct Book {
 }
 
 impl Model for Book {
-    ghost use Rattle.commit_book.specs.Kept.{BookValue, IsBookOf, book_of};
+    ghost use Rattle.commit_book.specs.BookStep.{BookValue};
+    ghost use Rattle.commit_book.specs.inner.Kept.{IsBookOf, book_of};
 
     ghost Value = { BookValue };
 

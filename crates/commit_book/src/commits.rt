@@ -8,14 +8,14 @@ ghost use Rattle.commit_book.specs.BookStep.{refusal_in};
 ghost use Rattle.commit_book.specs.Commits.{free_in, is_same_free, order_changed, wagon_changed, wagon_of as wagon_in_problem};
 ghost use Rattle.commit_book.specs.declared.refusal.Refusal.TheVariants.{OutOfMemory};
 ghost use Rattle.operating_db.specs.Commits.{lack_in, times_of_order as times_in};
-ghost use Rattle.office_rows.specs.Rows.{order_in};
+ghost use Rattle.database_rows.specs.Rows.{order_in};
 
 use crate::Refusal;
 use crate::kept_problems::KeptProblem;
 use crate::names::{named, positions_of};
 use cost_table::Problem;
 use move_messages::CommitText;
-use operating_db::OfficeState;
+use operating_db::{OfficeState, times_of_order};
 use price_checker::{Prices, check};
 use rail_codes::{OrderId, WagonNumber};
 use std::alloc::{AllocError, Global};
@@ -124,22 +124,5 @@ fn orders_unchanged(now: &OfficeState, pairs: &[(WagonNumber, OrderId)]) -> Resu
 fn lacks_more(now: &OfficeState, before: &[(WagonNumber, OrderId)], id: OrderId) -> bool
     ensures { result ≡ nat_lt (times_in id before.now) (lack_in (order_in now.now.office.orders id)) }
 {
-    times_of_order(id, before) < lack_now(now, id) as usize
-}
-
-/// How many wagons an order lacks now; an unknown one lacks none.
-fn lack_now(now: &OfficeState, id: OrderId) -> u32
-    ensures { result ≡ lack_in (order_in now.now.office.orders id) }
-{
-    match now.order(id) {
-        Some(row) => row.lack(),
-        None => 0,
-    }
-}
-
-/// In how many pairs an order stands.
-fn times_of_order(id: OrderId, pairs: &[(WagonNumber, OrderId)]) -> usize
-    ensures { result ≡ times_in id pairs.now }
-{
-    pairs.iter().filter(|pair| id == pair.1).count()
+    times_of_order(id, before) < now.lack(id) as usize
 }

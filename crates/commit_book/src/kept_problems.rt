@@ -2,7 +2,7 @@
 ghost use Rattle.std.specs.Prelude.{◌≡◌, ◌≤◌, OnErr, OnOk, length, option_map};
 ghost use Rattle.std.specs.List.{find};
 ghost use Rattle.commit_book.specs.BookStep.{is_this};
-ghost use Rattle.commit_book.specs.Kept.{which_of, with_kept};
+ghost use Rattle.commit_book.specs.inner.Kept.{which_of, with_kept};
 
 use cost_table::{Cells, Problem};
 use rail_codes::Moment;

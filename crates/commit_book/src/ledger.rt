@@ -2,17 +2,18 @@
 ghost use Rattle.std.specs.Prelude.{◌≡◌, ◌<◌, ◌≤◌, ◌++◌, ◌∷◌, [], Some, IfErr, IfNone, IfOk, IfSome, IsOk, OnErr, OnOk, length, option_copied, option_map, slice_get};
 ghost use Rattle.operating_db.specs.After.{after_call};
 ghost use Rattle.operating_db.specs.ApplyFault.{IsRefusal};
+ghost use Rattle.operating_db.specs.State.{max_networks};
 ghost use Rattle.operating_db.specs.Steps.{IsPromised};
 ghost use Rattle.operating_db.specs.declared.event.Event.TheVariants as event;
 ghost use Rattle.commit_book.specs.History.{IsFresh};
-ghost use Rattle.commit_book.specs.Ledger.{IsFreshEvent, ids_from, message_at, office_of, state_of};
-ghost use Rattle.indexmap.specs.IndexMap.{spare};
+ghost use Rattle.commit_book.specs.inner.Ledger.{IsFreshEvent, IsIndexOf, IsNoMessage, compare_ids, message_at, office_of, state_of};
+ghost use Rattle.std.specs.BTreeMap.{get};
 
-use indexmap::IndexMap;
 use move_messages::Message;
-use operating_db::{ApplyFault, Event, MAX_NETWORKS, OfficeState};
+use operating_db::{ApplyFault, Event, OfficeState};
 use rail_codes::MessageId;
 use std::alloc::{AllocError, Global};
+use std::collections::BTreeMap;
 use std::marker::Model;
 use wagon_roster::Roster;
 
@@ -22,33 +23,35 @@ use wagon_roster::Roster;
 pub(crate) struct Ledger {
     roster: Roster,
     events: Vec<Event>,
-    // The place of each message among the events, by its id.
-    ids: IndexMap<MessageId, usize>,
+    // The place of each message among the events, by its id. Senders choose the ids, so the map is an ordered one: a
+    // look-up in it is short for all ids.
+    ids: BTreeMap<MessageId, usize>,
     state: OfficeState,
 }
 
 impl Model for Ledger {
-    ghost use Rattle.commit_book.specs.Ledger.{LedgerValue, IsLedger};
+    ghost use Rattle.commit_book.specs.inner.Ledger.{LedgerValue, IsLedger, compare_ids};
+    ghost use Rattle.std.specs.BTreeMap.{get};
 
     ghost Value = { LedgerValue };
 
     ghost view = { λ ledger. record { roster = ledger.roster; networks = ledger.state.networks; events = ledger.events.items } };
 
-    ghost invariant = { λ ledger. IsLedger ledger.roster ledger.events.items ledger.ids.entries ledger.state };
+    ghost invariant = { λ ledger. IsLedger ledger.roster ledger.events.items (get compare_ids ledger.ids) ledger.state };
 }
 
 impl Ledger {
     /// No event, where there are so many networks.
     pub fn new(alloc: Global, roster: Roster, networks: u32) -> Result<Ledger, AllocError>
         requires from_one { 1 ≤ networks }
-        requires few { networks ≤ MAX_NETWORKS }
+        requires few { networks ≤ max_networks }
         ensures { IfOk result (λ ledger. ledger ≡ record { roster = roster; networks = networks; events = [] }) }
     {
         let state = OfficeState::new(alloc, &roster, networks)?;
         Ok(Ledger {
             roster,
             events: Vec::new(alloc),
-            ids: IndexMap::new(alloc),
+            ids: BTreeMap::new(alloc),
             state,
         })
     }
@@ -90,7 +93,7 @@ impl Ledger {
     }
 
     /// Lets an event happen, as the last one; a message must have a new id, and a commit must be possible. Refused as
-    /// the office refuses it, with nothing changed; want of memory comes after all else.
+    /// the office refuses it, or because memory is out where nothing else is wrong; with nothing changed then.
     pub fn enter(&mut self, alloc: Global, event: Event) -> Result<(), ApplyFault>
         requires promised { IsPromised (office_of self.old) event }
         requires fresh { IsFreshEvent event self.old.events }
@@ -101,9 +104,9 @@ impl Ledger {
     {
         self.state.possible(&event)?;
         self.events.reserve(1)?;
-        self.ids.reserve(1)?;
+        // A message that was possible cannot fail from here on, so its id may go in before it.
+        note(&mut self.ids, &self.events, &event)?;
         self.state.apply(alloc, &event)?;
-        note(&mut self.ids, &self.events, &event);
         self.events.push(event).unwrap();
         Ok(())
     }
@@ -111,11 +114,11 @@ impl Ledger {
 
 /// The message of an id, and its place.
 fn find_message<'a>(
-    ids: &IndexMap<MessageId, usize>,
+    ids: &BTreeMap<MessageId, usize>,
     events: &'a [Event],
     id: MessageId,
 ) -> Option<(usize, &'a Message)>
-    requires { ids.now.entries ≡ ids_from 0 events.now }
+    requires { IsIndexOf events.now (get compare_ids ids.now) }
     ensures found { IfSome result (λ r. (slice_get events.now r.0 ≡ Some (event.Message r.1.now)) × (r.1.now.id ≡ id)) }
     ensures fresh { IfNone result (IsFresh id events.now) }
 {
@@ -134,14 +137,20 @@ fn message_at(events: &[Event], place: usize) -> Option<&Message>
     }
 }
 
-/// Notes the place of an event behind others by its id, if it is a message. Takes no memory.
-fn note(ids: &mut IndexMap<MessageId, usize>, events: &[Event], event: &Event)
-    requires indexed { ids.old.entries ≡ ids_from 0 events.now }
-    requires room { 0 < spare ids.old }
+/// Notes the place of an event behind others by its id, if it is a message. Where memory is refused, nothing changes.
+fn note(
+    ids: &mut BTreeMap<MessageId, usize>,
+    events: &[Event],
+    event: &Event,
+) -> Result<(), AllocError>
+    requires indexed { IsIndexOf events.now (get compare_ids ids.old) }
     requires fresh { IsFreshEvent event.now events.now }
-    ensures { ids.new.entries ≡ ids_from 0 (events.now ++ event.now ∷ []) }
+    ensures noted { OnOk result (IsIndexOf (events.now ++ event.now ∷ []) (get compare_ids ids.new)) }
+    ensures refused { OnErr result (IsIndexOf events.now (get compare_ids ids.new)) }
+    ensures others { IsNoMessage event.now → IsIndexOf events.now (get compare_ids ids.new) }
 {
     if let Event::Message(message) = event {
-        ids.insert(message.id, events.len()).unwrap();
+        ids.insert(message.id, events.len())?;
     }
+    Ok(())
 }

@@ -21,7 +21,7 @@ pub use answer::Answer;
 pub use book::Book;
 pub use call::Call;
 pub use laws::every_commit_is_proved_least;
-pub use limits::{Limits, MAX_ENTRIES, MAX_KEPT};
+pub use limits::{Limits, MAX_ENTRIES, MAX_KEPT_PROBLEMS};
 pub use refusal::Refusal;
 pub use reply::Reply;
 pub use snap::Snap;

@@ -6,7 +6,7 @@ use std::marker::Model;
 /// The most entries of a book.
 pub const MAX_ENTRIES: u64 = 1_000_000;
 /// The most problems that a book keeps.
-pub const MAX_KEPT: u32 = 64;
+pub const MAX_KEPT_PROBLEMS: u32 = 64;
 
 /// How many entries a book may have, 1 to 1,000,000, and how many problems it keeps, 1 to 64.
 #[derive(Clone, Copy, Debug, PartialEq, Eq)]
@@ -34,7 +34,7 @@ impl Limits {
     pub fn new(entries: u64, kept: u32) -> Option<Limits>
         ensures { result ≡ limits_of entries kept }
     {
-        if entries < 1 || MAX_ENTRIES < entries || kept < 1 || MAX_KEPT < kept {
+        if entries < 1 || MAX_ENTRIES < entries || kept < 1 || MAX_KEPT_PROBLEMS < kept {
             return None;
         }
         Some(Limits { entries, kept })

@@ -6,10 +6,13 @@ use Rattle.std.proofs.lemmas.List.{take_more, get_or_push, get_or_append_left, g
 use Rattle.std.proofs.lemmas.Bool.Decides.{nat_tests}
 use Rattle.wagon_state.specs.declared.free_wagon.FreeWagon.{FreeWagon}
 use Rattle.load_orders.specs.Wanted.{WantedOrder}
-use Rattle.cost_table.specs.Flat.{rows_of}
-use Rattle.cost_table.specs.Table.{IsTable, IsRow, IsLack, cost_in}
+use Rattle.cost_table.specs.inner.Flat.{rows_of}
+use Rattle.cost_table.specs.TableLimits.{max_cost, max_table_lack}
+use Rattle.cost_table.specs.Table.{IsTable, IsRow, cost_in}
+use Rattle.load_orders.specs.Wanted.{IsLack}
 use Rattle.cost_table.specs.Problem.{ProblemValue, IsProblem, penalties_of, lacks_of}
-use Rattle.cost_table.specs.Allowed.{Reaches, IsTableOf, IsRowOf, AddsRow, AreRowsOf}
+use Rattle.cost_table.specs.Allowed.{Reaches, IsTableOf}
+use Rattle.cost_table.specs.inner.AllowedRows.{IsRowOf, AddsRow, AreRowsOf}
 use Rattle.line_network.specs.Network.{NetworkValue}
 use Rattle.cost_table.proofs.RowLemmas.{HoldRows-more}
 use Rattle.cost_table.proofs.TableLemmas.{cost_in_within}
@@ -72,11 +75,11 @@ IsRow-more : (n m low : ℕ) (row : List (ℕ × ℕ)) → n ≤ m → IsRow n l
 IsRow-more n m low [] l h = tt
 IsRow-more n m low (cell ∷ row) l h = (h.0, omega (arith, h.1), h.2, IsRow-more n m (cell.0 + 1) row l h.3)
 
-IsRow-push : (n low c : ℕ) (row : List (ℕ × ℕ)) → low ≤ n → c ≤ 1000000000 → IsRow n low row → IsRow (n + 1) low (row ++ (n, c) ∷ [])
+IsRow-push : (n low c : ℕ) (row : List (ℕ × ℕ)) → low ≤ n → c ≤ max_cost → IsRow n low row → IsRow (n + 1) low (row ++ (n, c) ∷ [])
 IsRow-push n low c [] l m h = (l, omega arith, m, tt)
 IsRow-push n low c (cell ∷ row) l m h = (h.0, omega (arith, h.1), h.2, IsRow-push n (cell.0 + 1) c row (omega (arith, h.1)) m h.3)
 
-IsRow-cell : (n : ℕ) (row : List (ℕ × ℕ)) (o : Option ℕ) → IfSome o (λ km. km ≤ 1000000000) → IsRow n 0 row → IsRow (n + 1) 0 (row ++ cell_of n o)
+IsRow-cell : (n : ℕ) (row : List (ℕ × ℕ)) (o : Option ℕ) → IfSome o (λ km. km ≤ max_cost) → IsRow n 0 row → IsRow (n + 1) 0 (row ++ cell_of n o)
 IsRow-cell n row None m h = subst (IsRow (n + 1) 0) (sym (append-nil row)) (IsRow-more n (n + 1) 0 row (omega arith) h)
 IsRow-cell n row (Some c) m h = IsRow-push n 0 c row (omega arith) m h
 
@@ -86,7 +89,7 @@ iff_by a b km e h = (λ i. h.0 (sym e ∙ i), λ p. e ∙ h.1 p)
 
 module _ (R : WantedOrder → ℕ → Type 0) where
   -- a row goes on with the next order
-  IsRowOf-push : (orders : List WantedOrder) (wanted : WantedOrder) (row : List (ℕ × ℕ)) (o : Option ℕ) → IsRowOf R orders row → ((km : ℕ) → (o ≡ Some km) ↔ R wanted km) → IfSome o (λ km. km ≤ 1000000000) → length (orders ++ wanted ∷ []) ≡ length orders + 1 → IsRowOf R (orders ++ wanted ∷ []) (row ++ cell_of (length orders) o)
+  IsRowOf-push : (orders : List WantedOrder) (wanted : WantedOrder) (row : List (ℕ × ℕ)) (o : Option ℕ) → IsRowOf R orders row → ((km : ℕ) → (o ≡ Some km) ↔ R wanted km) → IfSome o (λ km. km ≤ max_cost) → length (orders ++ wanted ∷ []) ≡ length orders + 1 → IsRowOf R (orders ++ wanted ∷ []) (row ++ cell_of (length orders) o)
   IsRowOf-push orders wanted row o h means limit longer = record {
     ascends = subst (λ (n : ℕ). IsRow n 0 (row ++ cell_of (length orders) o)) (sym longer) (IsRow-cell (length orders) row o limit h.ascends);
     cells = λ j km x there. by j km x (stands orders wanted j x there);
@@ -106,7 +109,7 @@ module _ (R : WantedOrder → ℕ → Type 0) where
     none-at x h = cc
 
   -- the next order
-  pub AddsRow-next : (orders : List WantedOrder) (j : ℕ) (wanted : WantedOrder) (o : Option ℕ) (old now new : List (ℕ × ℕ)) → j < length orders → wanted ≡ get_or orders j wanted → AddsRow R (take j orders) old now → ((km : ℕ) → (o ≡ Some km) ↔ R wanted km) → IfSome o (λ km. km ≤ 1000000000) → new ≡ now ++ cell_of j o → AddsRow R (take (j + 1) orders) old new
+  pub AddsRow-next : (orders : List WantedOrder) (j : ℕ) (wanted : WantedOrder) (o : Option ℕ) (old now new : List (ℕ × ℕ)) → j < length orders → wanted ≡ get_or orders j wanted → AddsRow R (take j orders) old now → ((km : ℕ) → (o ≡ Some km) ↔ R wanted km) → IfSome o (λ km. km ≤ max_cost) → new ≡ now ++ cell_of j o → AddsRow R (take (j + 1) orders) old new
   AddsRow-next orders j wanted o old now new within at h means limit added =
       let short : length (take j orders) ≡ j = length-take-le j orders (omega arith) in
       let more : take (j + 1) orders ≡ take j orders ++ wanted ∷ [] = take_more orders j wanted within ∙ ap (λ y. take j orders ++ y ∷ []) (sym at) in
@@ -169,7 +172,7 @@ pub record AreParts (R : FreeWagon → WantedOrder → ℕ → Type 0) (problem 
   pub rows : AreRowsOf R problem.wagons problem.orders entries ends
   pub kept : IsProblem problem
   pub penalty_list : penalties ≡ penalties_of problem.orders
-  pub penalty_limit : All (λ penalty. penalty ≤ 1000000000) penalties
+  pub penalty_limit : All (λ penalty. penalty ≤ max_cost) penalties
   pub lack_list : lacks ≡ lacks_of problem.orders
   pub lack_limit : All IsLack lacks
 
@@ -191,7 +194,7 @@ module _ (R : FreeWagon → WantedOrder → ℕ → Type 0) (problem : ProblemVa
     rows = subst (λ (n : ℕ). All (IsRow n 0) (rows_of entries 0 ends)) (sym lack_count) (rows_ascend R problem.wagons problem.orders entries ends h.rows);
     penalties = h.penalty_limit;
     lacks = h.lack_limit;
-    lack_in_all = subst (λ (ls : List ℕ). sum ls ≤ 500) (sym h.lack_list) h.kept.lack_in_all;
+    lack_in_all = subst (λ (ls : List ℕ). sum ls ≤ max_table_lack) (sym h.lack_list) h.kept.lack_in_all;
   }
 
   pub cells_are : (i j km : ℕ) (wagon : FreeWagon) (wanted : WantedOrder) → slice_get problem.wagons i ≡ Some wagon → slice_get problem.orders j ≡ Some wanted → (cost_in (get_or (rows_of entries 0 ends) i []) j ≡ Some km) ↔ R wagon wanted km

@@ -5,8 +5,9 @@ use Rattle.std.proofs.lemmas.List.{take-append-le, drop-append-le, drop_at, take
 use Rattle.std.proofs.lemmas.List.Sums.{sum_by-cons}
 use Rattle.std.proofs.lemmas.List.Elements.{recursion_from_All}
 use Rattle.std.proofs.lemmas.Bool.Decides.{nat_tests}
-use Rattle.cost_table.specs.Flat.{rows_of, AreEnds, last_end, HoldRows}
-use Rattle.cost_table.specs.Table.{IsLack}
+use Rattle.cost_table.specs.inner.Flat.{rows_of, AreEnds, last_end, HoldRows}
+use Rattle.load_orders.specs.Wanted.{IsLack}
+use Rattle.cost_table.specs.TableLimits.{max_table_lack, max_table_orders}
 use Rattle.cost_table.specs.Rows.{Rows, is_too_large}
 
 pub length-rows_of : (entries : List (ℕ × ℕ)) (start : ℕ) (ends : List ℕ) → length (rows_of entries start ends) ≡ length ends
@@ -76,8 +77,8 @@ length-le-lacks (lack ∷ lacks) h =
     let one : 1 ≤ lack = h.0.0 in
     omega (arith, rest, one, sum_by-cons (λ (x : ℕ). x) lack lacks)
 
-pub too_large_by_lacks : (rows : Rows) (penalties lacks : List ℕ) → All IsLack lacks → 500 < length lacks → true ≡ is_too_large rows penalties lacks
+pub too_large_by_lacks : (rows : Rows) (penalties lacks : List ℕ) → All IsLack lacks → max_table_orders < length lacks → true ≡ is_too_large rows penalties lacks
 too_large_by_lacks rows penalties lacks all many =
     let least = length-le-lacks lacks (recursion_from_All IsLack lacks all) in
-    let over : 500 < sum lacks = omega (arith, least) in
+    let over : max_table_lack < sum lacks = omega (arith, least) in
     grind (arith, nat_tests, over)

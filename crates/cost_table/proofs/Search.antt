@@ -6,7 +6,8 @@ use Rattle.std.specs.Ordering.{nat_cmp, ordering_index}
 use Rattle.std.proofs.lemmas.Cmp.{ranked}
 use Rattle.std.proofs.lemmas.List.Sorted.{IsNonDecreasingBy-from_default}
 use Rattle.std.proofs.lemmas.Bool.Decides.{nat_tests}
-use Rattle.cost_table.specs.Table.{IsRow, IsAscendingRow, order_in, cost_in}
+use Rattle.cost_table.specs.Table.{IsRow, cost_in}
+use Rattle.cost_table.specs.inner.Searched.{IsAscendingRow, order_in}
 
 first_least : (n low k : ℕ) (row : List (ℕ × ℕ)) → IsRow n low row → k < length row → low ≤ order_in row k
 first_least n low k [] h l = absurd (omega arith)

@@ -6,8 +6,10 @@ use Rattle.std.specs.List.{AllByRecursion}
 use Rattle.std.proofs.lemmas.List.Sums.{AllPass-from_list_all}
 use Rattle.std.proofs.lemmas.List.Elements.{recursion_from_All, All-map}
 use Rattle.std.proofs.lemmas.Bool.Decides.{nat_tests}
-use Rattle.cost_table.specs.Flat.{rows_of, AreEnds, HoldRows}
-use Rattle.cost_table.specs.Table.{Table, IsTable, IsRow, IsLack, cost_in, cost_at}
+use Rattle.cost_table.specs.inner.Flat.{rows_of, AreEnds, HoldRows}
+use Rattle.cost_table.specs.Table.{Table, IsTable, IsRow, cost_in, cost_at}
+use Rattle.load_orders.specs.Wanted.{IsLack}
+use Rattle.cost_table.specs.TableLimits.{max_cost, max_table_lack, max_table_orders, max_table_wagons}
 use Rattle.cost_table.specs.Rows.{Rows, IsNumber, cells_of, table_of, number_at, is_too_large, is_even, rows_fault}
 
 cost_below : (k j : ℕ) (numbers : List (Option ℕ)) → j < k → cost_in (cells_of k numbers) j ≡ None
@@ -17,10 +19,10 @@ cost_below k j (Some n ∷ numbers) h =
     let i = cost_below (k + 1) j numbers (omega arith) in
     grind (arith, nat_tests, i, h)
 
-cost_there : (k j n : ℕ) (rest : Option ℕ) → j ≡ k → cond (k == j) (Some n) rest ≡ Some n
+pub cost_there : (k j n : ℕ) (rest : Option ℕ) → j ≡ k → cond (k == j) (Some n) rest ≡ Some n
 cost_there k j n rest e = grind (arith, nat_tests, e)
 
-cost_later : (k j n : ℕ) (rest : Option ℕ) → k < j → cond (k == j) (Some n) rest ≡ rest
+pub cost_later : (k j n : ℕ) (rest : Option ℕ) → k < j → cond (k == j) (Some n) rest ≡ rest
 cost_later k j n rest h = grind (arith, nat_tests, h)
 
 -- the cost that the cells of a row have for an order is the number handed in
@@ -46,9 +48,9 @@ IsRow-cells_of n k low (Some c ∷ numbers) below within all =
     (below, omega arith, all.0, IsRow-cells_of n (k + 1) (k + 1) numbers (omega arith) (omega arith) all.1)
 
 pub record Passes (rows : Rows) (penalties lacks : List ℕ) : Type 0 where
-  pub wagons : length rows ≤ 1000
-  pub orders : length penalties ≤ 500
-  pub in_all : sum lacks ≤ 500
+  pub wagons : length rows ≤ max_table_wagons
+  pub orders : length penalties ≤ max_table_orders
+  pub in_all : sum lacks ≤ max_table_lack
   pub lack_count : length lacks ≡ length penalties
   pub row_lengths : All (λ row. (length row.items == length penalties) ≡ true) rows
 
@@ -68,7 +70,7 @@ unfaulted rows penalties lacks none = (grind (arith, nat_tests, none), grind (ar
 same_length : (a b : ℕ) → (a == b) ≡ true → a ≡ b
 same_length a b h = grind (arith, nat_tests, h)
 
-pub table_kept : (rows : Rows) (penalties lacks : List ℕ) → Passes rows penalties lacks → All (λ row. All IsNumber row.items) rows → All (λ penalty. penalty ≤ 1000000000) penalties → All IsLack lacks → IsTable (table_of rows penalties lacks)
+pub table_kept : (rows : Rows) (penalties lacks : List ℕ) → Passes rows penalties lacks → All (λ row. All IsNumber row.items) rows → All (λ penalty. penalty ≤ max_cost) penalties → All IsLack lacks → IsTable (table_of rows penalties lacks)
 table_kept rows penalties lacks p numbers costs all_lacks =
     let count : length lacks ≡ length penalties = p.lack_count in
     record {
@@ -94,7 +96,7 @@ fields_kept entries ends rows penalties lacks h t =
 pub record CostWithin (t : Table) (i j c : ℕ) : Type 0 where
   pub wagon : i < length t.rows
   pub order : j < length t.lacks
-  pub limit : c ≤ 1000000000
+  pub limit : c ≤ max_cost
 
 cost_here : (c d : ℕ) (rest : Option ℕ) (b : Bool) → b ≡ true → cond b (Some c) rest ≡ Some d → c ≡ d
 cost_here c d rest true e h = cc
@@ -104,7 +106,7 @@ cost_past : (c d : ℕ) (rest : Option ℕ) (b : Bool) → b ≡ false → cond 
 cost_past c d rest true e h = cc
 cost_past c d rest false e h = h
 
-pub cost_in_within : (n low j c : ℕ) (row : List (ℕ × ℕ)) → IsRow n low row → cost_in row j ≡ Some c → (j < n) × (c ≤ 1000000000)
+pub cost_in_within : (n low j c : ℕ) (row : List (ℕ × ℕ)) → IsRow n low row → cost_in row j ≡ Some c → (j < n) × (c ≤ max_cost)
 cost_in_within n low j c [] h is = cc
 cost_in_within n low j c (cell ∷ row) h is =
     let rest = cost_in_within n (cell.0 + 1) j c row h.3 in
@@ -132,7 +134,7 @@ cost_at_within t i j c legal is =
     ]
 
 -- what a look-up answers is within the table
-pub look_up_within : (t : Table) (i j : ℕ) (o : Option ℕ) → IsTable t → o ≡ cost_at t i j → OnSome o ((i < length t.rows) × (j < length t.lacks)) × IfSome o (λ c. c ≤ 1000000000)
+pub look_up_within : (t : Table) (i j : ℕ) (o : Option ℕ) → IsTable t → o ≡ cost_at t i j → OnSome o ((i < length t.rows) × (j < length t.lacks)) × IfSome o (λ c. c ≤ max_cost)
 look_up_within t i j None legal is = (tt, tt)
 look_up_within t i j (Some c) legal is =
     let within = cost_at_within t i j c legal (sym is) in

@@ -1,7 +1,8 @@
+-- The names of a table's wagons and orders, and where they stand.
 use Rattle.std.specs.Prelude.{ℕ, if◌then◌else◌, nat_eq, nat_lt, ◌||◌, Bool, List, [], ◌∷◌, ◌++◌, length, Option, Some, None, Result, Ok, Err, position}
 use Rattle.std.specs.List.{list_any}
 use Rattle.std.specs.Cmp.Lexicographic.{pointwise}
-use Rattle.cost_table.specs.declared.limits.TheConstants.{MAX_WAGONS, MAX_ORDERS}
+use Rattle.cost_table.specs.TableLimits.{max_table_wagons, max_table_orders}
 use Rattle.cost_table.specs.declared.table_fault.TableFault.{TableFault}
 use Rattle.cost_table.specs.declared.table_fault.TableFault.TheVariants.{DuplicateWagon, DuplicateOrder, TooLarge}
 
@@ -16,7 +17,7 @@ is_name name other = pointwise nat_eq other name
 abbrev pub is_among : List (List ℕ) → List ℕ → Bool
 is_among names name = list_any (is_name name) names
 
--- the first of the names that stands before it too, where `before` stands before them all
+-- the first of the names that repeats an earlier one, where those of `before` are earlier than all
 abbrev pub repeated_after : List (List ℕ) → List (List ℕ) → Option (List ℕ)
 repeated_after before [] = None
 repeated_after before (name ∷ names) =
@@ -34,7 +35,7 @@ unrepeated x None None = Ok x
 -- the names of a table, or what is wrong with them
 abbrev pub names_of : List (List ℕ) → List (List ℕ) → Result NameLists TableFault
 names_of wagons orders =
-    if nat_lt MAX_WAGONS (length wagons) || nat_lt MAX_ORDERS (length orders) then Err TooLarge
+    if nat_lt max_table_wagons (length wagons) || nat_lt max_table_orders (length orders) then Err TooLarge
     else unrepeated (record { wagons = wagons; orders = orders }) (first_repeated wagons) (first_repeated orders)
 
 abbrev pub both : Option ℕ → Option ℕ → Option (ℕ × ℕ)

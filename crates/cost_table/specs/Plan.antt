@@ -1,3 +1,4 @@
+-- Plans of a table: which pairs are a plan, what a plan costs, and when no plan costs less.
 use Rattle.std.specs.Prelude.{◌≡◌, ◌+◌, ◌-◌, ◌*◌, ◌<◌, ◌≤◌, ◌⊎◌, ℕ, zero, suc, ◌==◌, List, [], ◌∷◌, Some, unwrap_or}
 use Rattle.std.specs.List.{count_by, sum_by}
 use Rattle.cost_table.specs.Table.{Table, cost_at, penalty_at, lack_at, wagon_count, order_count}

@@ -1,7 +1,8 @@
+-- Rows as they are handed in, the table that they give, and what may be wrong with them.
 use Rattle.std.specs.Prelude.{◌≤◌, ◌+◌, ℕ, if◌then◌else◌, ◌==◌, nat_lt, ◌||◌, ◌&&◌, Bool, List, [], ◌∷◌, length, map, Option, Some, None, sum, slice_index_or, Vec}
 use Rattle.std.specs.List.{list_all}
 use Rattle.std.specs.declared.alloc.Global.{Global}
-use Rattle.cost_table.specs.declared.limits.TheConstants.{MAX_WAGONS, MAX_ORDERS, MAX_COST, MAX_LACK_IN_ALL}
+use Rattle.cost_table.specs.TableLimits.{max_table_wagons, max_table_orders, max_cost, max_table_lack}
 use Rattle.cost_table.specs.declared.table_fault.TableFault.{TableFault}
 use Rattle.cost_table.specs.declared.table_fault.TableFault.TheVariants.{TooLarge, UnevenRows}
 use Rattle.cost_table.specs.Table.{Table}
@@ -16,7 +17,7 @@ number_at rows i j = slice_index_or (slice_index_or (map (λ row. row.items) row
 
 abbrev pub IsNumber : Option ℕ → Type 0
 IsNumber None = Unit {0}
-IsNumber (Some n) = n ≤ MAX_COST
+IsNumber (Some n) = n ≤ max_cost
 
 -- the orders from j on that have a number, each with it
 abbrev pub cells_of : ℕ → List (Option ℕ) → List (ℕ × ℕ)
@@ -30,7 +31,7 @@ table_of rows penalties lacks =
 
 abbrev pub is_too_large : Rows → List ℕ → List ℕ → Bool
 is_too_large rows penalties lacks =
-    nat_lt MAX_WAGONS (length rows) || nat_lt MAX_ORDERS (length penalties) || nat_lt MAX_LACK_IN_ALL (sum lacks)
+    nat_lt max_table_wagons (length rows) || nat_lt max_table_orders (length penalties) || nat_lt max_table_lack (sum lacks)
 
 -- each row and the lacks are as long as the penalties
 abbrev pub is_even : Rows → List ℕ → List ℕ → Bool

@@ -1,5 +1,7 @@
+-- A table of costs: what each wagon may serve at which cost, what each order lacks and what a missed wagon costs.
 use Rattle.std.specs.Prelude.{◌≡◌, ◌≤◌, ◌<◌, ◌+◌, ℕ, if◌then◌else◌, ◌==◌, List, [], ◌∷◌, length, Option, Some, None, All, sum, slice_index, slice_index_or}
-use Rattle.cost_table.specs.declared.limits.TheConstants.{MAX_WAGONS, MAX_ORDERS, MAX_COST, MAX_LACK, MAX_LACK_IN_ALL}
+use Rattle.load_orders.specs.Wanted.{IsLack}
+use Rattle.cost_table.specs.TableLimits.{max_table_wagons, max_table_orders, max_cost, max_table_lack}
 
 -- What is distributed. Each wagon has the orders that it may serve, each with its cost. Each order has the
 -- penalty of a wagon that it misses, and how many wagons it lacks.
@@ -37,24 +39,14 @@ order_count t = length t.lacks
 abbrev pub IsRow : ℕ → ℕ → List (ℕ × ℕ) → Type 0
 IsRow orders low [] = Unit {0}
 IsRow orders low (cell ∷ row) =
-    (low ≤ cell.0) × (cell.0 < orders) × (cell.1 ≤ MAX_COST) × IsRow orders (cell.0 + 1) row
-
--- the order of the cell at place k of a row
-abbrev pub order_in : List (ℕ × ℕ) → ℕ → ℕ
-order_in row k = (slice_index_or row k (0, 0)).0
-
-abbrev pub IsAscendingRow : List (ℕ × ℕ) → Type 0
-IsAscendingRow row = (i j : ℕ) → i < j → j < length row → order_in row i < order_in row j
-
-abbrev pub IsLack : ℕ → Type 0
-IsLack lack = (1 ≤ lack) × (lack ≤ MAX_LACK)
+    (low ≤ cell.0) × (cell.0 < orders) × (cell.1 ≤ max_cost) × IsRow orders (cell.0 + 1) row
 
 -- what each table of the program keeps
 pub record IsTable (t : Table) : Type 0 where
-  pub wagons : wagon_count t ≤ MAX_WAGONS
-  pub orders : order_count t ≤ MAX_ORDERS
+  pub wagons : wagon_count t ≤ max_table_wagons
+  pub orders : order_count t ≤ max_table_orders
   pub penalty_count : length t.penalties ≡ order_count t
   pub rows : All (IsRow (order_count t) 0) t.rows
-  pub penalties : All (λ penalty. penalty ≤ MAX_COST) t.penalties
+  pub penalties : All (λ penalty. penalty ≤ max_cost) t.penalties
   pub lacks : All IsLack t.lacks
-  pub lack_in_all : sum t.lacks ≤ MAX_LACK_IN_ALL
+  pub lack_in_all : sum t.lacks ≤ max_table_lack

@@ -1,3 +1,4 @@
+-- The numbers of the faults of tables.
 use Rattle.std.specs.Prelude.{ℕ}
 use Rattle.cost_table.specs.declared.table_fault.TableFault.{TableFault}
 use Rattle.cost_table.specs.declared.table_fault.TableFault.TheVariants.{OutOfMemory, DuplicateWagon, DuplicateOrder, TooLarge, UnevenRows}

@@ -3,11 +3,12 @@ ghost use Rattle.std.specs.Prelude.{◌≡◌, ◌+◌, ◌*◌, ◌<◌, ◌≤
 ghost use Rattle.line_network.specs.Network.{place_index};
 ghost use Rattle.distance_tables.specs.Distance.{IsAnswered};
 ghost use Rattle.distance_tables.specs.declared.distances.TheConstants.{MAX_DISTANCE};
-ghost use Rattle.cost_table.specs.Allowed.{Reaches, IsTableOf, AddsRow, AreRowsOf};
+ghost use Rattle.cost_table.specs.Allowed.{Reaches, IsTableOf};
+ghost use Rattle.cost_table.specs.inner.AllowedRows.{AddsRow, AreRowsOf};
 ghost use Rattle.cost_table.specs.Problem.{penalties_of, lacks_of};
-ghost use Rattle.cost_table.specs.Table.{IsLack};
+ghost use Rattle.cost_table.specs.TableLimits.{max_cost};
+ghost use Rattle.load_orders.specs.Wanted.{IsLack};
 
-use crate::limits::MAX_COST;
 use crate::problem::Problem;
 use crate::table_cells::Cells;
 use distance_tables::Tables;
@@ -50,7 +51,7 @@ fn place_numbers(
 /// The penalty of each order.
 fn penalties(alloc: Global, orders: &[Wanted]) -> Result<Vec<u64>, AllocError>
     ensures value { IfOk result (λ penalties. penalties.items ≡ penalties_of orders.now) }
-    ensures limit { IfOk result (λ penalties. All (λ penalty. penalty ≤ MAX_COST) penalties.items) }
+    ensures limit { IfOk result (λ penalties. All (λ penalty. penalty ≤ max_cost) penalties.items) }
 {
     let mut penalties = Vec::with_capacity(alloc, orders.len())?;
     for wanted in orders {
@@ -132,7 +133,7 @@ fn reached(
     requires from { from ≡ place_index tables.now.places wagon.now.place }
     requires to { to ≡ place_index tables.now.places order.now.place }
     ensures meaning { (km : ℕ) → (result ≡ Some km) ↔ Reaches tables.now at wagon.now order.now km }
-    ensures limit { IfSome result (λ km. km ≤ MAX_COST) }
+    ensures limit { IfSome result (λ km. km ≤ max_cost) }
 {
     if !suits(wagon, order) {
         return None;

@@ -13,7 +13,7 @@ mod table_cells;
 mod table_fault;
 
 pub use allowed::cells;
-pub use limits::{MAX_COST, MAX_LACK, MAX_LACK_IN_ALL, MAX_ORDERS, MAX_WAGONS};
+pub use limits::{MAX_COST, MAX_TABLE_LACK, MAX_TABLE_ORDERS, MAX_TABLE_WAGONS};
 pub use names::Names;
 pub use pair_names::PairNames;
 pub use plan::Plan;

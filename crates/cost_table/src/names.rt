@@ -1,7 +1,8 @@
+//! The names of a table's wagons and orders.
 ghost use Rattle.std.specs.Prelude.{◌≡◌, ℕ, Some, IfSome, position, slice_get};
 ghost use Rattle.cost_table.specs.Names.{is_name, first_repeated, names_of, pair_of};
 
-use crate::limits::{MAX_ORDERS, MAX_WAGONS};
+use crate::limits::{MAX_TABLE_ORDERS, MAX_TABLE_WAGONS};
 use crate::pair_names::PairNames;
 use crate::table_fault::TableFault;
 use rail_codes::{OrderId, WagonNumber};
@@ -27,12 +28,12 @@ impl Model for Names {
 
 impl Names {
     /// The names of a table. They are dropped where they are refused: with `TooLarge` (53) for over 1,000 wagons
-    /// or over 500 orders, else `DuplicateWagon` (51) with the first wagon that stands before it too, else
+    /// or over 500 orders, else `DuplicateWagon` (51) with the first wagon that repeats an earlier one, else
     /// `DuplicateOrder` (52) likewise.
     pub fn new(wagons: Vec<WagonNumber>, orders: Vec<OrderId>) -> Result<Names, TableFault>
         ensures { result ≡ names_of wagons.items orders.items }
     {
-        if wagons.len() > MAX_WAGONS || orders.len() > MAX_ORDERS {
+        if wagons.len() > MAX_TABLE_WAGONS || orders.len() > MAX_TABLE_ORDERS {
             return Err(TableFault::TooLarge);
         }
         if let Some(number) = repeated_wagon(&wagons) {
@@ -86,7 +87,7 @@ impl PairNames for Names {
     }
 }
 
-/// The first wagon that stands before it too.
+/// The first wagon that repeats an earlier one.
 fn repeated_wagon(wagons: &[WagonNumber]) -> Option<WagonNumber>
     ensures { result ≡ first_repeated wagons.now }
 {
@@ -98,7 +99,7 @@ fn repeated_wagon(wagons: &[WagonNumber]) -> Option<WagonNumber>
     None
 }
 
-/// The first order that stands before it too.
+/// The first order that repeats an earlier one.
 fn repeated_order(orders: &[OrderId]) -> Option<OrderId>
     ensures { result ≡ first_repeated orders.now }
 {

@@ -1,9 +1,10 @@
+//! Plans: which wagon goes to which order.
 ghost use Rattle.std.specs.Prelude.{◌≡◌};
 ghost use Rattle.cost_table.specs.Plan.{IsPlanList};
 
 use std::marker::Model;
 
-/// Pairs of a wagon's and an order's position, ascending by order, then by wagon; no wagon stands twice.
+/// Pairs of a wagon's and an order's position, ascending by order, then by wagon; no wagon is there twice.
 #[derive(Debug, Drop)]
 pub struct Plan {
     pairs: Vec<(usize, usize)>,

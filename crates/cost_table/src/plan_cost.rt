@@ -1,3 +1,4 @@
+//! What a plan costs.
 ghost use Rattle.std.specs.Prelude.{◌≡◌, ◌<◌, ◌≤◌, ◌+◌, ◌*◌, ◌^◌, All};
 ghost use Rattle.std.specs.List.{sum_by};
 ghost use Rattle.cost_table.specs.Table.{penalty_at, lack_at, order_count};

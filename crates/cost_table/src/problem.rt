@@ -2,9 +2,10 @@
 ghost use Rattle.std.specs.Prelude.{◌≡◌, ◌≤◌, ℕ, Some, IfSome, length, position, slice_get, sum};
 ghost use Rattle.std.specs.List.{list_any};
 ghost use Rattle.cost_table.specs.Names.{both, is_name, first_repeated, pair_of};
+ghost use Rattle.cost_table.specs.TableLimits.{max_table_orders};
 ghost use Rattle.cost_table.specs.Problem.{problem_of, wagon_names, order_names, lacks_of, names_of_problem, is_too_much, IsProblem};
 
-use crate::limits::{MAX_LACK_IN_ALL, MAX_ORDERS, MAX_WAGONS};
+use crate::limits::{MAX_TABLE_LACK, MAX_TABLE_ORDERS, MAX_TABLE_WAGONS};
 use crate::pair_names::PairNames;
 use crate::table_fault::TableFault;
 use load_orders::Wanted;
@@ -13,7 +14,7 @@ use std::marker::Model;
 use wagon_state::FreeWagon;
 
 /// Free wagons and waiting orders at a moment: at most 1,000 wagons, 500 orders, and 500 lacking wagons in all;
-/// no wagon and no order stands twice. A contract sees the moment and the two lists.
+/// no wagon and no order is listed twice. A contract sees the moment and the two lists.
 #[derive(Debug, Drop)]
 pub struct Problem {
     at: Moment,
@@ -34,7 +35,7 @@ impl Model for Problem {
 impl Problem {
     /// The problem of these wagons and orders at a moment. They are dropped where they are refused: with `TooLarge`
     /// (53) for over 1,000 wagons, over 500 orders or over 500 lacking wagons in all, else `DuplicateWagon` (51)
-    /// with the first wagon that stands before it too, else `DuplicateOrder` (52) likewise. Takes no memory.
+    /// with the first wagon that repeats an earlier one, else `DuplicateOrder` (52) likewise. Allocates nothing.
     pub fn new(
         at: Moment,
         wagons: Vec<FreeWagon>,
@@ -42,7 +43,7 @@ impl Problem {
     ) -> Result<Problem, TableFault>
         ensures { result ≡ problem_of at wagons.items orders.items }
     {
-        if wagons.len() > MAX_WAGONS || lack_too_much(&orders) {
+        if wagons.len() > MAX_TABLE_WAGONS || lack_too_much(&orders) {
             return Err(TableFault::TooLarge);
         }
         if let Some(number) = repeated_wagon(&wagons) {
@@ -137,22 +138,18 @@ fn positions(
 fn lack_too_much(orders: &[Wanted]) -> bool
     ensures { result ≡ is_too_much orders.now }
 {
-    orders.len() > MAX_ORDERS || total_lack(orders) > MAX_LACK_IN_ALL
+    orders.len() > MAX_TABLE_ORDERS || total_lack(orders) > MAX_TABLE_LACK
 }
 
 /// How many wagons a short list of orders lacks in all.
 fn total_lack(orders: &[Wanted]) -> u64
-    requires { length orders.now ≤ MAX_ORDERS }
+    requires { length orders.now ≤ max_table_orders }
     ensures { result ≡ sum (lacks_of orders.now) }
 {
-    let mut total: u64 = 0;
-    for wanted in orders {
-        total += u64::from(wanted.lack());
-    }
-    total
+    orders.iter().map(|wanted| u64::from(wanted.lack())).sum()
 }
 
-/// The first wagon that stands before it too.
+/// The first wagon that repeats an earlier one.
 fn repeated_wagon(wagons: &[FreeWagon]) -> Option<WagonNumber>
     ensures { result ≡ first_repeated (wagon_names wagons.now) }
 {
@@ -170,7 +167,7 @@ fn is_wagon_among(wagons: &[FreeWagon], number: WagonNumber) -> bool
     wagons.iter().any(|wagon| wagon.number == number)
 }
 
-/// The first order that stands before it too.
+/// The first order that repeats an earlier one.
 fn repeated_order(orders: &[Wanted]) -> Option<OrderId>
     ensures { result ≡ first_repeated (order_names orders.now) }
 {

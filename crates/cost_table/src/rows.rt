@@ -1,22 +1,20 @@
+//! Rows as they are handed in: their tests, and their cells one after another.
 ghost use Rattle.std.specs.Prelude.{◌≡◌, ◌≤◌, ◌++◌, All, IfOk, OnOk, IsTrue, ◌↔◌, length, map, sum, ◌==◌};
 ghost use Rattle.std.specs.List.{list_all};
-ghost use Rattle.cost_table.specs.Table.{IsLack};
-ghost use Rattle.cost_table.specs.Flat.{HoldRows};
+ghost use Rattle.load_orders.specs.Wanted.{IsLack};
+ghost use Rattle.cost_table.specs.inner.Flat.{HoldRows};
+ghost use Rattle.cost_table.specs.TableLimits.{max_table_orders};
 ghost use Rattle.cost_table.specs.Rows.{cells_of, is_too_large, is_even};
 
-use crate::limits::{MAX_LACK_IN_ALL, MAX_ORDERS, MAX_WAGONS};
+use crate::limits::{MAX_TABLE_LACK, MAX_TABLE_ORDERS, MAX_TABLE_WAGONS};
 use std::alloc::{AllocError, Global};
 
 /// All numbers of a short list together.
 fn total(lacks: &[u32]) -> u64
-    requires { length lacks.now ≤ 500 }
+    requires { length lacks.now ≤ max_table_orders }
     ensures { result ≡ sum lacks.now }
 {
-    let mut total: u64 = 0;
-    for lack in lacks {
-        total += u64::from(*lack);
-    }
-    total
+    lacks.iter().map(|lack| u64::from(*lack)).sum()
 }
 
 /// Whether rows, penalties or lacks pass the limits of a table.
@@ -25,10 +23,12 @@ pub(crate) fn are_too_large(rows: &[Vec<Option<u64>>], penalties: &[u64], lacks:
     ensures { result ≡ is_too_large rows.now penalties.now lacks.now }
 {
     // Each lacks one or more, so that many orders lack too much.
-    if lacks.len() > MAX_ORDERS {
+    if lacks.len() > MAX_TABLE_ORDERS {
         return true;
     }
-    rows.len() > MAX_WAGONS || penalties.len() > MAX_ORDERS || total(lacks) > MAX_LACK_IN_ALL
+    rows.len() > MAX_TABLE_WAGONS
+        || penalties.len() > MAX_TABLE_ORDERS
+        || total(lacks) > MAX_TABLE_LACK
 }
 
 /// Whether each row has this length.

@@ -1,11 +1,14 @@
+//! The table of a distribution.
 ghost use Rattle.std.specs.Prelude.{◌≡◌, ◌<◌, ◌≤◌, ℕ, [], ◌∷◌, length, slice_index, slice_index_or, All, IfOk, OnOk, IfSome, OnSome, IfErr, unwrap_or};
 ghost use Rattle.std.specs.Result.{result_err};
+ghost use Rattle.cost_table.specs.TableLimits.{max_cost};
 ghost use Rattle.cost_table.specs.Rows.{IsNumber, table_of, number_at, rows_fault};
 ghost use Rattle.cost_table.specs.declared.table_fault.TableFault.TheVariants.{OutOfMemory};
-ghost use Rattle.cost_table.specs.Table.{IsTable, IsLack, IsRow, IsAscendingRow, row_at, cost_in, cost_at, penalty_at, lack_at, wagon_count, order_count};
-ghost use Rattle.cost_table.specs.Flat.{rows_of, AreEnds};
+ghost use Rattle.cost_table.specs.Table.{IsTable, IsRow, row_at, cost_in, cost_at, penalty_at, lack_at, wagon_count, order_count};
+ghost use Rattle.load_orders.specs.Wanted.{IsLack};
+ghost use Rattle.cost_table.specs.inner.Searched.{IsAscendingRow};
+ghost use Rattle.cost_table.specs.inner.Flat.{rows_of, AreEnds};
 
-use crate::limits::MAX_COST;
 use crate::rows::{are_even, are_too_large, flatten};
 use crate::table_fault::TableFault;
 use std::alloc::{AllocError, Global};
@@ -25,7 +28,7 @@ pub struct Cells {
 impl Model for Cells {
     ghost use Rattle.std.specs.Prelude.{length};
     ghost use Rattle.cost_table.specs.Table.{Table, IsTable};
-    ghost use Rattle.cost_table.specs.Flat.{rows_of, AreEnds};
+    ghost use Rattle.cost_table.specs.inner.Flat.{rows_of, AreEnds};
 
     ghost Value = { Table };
 
@@ -66,7 +69,7 @@ impl Cells {
         lacks: &[u32],
     ) -> Result<Cells, TableFault>
         requires numbers { All (λ row. All IsNumber row.items) rows.now }
-        requires penalties { All (λ penalty. penalty ≤ MAX_COST) penalties.now }
+        requires penalties { All (λ penalty. penalty ≤ max_cost) penalties.now }
         requires lacks { All IsLack lacks.now }
         ensures ok { IfOk result (λ cells. cells ≡ table_of rows.now penalties.now lacks.now) }
         ensures numbers { IfOk result (λ cells. (i j : ℕ) → cost_at cells i j ≡ number_at rows.now i j) }
@@ -87,7 +90,7 @@ impl Cells {
         lacks: Vec<u32>,
     ) -> Result<Cells, TableFault>
         requires numbers { All (λ row. All IsNumber row.items) rows.now }
-        requires penalties { All (λ penalty. penalty ≤ MAX_COST) penalties.items }
+        requires penalties { All (λ penalty. penalty ≤ max_cost) penalties.items }
         requires lacks { All IsLack lacks.items }
         ensures ok { IfOk result (λ cells. cells ≡ table_of rows.now penalties.items lacks.items) }
         ensures no_fault { OnOk result (rows_fault rows.now penalties.items lacks.items ≡ None) }
@@ -117,7 +120,7 @@ impl Cells {
     pub fn penalty(&self, j: usize) -> u64
         requires { j < order_count self.now }
         ensures value { result ≡ penalty_at self.now j }
-        ensures limit { result ≤ MAX_COST }
+        ensures limit { result ≤ max_cost }
     {
         self.penalties[j]
     }
@@ -144,7 +147,7 @@ impl Cells {
     pub fn cell(&self, i: usize, j: usize) -> Option<u64>
         ensures value { result ≡ cost_at self.now i j }
         ensures in_range { OnSome result ((i < wagon_count self.now) × (j < order_count self.now)) }
-        ensures limit { IfSome result (λ cost. cost ≤ MAX_COST) }
+        ensures limit { IfSome result (λ cost. cost ≤ max_cost) }
     {
         if i >= self.wagons() {
             return None;
@@ -176,7 +179,7 @@ fn of_lists(
 ) -> Result<Cells, AllocError>
     requires fit { rows_fault rows.now penalties.items lacks.items ≡ None }
     requires numbers { All (λ row. All IsNumber row.items) rows.now }
-    requires penalties { All (λ penalty. penalty ≤ MAX_COST) penalties.items }
+    requires penalties { All (λ penalty. penalty ≤ max_cost) penalties.items }
     requires lacks { All IsLack lacks.items }
     ensures { IfOk result (λ cells. cells ≡ table_of rows.now penalties.items lacks.items) }
 {

@@ -1,3 +1,4 @@
+//! Why names or rows are no table.
 ghost use Rattle.std.specs.Prelude.{◌≡◌};
 ghost use Rattle.cost_table.specs.declared.table_fault.TableFault.TheVariants.{OutOfMemory};
 
@@ -8,13 +9,13 @@ use thiserror::Error;
 /// Why names or rows are no table. The message is the fault's name.
 #[derive(Clone, Copy, Debug, PartialEq, Eq, Error)]
 pub enum TableFault {
-    /// Memory was refused (1).
+    /// Out of memory (1).
     #[error("OutOfMemory")]
     OutOfMemory,
-    /// The wagon stands twice (51).
+    /// The wagon is listed twice (51).
     #[error("DuplicateWagon")]
     DuplicateWagon(WagonNumber),
-    /// The order stands twice (52).
+    /// The order is listed twice (52).
     #[error("DuplicateOrder")]
     DuplicateOrder(OrderId),
     /// Over 1,000 wagons, over 500 orders, or over 500 lacking wagons in all (53).

@@ -1,9 +1,10 @@
+-- Labels of places: how they compare, and what lowering one changes.
 use Rattle.std.proofs.Common.{◌≡◌, ◌+◌, ◌*◌, ◌^◌, ◌<◌, ◌≤◌, true, false, arith, Some, None, Option, inl, inr}
 use Rattle.std.proofs.lemmas.Bool.{cases_eq}
 use Rattle.std.proofs.lemmas.Bool.Decides.{nat_tests}
 use Rattle.line_network.specs.declared.line.Line.{Line}
 use Rattle.distance_tables.specs.declared.distance.Distance.{Distance}
-use Rattle.distance_tables.specs.Search.{plus_line, LabelAtMost, LabelAbove, IsBelow, is_label_below, label_weight}
+use Rattle.distance_tables.specs.inner.Search.{plus_line, LabelAtMost, LabelAbove, IsBelow, is_label_below, label_weight}
 
 below_true : (d e : Distance) → is_label_below d (Some e) ≡ true → IsBelow e d
 below_true d e h = grind (arith, nat_tests)

@@ -1,3 +1,4 @@
+-- Lines in the order of their origins, and those that begin at a place.
 use Rattle.std.proofs.Common.{◌≡◌, ℕ, [], ◌∷◌, ◌++◌, true, false, ltb, subst, ◌+◌, ◌-◌, ◌<◌, ◌≤◌, List, length, take, drop, sym, ◌∙◌, arith, ap, inl, inr, get_or, map}
 use Rattle.std.specs.List.{All, AllWithin, Contains}
 use Rattle.std.specs.List.Sorted.{IsPartitionPoint}
@@ -6,8 +7,8 @@ use Rattle.std.proofs.lemmas.List.{get_or_append_left, get_or_push, length_push,
 use Rattle.std.proofs.lemmas.List.Elements.{All-map, All-same, All-weaker, Contains-get_or}
 use Rattle.line_network.specs.declared.line.Line.{Line}
 use Rattle.distance_tables.specs.declared.step.Step.{Step}
-use Rattle.distance_tables.specs.Starts.{AreStarts}
-use Rattle.distance_tables.specs.Steps.{step_of, line_from}
+use Rattle.distance_tables.specs.inner.Starts.{AreStarts}
+use Rattle.distance_tables.specs.inner.Steps.{step_of, line_from}
 
 some_line : Line
 some_line = record { from = 0; to = 0; km = 0; minutes = 0 }

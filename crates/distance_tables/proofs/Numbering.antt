@@ -5,8 +5,8 @@ use Rattle.std.proofs.lemmas.Bool.{cond-false, cond_both, eqb-true, ne_eqb, ltb-
 use Rattle.std.proofs.lemmas.List.{length-map, map-set, get_or-map}
 use Rattle.distance_tables.specs.declared.distance.Distance.{Distance}
 use Rattle.distance_tables.specs.declared.label.Label.{Label}
-use Rattle.distance_tables.specs.Numbers.{distance_of, known}
-use Rattle.distance_tables.specs.Search.{label_at, LabelAbove, LabelAtMost}
+use Rattle.distance_tables.specs.inner.Numbers.{distance_of, known}
+use Rattle.distance_tables.specs.inner.Search.{label_at, LabelAbove, LabelAtMost}
 
 pub length_known : (labels : List Label) → length (known labels) ≡ length labels
 length_known labels = length-map labels distance_of

@@ -1,3 +1,4 @@
+-- Paths between numbered places, joined and led on by a line.
 use Rattle.std.proofs.Common.{◌≡◌, ℕ, ◌+◌, List, [], ◌∷◌, ◌++◌, refl, sym, ◌∙◌, ap, subst, arith, length, Some, None, Option}
 use Rattle.std.proofs.lemmas.List.Sums.{sum_by-cons, sum_by_push}
 use Rattle.std.specs.List.{Contains}
@@ -5,8 +6,8 @@ use Rattle.line_network.specs.declared.line.Line.{Line}
 use Rattle.distance_tables.specs.declared.distance.Distance.{Distance}
 use Rattle.distance_tables.specs.Walk.{IsPath, km_of, minutes_of}
 use Rattle.distance_tables.specs.Distance.{AtMost}
-use Rattle.distance_tables.specs.Rows.{IsPathPair, IsAnswer, IsNear, IsRow}
-use Rattle.distance_tables.specs.Search.{plus_line, label_at, LabelAtMost, AreLabels, IsRelaxed}
+use Rattle.distance_tables.specs.inner.Rows.{IsPathPair, IsAnswer, IsNear, IsRow}
+use Rattle.distance_tables.specs.inner.Search.{plus_line, label_at, LabelAtMost, AreLabels, IsRelaxed}
 
 -- a path goes on with a path
 pub IsPath-append : (lines : List Line) (a b c : ℕ) (p q : List Line) → IsPath lines a p b → IsPath lines b q c → IsPath lines a (p ++ q) c

@@ -1,3 +1,4 @@
+-- Relaxing a line: labels stay those of paths, and what is left to do falls.
 use Rattle.std.proofs.Common.{◌≡◌, ℕ, suc, ◌+◌, ◌*◌, ◌^◌, ◌<◌, ◌≤◌, ◌⊎◌, true, false, List, ◌∷◌, length, refl, sym, ◌∙◌, subst, arith, inl, inr, Some, None, Option, get_or, set, length-set, get_or-set_same, get_or-set_other}
 use Rattle.std.specs.List.{All, AllWithin, Contains}
 use Rattle.std.specs.List.Sorted.{IsPermutation}
@@ -11,10 +12,10 @@ use Rattle.line_network.specs.declared.line.Line.{Line}
 use Rattle.line_network.specs.Network.{IsLine}
 use Rattle.distance_tables.specs.declared.distance.Distance.{Distance}
 use Rattle.distance_tables.specs.declared.step.Step.{Step}
-use Rattle.distance_tables.specs.Steps.{line_from}
+use Rattle.distance_tables.specs.inner.Steps.{line_from}
 use Rattle.distance_tables.specs.declared.waiting.Waiting.{Waiting}
-use Rattle.distance_tables.specs.Rows.{IsPathPair}
-use Rattle.distance_tables.specs.Search.{plus_line, label_at, LabelAtMost, LabelAbove, IsBelow, is_label_below, below_count, AreBounded, AreLabels, IsRelaxed, IsSettled, entry, label_weight, Relaxes, stays, falls, Improves}
+use Rattle.distance_tables.specs.inner.Rows.{IsPathPair}
+use Rattle.distance_tables.specs.inner.Search.{plus_line, label_at, LabelAtMost, LabelAbove, IsBelow, is_label_below, below_count, AreBounded, AreLabels, IsRelaxed, IsSettled, entry, label_weight, Relaxes, stays, falls, Improves}
 use Rattle.distance_tables.proofs.Labels.{IsBelow-plus_line, not_below_itself, fallen_below, not_below, below_more, is_below_itself_more, not_above, LabelAtMost-fallen, LabelAtMost-itself, label_weight-falls}
 use Rattle.distance_tables.proofs.Paths.{IsPathPair-plus}
 use Rattle.distance_tables.proofs.Totals.{count_by-mono, count_by-more}

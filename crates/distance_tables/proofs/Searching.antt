@@ -1,3 +1,4 @@
+-- What a search keeps, and that its labels are the distances at its end.
 use Rattle.std.proofs.Common.{◌≡◌, ℕ, zero, suc, ◌*◌, ◌<◌, ◌≤◌, ◌⊎◌, List, [], ◌∷◌, length, replicate, refl, sym, ◌∙◌, ap, subst, arith, inl, inr, Some, None, Option, get_or, set, length-set, take, drop, ◌++◌}
 use Rattle.std.proofs.lemmas.List.{length-replicate, take-append-le, take_all}
 use Rattle.std.specs.List.{Contains}
@@ -10,8 +11,8 @@ use Rattle.std.proofs.lemmas.List.Sums.{count_by-le-length}
 use Rattle.line_network.specs.declared.line.Line.{Line}
 use Rattle.distance_tables.specs.declared.distance.Distance.{Distance}
 use Rattle.distance_tables.specs.declared.waiting.Waiting.{Waiting}
-use Rattle.distance_tables.specs.Rows.{IsPathPair, IsNear, IsRow}
-use Rattle.distance_tables.specs.Search.{label_at, LabelAtMost, LabelAbove, is_label_below, below_count, AreBounded, AreLabels, IsRelaxed, IsSettled, AreInRange, entry, Improves}
+use Rattle.distance_tables.specs.inner.Rows.{IsPathPair, IsNear, IsRow}
+use Rattle.distance_tables.specs.inner.Search.{label_at, LabelAtMost, LabelAbove, is_label_below, below_count, AreBounded, AreLabels, IsRelaxed, IsSettled, AreInRange, entry, Improves}
 use Rattle.distance_tables.proofs.Paths.{IsRow-relaxed}
 use Rattle.distance_tables.proofs.Relaxing.{each_label, fallen}
 

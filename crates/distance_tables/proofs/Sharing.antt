@@ -1,3 +1,4 @@
+-- Origins shared out over workers: each is in one share, and the rows of all shares are those of all origins.
 use Rattle.std.proofs.Common.{◌≡◌, ◌≢◌, ℕ, zero, suc, ◌+◌, ◌%◌, ◌<◌, ◌≤◌, ◌==◌, Bool, true, cond, List, [], ◌∷◌, ◌++◌, length, map, set, get_or, refl, sym, ◌∙◌, ap, subst, arith, inl, inr, Option, Result, IfOk, length-set}
 use Rattle.std.specs.List.{All, Contains, filter, range_with_len}
 use Rattle.std.specs.declared.alloc.AllocError.{AllocError}
@@ -11,8 +12,8 @@ use Rattle.std.proofs.lemmas.Nat.{mod_below}
 use Rattle.line_network.specs.declared.line.Line.{Line}
 use Rattle.distance_tables.specs.declared.distance.Distance.{Distance}
 use Rattle.distance_tables.specs.declared.share.OriginRow.{OriginRow}
-use Rattle.distance_tables.specs.Rows.{IsRow, AreRows}
-use Rattle.distance_tables.specs.Shares.{origins_of, IsShare, AreShares, put_rows}
+use Rattle.distance_tables.specs.inner.Rows.{IsRow, AreRows}
+use Rattle.distance_tables.specs.inner.Shares.{origins_of, IsShare, AreShares, put_rows}
 use Rattle.distance_tables.proofs.Searching.{Contains-nil, Contains-cons_cases}
 
 -- one number more

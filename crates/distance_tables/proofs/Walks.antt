@@ -1,3 +1,4 @@
+-- Walks between places: the triangle law, and the rows of tables as distances.
 use Rattle.std.proofs.Common.{◌≡◌, ℕ, ◌+◌, ◌<◌, List, [], ◌∷◌, ◌++◌, length, sym, ◌∙◌, ap, subst, arith, inl, inr, get_or, Some, None, Option}
 use Rattle.std.specs.List.{Contains}
 use Rattle.std.specs.declared.alloc.Global.{Global}
@@ -13,7 +14,7 @@ use Rattle.line_network.specs.Network.{NetworkValue, place_index}
 use Rattle.distance_tables.specs.declared.distance.Distance.{Distance}
 use Rattle.distance_tables.specs.Walk.{IsPath, IsWalk, km_of, minutes_of}
 use Rattle.distance_tables.specs.Distance.{AtMost, IsDistance, IsAnswered}
-use Rattle.distance_tables.specs.Rows.{IsLeast, IsAnswer, IsNear, IsRow, AreRows}
+use Rattle.distance_tables.specs.inner.Rows.{IsLeast, IsAnswer, IsNear, IsRow, AreRows}
 use Rattle.distance_tables.specs.Laws.{TriangleHolds}
 use Rattle.distance_tables.proofs.Paths.{IsPath-append}
 

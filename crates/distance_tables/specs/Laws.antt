@@ -1,20 +1,13 @@
+-- Laws of distances, which hold of every network.
 use Rattle.std.specs.Prelude.{◌≡◌, ℕ, ◌+◌, List, Some}
-use Rattle.line_network.specs.declared.line.Line.{Line}
 use Rattle.line_network.specs.Network.{NetworkValue, place_index}
 use Rattle.distance_tables.specs.Distance.{AtMost, IsDistance}
-use Rattle.distance_tables.specs.Walk.{IsWalk, km_of, minutes_of}
 
 -- the way over a third place is not shorter
 abbrev pub TriangleHolds : Type 0
 TriangleHolds =
     (net : NetworkValue) (a b c : List ℕ) (p q r : ℕ × ℕ) → IsDistance net a b p → IsDistance net b c q → IsDistance net a c r
     → AtMost r (p.0 + q.0, p.1 + q.1)
-
--- some walk has both numbers of a distance
-abbrev pub BothAreOfOneWalk : Type 0
-BothAreOfOneWalk =
-    (net : NetworkValue) (a b : List ℕ) (p : ℕ × ℕ) → IsDistance net a b p
-    → (walk : List Line) × IsWalk net a walk b × (km_of walk ≡ p.0) × (minutes_of walk ≡ p.1)
 
 -- two places have one distance at most
 abbrev pub DistanceIsUnique : Type 0

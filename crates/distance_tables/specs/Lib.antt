@@ -1,12 +1,7 @@
 pub mod Distance
 pub mod Laws
 pub mod Networks
-pub mod Numbers
-pub mod Rows
-pub mod Search
-pub mod Shares
-pub mod Starts
-pub mod Steps
-pub mod Turns
 pub mod Walk
 pub mod WorkFault
+pub mod Workers
+pub mod inner

@@ -1,3 +1,4 @@
+-- Walks in a network, and their kilometres and minutes.
 use Rattle.std.specs.Prelude.{◌≡◌, ℕ, List, [], ◌∷◌, Some, Contains, sum_by}
 use Rattle.line_network.specs.declared.line.Line.{Line}
 use Rattle.line_network.specs.Network.{NetworkValue, place_index}

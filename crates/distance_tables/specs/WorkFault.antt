@@ -1,3 +1,4 @@
+-- The numbers of the faults of workers.
 use Rattle.std.specs.Prelude.{ℕ}
 use Rattle.distance_tables.specs.declared.work_fault.WorkFault.{WorkFault}
 use Rattle.distance_tables.specs.declared.work_fault.WorkFault.TheVariants.{OutOfMemory, BadWorkerCount, NoThread}

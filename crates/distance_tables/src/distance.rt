@@ -11,7 +11,7 @@ pub(crate) struct Distance {
 }
 
 impl Distance {
-    ghost use Rattle.distance_tables.specs.Search.{plus_line};
+    ghost use Rattle.distance_tables.specs.inner.Search.{plus_line};
 
     /// The pair of a walk that goes on by one line more.
     pub(crate) fn plus(self, line: &Line) -> Distance

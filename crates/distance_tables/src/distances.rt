@@ -1,15 +1,12 @@
 //! The distances of a network.
 ghost use Rattle.std.specs.Prelude.{◌≡◌, ◌<◌, ◌≤◌, ℕ, List, Some, IfSome, IfNone, length};
 ghost use Rattle.line_network.specs.Network.{place_index};
-ghost use Rattle.distance_tables.specs.Distance.{IsDistance, HasNoWalk, IsAnswered};
+ghost use Rattle.distance_tables.specs.Distance.{IsDistance, HasNoWalk, IsAnswered, max_distance};
 
 use crate::distance::Distance;
 use line_network::Network;
 use rail_codes::Place;
 use std::marker::Model;
-
-/// The most kilometres, and the most minutes, of a distance: a line of the greatest length to each place.
-pub const MAX_DISTANCE: u32 = 20_000_000;
 
 /// The distances between the places of a network, which is kept with them. A contract sees the network.
 #[derive(Drop)]
@@ -21,15 +18,14 @@ pub struct Tables {
 
 impl Model for Tables {
     ghost use Rattle.std.specs.Prelude.{◌≤◌, length};
-    ghost use Rattle.line_network.specs.Network.{NetworkValue};
-    ghost use Rattle.line_network.specs.declared.limits.TheConstants.{MAX_PLACES};
-    ghost use Rattle.distance_tables.specs.Rows.{AreRows};
+    ghost use Rattle.line_network.specs.Network.{NetworkValue, max_places};
+    ghost use Rattle.distance_tables.specs.inner.Rows.{AreRows};
 
     ghost Value = { NetworkValue };
 
     ghost view = { λ tables. tables.network };
 
-    ghost invariant = { λ tables. (length tables.network.places ≤ MAX_PLACES) × AreRows tables.network.lines (length tables.network.places) tables.rows.items };
+    ghost invariant = { λ tables. (length tables.network.places ≤ max_places) × AreRows tables.network.lines (length tables.network.places) tables.rows.items };
 }
 
 impl Tables {
@@ -46,7 +42,7 @@ impl Tables {
     pub fn between(&self, a: Place, b: Place) -> Option<(u32, u32)>
         ensures distance { IfSome result (IsDistance self.now a b) }
         ensures none { IfNone result (HasNoWalk self.now a b) }
-        ensures limit { IfSome result (λ d. (d.0 ≤ MAX_DISTANCE) × (d.1 ≤ MAX_DISTANCE)) }
+        ensures limit { IfSome result (λ d. (d.0 ≤ max_distance) × (d.1 ≤ max_distance)) }
     {
         let from = self.network.index_of(a)?;
         let to = self.network.index_of(b)?;
@@ -58,7 +54,7 @@ impl Tables {
         requires from { from < length self.now.places }
         requires to { to < length self.now.places }
         ensures meaning { (a b : List ℕ) → place_index self.now.places a ≡ Some from → place_index self.now.places b ≡ Some to → IsAnswered self.now a b result }
-        ensures limit { IfSome result (λ d. (d.0 ≤ MAX_DISTANCE) × (d.1 ≤ MAX_DISTANCE)) }
+        ensures limit { IfSome result (λ d. (d.0 ≤ max_distance) × (d.1 ≤ max_distance)) }
     {
         let distance = self.rows[from][to]?;
         Some((distance.km, distance.minutes))

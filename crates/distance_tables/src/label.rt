@@ -1,12 +1,12 @@
 //! Labels of places in a search.
 ghost use Rattle.std.specs.Prelude.{◌≡◌, ◌+◌, ◌*◌, ◌^◌, ◌<◌, MatchBool, None, Some};
-ghost use Rattle.distance_tables.specs.Numbers.{distance_of};
-ghost use Rattle.distance_tables.specs.Search.{LabelAbove, LabelAtMost};
+ghost use Rattle.distance_tables.specs.inner.Numbers.{distance_of};
+ghost use Rattle.distance_tables.specs.inner.Search.{LabelAbove, LabelAtMost};
 
 use crate::distance::Distance;
 
 /// More than any number of minutes.
-const MINUTES: u64 = 4_294_967_296;
+const LABEL_MINUTES: u64 = 4_294_967_296;
 
 /// The shortest way found to a place, if one is found, as one number: its kilometres, then its minutes, as digits;
 /// the greatest number where none is found. So a search finds by one comparison whether a label falls.
@@ -16,14 +16,14 @@ pub(crate) struct Label {
 }
 
 impl Label {
-    /// That of a place to which no way is found.
+    /// The label of a place to which no way is found.
     pub(crate) fn unreached() -> Label
         ensures { distance_of result ≡ None }
     {
         Label { number: u64::MAX }
     }
 
-    /// That of a place at a distance.
+    /// The label of a place at a distance.
     pub(crate) fn at(distance: Distance) -> Label
         requires { distance.km < 2 ^ 25 }
         ensures { distance_of result ≡ Some distance }
@@ -41,8 +41,8 @@ impl Label {
             return None;
         }
         Some(Distance {
-            km: (self.number / MINUTES) as u32,
-            minutes: (self.number % MINUTES) as u32,
+            km: (self.number / LABEL_MINUTES) as u32,
+            minutes: (self.number % LABEL_MINUTES) as u32,
         })
     }
 
@@ -60,5 +60,5 @@ fn number_of(distance: Distance) -> u64
     ensures number { result ≡ distance.km * 2 ^ 32 + distance.minutes }
     ensures minutes { distance.minutes < 2 ^ 32 }
 {
-    u64::from(distance.km) * MINUTES + u64::from(distance.minutes)
+    u64::from(distance.km) * LABEL_MINUTES + u64::from(distance.minutes)
 }

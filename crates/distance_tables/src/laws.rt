@@ -1,14 +1,9 @@
 //! Laws of distances, which hold of every network. Their functions do nothing: the contract is the law.
-ghost use Rattle.distance_tables.specs.Laws.{TriangleHolds, BothAreOfOneWalk, DistanceIsUnique, PlaceIsAtItself};
+ghost use Rattle.distance_tables.specs.Laws.{TriangleHolds, DistanceIsUnique, PlaceIsAtItself};
 
 /// The way over a third place is not shorter.
 pub fn triangle_holds()
     ensures { TriangleHolds }
-{}
-
-/// The kilometres and the minutes of a distance are those of one walk.
-pub fn both_are_of_one_walk()
-    ensures { BothAreOfOneWalk }
 {}
 
 /// Two places have one distance at most.

@@ -19,9 +19,9 @@ mod turn;
 mod waiting;
 mod work_fault;
 
-pub use distances::{MAX_DISTANCE, Tables};
+pub use distances::Tables;
 pub use gate::{Gate, OpenGate};
-pub use laws::{both_are_of_one_walk, distance_is_unique, place_is_at_itself, triangle_holds};
+pub use laws::{distance_is_unique, place_is_at_itself, triangle_holds};
 pub use many_threads::{MAX_WORKERS, tables_by_workers};
 pub use networks::{MAX_NETWORKS, Networks};
 pub use networks_fault::NetworksFault;

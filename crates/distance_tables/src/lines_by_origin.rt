@@ -1,8 +1,8 @@
 //! Lines in the order of the places where they begin.
 ghost use Rattle.std.specs.Prelude.{◌≡◌, ◌+◌, ◌^◌, ◌<◌, IfOk, All, Contains, length, map, vec_len};
 ghost use Rattle.std.specs.List.Sorted.{IsPermutation, IsNonDecreasingBy};
-ghost use Rattle.distance_tables.specs.Starts.{AreStarts};
-ghost use Rattle.distance_tables.specs.Steps.{step_of, line_from};
+ghost use Rattle.distance_tables.specs.inner.Starts.{AreStarts};
+ghost use Rattle.distance_tables.specs.inner.Steps.{step_of, line_from};
 
 use crate::step::Step;
 use line_network::Line;

@@ -1,7 +1,8 @@
 //! The tables of a network, made by several workers.
 ghost use Rattle.std.specs.Prelude.{◌≡◌, ◌≢◌, ◌+◌, ◌<◌, ◌≤◌, ◌↔◌, ℕ, All, IfErr, IfOk, IsErrOf, length, slice_index_or, vec_len};
-ghost use Rattle.distance_tables.specs.Rows.{AreRows};
-ghost use Rattle.distance_tables.specs.Shares.{AreShares, IsBadWorkerCount, IsShare, IsWork, put_rows};
+ghost use Rattle.distance_tables.specs.Workers.{IsBadWorkerCount};
+ghost use Rattle.distance_tables.specs.inner.Rows.{AreRows};
+ghost use Rattle.distance_tables.specs.inner.Shares.{AreShares, IsShare, IsWork, put_rows};
 
 use crate::distance::Distance;
 use crate::lines_by_origin::LinesByOrigin;
@@ -24,8 +25,8 @@ type Running<'a> = PromisedHandle<Answer, Share<'a>>;
 /// `gate.enter(k)` once before its work.
 ///
 /// Refused with `BadWorkerCount` (45) exactly where `workers` is not 1 to 64; else with `NoThread` (46) where no
-/// thread could be started for a worker, and with `OutOfMemory` (1) where memory was refused, both after all
-/// workers that ran are joined.
+/// thread could be started for a worker, however much memory there is, and with `OutOfMemory` (1) where the program
+/// was out of memory; both after all workers that ran are joined.
 pub fn tables_by_workers<R: Threads + Wait, G: Gate + Sync>(
     rt: &R,
     alloc: Global,
@@ -93,6 +94,7 @@ fn started<'s, 'e: 's, G: Gate + Sync>(
 ) -> Result<Vec<Running<'e>>, AllocError>
     requires { IsWork work.lines.now.lines.items work.lines.now.starts.items work.places work.workers }
     ensures own { IfOk result (λ running. (k : ℕ) (d : _) → k < vec_len running → (slice_index_or running.items k d).promise ≡ record { work = work.entry; worker = k }) }
+    ensures few { IfOk result (λ running. vec_len running ≤ work.entry.workers) }
 {
     let mut running = Vec::with_capacity(alloc, work.workers)?;
     for worker in 0..work.workers {
@@ -109,30 +111,33 @@ fn started<'s, 'e: 's, G: Gate + Sync>(
     Ok(running)
 }
 
-/// The answers of the workers, who are all joined. Refused where one of them was not started.
+/// The answers of the workers, who are all joined. Refused with `NoThread` exactly where one was not started, before
+/// any memory is needed.
 fn joined<'e, R: Threads>(
     rt: &R,
     work: Work<'e>,
     running: Vec<Running<'e>>,
 ) -> Result<Vec<Answer>, WorkFault>
     requires own { (k : ℕ) (d : _) → k < vec_len running → (slice_index_or running.items k d).promise ≡ record { work = work; worker = k } }
+    requires few { vec_len running ≤ work.workers }
     ensures answers { IfOk result (λ answers. AreShares work.entry.lines.now.lines.items work.entry.places work.entry.workers answers.items) }
     ensures fault { IfErr result (λ fault. fault ≢ WorkFault.BadWorkerCount) }
+    ensures no_thread { IsErrOf result WorkFault.NoThread ↔ (vec_len running.entry < work.entry.workers) }
 {
-    let answers = match thread::join_promised(rt, running) {
-        Ok(answers) => answers,
-        Err(refused) => {
-            drop_answers(rt, refused.value);
-            return Err(WorkFault::OutOfMemory);
-        }
-    };
-    if answers.len() != work.workers {
+    if running.len() < work.workers {
+        drop_answers(rt, running);
         return Err(WorkFault::NoThread);
     }
-    Ok(answers)
+    match thread::join_promised(rt, running) {
+        Ok(answers) => Ok(answers),
+        Err(refused) => {
+            drop_answers(rt, refused.value);
+            Err(WorkFault::OutOfMemory)
+        }
+    }
 }
 
-/// Waits for workers whose answers are not wanted.
+/// Waits for workers whose answers are no longer needed.
 fn drop_answers<R: Threads>(rt: &R, running: Vec<Running<'_>>) {
     for worker in running {
         drop(worker.join(rt));

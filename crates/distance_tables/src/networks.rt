@@ -7,7 +7,7 @@ use crate::{NetworksFault, Tables};
 use std::marker::Model;
 
 /// The most networks.
-pub const MAX_NETWORKS: usize = 8;
+pub const MAX_NETWORKS: u32 = 8;
 
 /// The networks that a book may run on, 1 to 8, each with its distances and numbered from 1. A contract sees
 /// the list of the networks.
@@ -35,7 +35,7 @@ impl Networks {
         ensures accepts { IsOk result ↔ IsNetworkCount (length tables.items) }
         ensures kept { IfOk result (λ networks. networks ≡ tables.items) }
     {
-        if tables.is_empty() || tables.len() > MAX_NETWORKS {
+        if tables.is_empty() || tables.len() > MAX_NETWORKS as usize {
             return Err(NetworksFault::BadNetworkCount);
         }
         Ok(Networks { tables })

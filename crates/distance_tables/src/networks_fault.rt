@@ -6,7 +6,7 @@ use thiserror::Error;
 /// Why no networks were put together. The message is the fault's name.
 #[derive(Clone, Copy, Debug, PartialEq, Eq, Error)]
 pub enum NetworksFault {
-    /// There is no network, or there are more than eight (47).
+    /// There is no network, or there are more than 8 (47).
     #[error("BadNetworkCount")]
     BadNetworkCount,
 }

@@ -1,13 +1,13 @@
 //! The tables of a network, made by one thread.
 ghost use Rattle.std.specs.Prelude.{◌≡◌, ◌+◌, ◌≤◌, All, IfOk, vec_len};
-ghost use Rattle.line_network.specs.Network.{IsLine};
-ghost use Rattle.distance_tables.specs.Rows.{AreRows};
+ghost use Rattle.line_network.specs.Network.{IsLine, max_places};
+ghost use Rattle.distance_tables.specs.inner.Rows.{AreRows};
 
 use crate::Tables;
 use crate::distance::Distance;
 use crate::lines_by_origin::LinesByOrigin;
 use crate::search::row_of_origin;
-use line_network::{MAX_PLACES, Network};
+use line_network::Network;
 use std::alloc::{AllocError, Global};
 
 /// The distances between the places of a network.
@@ -27,7 +27,7 @@ fn rows_of_origins(
     lines: &LinesByOrigin,
     places: usize,
 ) -> Result<Vec<Vec<Option<Distance>>>, AllocError>
-    requires few { places ≤ MAX_PLACES }
+    requires few { places ≤ max_places }
     requires indexed { vec_len lines.now.starts ≡ places + 1 }
     requires lines { All (IsLine places) lines.now.lines.items }
     ensures { IfOk result (λ rows. AreRows lines.now.lines.items places rows.items) }

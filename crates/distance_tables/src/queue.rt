@@ -1,7 +1,7 @@
 //! The places that wait, the nearest first.
 ghost use Rattle.std.specs.Prelude.{◌≡◌, ◌+◌, ◌∷◌, [], IfOk, IfNone, IfSome, OnOk, OnSome, length};
 ghost use Rattle.std.specs.List.Sorted.{IsPermutation};
-ghost use Rattle.distance_tables.specs.Turns.{IsShort, waits};
+ghost use Rattle.distance_tables.specs.inner.Turns.{IsShort, waits};
 
 use crate::turn::Turn;
 use crate::waiting::Waiting;
@@ -24,7 +24,7 @@ impl Queue {
         Ok(Queue { turns })
     }
 
-    /// Has a place wait.
+    /// Adds a place that waits.
     pub(crate) fn push(&mut self, next: Waiting) -> Result<(), AllocError>
         requires { IsShort next }
         ensures { OnOk result (IsPermutation (next ∷ waits self.old) (waits self.new)) }

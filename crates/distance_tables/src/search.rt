@@ -4,18 +4,18 @@
 //! still the one that it waited with. No order of the turns is needed for the answer; the heap's order makes
 //! it fast.
 ghost use Rattle.std.specs.Prelude.{◌≡◌, ◌≢◌, ℕ, ◌+◌, ◌^◌, ◌<◌, ◌≤◌, ◌↔◌, Some, None, [], All, replicate, IsTrue, MatchBool, IfOk, OnOk, length, slice_set, vec_len};
-ghost use Rattle.distance_tables.specs.Numbers.{known};
-ghost use Rattle.distance_tables.specs.Rows.{IsRow};
-ghost use Rattle.distance_tables.specs.Search.{label_at, AreBounded, IsRelaxed, Improves, LabelAtMost, LabelAbove, Relaxes};
-ghost use Rattle.distance_tables.specs.Turns.{waits};
-ghost use Rattle.line_network.specs.Network.{IsLine};
+ghost use Rattle.distance_tables.specs.inner.Numbers.{known};
+ghost use Rattle.distance_tables.specs.inner.Rows.{IsRow};
+ghost use Rattle.distance_tables.specs.inner.Search.{label_at, AreBounded, IsRelaxed, Improves, LabelAtMost, LabelAbove, Relaxes};
+ghost use Rattle.distance_tables.specs.inner.Turns.{waits};
+ghost use Rattle.line_network.specs.Network.{IsLine, max_places};
 
 use crate::distance::Distance;
 use crate::label::Label;
 use crate::lines_by_origin::LinesByOrigin;
 use crate::queue::Queue;
 use crate::waiting::Waiting;
-use line_network::{Line, MAX_PLACES};
+use line_network::Line;
 use std::alloc::{AllocError, Global};
 
 /// The distances from one place to each place, `None` where no walk leads.
@@ -26,7 +26,7 @@ pub(crate) fn row_of_origin(
     origin: usize,
 ) -> Result<Vec<Option<Distance>>, AllocError>
     requires origin { origin < places }
-    requires few { places ≤ MAX_PLACES }
+    requires few { places ≤ max_places }
     requires indexed { vec_len lines.now.starts ≡ places + 1 }
     requires lines { All (IsLine places) lines.now.lines.items }
     ensures { IfOk result (λ row. IsRow lines.now.lines.items places origin row.items) }
@@ -63,7 +63,7 @@ fn search(
     lines: &LinesByOrigin,
     origin: usize,
 ) -> Result<(), AllocError>
-    requires few { length labels.old ≤ MAX_PLACES }
+    requires few { length labels.old ≤ max_places }
     requires origin { origin < length labels.old }
     requires indexed { vec_len lines.now.starts ≡ length labels.old + 1 }
     requires lines { All (IsLine (length labels.old)) lines.now.lines.items }
@@ -102,7 +102,7 @@ fn relax_lines(
     lines: &LinesByOrigin,
     at: Waiting,
 ) -> Result<(), AllocError>
-    requires few { length labels.old ≤ MAX_PLACES }
+    requires few { length labels.old ≤ max_places }
     requires indexed { vec_len lines.now.starts ≡ length labels.old + 1 }
     requires lines { All (IsLine (length labels.old)) lines.now.lines.items }
     requires bounded { AreBounded (known labels.old) }
@@ -127,7 +127,7 @@ fn relax(
     at: Distance,
     line: &Line,
 ) -> Result<(), AllocError>
-    requires few { length labels.old ≤ MAX_PLACES }
+    requires few { length labels.old ≤ max_places }
     requires known { line.now.to < length labels.old }
     requires km { at.km + line.now.km < 2 ^ 25 }
     requires minutes { at.minutes + line.now.minutes < 2 ^ 25 }

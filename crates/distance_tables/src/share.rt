@@ -1,6 +1,6 @@
 //! What one of several workers does.
 ghost use Rattle.std.specs.Prelude.{◌≡◌, IfOk};
-ghost use Rattle.distance_tables.specs.Shares.{IsShare, IsWork};
+ghost use Rattle.distance_tables.specs.inner.Shares.{IsShare, IsWork};
 
 use crate::Gate;
 use crate::distance::Distance;
@@ -31,12 +31,12 @@ pub(crate) struct Share<'a> {
     pub(crate) worker: usize,
 }
 
-/// The rows of a worker's origins, or that memory was refused.
+/// The rows of a worker's origins, or that it was out of memory.
 pub(crate) type Answer = Result<Vec<OriginRow>, AllocError>;
 
 impl<'a> Promise<Answer> for Share<'a> {
     ghost use Rattle.std.specs.Prelude.{IfOk};
-    ghost use Rattle.distance_tables.specs.Shares.{IsShare};
+    ghost use Rattle.distance_tables.specs.inner.Shares.{IsShare};
 
     ghost kept_by = { λ share answer. IfOk answer (λ rows. IsShare share.work.lines.now.lines.items share.work.places share.work.workers share.worker rows.items) };
 }

@@ -12,9 +12,9 @@ pub(crate) struct Step {
 }
 
 impl Step {
-    ghost use Rattle.distance_tables.specs.Steps.{step_of, line_from};
+    ghost use Rattle.distance_tables.specs.inner.Steps.{step_of, line_from};
 
-    /// A line's.
+    /// The step of a line.
     pub(crate) fn of_line(line: &Line) -> Step
         ensures { result ≡ step_of line.now }
     {

@@ -8,7 +8,7 @@ use thiserror::Error;
 /// Why workers made no tables. The message is the fault's name.
 #[derive(Clone, Copy, Debug, PartialEq, Eq, Error)]
 pub enum WorkFault {
-    /// Memory was refused (1).
+    /// Out of memory (1).
     #[error("OutOfMemory")]
     OutOfMemory,
     /// There is no worker, or there are more than 64 (45).

@@ -11,7 +11,8 @@ use Rattle.json_fields.specs.declared.field.Field.{Field}
 use Rattle.json_fields.specs.declared.fault.FieldFault.{FieldFault}
 use Rattle.json_fields.specs.declared.fault.FieldFault.TheVariants.{OutOfRange}
 use Rattle.json_fields.specs.declared.fault.LineFault.{LineFault}
-use Rattle.json_fields.specs.Values.{◌>>=◌, after, each, list_of, both, wagon_number_from, order_id_from, pair_of}
+use Rattle.json_fields.specs.Values.{◌>>=◌, each, list_of, both, wagon_number_from, order_id_from, pair_of}
+use Rattle.json_fields.specs.inner.Loops.{after}
 use Rattle.json_fields.specs.Fields.{in_field}
 
 pub items_len_is_length : (vs : List Value) → items_len (items_view vs) ≡ length vs

@@ -1,4 +1,4 @@
--- The numbers of the refusals.
+-- The numbers of the faults of a line and of its fields.
 use Rattle.std.specs.Prelude.{ℕ}
 use Rattle.rail_codes.specs.CodeFault.{fault_number}
 use Rattle.json_fields.specs.declared.fault.FieldFault.{FieldFault}
@@ -6,11 +6,13 @@ use Rattle.json_fields.specs.declared.fault.FieldFault.TheVariants.{Code, WrongK
 use Rattle.json_fields.specs.declared.fault.LineFault.{LineFault}
 use Rattle.json_fields.specs.declared.fault.LineFault.TheVariants.{OutOfMemory, NotJson, NotAnObject, UnknownType, MissingField, BadField}
 
+-- what is wrong with the value of a field
 abbrev pub field_fault_number : FieldFault → ℕ
 field_fault_number (Code fault) = fault_number fault
 field_fault_number WrongKind = 19
 field_fault_number OutOfRange = 20
 
+-- why a line is refused
 abbrev pub line_fault_number : LineFault → ℕ
 line_fault_number OutOfMemory = 1
 line_fault_number NotJson = 21

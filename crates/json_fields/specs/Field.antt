@@ -3,6 +3,7 @@ use Rattle.std.specs.Prelude.{ℕ, List, codes}
 use Rattle.json_fields.specs.declared.field.Field.{Field}
 use Rattle.json_fields.specs.declared.field.Field.TheVariants.{TypeName, Company, Number, Wagon, Place, Moment, Hold, Order, Classes, Load, Latest, Penalty, At, Version, Pairs, WagonPrices, OrderPrices, Revision, Wagons, Orders, Cells, Penalties, Lacks}
 
+-- the name as it stands in a line
 unfoldable pub field_name : Field → List ℕ
 field_name TypeName = codes "type"
 field_name Company = codes "company"

@@ -1,4 +1,4 @@
--- What the fields of an object d are read as, or the first fault.
+-- The fields of a JSON object d: what each is read as, or its fault.
 use Rattle.std.specs.Prelude.{◌≡◌, ◌≢◌, List, Option, Some, None, Result, Ok, Err}
 use Rattle.std.specs.Option.{ok_or}
 use Rattle.serde_json.specs.Data.{Data}
@@ -10,10 +10,11 @@ use Rattle.json_fields.specs.declared.fault.LineFault.TheVariants.{OutOfMemory, 
 use Rattle.json_fields.specs.Field.{field_name}
 use Rattle.json_fields.specs.Values.{◌>>=◌, list_of_each}
 
--- What a call returned, seen by view, is what reading gives, unless memory ran out.
+-- a call that fails with a fault other than OutOfMemory has the fault that reading gives
 abbrev pub Fails : {Y : Type 0} → LineFault → Result Y LineFault → Type 0
 Fails fault read = fault ≢ OutOfMemory → read ≡ Err fault
 
+-- what a call returned, seen by view, is what reading gives; OutOfMemory may be returned in place of it
 abbrev pub Gives : {X Y : Type 0} → (X → Y) → Result X LineFault → Result Y LineFault → Type 0
 Gives view (Ok x) read = read ≡ Ok (view x)
 Gives view (Err e) read = Fails e read
@@ -23,10 +24,12 @@ abbrev pub seen_by : {X Y E : Type 0} → (X → Y) → Result X E → Result Y 
 seen_by view (Ok x) = Ok (view x)
 seen_by view (Err e) = Err e
 
+-- what a member's value was read as, or its fault as that of the field
 abbrev pub in_field : {A : Type 0} → Field → Result A FieldFault → Result A LineFault
 in_field field (Ok x) = Ok x
 in_field field (Err fault) = Err (BadField field fault)
 
+-- the member of that name, else it is missing
 unfoldable pub member : Field → Data → Result Data LineFault
 member field d = ok_or (get (field_name field) d) (MissingField field)
 

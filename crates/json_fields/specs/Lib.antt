@@ -3,3 +3,4 @@ pub mod Faults
 pub mod Values
 pub mod Fields
 pub mod Line
+pub mod inner

@@ -11,9 +11,11 @@ use Rattle.json_fields.specs.declared.fault.LineFault.TheVariants.{NotJson, NotA
 unfoldable pub value_of : List ℕ → Option Data
 value_of bytes = if is_utf8 bytes then read bytes else None
 
+-- the value, where it is an object
 abbrev pub if_object : Option Data → Result Data LineFault
 if_object None = Err NotJson
 if_object (Some d) = if is_some (as_object d) then Ok d else Err NotAnObject
 
+-- the object that a line is, else why it is none
 unfoldable pub object_of : List ℕ → Result Data LineFault
 object_of bytes = if_object (value_of bytes)

@@ -1,5 +1,5 @@
 -- What a JSON value is read as, or why it is refused.
-use Rattle.std.specs.Prelude.{ℕ, List, [], ◌∷◌, ◌++◌, Bool, nat_le, ◌&&◌, if◌then◌else◌, option_and_then, Result, Ok, Err}
+use Rattle.std.specs.Prelude.{ℕ, List, [], ◌∷◌, Bool, nat_le, ◌&&◌, if◌then◌else◌, option_and_then, Result, Ok, Err}
 use Rattle.std.specs.Option.{ok_or}
 use Rattle.serde_json.specs.Data.{Data, Items, no_items, item}
 use Rattle.serde_json.specs.Find.{as_bool, as_number, as_u64, as_str, as_array}
@@ -20,16 +20,18 @@ abbrev pub ◌>>=◌ : {A B E : Type 0} → Result A E → (A → Result B E) �
 (Ok x) >>= f = f x
 (Err e) >>= f = Err e
 
+-- a text; any other value is of the wrong kind
 unfoldable pub text_of : Data → Result (List ℕ) FieldFault
 text_of d = ok_or (as_str d) WrongKind
 
+-- true or false; any other value is of the wrong kind
 unfoldable pub boolean_of : Data → Result Bool FieldFault
 boolean_of d = ok_or (as_bool d) WrongKind
 
 abbrev within : ℕ → ℕ → ℕ → Bool
 within low high n = nat_le low n && nat_le n high
 
--- a whole number from 0 on, within its limits
+-- a whole number from 0 to 2 ^ 64 - 1, within its limits
 unfoldable pub number_within : ℕ → ℕ → Data → Result ℕ FieldFault
 number_within low high d = do
   n ← ok_or (option_and_then as_u64 (as_number d)) WrongKind
@@ -37,6 +39,7 @@ number_within low high d = do
 
 -- ---- codes
 
+-- a code that was read, or its fault as that of the field's value
 abbrev pub with_code : {A : Type 0} → Result A CodeFault → Result A FieldFault
 with_code (Ok x) = Ok x
 with_code (Err e) = Err (Code e)
@@ -61,6 +64,7 @@ moment_from d = text_of d >>= λ text. with_code (moment_of text)
 
 -- ---- lists
 
+-- the items of a list; any other value is of the wrong kind
 unfoldable pub list_of : Data → Result Items FieldFault
 list_of d = ok_or (as_array d) WrongKind
 
@@ -78,15 +82,11 @@ each read (item d ds) = do
   xs ← each read ds
   Ok (x ∷ xs)
 
--- the items so far, and what is still read behind them
-abbrev pub after : {A E : Type 0} → List A → Result (List A) E → Result (List A) E
-after front rest = rest >>= λ xs. Ok (front ++ xs)
-
 -- a list of any length
 unfoldable pub list_of_each : {A : Type 0} → (Data → Result A FieldFault) → Data → Result (List A) FieldFault
 list_of_each read d = list_of d >>= each read
 
--- the two items of a pair
+-- the two items of a pair; a list of another count is out of range
 abbrev pub both : {A B : Type 0} → (Data → Result A FieldFault) → (Data → Result B FieldFault) → Items → Result (A × B) FieldFault
 both first second (item d (item e no_items)) = do
   x ← first d

@@ -8,7 +8,7 @@ use rail_codes::CodeFault;
 use std::alloc::{AllocError, AllocFailed};
 use thiserror::Error;
 
-/// What is wrong with the value of a field.
+/// What is wrong with the value of a field. The message is the fault's name.
 #[derive(Clone, Copy, Debug, PartialEq, Eq, Error)]
 pub enum FieldFault {
     /// A text that is no code of its kind, 11 to 18.
@@ -22,10 +22,10 @@ pub enum FieldFault {
     OutOfRange,
 }
 
-/// Why a line is no command or no table: the first fault that is met.
+/// Why a line is refused: the first fault that is met. The message is the fault's name.
 #[derive(Clone, Copy, Debug, PartialEq, Eq, Error)]
 pub enum LineFault {
-    /// 1: memory was refused.
+    /// 1: out of memory.
     #[error("OutOfMemory")]
     OutOfMemory,
     /// 21: the bytes are no JSON value.
@@ -48,7 +48,7 @@ pub enum LineFault {
 impl FieldFault {
     ghost use Rattle.json_fields.specs.Faults.{field_fault_number};
 
-    /// The number of the refusal.
+    /// The number that stands for the fault in a reply, from 11 to 20.
     pub fn number(self) -> u32
         ensures { result ≡ field_fault_number self }
     {
@@ -63,7 +63,7 @@ impl FieldFault {
 impl LineFault {
     ghost use Rattle.json_fields.specs.Faults.{line_fault_number};
 
-    /// The number of the refusal.
+    /// The number that stands for the fault in a reply.
     pub fn number(self) -> u32
         ensures { result ≡ line_fault_number self }
     {

@@ -13,11 +13,13 @@ use serde_json::Value;
 
 /// How an item of a list is read.
 pub trait ItemKind {
+    /// What an item is read as.
     type Item: Drop;
 
     /// What a value is read as, or its fault.
     ghost meaning: { Self → Data → Result Self.Item FieldFault };
 
+    /// The item that a value is read as, or its fault.
     fn read(&self, value: &Value) -> Result<Self::Item, FieldFault>
         ensures { result ≡ meaning self.now (view value.now) };
 }
@@ -67,10 +69,12 @@ impl ItemKind for NumberKind {
     }
 }
 
-/// Small whole numbers from `low` to `high`.
+/// Whole numbers of 32 bits from `low` to `high`.
 #[derive(Clone, Copy, Debug)]
 pub struct CountKind {
+    /// The least of the numbers.
     pub low: u32,
+    /// The greatest of the numbers.
     pub high: u32,
 }
 

@@ -1,3 +1,5 @@
+//! A line as one JSON object.
+
 ghost use Rattle.std.specs.Prelude.{◌≡◌, Some, IfOk, IsUtf8};
 ghost use Rattle.serde_json.specs.Read.{read};
 ghost use Rattle.serde_json.specs.View.{view};
@@ -8,9 +10,9 @@ use crate::fault::LineFault;
 use serde_json::Value;
 use std::alloc::Global;
 
-/// The JSON object that a line is. The bytes that `serde_json` does not read as one value are
-/// `NotJson` (21), another value is `NotAnObject` (22), and where memory is refused it is
-/// `OutOfMemory` (1).
+/// The JSON object that a line is. Bytes that `serde_json` does not read as one value are refused
+/// with `NotJson` (21), and a value that is no object with `NotAnObject` (22). `OutOfMemory` (1)
+/// may be the answer in place of any other.
 pub fn object_of(alloc: Global, bytes: &[u8]) -> Result<Value, LineFault>
     ensures meaning { Gives view result (meaning.object_of bytes.now) }
     ensures spelled { IfOk result

@@ -1,5 +1,5 @@
 //! Fields that are lists. The items are read in turn, and the first that is refused gives the
-//! fault. `OutOfMemory` (1) may come in place of any answer.
+//! fault. `OutOfMemory` (1) may be the answer in place of any other.
 
 ghost use Rattle.std.specs.Prelude.{◌≡◌, ◌≤◌, Ok, All, IfOk, option_map};
 ghost use Rattle.std.specs.List.{AllZip};

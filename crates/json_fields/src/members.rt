@@ -1,4 +1,4 @@
-//! The fields of an object. No reader here takes memory.
+//! The fields of an object. Nothing is allocated here.
 
 ghost use Rattle.std.specs.Prelude.{◌≡◌, ◌≤◌, IfOk, IfSome, option_map};
 ghost use Rattle.serde_json.specs.View.{view};
@@ -70,7 +70,7 @@ pub fn number_at(object: &Value, field: Field, low: u64, high: u64) -> Result<u6
     in_field(field, number_within(member(object, field)?, low, high))
 }
 
-/// A field that is a small whole number from `low` to `high`.
+/// A field that is a whole number of 32 bits from `low` to `high`.
 #[tactic(auto, unfolding(crate::specs::Fields::field_of))]
 pub fn count_at(object: &Value, field: Field, low: u32, high: u32) -> Result<u32, LineFault>
     ensures meaning { result
@@ -80,7 +80,7 @@ pub fn count_at(object: &Value, field: Field, low: u32, high: u32) -> Result<u32
     in_field(field, count_within(member(object, field)?, low, high))
 }
 
-/// A field that may be missing, and is else a small whole number from `low` to `high`.
+/// A field that may be missing, and is else a whole number of 32 bits from `low` to `high`.
 #[tactic(auto, unfolding(crate::specs::Fields::optional_field_of))]
 pub fn optional_count_at(
     object: &Value,
@@ -117,23 +117,20 @@ pub fn order_id_at(object: &Value, field: Field) -> Result<OrderId, LineFault>
     in_field(field, order_id_from(member(object, field)?))
 }
 
-/// The company, in the field of that name.
+/// A field that is a company.
 #[tactic(auto, unfolding(crate::specs::Fields::field_of))]
-pub fn company_at(object: &Value) -> Result<Company, LineFault>
-    ensures { result ≡ meaning.field_of values.company_from Field.Company (view object.now) }
+pub fn company_at(object: &Value, field: Field) -> Result<Company, LineFault>
+    ensures { result ≡ meaning.field_of values.company_from field (view object.now) }
 {
-    in_field(
-        Field::Company,
-        company_from(member(object, Field::Company)?),
-    )
+    in_field(field, company_from(member(object, field)?))
 }
 
-/// The place, in the field of that name.
+/// A field that is a place.
 #[tactic(auto, unfolding(crate::specs::Fields::field_of))]
-pub fn place_at(object: &Value) -> Result<Place, LineFault>
-    ensures { result ≡ meaning.field_of values.place_from Field.Place (view object.now) }
+pub fn place_at(object: &Value, field: Field) -> Result<Place, LineFault>
+    ensures { result ≡ meaning.field_of values.place_from field (view object.now) }
 {
-    in_field(Field::Place, place_from(member(object, Field::Place)?))
+    in_field(field, place_from(member(object, field)?))
 }
 
 /// A field that is a moment.

@@ -1,4 +1,4 @@
-//! What one JSON value is read as. No reader here takes memory.
+//! What one JSON value is read as. Nothing is allocated here.
 
 ghost use Rattle.std.specs.Prelude.{◌≡◌, ◌≤◌, IfOk, length};
 ghost use Rattle.serde_json.specs.View.{view, items_view};

@@ -8,7 +8,7 @@ use Rattle.std.proofs.lemmas.List.{length-append, append-nil}
 use Rattle.std.proofs.lemmas.List.Concat.{flat_map-cons, flat_map-append}
 use Rattle.std.specs.Io.KnownBytes.{Consumes, Appends, IsAtEnd}
 use Rattle.std.proofs.KnownBytes.{Consumes-nil, Consumes-trans, Appends-nil, Appends-trans}
-use Rattle.line_engine.specs.Lines.{line_feed, has_feed, lines_of, first_line, most_lines, most_bytes, with_feeds}
+use Rattle.line_engine.specs.Lines.{line_feed, has_feed, lines_of, first_line, max_input_lines, max_line_bytes, with_feeds}
 use Rattle.line_engine.specs.inner.Cutting.{CutsLine, StopsLine}
 use Rattle.line_engine.specs.Replies.{Answering, RunningOut, AnswersLine, Replies, refusal_count}
 use Rattle.line_engine.specs.Runs.{Run, Failures, Ends, IsLineOrNext, StandsAt, Stops}
@@ -57,7 +57,7 @@ pub record StandsHere {H : Type 0} (answers : Answering H) (runs_out : RunningOu
   pub here : at.rest ≡ window
   pub counted : at.refusals ≡ refused
 
-is_line_or_next : (n : ℕ) (rest : List ℕ) → n ≤ most_lines + 1 → rest ≡ [] → IsLineOrNext n rest
+is_line_or_next : (n : ℕ) (rest : List ℕ) → n ≤ max_input_lines + 1 → rest ≡ [] → IsLineOrNext n rest
 is_line_or_next n rest few none = elim (eq-or-lt_of_le few) [ inl next ↦ inr (next, none) | inr within ↦ inl (omega (arith, within)) ]
 
 module _ {H : Type 0} (answers : Answering H) (runs_out : RunningOut H) where
@@ -145,7 +145,7 @@ module _ {H : Type 0} (answers : Answering H) (runs_out : RunningOut H) where
 
   -- the reader was at its end behind a line feed, or before anything
   pub ends_run : (from to held holds : Option (List ℕ)) (old new : H) (n : ℕ) (window : List ℕ) (count : RunCount) → StandsHere answers runs_out from to held holds old new n window count.refused
-      → n ≡ count.lines + 1 → count.lines ≤ most_lines → window ≡ [] → IsAtEnd to → Ends answers runs_out (run_of from to held holds old new) count
+      → n ≡ count.lines + 1 → count.lines ≤ max_input_lines → window ≡ [] → IsAtEnd to → Ends answers runs_out (run_of from to held holds old new) count
   ends_run from to held holds old new n window count so number few none ended =
       let at = so.at in
       let input : at.input ≡ with_feeds at.lines ++ [] = at.begins.bytes ∙ ap (λ (xs : List ℕ). with_feeds at.lines ++ xs) (so.here ∙ none) in
@@ -166,7 +166,7 @@ module _ {H : Type 0} (answers : Answering H) (runs_out : RunningOut H) where
   pub ends_line : (from to then held holds holding : Option (List ℕ)) (old mid new : H) (n : ℕ) (window taken line left text : List ℕ) (refused : ℕ) (flag : Bool) (count : RunCount)
       → StandsHere answers runs_out from to held holds old mid n window refused → Consumes to then taken → CutsLine window taken line left Input
       → AnswersLine answers runs_out n mid line text flag new → Appends holds holding text → IsAtEnd then
-      → count.lines ≡ n → n ≤ most_lines → count.refused ≡ refused + refusal_count flag → Ends answers runs_out (run_of from then held holding old new) count
+      → count.lines ≡ n → n ≤ max_input_lines → count.refused ≡ refused + refusal_count flag → Ends answers runs_out (run_of from then held holding old new) count
   ends_line from to then held holds holding old mid new n window taken line left text refused flag count so consumed cut reply wrote ended number few counted =
       let more = reads_more from to then held holds old mid n window taken (window ++ taken) refused so refl consumed in
       let at = more.at in
@@ -187,7 +187,7 @@ module _ {H : Type 0} (answers : Answering H) (runs_out : RunningOut H) where
 
   -- the reader failed before a line of which nothing was read
   pub stops_before : (from to then held holds : Option (List ℕ)) (write_failed : Bool) (old new : H) (n : ℕ) (window taken : List ℕ) (refused : ℕ)
-      → StandsHere answers runs_out from to held holds old new n window refused → Consumes to then taken → window ++ taken ≡ [] → n ≤ most_lines + 1
+      → StandsHere answers runs_out from to held holds old new n window refused → Consumes to then taken → window ++ taken ≡ [] → n ≤ max_input_lines + 1
       → Stops answers runs_out (run_of from then held holds old new) (record { reader = true; writer = write_failed }) (ReadFailed n)
   stops_before from to then held holds write_failed old new n window taken refused so consumed none few =
       let more = reads_more from to then held holds old new n window taken (window ++ taken) refused so refl consumed in
@@ -195,11 +195,11 @@ module _ {H : Type 0} (answers : Answering H) (runs_out : RunningOut H) where
 
   -- a line was too long, or the reader failed in it
   pub stops_reading : (from to then held holds : Option (List ℕ)) (read_failed write_failed : Bool) (old new : H) (n : ℕ) (window taken : List ℕ) (refused : ℕ) (s : LineStop)
-      → StandsHere answers runs_out from to held holds old new n window refused → Consumes to then taken → StopsLine (window ++ taken) read_failed s → n ≤ most_lines
+      → StandsHere answers runs_out from to held holds old new n window refused → Consumes to then taken → StopsLine (window ++ taken) read_failed s → n ≤ max_input_lines
       → Stops answers runs_out (run_of from then held holds old new) (record { reader = read_failed; writer = write_failed }) (fault_at s n)
   stops_reading from to then held holds read_failed write_failed old new n window taken refused stop.TooLong so consumed stopped few =
       let more = reads_more from to then held holds old new n window taken (window ++ taken) refused so refl consumed in
-      (more.at, few, subst (λ (xs : List ℕ). most_bytes < length (first_line xs)) (sym more.here) stopped)
+      (more.at, few, subst (λ (xs : List ℕ). max_line_bytes < length (first_line xs)) (sym more.here) stopped)
   stops_reading from to then held holds read_failed write_failed old new n window taken refused stop.ReadFailed so consumed stopped few =
       let more = reads_more from to then held holds old new n window taken (window ++ taken) refused so refl consumed in
       (more.at, inl few, ap has_feed more.here ∙ stopped.0, stopped.1)
@@ -208,7 +208,7 @@ module _ {H : Type 0} (answers : Answering H) (runs_out : RunningOut H) where
   pub stops_writing : (from to then held holds holding : Option (List ℕ)) (read_failed write_failed : Bool) (old mid new : H) (n : ℕ) (window taken line text part unwritten : List ℕ) (refused : ℕ) (flag : Bool)
       → StandsHere answers runs_out from to held holds old mid n window refused → Consumes to then taken
       → (after : List ℕ) → lines_of (window ++ taken) ≡ line ∷ lines_of after
-      → AnswersLine answers runs_out n mid line text flag new → text ≡ part ++ unwritten → Appends holds holding part → write_failed ≡ true → n ≤ most_lines
+      → AnswersLine answers runs_out n mid line text flag new → text ≡ part ++ unwritten → Appends holds holding part → write_failed ≡ true → n ≤ max_input_lines
       → Stops answers runs_out (run_of from then held holding old new) (record { reader = read_failed; writer = write_failed }) (WriteFailed n)
   stops_writing from to then held holds holding read_failed write_failed old mid new n window taken line text part unwritten refused flag so consumed after front reply parts wrote failed few =
       let more = reads_more from to then held holds old mid n window taken (window ++ taken) refused so refl consumed in (

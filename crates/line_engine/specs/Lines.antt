@@ -6,12 +6,12 @@ abbrev pub line_feed : ℕ
 line_feed = 10
 
 -- the most lines of an input
-abbrev pub most_lines : ℕ
-most_lines = 1000000
+abbrev pub max_input_lines : ℕ
+max_input_lines = 1000000
 
 -- the most bytes of a line, its line feed not counted
-abbrev pub most_bytes : ℕ
-most_bytes = 65536
+abbrev pub max_line_bytes : ℕ
+max_line_bytes = 65536
 
 abbrev pub has_feed : List ℕ → Bool
 has_feed bytes = list_any (λ c. c == line_feed) bytes

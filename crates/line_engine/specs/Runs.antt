@@ -1,7 +1,7 @@
 -- What a run over all lines of an input has done when it ends or stops.
 use Rattle.std.specs.Prelude.{◌≡◌, ℕ, ◌+◌, ◌<◌, ◌≤◌, Bool, true, false, ◌⊎◌, List, [], ◌∷◌, ◌++◌, length, Option}
 use Rattle.std.specs.Io.KnownBytes.{Consumes, Appends, Keeps, IsAtEnd}
-use Rattle.line_engine.specs.Lines.{lines_of, first_line, has_feed, most_lines, most_bytes, BeginsWith}
+use Rattle.line_engine.specs.Lines.{lines_of, first_line, has_feed, max_input_lines, max_line_bytes, BeginsWith}
 use Rattle.line_engine.specs.Replies.{Answering, RunningOut, AnswersLine, Replies}
 use Rattle.line_engine.specs.declared.run.RunCount.{RunCount}
 use Rattle.line_engine.specs.declared.run.RunFault.{RunFault}
@@ -31,7 +31,7 @@ pub record Ends {H : Type 0} (answers : Answering H) (runs_out : RunningOut H) (
   pub ended : IsAtEnd run.to
   pub replies : Replies answers runs_out 1 run.old (lines_of input) output count.refused run.new
   pub lines : count.lines ≡ length (lines_of input)
-  pub few : count.lines ≤ most_lines
+  pub few : count.lines ≤ max_input_lines
   pub written : Appends run.held run.holds output
 
 -- The run stands before line number n: what was read are the lines before it, whose replies were written, and the rest.
@@ -62,15 +62,15 @@ pub record WritesPart {H : Type 0} (answers : Answering H) (runs_out : RunningOu
 
 -- the number of a line of an input, or of the one past the most where nothing of it was read
 abbrev pub IsLineOrNext : ℕ → (rest : List ℕ) → Type 0
-IsLineOrNext n rest = (n ≤ most_lines) ⊎ ((n ≡ most_lines + 1) × (rest ≡ []))
+IsLineOrNext n rest = (n ≤ max_input_lines) ⊎ ((n ≡ max_input_lines + 1) × (rest ≡ []))
 
 -- Why a run stops, and what it leaves. Out of memory comes before any line.
 abbrev pub Stops : {H : Type 0} → Answering H → RunningOut H → Run H → Failures → RunFault → Type 0
 Stops {H} answers runs_out run failed OutOfMemory = Keeps run.from run.to × Keeps run.held run.holds × (run.new ≡ run.old)
-Stops {H} answers runs_out run failed (TooManyLines n) = (at : StandsAt answers runs_out run n) × (n ≡ most_lines + 1) × (0 < length at.rest)
-Stops {H} answers runs_out run failed (LineTooLong n) = (at : StandsAt answers runs_out run n) × (n ≤ most_lines) × (most_bytes < length (first_line at.rest))
+Stops {H} answers runs_out run failed (TooManyLines n) = (at : StandsAt answers runs_out run n) × (n ≡ max_input_lines + 1) × (0 < length at.rest)
+Stops {H} answers runs_out run failed (LineTooLong n) = (at : StandsAt answers runs_out run n) × (n ≤ max_input_lines) × (max_line_bytes < length (first_line at.rest))
 Stops {H} answers runs_out run failed (ReadFailed n) =
     (at : StandsAt answers runs_out run n) × IsLineOrNext n at.rest × (has_feed at.rest ≡ false) × (failed.reader ≡ true)
 Stops {H} answers runs_out run failed (WriteFailed n) =
-    (mid : H) × (between : Option (List ℕ)) × (at : StandsAt answers runs_out (record run { holds = between; new = mid }) n) × (n ≤ most_lines)
+    (mid : H) × (between : Option (List ℕ)) × (at : StandsAt answers runs_out (record run { holds = between; new = mid }) n) × (n ≤ max_input_lines)
     × WritesPart answers runs_out (record run { held = between; old = mid }) at.rest n × (failed.writer ≡ true)

@@ -1,6 +1,6 @@
 //! The bytes of the line that is being read.
 ghost use Rattle.std.specs.Prelude.{◌≡◌, ◌+◌, ◌≤◌, ◌++◌, ◌↔◌, [], length, IsOk, IfOk, OnOk, OnErr};
-ghost use Rattle.line_engine.specs.Lines.{most_bytes};
+ghost use Rattle.line_engine.specs.Lines.{max_line_bytes};
 
 use std::alloc::{AllocError, Global};
 use std::marker::Model;
@@ -20,13 +20,13 @@ pub struct LineBuffer {
 
 impl Model for LineBuffer {
     ghost use Rattle.std.specs.Prelude.{ℕ, List, ◌≤◌, vec_len, vec_capacity};
-    ghost use Rattle.line_engine.specs.Lines.{most_bytes};
+    ghost use Rattle.line_engine.specs.Lines.{max_line_bytes};
 
     ghost Value = { List ℕ };
 
     ghost view = { λ b. b.bytes.items };
 
-    ghost invariant = { λ b. (vec_len b.bytes ≤ most_bytes) × (most_bytes ≤ vec_capacity b.bytes) };
+    ghost invariant = { λ b. (vec_len b.bytes ≤ max_line_bytes) × (max_line_bytes ≤ vec_capacity b.bytes) };
 }
 
 impl LineBuffer {
@@ -46,14 +46,14 @@ impl LineBuffer {
 
     pub fn as_slice(&self) -> &[u8]
         ensures value { result.now ≡ self.now }
-        ensures within { length self.now ≤ most_bytes }
+        ensures within { length self.now ≤ max_line_bytes }
     {
         self.bytes.as_slice()
     }
 
     /// Adds bytes at the line's end, where the line stays within `MAX_LINE_BYTES`. Takes no memory.
     pub fn push(&mut self, more: &[u8]) -> Result<(), LineTooLong>
-        ensures fits { IsOk result ↔ (length self.old + length more.now ≤ most_bytes) }
+        ensures fits { IsOk result ↔ (length self.old + length more.now ≤ max_line_bytes) }
         ensures ok { OnOk result (self.new ≡ self.old ++ more.now) }
         ensures err { OnErr result (self.new ≡ self.old) }
     {

@@ -2,4 +2,3 @@ pub mod NetworkLemmas
 pub mod NetworkOfLemmas
 pub mod ReadingLemmas
 pub mod RecordLemmas
-pub mod Requests

@@ -9,10 +9,9 @@ use Rattle.std.proofs.lemmas.Map.Keys.{IsDistinct-push}
 use Rattle.std.specs.Cmp.{IsEquivalence, nat_eq_equiv}
 use Rattle.std.specs.Cmp.Lexicographic.{bytes_decides, lists_equiv}
 use Rattle.std.specs.List.{IsDistinct, list_any, position_or_len, slice_get}
-use Rattle.line_network.specs.Network.{IsLine, IsNetwork, NetworkValue, is_same_place, place_index}
+use Rattle.line_network.specs.Network.{IsLine, IsNetwork, NetworkValue, is_same_place, max_network_lines, max_places, place_index}
 use Rattle.line_network.specs.Reading.{after_record, line_of, lines_between, lines_by_way, lines_of, number_of, with_ends, with_place, with_record}
-use Rattle.line_network.specs.Records.{HasLengths}
-use Rattle.line_network.specs.declared.limits.TheConstants.{MAX_LINES, MAX_PLACES}
+use Rattle.line_network.specs.inner.Reading.{HasLengths}
 use Rattle.line_network.specs.declared.line.Line.{Line}
 use Rattle.line_network.specs.declared.line_record.LineRecord.{LineRecord}
 use Rattle.line_network.specs.declared.line_record.Way.{Way}
@@ -107,8 +106,8 @@ few_by_way from to r One = omega arith
 few_by_way from to r Both = omega arith
 
 -- a network with one more record is one
-pub IsNetwork-after : (network : NetworkValue) (r : LineRecord) → IsNetwork network → HasLengths r → length network.lines + 2 ≤ MAX_LINES
-    → length (with_ends network.places r) ≤ MAX_PLACES → IsNetwork (after_record network r)
+pub IsNetwork-after : (network : NetworkValue) (r : LineRecord) → IsNetwork network → HasLengths r → length network.lines + 2 ≤ max_network_lines
+    → length (with_ends network.places r) ≤ max_places → IsNetwork (after_record network r)
 IsNetwork-after network r kept h few fewer =
     let first = with_place network.places r.from in
     let all = with_ends network.places r in
@@ -135,12 +134,12 @@ after_record-made network r first places lines from to one both f t l =
 
 -- and with few places it is the network with the record
 pub with_record-made : (network self : NetworkValue) (r : LineRecord) (made : NetworkValue) → network ≡ self → made ≡ after_record network r
-    → length made.places ≤ MAX_PLACES → with_record self r ≡ Ok made
+    → length made.places ≤ max_places → with_record self r ≡ Ok made
 with_record-made network self r made view after few =
-    let fits : length (with_ends self.places r) ≤ MAX_PLACES =
-    subst (λ (n : NetworkValue). length (with_ends n.places r) ≤ MAX_PLACES) view (subst (λ (n : NetworkValue). length n.places ≤ MAX_PLACES) after few) in
+    let fits : length (with_ends self.places r) ≤ max_places =
+    subst (λ (n : NetworkValue). length (with_ends n.places r) ≤ max_places) view (subst (λ (n : NetworkValue). length n.places ≤ max_places) after few) in
     let same : after_record self r ≡ made = ap (λ (n : NetworkValue). after_record n r) (sym view) ∙ sym after in
-    rw (le-ltb MAX_PLACES (length (with_ends self.places r)) fits) (ap Ok same)
+    rw (le-ltb max_places (length (with_ends self.places r)) fits) (ap Ok same)
 
 -- the number of a place is where it stands
 pub place_known : (places : List (List ℕ)) (place : List ℕ) (found : Option ℕ) → found ≡ place_index places place → IfSome found (λ k. slice_get places k ≡ Some place)

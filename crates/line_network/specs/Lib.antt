@@ -3,3 +3,4 @@ pub mod NetworkFault
 pub mod NetworkOf
 pub mod Reading
 pub mod Records
+pub mod inner

@@ -1,3 +1,4 @@
+-- The numbers of the faults of reading a network.
 use Rattle.std.specs.Prelude.{ℕ}
 use Rattle.line_network.specs.declared.network_fault.NetworkFault.{NetworkFault}
 use Rattle.line_network.specs.declared.network_fault.NetworkFault.TheVariants.{OutOfMemory, BadRow, TooManyPlaces, TooManyLines, ReadFailed}

@@ -1,10 +1,11 @@
 -- The network of a file's records in the subject's own words, apart from how it is read.
-use Rattle.std.specs.Prelude.{◌≡◌, ℕ, ◌≤◌, List, [], ◌∷◌, length, Option, Some, IfSome, IfOk, IsTrue, Result, Ok, fold, map}
+use Rattle.std.specs.Prelude.{◌≡◌, ℕ, ◌≤◌, List, [], ◌∷◌, length, Option, IfSome, IfOk, Result, Ok, fold}
 use Rattle.std.specs.List.{flat_map}
-use Rattle.line_network.specs.Network.{NetworkValue}
-use Rattle.line_network.specs.Reading.{AreRecordsOf, Gives, lines_of, network_of, with_place}
-use Rattle.line_network.specs.Records.{Row, is_header, line_record}
-use Rattle.line_network.specs.declared.limits.TheConstants.{MAX_PLACES, MAX_RECORDS}
+use Rattle.csv_records.specs.Fields.{Record}
+use Rattle.csv_records.specs.Files.{AreBelowHeader, AreRecordsOf}
+use Rattle.line_network.specs.Network.{NetworkValue, max_places}
+use Rattle.line_network.specs.Reading.{Gives, lines_of, max_line_records, network_of, with_place}
+use Rattle.line_network.specs.Records.{is_header, line_record}
 use Rattle.line_network.specs.declared.line_record.LineRecord.{LineRecord}
 use Rattle.line_network.specs.declared.network_fault.NetworkFault.{NetworkFault}
 
@@ -17,23 +18,18 @@ places_of records = fold with_place [] (flat_map ends_of records)
 
 -- The rows are the header and below it records of lines, and the network has their places as first seen and
 -- exactly their lines, in their order.
-pub record IsNetworkOf (rows : List Row) (network : NetworkValue) : Type 0 where
-  pub header : Row
-  pub below : List Row
+pub record IsNetworkOf (rows : List Record) (network : NetworkValue) : Type 0 where
   pub records : List LineRecord
-  pub header_first : rows ≡ header ∷ below
-  pub header_right : IsTrue (is_header header)
-  pub each_read : map line_record below ≡ map Some records
-  pub few_records : length below ≤ MAX_RECORDS
+  pub file : AreBelowHeader is_header line_record max_line_records rows records
   pub places : network.places ≡ places_of records
-  pub few_places : length network.places ≤ MAX_PLACES
+  pub few_places : length network.places ≤ max_places
   pub lines : network.lines ≡ flat_map (lines_of network.places) records
 
 -- What reading answers, where the bytes of the file are known or not: it has the rows of those bytes; it answers
 -- what they say or their first fault, unless memory or the reader failed; a network that it answers is theirs;
 -- and where they have a network, that is answered.
 pub record IsReadFrom (known : Option (List ℕ)) (result : Result NetworkValue NetworkFault) : Type 0 where
-  pub rows : List Row
+  pub rows : List Record
   pub all_rows : IfSome known (λ bytes. AreRecordsOf bytes rows)
   pub first_fault : Gives result (network_of rows)
   pub exact : IfOk result (IsNetworkOf rows)

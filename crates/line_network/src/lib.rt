@@ -8,7 +8,7 @@ mod network;
 mod network_fault;
 mod reading;
 
-pub use limits::{MAX_DIGITS, MAX_LENGTH, MAX_LINES, MAX_PLACES, MAX_RECORDS};
+pub use limits::{MAX_LINE_KM, MAX_LINE_MINUTES, MAX_LINE_RECORDS, MAX_PLACES};
 pub use line::Line;
 pub use network::Network;
 pub use network_fault::NetworkFault;

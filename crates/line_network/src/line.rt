@@ -1,3 +1,4 @@
+//! A line between two places.
 ghost use Rattle.std.specs.Prelude.{◌≡◌};
 
 /// A line, which is run one way: from one place to another, or back to the same place.

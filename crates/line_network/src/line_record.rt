@@ -1,26 +1,35 @@
+//! One record of a network: the line that it says.
 ghost use Rattle.std.specs.Prelude.{◌≡◌, ◌≢◌, ◌≤◌, [], ◌∷◌, length, IfSome, IfNone};
 ghost use Rattle.csv.specs.Records.{fields_of};
-ghost use Rattle.line_network.specs.Records.{HasLengths, digits_in, is_header, is_text, length_in, line_record, place_in, way_in};
+ghost use Rattle.line_network.specs.Records.{is_header, length_in, line_record, way_in};
+ghost use Rattle.line_network.specs.inner.Reading.{HasLengths};
 
-use crate::limits::{MAX_DIGITS, MAX_LENGTH};
+use crate::limits::{MAX_LINE_KM, MAX_LINE_MINUTES};
 use csv::ByteRecord;
+use csv_records::{is_text, place_of, whole_number};
 use rail_codes::Place;
-use std::str;
 
 /// Whether a line is run one way or both ways.
 #[derive(Clone, Copy, Debug, PartialEq, Eq)]
 pub enum Way {
+    /// Only from its first place to its second.
     One,
+    /// Also back.
     Both,
 }
 
 /// What one record says: a line, and whether it is run back too.
 #[derive(Clone, Copy, Debug, PartialEq, Eq)]
 pub struct LineRecord {
+    /// Where the line begins.
     pub from: Place,
+    /// Where it ends.
     pub to: Place,
+    /// Its length in kilometres, from 1 to 10,000.
     pub km: u32,
+    /// Its time in minutes, from 1 to 10,000.
     pub minutes: u32,
+    /// Whether it is run back too.
     pub way: Way,
 }
 
@@ -43,10 +52,10 @@ impl LineRecord {
     {
         let fields = five_fields(row)?;
         Some(LineRecord {
-            from: read_place(fields.from)?,
-            to: read_place(fields.to)?,
-            km: read_length(fields.km)?,
-            minutes: read_length(fields.minutes)?,
+            from: place_of(fields.from)?,
+            to: place_of(fields.to)?,
+            km: read_length(fields.km, MAX_LINE_KM)?,
+            minutes: read_length(fields.minutes, MAX_LINE_MINUTES)?,
             way: read_way(fields.way)?,
         })
     }
@@ -85,51 +94,19 @@ fn five_fields(row: &ByteRecord) -> Option<Fields<'_>>
     })
 }
 
-fn is_text(text: &str, field: &[u8]) -> bool
-    ensures { result ≡ is_text text.now field.now }
+/// The whole number that a field says, from 1 to a limit.
+fn read_length(field: &[u8], most: u32) -> Option<u32>
+    ensures meaning { result ≡ length_in most field.now }
+    ensures within { IfSome result (λ n. (1 ≤ n) × (n ≤ most)) }
 {
-    field == text.as_bytes()
-}
-
-/// The place that a field names.
-fn read_place(field: &[u8]) -> Option<Place>
-    ensures { result ≡ place_in field.now }
-{
-    let text = str::from_utf8(field).ok()?;
-    Place::read(text).ok()
-}
-
-/// The kilometres or minutes that a field says, in 1 to 7 digits, from 1 to 10,000.
-fn read_length(field: &[u8]) -> Option<u32>
-    ensures meaning { result ≡ length_in field.now }
-    ensures within { IfSome result (λ n. (1 ≤ n) × (n ≤ MAX_LENGTH)) }
-{
-    if field.is_empty() || field.len() > MAX_DIGITS {
-        return None;
-    }
-    let number = read_digits(field)?;
-    if number < 1 || number > MAX_LENGTH {
+    let number = whole_number(field)?;
+    if number < 1 || number > most {
         return None;
     }
     Some(number)
 }
 
-/// The number that a field of digits spells.
-#[tactic(auto, using(crate::proofs::RecordLemmas::of_digits))]
-fn read_digits(field: &[u8]) -> Option<u32>
-    requires { length field.now ≤ MAX_DIGITS }
-    ensures { result ≡ digits_in field.now }
-{
-    let mut number = 0;
-    for digit in field {
-        if !digit.is_ascii_digit() {
-            return None;
-        }
-        number = number * 10 + u32::from(*digit - b'0');
-    }
-    Some(number)
-}
-
+/// The way that a word says.
 fn read_way(field: &[u8]) -> Option<Way>
     ensures { result ≡ way_in field.now }
 {

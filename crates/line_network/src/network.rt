@@ -1,9 +1,10 @@
+//! A network: its places and its lines.
 ghost use Rattle.std.specs.Prelude.{◌≡◌, ◌≢◌, ◌+◌, ◌≤◌, ◌++◌, ℕ, IfErr, IfNone, IfOk, IfSome, OnOk, length, slice_get};
-ghost use Rattle.line_network.specs.Network.{IsNetwork, place_index};
-ghost use Rattle.line_network.specs.Records.{HasLengths};
-ghost use Rattle.line_network.specs.Reading.{Gives, lines_between, no_network, number_of, with_place, with_record, RefusesPlace};
+ghost use Rattle.line_network.specs.Network.{IsNetwork, max_network_lines, max_places, place_index};
+ghost use Rattle.line_network.specs.Reading.{Gives, lines_between, no_network, number_of, with_place, with_record};
+ghost use Rattle.line_network.specs.inner.Reading.{HasLengths, RefusesPlace};
 
-use crate::limits::{MAX_LINES, MAX_PLACES};
+use crate::limits::MAX_PLACES;
 use crate::line_record::{LineRecord, Way};
 use crate::{Line, NetworkFault};
 use indexmap::IndexSet;
@@ -40,10 +41,10 @@ impl Network {
         }
     }
 
-    /// The network with one more record. It is dropped where its places would be too many, with
-    /// `TooManyPlaces`, and where memory is refused.
-    pub(crate) fn with_record(self, read: &LineRecord) -> Result<Network, NetworkFault>
-        requires room { length self.lines + 2 ≤ MAX_LINES }
+    /// The network with the lines of one more record. It is dropped where its places would be too many, with
+    /// `TooManyPlaces`, and where the program is out of memory.
+    pub(crate) fn with_line_record(self, read: &LineRecord) -> Result<Network, NetworkFault>
+        requires room { length self.lines + 2 ≤ max_network_lines }
         requires lengths { HasLengths read.now }
         ensures meaning { Gives result (with_record self read.now) }
         ensures no_reader { IfErr result (λ fault. fault ≢ NetworkFault.ReadFailed) }
@@ -108,7 +109,7 @@ impl Network {
 fn place_number(places: &mut IndexSet<Place>, place: Place) -> Result<usize, NetworkFault>
     ensures number { IfOk result (λ k. k ≡ number_of places.new.keys place) }
     ensures added { OnOk result (places.new.keys ≡ with_place places.old.keys place) }
-    ensures room { OnOk result (length places.old.keys ≤ MAX_PLACES → length places.new.keys ≤ MAX_PLACES) }
+    ensures room { OnOk result (length places.old.keys ≤ max_places → length places.new.keys ≤ max_places) }
     ensures refused { IfErr result (λ fault. RefusesPlace fault (with_place places.old.keys place)) }
 {
     if let Some(number) = places.get_index_of(&place) {

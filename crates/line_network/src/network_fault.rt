@@ -1,13 +1,15 @@
+//! Why no network was read.
 ghost use Rattle.std.specs.Prelude.{◌≡◌};
 ghost use Rattle.line_network.specs.declared.network_fault.NetworkFault.TheVariants.{OutOfMemory};
 
+use csv_records::RecordFault;
 use std::alloc::{AllocError, AllocFailed};
 use thiserror::Error;
 
 /// Why no network was read. The message is the fault's name.
 #[derive(Clone, Copy, Debug, PartialEq, Eq, Error)]
 pub enum NetworkFault {
-    /// Memory was refused (1).
+    /// Out of memory (1).
     #[error("OutOfMemory")]
     OutOfMemory,
     /// The record of this number is no header, or no line of a network (41). The header is record 1.
@@ -54,5 +56,18 @@ impl<T: Drop> From<AllocFailed<T>> for NetworkFault {
 
     fn from(_error: AllocFailed<T>) -> NetworkFault {
         NetworkFault::OutOfMemory
+    }
+}
+
+impl From<RecordFault> for NetworkFault {
+    ghost use Rattle.line_network.specs.inner.Reading.{fault_of};
+
+    ghost from_gives = { λ failure fault. fault ≡ fault_of failure };
+
+    fn from(failure: RecordFault) -> NetworkFault {
+        match failure {
+            RecordFault::OutOfMemory => NetworkFault::OutOfMemory,
+            RecordFault::ReadFailed => NetworkFault::ReadFailed,
+        }
     }
 }

@@ -1,14 +1,16 @@
-ghost use Rattle.std.specs.Prelude.{◌≡◌, ◌+◌, IfErr, IfOk, IsErrOf, IsTrue, true, List, OnOk, if◌then◌else◌};
-ghost use Rattle.csv.specs.Reading.{ReadRecord, error_kind, has_failed, is_io, stops_reader};
-ghost use Rattle.csv.specs.Records.{fields_of};
-ghost use Rattle.line_network.specs.Reading.{AreLeft, AsksAtMost, Gives, IsRequest, IsSetUp, is_failure, network_of, no_network, with_rows};
+//! Reading a network from CSV.
+ghost use Rattle.std.specs.Prelude.{◌≡◌, IsErrOf, true, List};
+ghost use Rattle.csv.specs.Reading.{has_failed};
+ghost use Rattle.csv_records.specs.Fields.{Record};
+ghost use Rattle.csv_records.specs.inner.Requests.{AreLeft, AsksAtMost, IsSetUp};
 ghost use Rattle.line_network.specs.NetworkOf.{IsReadFrom};
-ghost use Rattle.line_network.specs.Records.{Row};
+ghost use Rattle.line_network.specs.Reading.{Gives, network_of};
 
-use crate::limits::MAX_RECORDS;
+use crate::limits::MAX_LINE_RECORDS;
 use crate::line_record::{LineRecord, is_header};
 use crate::{Network, NetworkFault};
-use csv::{ByteRecord, Error, Reader, ReaderBuilder};
+use csv::{ByteRecord, Reader};
+use csv_records::{FromRecords, open_records, read_records};
 use std::alloc::Global;
 use std::io::Read;
 
@@ -19,88 +21,66 @@ use std::io::Read;
 /// Refused at the first record with a fault, in this order: `TooManyLines` (43) for a record past the 20,000th
 /// below the header, `BadRow` (41) with its number for one that is not of this shape, the header being record 1,
 /// `TooManyPlaces` (42) for one that names a place past the 2,000th. A file with no record is `BadRow(1)`.
-/// `ReadFailed` (93) comes where the reader failed, and `OutOfMemory` (1) where memory was refused.
+/// `ReadFailed` (93) comes where the reader failed, and `OutOfMemory` (1) where the program was out of memory.
 ///
-/// At most 20,002 records are asked for, so it returns wherever the reader comes to its end or fails.
+/// At most 20,002 records are asked for, so it returns wherever `csv` answers each request for a record.
 pub fn read_lines<R: Read + Drop>(alloc: Global, reader: R) -> Result<Network, NetworkFault>
     ensures { IsReadFrom (R.remaining reader) result }
 {
-    let mut rows = ReaderBuilder::new()
-        .has_headers(false)
-        // The lengths of records are judged here, record by record.
-        .flexible(true)
-        .from_reader(alloc, reader);
+    let mut rows = open_records(alloc, reader);
     read_rows(alloc, &mut rows)
 }
 
 /// Reads the header and the records below it.
 fn read_rows<R: Read>(alloc: Global, rows: &mut Reader<R>) -> Result<Network, NetworkFault>
     requires { IsSetUp rows.old }
-    ensures meaning { (all : List Row) × AreLeft R.remaining rows.old all × Gives result (network_of all) }
+    ensures meaning { (all : List Record) × AreLeft R.remaining rows.old all × Gives result (network_of all) }
     ensures stopped { IsErrOf result NetworkFault.ReadFailed → has_failed rows.new ≡ true }
-    ensures asked { AsksAtMost R.remaining rows.old (MAX_RECORDS + 2) rows.new }
+    ensures asked { AsksAtMost R.remaining rows.old 20002 rows.new }
 {
-    let mut row = ByteRecord::new(alloc);
-    if !next_row(rows, &mut row)? {
-        return Err(NetworkFault::BadRow(1));
-    }
-    if !is_header(&row) {
-        return Err(NetworkFault::BadRow(1));
-    }
-    read_below_header(rows, &mut row, Network::empty(alloc))
+    read_records(alloc, rows)
 }
 
-/// Reads the records below the header.
-fn read_below_header<R: Read>(
-    rows: &mut Reader<R>,
-    row: &mut ByteRecord,
-    empty: Network,
-) -> Result<Network, NetworkFault>
-    requires set_up { IsSetUp rows.old }
-    requires none { empty ≡ no_network }
-    ensures meaning { (rest : List Row) × AreLeft R.remaining rows.old rest × Gives result (with_rows 2 no_network rest) }
-    ensures stopped { IsErrOf result NetworkFault.ReadFailed → has_failed rows.new ≡ true }
-    ensures asked { AsksAtMost R.remaining rows.old (MAX_RECORDS + 1) rows.new }
-{
-    let mut network = empty;
-    for number in 2..MAX_RECORDS + 2 {
-        if !next_row(rows, row)? {
-            return Ok(network);
+impl FromRecords for Network {
+    ghost use Rattle.line_network.specs.Reading.{Stops, max_line_records, network_of};
+    ghost use Rattle.line_network.specs.inner.Reading.{IsReadSoFar, stops_failure, told_apart};
+    ghost use Rattle.std.proofs.Common.{lit<};
+
+    type Fault = NetworkFault;
+
+    const MOST_RECORDS: u32 = MAX_LINE_RECORDS;
+
+    ghost MOST_RECORDS = { max_line_records };
+
+    ghost made_of = { λ network records. IsReadSoFar network records };
+
+    ghost refuses = { λ fault records. Stops fault (network_of records) };
+
+    ghost counted = { lit< tt };
+
+    ghost failures = { λ failure fault records gives. stops_failure failure fault (network_of records) gives };
+
+    ghost told_apart = { λ fault memory reader. told_apart fault memory reader };
+
+    fn of_header(alloc: Global, header: &ByteRecord) -> Result<Network, NetworkFault> {
+        if !is_header(header) {
+            return Err(NetworkFault::BadRow(1));
         }
-        let Some(read) = LineRecord::read(row) else {
+        Ok(Network::empty(alloc))
+    }
+
+    fn with_record(self, number: u32, fields: &ByteRecord) -> Result<Network, NetworkFault> {
+        let Some(read) = LineRecord::read(fields) else {
             return Err(NetworkFault::BadRow(number));
         };
-        network = network.with_record(&read)?;
+        self.with_line_record(&read)
     }
-    if next_row(rows, row)? {
-        return Err(NetworkFault::TooManyLines);
-    }
-    Ok(network)
-}
 
-/// Reads the next record into `row`, and answers whether there was one.
-fn next_row<R: Read>(rows: &mut Reader<R>, row: &mut ByteRecord) -> Result<bool, NetworkFault>
-    requires { IsSetUp rows.old }
-    ensures reads { IfOk result (λ found. ReadRecord R.remaining rows.old rows.new found (fields_of row.new)) }
-    ensures still { OnOk result (IsSetUp rows.new) }
-    ensures failed { IfErr result (λ fault. IsTrue (is_failure fault)) }
-    ensures stopped { IsErrOf result NetworkFault.ReadFailed → has_failed rows.new ≡ true }
-    ensures asked { IsRequest R.remaining rows.old rows.new }
-{
-    match rows.read_byte_record(row) {
-        Ok(found) => Ok(found),
-        Err(error) => Err(fault_of(&error)),
+    fn no_header() -> NetworkFault {
+        NetworkFault::BadRow(1)
     }
-}
 
-/// Why the reader of records stopped: its reader failed, or memory was refused.
-fn fault_of(error: &Error) -> NetworkFault
-    requires { IsTrue (stops_reader (error_kind error.now)) }
-    ensures { result ≡ (if is_io (error_kind error.now) then NetworkFault.ReadFailed else NetworkFault.OutOfMemory) }
-{
-    if error.is_io_error() {
-        NetworkFault::ReadFailed
-    } else {
-        NetworkFault::OutOfMemory
+    fn too_many() -> NetworkFault {
+        NetworkFault::TooManyLines
     }
 }

@@ -64,18 +64,29 @@ counted_where_there number numbers h =
 
 pub row_placed : (order : Order) → IsOrderRow (placed_row order)
 unfolding IsStrictlySortedBy
-row_placed order = record { no_more = omega arith; ascending = tt }
+row_placed order = record { no_more = omega arith; ascending = tt; withdrawn = λ h. refl }
+
+-- an order that is taken back lacks no wagon
+lacks_none : (row : OrderRowValue) → row.withdrawn ≡ true → 0 < lack_of row → ⊥
+lacks_none row gone lacking = let none : lack_of row ≡ 0 = rw gone refl in omega arith
+
+-- no number is left of none
+none_left : (number : List ℕ) (numbers : List (List ℕ)) → numbers ≡ [] → without_number number numbers ≡ []
+unfolding without_number
+none_left number numbers h = rw h refl
 
 pub row_with : (row : OrderRowValue) (number : List ℕ) → 0 < lack_of row → ¬ Contains row.promised number → IsOrderRow row → IsOrderRow (record row { promised = with_number number row.promised })
 row_with row number lacking other h = record {
   no_more = let more : length (with_number number row.promised) ≡ length row.promised + 1 = length-with number row.promised in grind (arith, more, lacking);
   ascending = ascending-with number row.promised other h.ascending;
+  withdrawn = λ gone. absurd (lacks_none row gone lacking);
 }
 
 pub row_without : (row : OrderRowValue) (number : List ℕ) → IsOrderRow row → IsOrderRow (record row { promised = without_number number row.promised })
 row_without row number h = record {
   no_more = let fewer : length (without_number number row.promised) + count_by (is_number number) row.promised ≡ length row.promised = length-without number row.promised in omega arith;
   ascending = ascending-without number row.promised h.ascending;
+  withdrawn = λ gone. none_left number row.promised (h.withdrawn gone);
 }
 
 pub row_filled : (row : OrderRowValue) (number : List ℕ) → Contains row.promised number → IsOrderRow row → IsOrderRow (record row { promised = without_number number row.promised; filled = row.filled ++ number ∷ [] })
@@ -85,8 +96,9 @@ row_filled row number there h = record {
       let one : 1 ≤ count_by (is_number number) row.promised = counted_where_there number row.promised there in
       omega (arith, length-append row.filled (number ∷ []));
   ascending = ascending-without number row.promised h.ascending;
+  withdrawn = λ gone. none_left number row.promised (h.withdrawn gone);
 }
 
 pub row_withdrawn : (row : OrderRowValue) → IsOrderRow row → IsOrderRow (record row { promised = []; withdrawn = true })
 unfolding IsStrictlySortedBy
-row_withdrawn row h = record { no_more = omega arith; ascending = tt }
+row_withdrawn row h = record { no_more = omega arith; ascending = tt; withdrawn = λ gone. refl }

@@ -1,4 +1,5 @@
-use Rattle.std.specs.Prelude.{ℕ, ◌+◌, ◌≤◌, Bool, false, List, [], length}
+-- The row of an order.
+use Rattle.std.specs.Prelude.{◌≡◌, ℕ, ◌+◌, ◌≤◌, Bool, true, false, List, [], length}
 use Rattle.move_messages.specs.Order.{Order}
 use Rattle.load_orders.specs.Numbers.{IsAscending}
 
@@ -10,10 +11,12 @@ pub record OrderRowValue : Type 0 where
   pub filled : List (List ℕ)
   pub withdrawn : Bool
 
--- what every row keeps: it has no more wagons than it wants, and the promised ones ascend
+-- What every row keeps: it has no more wagons than it wants; the promised ones strictly ascend by number, so each is
+-- there once; and an order that is taken back has no promised wagon.
 pub record IsOrderRow (row : OrderRowValue) : Type 0 where
   pub no_more : length row.promised + length row.filled ≤ row.text.wagons
   pub ascending : IsAscending row.promised
+  pub withdrawn : row.withdrawn ≡ true → row.promised ≡ []
 
 -- the row of an order just placed
 abbrev pub placed_row : Order → OrderRowValue

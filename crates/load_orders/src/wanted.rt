@@ -1,7 +1,7 @@
 //! Orders that lack wagons.
 ghost use Rattle.std.specs.Prelude.{◌≡◌};
 
-use move_messages::{MAX_WAGONS, OrderText};
+use move_messages::{MAX_ORDER_WAGONS, OrderText};
 use std::marker::Model;
 
 /// An order, with how many wagons it lacks: 1 to 20. A contract sees the two as a record.
@@ -30,7 +30,7 @@ impl Wanted {
     pub fn new(order: OrderText, lack: u32) -> Option<Wanted>
         ensures { result ≡ wanted_of order lack }
     {
-        if lack < 1 || MAX_WAGONS < lack {
+        if lack < 1 || MAX_ORDER_WAGONS < lack {
             return None;
         }
         Some(Wanted { order, lack })

@@ -2,7 +2,7 @@
 use Rattle.std.proofs.Common.{◌≡◌, ℕ, ◌+◌, ◌-◌, ◌<◌, ◌≤◌, List, [], ◌∷◌, ◌++◌, length, get_or, take, drop, set, replicate, arith, refl, sym, ap, ◌∙◌, subst, length-append}
 use Rattle.std.proofs.Math.Seq.{drop-append-add}
 use Rattle.std.proofs.lemmas.List.{drop-replicate, drop-set-lt, take_more_set, take-append-drop, length-set}
-use Rattle.move_messages.specs.Classes.{padded, first_class, IsPadded, length-take-used}
+use Rattle.move_messages.specs.inner.PaddedClasses.{padded, first_class, IsPadded, length-take-used}
 
 first_is : (classes : List (List ℕ)) (first : List ℕ) → 1 ≤ length classes → first ≡ get_or classes 0 first → first_class classes ≡ first
 first_is [] first one is = absurd (omega arith)

@@ -12,11 +12,20 @@ use Rattle.move_messages.specs.declared.message.Message as message
 use Rattle.move_messages.specs.declared.commit_text.CommitText.{CommitText}
 use Rattle.move_messages.specs.declared.command.Command.{Command}
 use Rattle.move_messages.specs.declared.command.Command.TheVariants.{Message, Place, Withdraw, Begin, Plan, Commit, Sheet, Revise}
-use Rattle.move_messages.specs.Order.{Order}
+use Rattle.move_messages.specs.Classes.{max_classes}
+use Rattle.move_messages.specs.Order.{Order, max_load, max_penalty, max_order_wagons}
 use Rattle.json_fields.specs.Values.{◌>>=◌, number_within, boolean_of, company_from, wagon_number_from, place_from, moment_from, order_id_from, class_from, list_within, each, text_of, pair_of}
 use Rattle.json_fields.specs.Fields.{field_of, optional_field_of, list_at}
 use Rattle.json_fields.specs.Line.{object_of}
 use Rattle.move_messages.specs.LineType.{line_type_of}
+
+-- the greatest version that a commit may name
+abbrev pub max_version : ℕ
+max_version = 1_000_000
+
+-- the highest number of a network that a line may name; networks are numbered from 1
+abbrev pub max_revision : ℕ
+max_revision = 8
 
 -- a movement message
 unfoldable pub message_of : MessageKind → Data → Result message.Message LineFault
@@ -37,22 +46,24 @@ exception_of d = do
 
 -- 1 to 8 classes
 unfoldable pub classes_from : Data → Result (List (List ℕ)) FieldFault
-classes_from d = list_within 1 8 d >>= each class_from
+classes_from d = list_within 1 max_classes d >>= each class_from
 
+-- an order; where `wagons` is missing it wants one
 unfoldable pub order_text_of : Data → Result Order LineFault
 order_text_of d = do
   id ← field_of order_id_from field.Order d
   place ← field_of place_from field.Place d
   classes ← field_of classes_from field.Classes d
-  load ← field_of (number_within 0 200_000) field.Load d
+  load ← field_of (number_within 0 max_load) field.Load d
   latest ← field_of moment_from field.Latest d
-  penalty ← field_of (number_within 0 1_000_000_000) field.Penalty d
-  wagons ← optional_field_of (number_within 1 20) field.Wagons d
+  penalty ← field_of (number_within 0 max_penalty) field.Penalty d
+  wagons ← optional_field_of (number_within 1 max_order_wagons) field.Wagons d
   Ok (record { id = id; place = place; classes = classes; load = load; latest = latest; penalty = penalty; wagons = unwrap_or wagons 1 })
 
+-- a plan that is to be promised
 unfoldable pub commit_text_of : Data → Result CommitText LineFault
 commit_text_of d = do
-  version ← field_of (number_within 0 1_000_000) field.Version d
+  version ← field_of (number_within 0 max_version) field.Version d
   at ← field_of moment_from field.At d
   pairs ← list_at pair_of field.Pairs d
   u ← list_at (number_within 0 (2 ^ 64 - 1)) field.WagonPrices d
@@ -74,7 +85,7 @@ command_of_type of_type.Begin d = field_of moment_from field.At d >>= λ at. Ok 
 command_of_type of_type.Plan d = field_of moment_from field.At d >>= λ at. Ok (Plan at)
 command_of_type of_type.Commit d = commit_text_of d >>= λ commit. Ok (Commit commit)
 command_of_type of_type.Sheet d = Ok Sheet
-command_of_type of_type.Network d = field_of (number_within 1 8) field.Revision d >>= λ k. Ok (Revise k)
+command_of_type of_type.Network d = field_of (number_within 1 max_revision) field.Revision d >>= λ k. Ok (Revise k)
 
 -- the command that a line is, or its first fault
 unfoldable pub command_of : List ℕ → Result Command LineFault

@@ -3,3 +3,4 @@ pub mod Order
 pub mod Pairs
 pub mod LineType
 pub mod Commands
+pub mod inner

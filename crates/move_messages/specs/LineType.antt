@@ -7,6 +7,7 @@ use Rattle.json_fields.specs.declared.fault.LineFault.TheVariants.{UnknownType}
 use Rattle.move_messages.specs.declared.line_type.LineType.{LineType}
 use Rattle.move_messages.specs.declared.line_type.LineType.TheVariants.{Release, Departure, YardArrival, YardDeparture, Exception, Arrival, Delivery, Order, Withdraw, Begin, Plan, Commit, Sheet, Network}
 
+-- the name as it stands in a line
 unfoldable pub type_name : LineType → List ℕ
 type_name Release = codes "release"
 type_name Departure = codes "departure"

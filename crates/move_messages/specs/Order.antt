@@ -1,23 +1,38 @@
--- An order, without how it lies in memory: names of codes are texts, the latest moment is in seconds.
+-- An order, as a contract sees it: codes are texts.
 use Rattle.std.specs.Prelude.{ℕ, Bool, ◌≤◌, nat_le, ◌&&◌, if◌then◌else◌, List, Option, Some, None}
 
 pub record Order : Type 0 where
   pub id : List ℕ
   pub place : List ℕ
   pub classes : List (List ℕ)
+  -- of each wagon, in kg
   pub load : ℕ
+  -- in seconds since 1970-01-01T00:00:00Z
   pub latest : ℕ
+  -- of each missing wagon, in km
   pub penalty : ℕ
   pub wagons : ℕ
 
--- the limits of an order's numbers
+-- the greatest load of a wagon, in kg
+abbrev pub max_load : ℕ
+max_load = 200_000
+
+-- the greatest penalty of a missing wagon, in km
+abbrev pub max_penalty : ℕ
+max_penalty = 1_000_000_000
+
+-- the most wagons that one order wants; it wants one at least
+abbrev pub max_order_wagons : ℕ
+max_order_wagons = 20
+
+-- an order whose numbers are within their limits
 abbrev pub IsOrder : Order → Type 0
 IsOrder order =
-    (order.load ≤ 200_000) × (order.penalty ≤ 1_000_000_000) × (1 ≤ order.wagons) × (order.wagons ≤ 20)
+    (order.load ≤ max_load) × (order.penalty ≤ max_penalty) × (1 ≤ order.wagons) × (order.wagons ≤ max_order_wagons)
 
 abbrev pub is_order : Order → Bool
 is_order order =
-    nat_le order.load 200_000 && nat_le order.penalty 1_000_000_000 && nat_le 1 order.wagons && nat_le order.wagons 20
+    nat_le order.load max_load && nat_le order.penalty max_penalty && nat_le 1 order.wagons && nat_le order.wagons max_order_wagons
 
 -- an order within its limits
 abbrev pub order_of : Order → Option Order

@@ -4,7 +4,8 @@ ghost use Rattle.std.specs.Prelude.{◌≡◌, ◌<◌, [], ◌∷◌, ◌++◌,
 ghost use Rattle.std.specs.Cmp.{partial_equiv_from_equiv};
 ghost use Rattle.std.specs.Cmp.Lexicographic.{pointwise, lists_equiv, nat_list_eq_equiv};
 ghost use Rattle.std.specs.Prelude.{nat_eq};
-ghost use Rattle.move_messages.specs.Classes.{IsClassList, class_list, padded};
+ghost use Rattle.move_messages.specs.Classes.{max_classes, IsClassList, class_list};
+ghost use Rattle.move_messages.specs.inner.PaddedClasses.{padded};
 
 use crate::limits::MAX_CLASSES;
 use rail_codes::ClassCode;
@@ -21,7 +22,7 @@ pub struct Classes {
 
 impl Model for Classes {
     ghost use Rattle.std.specs.Prelude.{ℕ, List, length, take};
-    ghost use Rattle.move_messages.specs.Classes.{IsPadded, padded, length-take-used};
+    ghost use Rattle.move_messages.specs.inner.PaddedClasses.{IsPadded, padded, length-take-used};
 
     ghost Value = { List (List ℕ) };
 
@@ -35,7 +36,7 @@ impl Model for Classes {
 }
 
 impl Classes {
-    /// These classes, and none where they are not 1 to 8.
+    /// These classes; `None` where they are not 1 to 8.
     pub fn from_slice(classes: &[ClassCode]) -> Option<Classes>
         ensures { result ≡ class_list classes.now }
     {
@@ -48,6 +49,7 @@ impl Classes {
         })
     }
 
+    /// One class.
     pub(crate) fn one(class: ClassCode) -> Classes
         ensures { result ≡ class ∷ [] }
     {
@@ -57,8 +59,9 @@ impl Classes {
         }
     }
 
+    /// Puts one more class behind the others.
     pub(crate) fn push(&mut self, class: ClassCode)
-        requires { length self.old < 8 }
+        requires { length self.old < max_classes }
         ensures { self.new ≡ self.old ++ class ∷ [] }
     {
         self.items[usize::from(self.used)] = class;

@@ -25,7 +25,7 @@ use std::alloc::Global;
 /// The bytes are no JSON value (21), or no object (22); the `type` is missing (24), no text (25),
 /// or none of those known (23); else the fields of its type are tried in their order, and the first
 /// that is missing (24) or bad (25) is the answer. An order's `wagons` may be missing and is then 1.
-/// `OutOfMemory` (1) may come in place of any answer.
+/// `OutOfMemory` (1) may be the answer in place of any other.
 #[tactic(auto, unfolding(crate::specs::Commands::command_of))]
 pub fn read_line(alloc: Global, bytes: &[u8]) -> Result<Command, LineFault>
     ensures { Gives (λ command. command) result (meaning.command_of bytes.now) }
@@ -69,10 +69,10 @@ fn command_at(alloc: Global, line_type: LineType, object: &Value) -> Result<Comm
 fn message_at(object: &Value, kind: MessageKind) -> Result<Message, LineFault>
     ensures { result ≡ meaning.message_of kind (view object.now) }
 {
-    let company = company_at(object)?;
+    let company = company_at(object, Field::Company)?;
     let number = count_at(object, Field::Number, 0, u32::MAX)?;
     let wagon = wagon_number_at(object, Field::Wagon)?;
-    let place = place_at(object)?;
+    let place = place_at(object, Field::Place)?;
     let moment = moment_at(object, Field::Moment)?;
     Ok(Message {
         id: MessageId { company, number },
@@ -102,7 +102,7 @@ fn order_at(object: &Value) -> Result<OrderText, LineFault>
     ensures { result ≡ meaning.order_text_of (view object.now) }
 {
     let id = order_id_at(object, Field::Order)?;
-    let place = place_at(object)?;
+    let place = place_at(object, Field::Place)?;
     let classes = classes_at(object)?;
     let load = count_at(object, Field::Load, 0, MAX_LOAD)?;
     let latest = moment_at(object, Field::Latest)?;

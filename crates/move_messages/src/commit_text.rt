@@ -24,7 +24,7 @@ impl Model for Pairs {
 }
 
 impl Pairs {
-    /// These pairs. It takes no memory.
+    /// These pairs. Nothing is allocated.
     pub fn from_vec(items: Vec<(WagonNumber, OrderId)>) -> Pairs
         ensures { result ≡ items.items }
     {
@@ -38,7 +38,7 @@ impl Pairs {
         self.items.as_slice()
     }
 
-    /// The pairs as they were handed in. It takes no memory.
+    /// The pairs as they were handed in. Nothing is allocated.
     pub fn into_vec(self) -> Vec<(WagonNumber, OrderId)>
         ensures { result.items ≡ self }
     {
@@ -69,7 +69,7 @@ impl Eq for Pairs {
     ghost laws = { lists_equiv pair_eq_equiv };
 }
 
-/// Dual prices, one after the other. A contract sees the list of the numbers.
+/// Dual prices in km, one after the other. A contract sees the list of the numbers.
 #[derive(Debug, Drop)]
 pub struct PriceList {
     prices: Vec<u64>,
@@ -84,7 +84,7 @@ impl Model for PriceList {
 }
 
 impl PriceList {
-    /// These prices. It takes no memory.
+    /// These prices. Nothing is allocated.
     pub fn from_vec(prices: Vec<u64>) -> PriceList
         ensures { result ≡ prices.items }
     {
@@ -98,7 +98,7 @@ impl PriceList {
         self.prices.as_slice()
     }
 
-    /// The prices as they were handed in. It takes no memory.
+    /// The prices as they were handed in. Nothing is allocated.
     pub fn into_vec(self) -> Vec<u64>
         ensures { result.items ≡ self }
     {
@@ -134,13 +134,13 @@ impl Eq for PriceList {
 pub struct CommitText {
     /// The version whose problem was planned, 0 to 1,000,000 in a line.
     pub version: u64,
-    /// The moment of that problem.
+    /// The moment of that problem, in seconds since 1970.
     pub at: Moment,
     /// The plan: which wagon goes to which order.
     pub pairs: Pairs,
-    /// The dual price of each wagon of the problem, ascending by number.
+    /// The dual price of each wagon of the problem in km, ascending by the wagon's number.
     pub u: PriceList,
-    /// The dual price of each order of the problem, as placed.
+    /// The dual price of each order of the problem in km, in the order in which they were placed.
     pub v: PriceList,
 }
 

@@ -9,13 +9,13 @@ pub enum MessageKind {
     Release,
     /// It has been pulled from the place.
     Departure,
-    /// It has come to a yard.
+    /// It has arrived at a yard.
     YardArrival,
     /// It has left a yard.
     YardDeparture,
     /// Something unexpected has happened to it: true holds it, false lets it go.
     Exception(bool),
-    /// It is in the yard of the last railway.
+    /// It has arrived at the yard of the last railway.
     Arrival,
     /// It has been placed at the consignee's siding.
     Delivery,

@@ -34,9 +34,9 @@ impl Model for OrderText {
 }
 
 impl OrderText {
-    /// An order for `wagons` wagons (1 to 20) of one of these classes at a place, each for `load`
-    /// kg (0 to 200,000), there at the `latest` moment, whose `penalty` (0 to 1,000,000,000) counts
-    /// per missing wagon. None where one of these three numbers is outside its limits.
+    /// An order for `wagons` wagons (1 to 20) of one of these classes at a place, each for a `load`
+    /// of 0 to 200,000 kg, there at the `latest` moment. Each missing wagon costs a `penalty` of 0
+    /// to 1,000,000,000 km. `None` where one of these three numbers is outside its limits.
     pub fn new(
         id: OrderId,
         place: Place,
@@ -91,14 +91,14 @@ impl OrderText {
         self.load
     }
 
-    /// The last moment at which a wagon may come.
+    /// The last moment at which a wagon may arrive, in seconds since 1970.
     pub fn latest(&self) -> Moment
         ensures { result ≡ self.now.latest }
     {
         self.latest
     }
 
-    /// The penalty of each missing wagon.
+    /// The penalty of each missing wagon, in km.
     pub fn penalty(&self) -> u64
         ensures value { result ≡ self.now.penalty }
         ensures limits { IsOrder self.now }

@@ -18,7 +18,7 @@ pub enum NamedFault {
     /// A pair that the table doesn't allow (62).
     #[error("NotAllowed")]
     NotAllowed(WagonNumber, OrderId),
-    /// A pair whose wagon stands before it, or whose order stands before it as often as it lacks wagons (63).
+    /// A pair whose wagon is in an earlier pair, or whose order is in as many earlier pairs as it lacks wagons (63).
     #[error("UsedTwice")]
     UsedTwice(WagonNumber, OrderId),
     /// A wagon and an order whose price passes the pair's cost and the wagon's price (64).

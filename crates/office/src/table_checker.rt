@@ -1,12 +1,12 @@
-ghost use Rattle.std.specs.Prelude.{◌≡◌, false, IfOk, IfErr};
+//! The run that checks table lines.
+ghost use Rattle.std.specs.Prelude.{◌≡◌, ◌++◌, false, IfOk, IfErr, OnOk};
 ghost use Rattle.line_engine.specs.Runs.{Ends, Stops};
-ghost use Rattle.office.specs.Replies.{ChecksLine};
+ghost use Rattle.office.specs.Replies.{ChecksLine, reply_body};
 
-use crate::refusal::Refusal;
-use crate::reply::push_reply;
-use crate::table_answer::table_cost;
 use line_engine::{Handler, Outcome, ReplyText, RunCount, RunFault, Sink, Source, run_lines};
+use reply_texts::{push_optimal, push_table_refused};
 use std::alloc::{AllocError, Global};
+use table_lines::{TableRefusal, table_cost};
 
 /// Answers table lines, each by itself.
 #[derive(Clone, Copy, Debug, PartialEq, Eq)]
@@ -24,7 +24,7 @@ impl Handler for TableChecker {
         reply: &mut ReplyText,
     ) -> Result<Outcome, AllocError> {
         let answer = table_cost(alloc, line);
-        if let Err(Refusal::OutOfMemory) = answer {
+        if let Err(TableRefusal::OutOfMemory) = answer {
             return Err(AllocError);
         }
         push_reply(reply, &answer)?;
@@ -32,6 +32,16 @@ impl Handler for TableChecker {
             Ok(_) => Ok(Outcome::Answered),
             Err(_) => Ok(Outcome::Refused),
         }
+    }
+}
+
+/// Adds the reply to a table line.
+fn push_reply(reply: &mut ReplyText, answer: &Result<u128, TableRefusal>) -> Result<(), AllocError>
+    ensures { OnOk result (reply.new ≡ reply.old ++ reply_body answer.now) }
+{
+    match answer {
+        Ok(cost) => push_optimal(reply, *cost),
+        Err(refusal) => push_table_refused(reply, refusal),
     }
 }
 

@@ -4,11 +4,11 @@ use Rattle.std.specs.Prelude.{Option, Some, None, option_map}
 use Rattle.wagon_state.specs.declared.wagon_row.WagonRow.{WagonRow}
 use Rattle.load_orders.specs.Numbers.{with_number, without_number}
 use Rattle.load_orders.specs.OrderRow.{OrderRowValue}
-use Rattle.office_rows.specs.Rows.{wagon_in, order_in, at_wagon, at_order, promised_to, taken_back}
+use Rattle.database_rows.specs.Rows.{wagon_in, order_in, at_wagon, at_order, promised_to, taken_back}
 use Rattle.operating_db.specs.After.{unpromised}
 use Rattle.operating_db.specs.Commits.{given_to, promise_pair}
 use Rattle.operating_db.specs.Office.{Office}
-use Rattle.operating_db.specs.Promises.{is_promise_to, is_among, promise_of, promised_of, PromisesAgree}
+use Rattle.operating_db.specs.Promises.{is_promise_to, is_among, promise_of, promised_of, SidesAgree}
 use Rattle.operating_db.proofs.Lookups.{wagon_in-mapped, promise-at, promised-at, promised-at_row, promised-push}
 use Rattle.operating_db.proofs.Names.{same, same_is, same_sym, same_left, same_right, among-with, among-without, without-nil}
 
@@ -29,8 +29,8 @@ kept_step : (b : Bool) (p r : Option (List ℕ)) → (b ≡ true → p ≡ r) �
 kept_step true p r h = h refl
 kept_step false p r h = refl
 
-pub kept_agree : (office : Office) (w : List ℕ) (row new : WagonRow) → wagon_in office.wagons w ≡ Some row → new.number ≡ w → new.promise ≡ row.promise → PromisesAgree office
-    → PromisesAgree (record office { wagons = at_wagon w (λ _. new) office.wagons })
+pub kept_agree : (office : Office) (w : List ℕ) (row new : WagonRow) → wagon_in office.wagons w ≡ Some row → new.number ≡ w → new.promise ≡ row.promise → SidesAgree office
+    → SidesAgree (record office { wagons = at_wagon w (λ _. new) office.wagons })
 kept_agree office w row new found number stays agree x q =
     let left = promise-at w (λ _. new) (λ r e. number ∙ sym e) office.wagons row found x in
     let there : same w x ≡ true → new.promise ≡ promise_of (wagon_in office.wagons x) =
@@ -47,8 +47,8 @@ released_step false true promised false e h = e
 released_step false false promised among e h = e
 
 pub released_agree : (office : Office) (w id : List ℕ) (row new : WagonRow) (f : OrderRowValue → OrderRowValue) → ((r : OrderRowValue) → (f r).text.id ≡ r.text.id) → ((r : OrderRowValue) → (f r).promised ≡ without_number w r.promised)
-    → wagon_in office.wagons w ≡ Some row → new.number ≡ w → row.promise ≡ Some id → new.promise ≡ None → PromisesAgree office
-    → PromisesAgree (record office { wagons = at_wagon w (λ _. new) office.wagons; orders = at_order id f office.orders })
+    → wagon_in office.wagons w ≡ Some row → new.number ≡ w → row.promise ≡ Some id → new.promise ≡ None → SidesAgree office
+    → SidesAgree (record office { wagons = at_wagon w (λ _. new) office.wagons; orders = at_order id f office.orders })
 released_agree office w id row new f keeps is found number had none agree x q =
     let before = promise_of (wagon_in office.wagons x) in
     let promised = promised_of (order_in office.orders q) in
@@ -68,7 +68,7 @@ promised_step true false here' there' promised among of_order t h e o n = t ∙ 
 promised_step false true here' there' promised among of_order t h e o n = e ∙ (sym (o refl) ∙ ap (λ (b : Bool). b || of_order) (sym h))
 promised_step false false here' there' promised among of_order t h e o n = e
 
-pub promised_agree : (office : Office) (w id : List ℕ) (row : WagonRow) (order : OrderRowValue) → wagon_in office.wagons w ≡ Some row → row.promise ≡ None → order_in office.orders id ≡ Some order → PromisesAgree office → PromisesAgree (promise_pair office (w, id))
+pub promised_agree : (office : Office) (w id : List ℕ) (row : WagonRow) (order : OrderRowValue) → wagon_in office.wagons w ≡ Some row → row.promise ≡ None → order_in office.orders id ≡ Some order → SidesAgree office → SidesAgree (promise_pair office (w, id))
 promised_agree office w id row order found none there agree x q =
     let before = promise_of (wagon_in office.wagons x) in
     let promised = promised_of (order_in office.orders q) in
@@ -116,8 +116,8 @@ withdrawn_step true false among e = refl
 withdrawn_step false true among e = e
 withdrawn_step false false among e = e
 
-pub withdrawn_agree : (office : Office) (id : List ℕ) → PromisesAgree office
-    → PromisesAgree (record office { wagons = map (unpromised id) office.wagons; orders = at_order id taken_back office.orders })
+pub withdrawn_agree : (office : Office) (id : List ℕ) → SidesAgree office
+    → SidesAgree (record office { wagons = map (unpromised id) office.wagons; orders = at_order id taken_back office.orders })
 withdrawn_agree office id agree x q =
     let promised = promised_of (order_in office.orders q) in
     let left = wagon_in-mapped (unpromised id) (λ r. number-unpromised (is_promise_to r.promise id) r) office.wagons x in
@@ -126,5 +126,5 @@ withdrawn_agree office id agree x q =
     (withdrawn_step (same id q) _ (is_among x promised) (agree x q) ∙ sym (ap (is_among x) right ∙ among-cond (same id q) [] promised x)))
 
 -- A new order is promised no wagon.
-pub ordered_agree : (office : Office) (new : OrderRowValue) → new.promised ≡ [] → PromisesAgree office → PromisesAgree (record office { orders = office.orders ++ new ∷ [] })
+pub ordered_agree : (office : Office) (new : OrderRowValue) → new.promised ≡ [] → SidesAgree office → SidesAgree (record office { orders = office.orders ++ new ∷ [] })
 ordered_agree office new none agree x q = agree x q ∙ sym (ap (is_among x) (promised-push office.orders new none q))

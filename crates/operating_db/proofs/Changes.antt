@@ -9,14 +9,15 @@ use Rattle.std.proofs.lemmas.Map.Keys.{IsDistinct-head, IsDistinct-tail}
 use Rattle.std.proofs.lemmas.Option.{slice_get-get_or}
 use Rattle.wagon_state.specs.declared.wagon_row.WagonRow.{WagonRow}
 use Rattle.load_orders.specs.OrderRow.{OrderRowValue}
-use Rattle.office_rows.specs.Kept.{IsWagonRows}
-use Rattle.office_rows.specs.Rows.{wagon_in, order_in, at_wagon}
-use Rattle.office_rows.proofs.Wagons.{number-wagon_in, numbers_distinct, wagon_in-there}
-use Rattle.operating_db.specs.After.{unpromised, unpromised_among}
+use Rattle.database_rows.specs.Kept.{IsWagonRows}
+use Rattle.database_rows.specs.Rows.{wagon_in, order_in, at_wagon}
+use Rattle.database_rows.proofs.Wagons.{number-wagon_in, numbers_distinct, wagon_in-there}
+use Rattle.operating_db.specs.After.{unpromised}
 use Rattle.operating_db.specs.Commits.{with_promise}
+use Rattle.operating_db.specs.inner.EventParts.{unpromised_among}
 use Rattle.operating_db.specs.Office.{Office}
-use Rattle.operating_db.specs.Promises.{is_among, is_promise_to, promise_of, promised_of, PromisesAgree}
-use Rattle.operating_db.proofs.Names.{same, same_is, same_sym, among_contains}
+use Rattle.operating_db.specs.Promises.{is_among, is_promise_to, promise_of, promised_of, SidesAgree}
+use Rattle.operating_db.proofs.Names.{same, same_is, same_self, same_sym, among_contains}
 
 -- ---- a row that is put in place of its wagon's row
 
@@ -98,7 +99,7 @@ ended_all promised id (row ∷ rows) all =
     ap (λ (b : Bool). cond b (ended row) row ∷ unpromised_among promised rows) (All-head (IsOf promised id) row rows all)
     ∙ ap (λ (rs : List WagonRow). unpromised id row ∷ rs) (ended_all promised id rows (All-tail (IsOf promised id) row rows all))
 
-pub withdrawn_wagons : (office : Office) (id : List ℕ) (order : OrderRowValue) → PromisesAgree office → IsWagonRows office.wagons → order_in office.orders id ≡ Some order
+pub withdrawn_wagons : (office : Office) (id : List ℕ) (order : OrderRowValue) → SidesAgree office → IsWagonRows office.wagons → order_in office.orders id ≡ Some order
     → unpromised_among order.promised office.wagons ≡ map (unpromised id) office.wagons
 withdrawn_wagons office id order agree kept there =
     ended_all order.promised id office.wagons (λ k d below.
@@ -112,6 +113,11 @@ withdrawn_wagons office id order agree kept there =
 pub among_known : (n : List ℕ) (o : Option OrderRowValue) → is_among n (promised_of o) ≡ true → IsSome o
 among_known n None h = cc h
 among_known n (Some row) h = refl
+
+-- the order of a wagon's promise has the wagon among its promised ones
+pub order_known : (office : Office) (n : List ℕ) (row : WagonRow) (id : List ℕ) → Some row ≡ wagon_in office.wagons n → row.promise ≡ Some id → SidesAgree office → is_among n (promised_of (order_in office.orders id)) ≡ true
+order_known office n row id found had agree =
+    sym (agree n id) ∙ (ap (λ (o : Option WagonRow). is_promise_to (promise_of o) id) (sym found) ∙ (ap (λ (p : Option (List ℕ)). is_promise_to p id) had ∙ same_self id))
 
 pub among_promised : (n : List ℕ) (o : Option OrderRowValue) → is_among n (promised_of o) ≡ true → IfSome o (λ row. Contains row.promised n)
 among_promised n None h = tt

@@ -14,10 +14,11 @@ use Rattle.load_orders.specs.Lack.{lack_of}
 use Rattle.load_orders.specs.Numbers.{with_number}
 use Rattle.load_orders.specs.OrderRow.{OrderRowValue}
 use Rattle.load_orders.proofs.Rows.{length-with}
-use Rattle.office_rows.specs.Rows.{wagon_in, order_in, promised_to}
-use Rattle.operating_db.specs.Commits.{is_promisable, Pair, times_of_wagon, times_of_order, is_free_row, lack_in, IsPromisable, CanPromise, IsNext, given_to, promise_pair, promise_all}
+use Rattle.database_rows.specs.Rows.{wagon_in, order_in, promised_to}
+use Rattle.operating_db.specs.Commits.{Pair, times_of_wagon, times_of_order, is_free_row, lack_in, IsPromisable, CanPromise, given_to, promise_pair, promise_all}
+use Rattle.operating_db.specs.inner.EventParts.{IsNext, is_promisable}
 use Rattle.operating_db.specs.Office.{Office, StateValue}
-use Rattle.operating_db.specs.Promises.{is_among, is_promise_to, promise_of, promised_of, PromisesAgree}
+use Rattle.operating_db.specs.Promises.{is_among, is_promise_to, promise_of, promised_of, SidesAgree}
 use Rattle.operating_db.proofs.Agree.{promised_agree}
 use Rattle.operating_db.proofs.Lookups.{wagon_in-at, order_in-at}
 use Rattle.operating_db.proofs.Names.{same, same_is, same_self, same_sym, contains_among}
@@ -147,17 +148,13 @@ pub free_unpromised : (row : WagonRow) → is_some (free_of row) ≡ true → ro
 unfolding free_of
 free_unpromised row h = by_promise row row.status row.held row.promise h
 
-next_agree_at : (office : Office) (p : Pair) (wagon : Option WagonRow) (order : Option OrderRowValue) → wagon_in office.wagons p.0 ≡ wagon → order_in office.orders p.1 ≡ order → is_free_row wagon ≡ true → 0 < lack_in order → PromisesAgree office → PromisesAgree (promise_pair office p)
+next_agree_at : (office : Office) (p : Pair) (wagon : Option WagonRow) (order : Option OrderRowValue) → wagon_in office.wagons p.0 ≡ wagon → order_in office.orders p.1 ≡ order → is_free_row wagon ≡ true → 0 < lack_in order → SidesAgree office → SidesAgree (promise_pair office p)
 next_agree_at office p None order w o free lacking agree = cc free
 next_agree_at office p (Some row) None w o free lacking agree = absurd (omega (arith, lacking))
 next_agree_at office p (Some row) (Some order) w o free lacking agree = promised_agree office p.0 p.1 row order w (free_unpromised row free) o agree
 
-pub next_agree : (office : Office) (p : Pair) → IsNext office p → PromisesAgree office → PromisesAgree (promise_pair office p)
+pub next_agree : (office : Office) (p : Pair) → IsNext office p → SidesAgree office → SidesAgree (promise_pair office p)
 next_agree office p next agree = next_agree_at office p (wagon_in office.wagons p.0) (order_in office.orders p.1) refl refl next.free next.lacking agree
-
-pub all_agree : (office : Office) (pairs : List Pair) → AreNext office pairs → PromisesAgree office → PromisesAgree (promise_all office pairs)
-all_agree office [] next agree = agree
-all_agree office (p ∷ ps) next agree = all_agree (promise_pair office p) ps next.1 (next_agree office p next.0 agree)
 
 -- one pair after others
 pub all-more : (office : Office) (pairs : List Pair) (pair : Pair) → promise_all office (pairs ++ pair ∷ []) ≡ promise_pair (promise_all office pairs) pair
@@ -187,7 +184,7 @@ new_by : (n : List ℕ) (o : Option OrderRowValue) → is_among n (promised_of o
 new_by n None h = tt
 new_by n (Some row) h = λ there. let yes : is_among n row.promised ≡ true = contains_among n row.promised there in cc
 
-pub next_new : (office : Office) (p : Pair) → IsNext office p → PromisesAgree office → IfSome (order_in office.orders p.1) (λ row. ¬ Contains row.promised p.0)
+pub next_new : (office : Office) (p : Pair) → IsNext office p → SidesAgree office → IfSome (order_in office.orders p.1) (λ row. ¬ Contains row.promised p.0)
 next_new office p next agree =
     new_by p.0 (order_in office.orders p.1) (sym (agree p.0 p.1) ∙ ap (λ (q : Option (List ℕ)). is_promise_to q p.1) (free_by_row (wagon_in office.wagons p.0) next.free))
 

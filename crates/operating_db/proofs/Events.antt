@@ -14,20 +14,21 @@ use Rattle.wagon_state.specs.StatusTable.{step_of, fitted, change_by, promise_af
 use Rattle.wagon_roster.specs.Roster.{IsRosterRow}
 use Rattle.load_orders.specs.Lack.{is_open}
 use Rattle.load_orders.specs.OrderRow.{OrderRowValue, placed_row}
-use Rattle.office_rows.proofs.Wagons.{number-wagon_in}
-use Rattle.office_rows.specs.declared.limits.TheConstants.{MAX_OPEN_WAGONS}
-use Rattle.office_rows.specs.Rows.{wagon_in, order_in, at_wagon, at_order, open_wagons, filled_by, freed_of, taken_back, promised_to}
+use Rattle.database_rows.proofs.Wagons.{number-wagon_in}
+use Rattle.database_rows.specs.Rows.{wagon_in, order_in, at_wagon, at_order, max_open_wagons, open_wagons, filled_by, freed_of, taken_back, promised_to}
 use Rattle.operating_db.specs.declared.apply_fault.ApplyFault.TheVariants.{OrderKnown, TooManyOpen, OrderClosed, UnknownNetwork, SameNetwork}
 use Rattle.operating_db.specs.declared.event.Event.{Event}
 use Rattle.operating_db.specs.declared.event.Event.TheVariants.{Message, Place, Withdraw, Commit, Revise}
 use Rattle.operating_db.specs.After.{orders_after, order_place, moved, message_to, unpromised, withdrawn_from, after_call}
 use Rattle.operating_db.specs.Commits.{Pair, given_to, promise_pair, promise_all}
 use Rattle.operating_db.specs.Laws.{IsKept, EventsKeepOffices, RostersAgree}
-use Rattle.operating_db.specs.Office.{Office, numbers_of, texts_of}
-use Rattle.operating_db.specs.Promises.{is_promise_to, promise_of, PromisesAgree}
+use Rattle.operating_db.specs.Office.{Office, first_office, numbers_of, texts_of}
+use Rattle.operating_db.specs.Promises.{is_promise_to, promise_of, PromisesAgree, SidesAgree}
 use Rattle.operating_db.specs.Steps.{Steps}
 use Rattle.operating_db.proofs.Agree.{kept_agree, released_agree, withdrawn_agree, ordered_agree, number-unpromised}
-use Rattle.operating_db.proofs.Commits.{next_of_can, all_agree, AreNext}
+use Rattle.operating_db.proofs.Changes.{among_promised, order_known}
+use Rattle.operating_db.proofs.Commits.{next_of_can, AreNext}
+use Rattle.operating_db.proofs.KeptOrders.{all_agree, both_agree, kept_orders, kept_push, kept_settled, kept_withdrawn, none_kept}
 use Rattle.operating_db.proofs.Names.{same, same_is}
 
 same_ok : {A E : Type 0} (x y : A) → let r : Result A E = Ok x in r ≡ Ok y → x ≡ y
@@ -107,8 +108,8 @@ kept_of_same before after agree same_rows = record { promises = agree; wagons = 
 abbrev after_change : Office → List ℕ → Option (List ℕ) → Change → Office
 after_change office w promise change = record office { wagons = at_wagon w (λ _. change.row) office.wagons; orders = orders_after change.effect promise w office.orders }
 
-effect_agree : (office : Office) (w : List ℕ) (row new : WagonRow) (e : Effect) (promise : Option (List ℕ)) → wagon_in office.wagons w ≡ Some row → new.number ≡ w → row.promise ≡ promise → new.promise ≡ promise_after e promise → PromisesAgree office
-    → PromisesAgree (record office { wagons = at_wagon w (λ _. new) office.wagons; orders = orders_after e promise w office.orders })
+effect_agree : (office : Office) (w : List ℕ) (row new : WagonRow) (e : Effect) (promise : Option (List ℕ)) → wagon_in office.wagons w ≡ Some row → new.number ≡ w → row.promise ≡ promise → new.promise ≡ promise_after e promise → SidesAgree office
+    → SidesAgree (record office { wagons = at_wagon w (λ _. new) office.wagons; orders = orders_after e promise w office.orders })
 effect_agree office w row new effect.None promise found number had now agree = kept_agree office w row new found number (now ∙ sym had) agree
 effect_agree office w row new effect.Fills None found number had now agree = kept_agree office w row new found number (now ∙ sym had) agree
 effect_agree office w row new effect.Ends None found number had now agree = kept_agree office w row new found number (now ∙ sym had) agree
@@ -126,7 +127,8 @@ pub change_kept : (office : Office) (w : List ℕ) (row : WagonRow) (change : Ch
 change_kept office w row change found keeps agree =
     let number = keeps.number ∙ number-wagon_in office.wagons w row found in
     kept_of_same office (after_change office w row.promise change)
-    (effect_agree office w row change.row change.effect row.promise found number refl keeps.promise agree)
+    (both_agree (after_change office w row.promise change) (effect_agree office w row change.row change.effect row.promise found number refl keeps.promise agree.agree)
+        (kept_settled change.effect row.promise w office.orders (λ id had. among_promised w (order_in office.orders id) (order_known office w row id (sym found) had agree.agree)) (kept_orders office agree)))
     (numbers-at w (λ _. change.row) (λ r e. number ∙ sym e) office.wagons, effect_texts change.effect row.promise w office.orders)
 
 moved_kept : (office : Office) (w : List ℕ) (row : WagonRow) (r : Result Change StepFault) (new : Office) → wagon_in office.wagons w ≡ Some row → ((change : Change) → r ≡ Ok change → KeepsRow row change) → moved office w row.promise r ≡ Ok new → PromisesAgree office → IsKept office new
@@ -140,22 +142,26 @@ message_kept office m (Some row) new is h agree =
 
 -- ---- orders
 
-pub placed_kept : (office : Office) (text : Order) → PromisesAgree office → IsKept office (record office { orders = office.orders ++ placed_row text ∷ [] })
-placed_kept office text agree = record {
-  promises = ordered_agree office (placed_row text) refl agree;
+pub placed_kept : (office : Office) (text : Order) → order_in office.orders text.id ≡ None → PromisesAgree office → IsKept office (record office { orders = office.orders ++ placed_row text ∷ [] })
+placed_kept office text new agree = record {
+  promises = both_agree (record office { orders = office.orders ++ placed_row text ∷ [] }) (ordered_agree office (placed_row text) refl agree.agree) (kept_push office.orders text new (kept_orders office agree));
   wagons = refl;
   orders = (text ∷ [], texts-push office.orders (placed_row text));
 }
 
-order_kept : (office : Office) (text : Order) (known full : Bool) (new : Office)
+pub not_there : {A : Type 0} (o : Option A) → is_some o ≡ false → o ≡ None
+not_there None h = refl
+not_there (Some x) h = cc h
+
+order_kept : (office : Office) (text : Order) (known full : Bool) (new : Office) → is_some (order_in office.orders text.id) ≡ known
     → cond known (Err OrderKnown) (cond full (Err TooManyOpen) (Ok (record office { orders = office.orders ++ placed_row text ∷ [] }))) ≡ Ok new → PromisesAgree office → IsKept office new
-order_kept office text true full new h agree = cc
-order_kept office text false true new h agree = cc
-order_kept office text false false new h agree = subst (IsKept office) (same_ok _ new h) (placed_kept office text agree)
+order_kept office text true full new is h agree = cc
+order_kept office text false true new is h agree = cc
+order_kept office text false false new is h agree = subst (IsKept office) (same_ok _ new h) (placed_kept office text (not_there (order_in office.orders text.id) is) agree)
 
 pub withdrawn_kept : (office : Office) (id : List ℕ) → PromisesAgree office → IsKept office (record office { wagons = map (unpromised id) office.wagons; orders = at_order id taken_back office.orders })
 withdrawn_kept office id agree =
-    kept_of_same office _ (withdrawn_agree office id agree) (numbers-unpromised id office.wagons, texts-at id taken_back (λ r. refl) office.orders)
+    kept_of_same office _ (both_agree (record office { wagons = map (unpromised id) office.wagons; orders = at_order id taken_back office.orders }) (withdrawn_agree office id agree.agree) (kept_withdrawn id office.orders (kept_orders office agree))) (numbers-unpromised id office.wagons, texts-at id taken_back (λ r. refl) office.orders)
 
 open_kept : (office : Office) (id : List ℕ) (b : Bool) (new : Office)
     → cond b (Ok (record office { wagons = map (unpromised id) office.wagons; orders = at_order id taken_back office.orders })) (Err OrderClosed) ≡ Ok new → PromisesAgree office → IsKept office new
@@ -181,14 +187,14 @@ revise_kept : (office : Office) (k : ℕ) (unknown known : Bool) (new : Office)
     → cond unknown (Err UnknownNetwork) (cond known (Err SameNetwork) (Ok (record office { network = k }))) ≡ Ok new → PromisesAgree office → IsKept office new
 revise_kept office k true known new h agree = cc
 revise_kept office k false true new h agree = cc
-revise_kept office k false false new h agree = subst (IsKept office) (same_ok _ new h) (kept_of_same office (record office { network = k }) agree (refl, refl))
+revise_kept office k false false new h agree = subst (IsKept office) (same_ok _ new h) (kept_of_same office (record office { network = k }) (both_agree (record office { network = k }) agree.agree (kept_orders office agree)) (refl, refl))
 
 -- ---- each event, and any list of them
 
 pub step_kept : (networks : ℕ) (office : Office) (event : Event) (new : Office) → Steps networks office event new → PromisesAgree office → IsKept office new
 unfolding after_call
 step_kept networks office (Message m) new h agree = message_kept office m (wagon_in office.wagons m.wagon) new refl h.1 agree
-step_kept networks office (Place text) new h agree = order_kept office text (is_some (order_in office.orders text.id)) (nat_lt MAX_OPEN_WAGONS (open_wagons office.orders + text.wagons)) new h.1 agree
+step_kept networks office (Place text) new h agree = order_kept office text (is_some (order_in office.orders text.id)) (nat_lt max_open_wagons (open_wagons office.orders + text.wagons)) new refl h.1 agree
 step_kept networks office (Withdraw id) new h agree = withdraw_kept office id (order_in office.orders id) new h.1 agree
 step_kept networks office (Commit c) new h agree = subst (IsKept office) (same_ok _ new h.1) (committed_kept office c.pairs (next_of_can office c.pairs h.0) agree)
 step_kept networks office (Revise k) new h agree = revise_kept office k (k == 0 || nat_lt networks k) (k == office.network) new h.1 agree
@@ -217,4 +223,4 @@ no_promises [] all n = refl
 no_promises (row ∷ rows) all n = no_promise (same n row.number) row (wagon_in rows n) (All-head IsRosterRow row rows all).not_promised (no_promises rows (All-tail IsRosterRow row rows all) n)
 
 pub rosters_agree : RostersAgree
-rosters_agree roster h n id = ap (λ (p : Option (List ℕ)). is_promise_to p id) (no_promises roster h.each n)
+rosters_agree roster h = both_agree (first_office roster) (λ n id. ap (λ (p : Option (List ℕ)). is_promise_to p id) (no_promises roster h.each n)) none_kept

@@ -19,9 +19,9 @@ use Rattle.cost_table.specs.Names as names
 use Rattle.cost_table.specs.Problem.{ProblemValue, wagon_names, order_names, lacks_of, is_too_much}
 use Rattle.cost_table.specs.Problem as cost
 use Rattle.cost_table.specs.declared.table_fault.TableFault.TheVariants.{TooLarge}
-use Rattle.office_rows.specs.Kept.{IsOrderRows, IsWagonRows}
-use Rattle.office_rows.specs.Rows.{open_wagons, wanted_open}
-use Rattle.office_rows.proofs.Wagons.{numbers_distinct}
+use Rattle.database_rows.specs.Kept.{IsOrderRows, IsWagonRows}
+use Rattle.database_rows.specs.Rows.{open_wagons, wanted_open}
+use Rattle.database_rows.proofs.Wagons.{numbers_distinct}
 use Rattle.operating_db.specs.Problem.{free_wagons, wanted_in, waiting_orders}
 use Rattle.operating_db.proofs.Names.{same}
 

@@ -1,6 +1,6 @@
 -- What the state of an office keeps through each change.
 use Rattle.std.proofs.Common.{◌≡◌, ◌∙◌, ℕ, ◌≤◌, arith, List, [], ◌∷◌, ◌++◌, map, refl, ap, sym, subst}
-use Rattle.std.specs.Prelude.{◌↔◌, Bool, true, false, cond, Option, Some, None, IsSome, IfSome, Result, Ok, Err, OnOk, OnErr, option_map}
+use Rattle.std.specs.Prelude.{◌↔◌, ◌+◌, nat_lt, Bool, true, false, cond, Option, Some, None, is_some, IsOk, IsSome, IfSome, Result, Ok, Err, OnOk, OnErr, option_map}
 use Rattle.move_messages.specs.Order.{Order}
 use Rattle.move_messages.specs.declared.message.Message as message
 use Rattle.wagon_state.specs.declared.change.Change.{Change}
@@ -8,22 +8,20 @@ use Rattle.wagon_state.specs.declared.wagon_row.WagonRow.{WagonRow}
 use Rattle.wagon_roster.specs.Roster.{IsRoster}
 use Rattle.load_orders.specs.Lack.{is_open}
 use Rattle.load_orders.specs.OrderRow.{OrderRowValue, placed_row}
-use Rattle.office_rows.specs.Kept.{IsWagonRows}
-use Rattle.office_rows.proofs.Wagons.{number-wagon_in}
-use Rattle.office_rows.specs.Rows.{wagon_in, order_in, at_wagon, at_order, promised_to, taken_back}
+use Rattle.database_rows.specs.Kept.{IsWagonRows}
+use Rattle.database_rows.proofs.Wagons.{number-wagon_in}
+use Rattle.database_rows.specs.Rows.{wagon_in, order_in, at_wagon, at_order, max_open_wagons, open_wagons, promised_to, taken_back}
+use Rattle.operating_db.specs.inner.EventParts.{IsChange, IsNext, unpromised_among}
 use Rattle.operating_db.specs.declared.apply_fault.ApplyFault.{ApplyFault}
-use Rattle.operating_db.specs.declared.apply_fault.ApplyFault.TheVariants.{OrderClosed}
-use Rattle.operating_db.specs.declared.limits.TheConstants.{MAX_NETWORKS}
-use Rattle.operating_db.specs.After.{IsChange, message_to, moved, order_place, orders_after, unpromised, unpromised_among, withdrawn_from}
-use Rattle.operating_db.specs.Commits.{Pair, IsNext, with_promise}
+use Rattle.operating_db.specs.declared.apply_fault.ApplyFault.TheVariants.{OrderClosed, OrderKnown, TooManyOpen}
+use Rattle.operating_db.specs.After.{after_order, message_to, moved, order_place, orders_after, unpromised, withdrawn_from}
+use Rattle.operating_db.specs.Commits.{Pair, with_promise}
 use Rattle.operating_db.specs.Office.{Office, StateValue, first_office}
 use Rattle.operating_db.specs.Promises.{is_promise_to, is_among, promise_of, promised_of, PromisesAgree}
-use Rattle.operating_db.specs.State.{IsState}
-use Rattle.operating_db.proofs.Agree.{ordered_agree, withdrawn_agree}
-use Rattle.operating_db.proofs.Changes.{among_known, withdrawn_wagons}
-use Rattle.operating_db.proofs.Commits.{next_agree}
-use Rattle.operating_db.proofs.Events.{change_kept, rosters_agree, step_keeps}
-use Rattle.operating_db.proofs.Names.{same_self}
+use Rattle.operating_db.specs.State.{IsState, max_networks}
+use Rattle.operating_db.proofs.Changes.{among_known, order_known, withdrawn_wagons}
+use Rattle.operating_db.proofs.Events.{change_kept, not_there, placed_kept, rosters_agree, step_keeps, withdrawn_kept}
+use Rattle.operating_db.proofs.KeptOrders.{next_keeps}
 
 -- the state with other rows
 abbrev pub with_rows : StateValue → List WagonRow → List OrderRowValue → StateValue
@@ -36,7 +34,7 @@ agree_by : (office : Office) (wagons wagons' : List WagonRow) (orders orders' : 
 agree_by office wagons wagons' orders orders' e f h =
     subst (λ (w : List WagonRow). PromisesAgree (record office { wagons = w; orders = orders })) (sym e) (subst (λ (o : List OrderRowValue). PromisesAgree (record office { wagons = wagons'; orders = o })) (sym f) h)
 
-pub new_state : (roster wagons : List WagonRow) (orders : List OrderRowValue) (networks : ℕ) → IsRoster roster → wagons ≡ roster → orders ≡ [] → 1 ≤ networks → networks ≤ MAX_NETWORKS
+pub new_state : (roster wagons : List WagonRow) (orders : List OrderRowValue) (networks : ℕ) → IsRoster roster → wagons ≡ roster → orders ≡ [] → 1 ≤ networks → networks ≤ max_networks
     → IsState (record { office = record { wagons = wagons; orders = orders; network = 1 }; networks = networks })
 new_state roster wagons orders networks h e f least most = record {
   promises = agree_by (first_office roster) wagons roster orders [] e f (rosters_agree roster h);
@@ -45,25 +43,30 @@ new_state roster wagons orders networks h e f least most = record {
   few = most;
 }
 
-pub placed_state : {A E : Type 0} (state : StateValue) (text : Order) (orders : List OrderRowValue) (r : Result A E) → OnOk r (orders ≡ state.office.orders ++ placed_row text ∷ []) → OnErr r (orders ≡ state.office.orders) → IsState state → IsState (with_rows state state.office.wagons orders)
-placed_state state text orders (Ok x) added refused h = rows_state state state.office.wagons orders (agree_by state.office state.office.wagons state.office.wagons orders _ refl added (ordered_agree state.office (placed_row text) refl h.promises)) h
-placed_state state text orders (Err x) added refused h = rows_state state state.office.wagons orders (agree_by state.office state.office.wagons state.office.wagons orders _ refl refused h.promises) h
+known_none : (known : Bool) (rest : Result Office ApplyFault) → IsOk (cond known (Err OrderKnown) rest) → known ≡ false
+known_none true rest h = cc h
+known_none false rest h = refl
+
+-- an order that may be placed is new
+pub order_new : {A : Type 0} (office : Office) (text : Order) (r : Result A ApplyFault) → OnOk r (IsOk (after_order office text)) → ((fault : ApplyFault) → r ≡ Err fault → ⊥) → order_in office.orders text.id ≡ None
+order_new office text (Ok x) possible not_refused =
+    not_there (order_in office.orders text.id) (known_none (is_some (order_in office.orders text.id)) (cond (nat_lt max_open_wagons (open_wagons office.orders + text.wagons)) (Err TooManyOpen) (Ok (record office { orders = office.orders ++ placed_row text ∷ [] }))) possible)
+order_new office text (Err fault) possible not_refused = absurd (not_refused fault refl)
+
+pub placed_state : {A E : Type 0} (state : StateValue) (text : Order) (orders : List OrderRowValue) (r : Result A E) → order_in state.office.orders text.id ≡ None → OnOk r (orders ≡ state.office.orders ++ placed_row text ∷ []) → OnErr r (orders ≡ state.office.orders) → IsState state → IsState (with_rows state state.office.wagons orders)
+placed_state state text orders (Ok x) new added refused h = rows_state state state.office.wagons orders (agree_by state.office state.office.wagons state.office.wagons orders _ refl added (placed_kept state.office text new h.promises).promises) h
+placed_state state text orders (Err x) new added refused h = rows_state state state.office.wagons orders (agree_by state.office state.office.wagons state.office.wagons orders _ refl refused h.promises) h
 
 pub promised_state : (state : StateValue) (pair : Pair) (wagons : List WagonRow) (orders : List OrderRowValue) → wagons ≡ at_wagon pair.0 (with_promise (Some pair.1)) state.office.wagons → orders ≡ at_order pair.1 (promised_to pair.0) state.office.orders → IsNext state.office pair → IsState state → IsState (with_rows state wagons orders)
-promised_state state pair wagons orders e f next h = rows_state state wagons orders (agree_by state.office wagons _ orders _ e f (next_agree state.office pair next h.promises)) h
+promised_state state pair wagons orders e f next h = rows_state state wagons orders (agree_by state.office wagons _ orders _ e f (next_keeps state.office pair next h.promises)) h
 
 -- the wagons and the orders of a withdrawal
 pub withdrawn_is : (office : Office) (id : List ℕ) (order : OrderRowValue) (promised : List (List ℕ)) (wagons : List WagonRow) → PromisesAgree office → IsWagonRows office.wagons → Some order ≡ order_in office.orders id → promised ≡ order.promised → wagons ≡ unpromised_among promised office.wagons → wagons ≡ map (unpromised id) office.wagons
 withdrawn_is office id order promised wagons agree kept there is ended =
-    ended ∙ (ap (λ (ns : List (List ℕ)). unpromised_among ns office.wagons) is ∙ withdrawn_wagons office id order agree kept (sym there))
+    ended ∙ (ap (λ (ns : List (List ℕ)). unpromised_among ns office.wagons) is ∙ withdrawn_wagons office id order agree.agree kept (sym there))
 
 pub withdrawn_state : (state : StateValue) (id : List ℕ) (wagons : List WagonRow) (orders : List OrderRowValue) → wagons ≡ map (unpromised id) state.office.wagons → orders ≡ at_order id taken_back state.office.orders → IsState state → IsState (with_rows state wagons orders)
-withdrawn_state state id wagons orders e f h = rows_state state wagons orders (agree_by state.office wagons _ orders _ e f (withdrawn_agree state.office id h.promises)) h
-
--- the order of a promise is there
-order_known : (office : Office) (n : List ℕ) (row : WagonRow) (id : List ℕ) → Some row ≡ wagon_in office.wagons n → row.promise ≡ Some id → PromisesAgree office → is_among n (promised_of (order_in office.orders id)) ≡ true
-order_known office n row id found had agree =
-    sym (agree n id) ∙ (ap (λ (o : Option WagonRow). is_promise_to (promise_of o) id) (sym found) ∙ (ap (λ (p : Option (List ℕ)). is_promise_to p id) had ∙ same_self id))
+withdrawn_state state id wagons orders e f h = rows_state state wagons orders (agree_by state.office wagons _ orders _ e f (withdrawn_kept state.office id h.promises).promises) h
 
 some_order : {A B : Type 0} (f : A → B) (o : Option A) → IsSome o → IsSome (option_map f o)
 some_order f None h = h
@@ -72,7 +75,7 @@ some_order f (Some x) h = refl
 place_by : (office : Office) (n : List ℕ) (row : WagonRow) (r p : Option (List ℕ)) → Some row ≡ wagon_in office.wagons n → row.promise ≡ p → r ≡ order_place office.orders p → PromisesAgree office → IsSome r ↔ IsSome p
 place_by office n row r None found had is agree = ((λ h. subst (λ (o : Option (List ℕ)). IsSome o) is h), (λ h. cc h))
 place_by office n row r (Some id) found had is agree =
-    let known : IsSome (order_in office.orders id) = among_known n (order_in office.orders id) (order_known office n row id found had agree) in
+    let known : IsSome (order_in office.orders id) = among_known n (order_in office.orders id) (order_known office n row id found had agree.agree) in
     ((λ h. refl), (λ h. subst (λ (o : Option (List ℕ)). IsSome o) (sym is) (some_order (λ (row : OrderRowValue). row.text.place) (order_in office.orders id) known)))
 
 pub place_there : (office : Office) (n : List ℕ) (row : WagonRow) (r : Option (List ℕ)) → Some row ≡ wagon_in office.wagons n → r ≡ order_place office.orders row.promise → PromisesAgree office → IsSome r ↔ IsSome row.promise
@@ -90,7 +93,7 @@ change_known office m change promise h =
 
 settles_by : (office : Office) (n : List ℕ) (row : WagonRow) (p : Option (List ℕ)) → Some row ≡ wagon_in office.wagons n → p ≡ row.promise → PromisesAgree office → IfSome p (λ id. is_among n (promised_of (order_in office.orders id)) ≡ true)
 settles_by office n row None found is agree = tt
-settles_by office n row (Some id) found is agree = order_known office n row id found (sym is) agree
+settles_by office n row (Some id) found is agree = order_known office n row id found (sym is) agree.agree
 
 pub change_settles : (office : Office) (m : message.Message) (change : Change) (promise : Option (List ℕ)) → IsChange office m change promise → PromisesAgree office → IfSome promise (λ id. is_among m.wagon (promised_of (order_in office.orders id)) ≡ true)
 change_settles office m change promise h agree = settles_by office m.wagon h.row promise (sym h.found) h.promise_is agree

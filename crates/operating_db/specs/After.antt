@@ -10,8 +10,7 @@ use Rattle.wagon_state.specs.declared.wagon_row.WagonRow.{WagonRow}
 use Rattle.wagon_state.specs.StatusTable.{step_of}
 use Rattle.load_orders.specs.Lack.{is_open}
 use Rattle.load_orders.specs.OrderRow.{OrderRowValue, placed_row}
-use Rattle.office_rows.specs.declared.limits.TheConstants.{MAX_OPEN_WAGONS}
-use Rattle.office_rows.specs.Rows.{wagon_in, order_in, at_wagon, at_order, open_wagons, filled_by, freed_of, taken_back}
+use Rattle.database_rows.specs.Rows.{wagon_in, order_in, at_wagon, at_order, max_open_wagons, open_wagons, filled_by, freed_of, taken_back}
 use Rattle.operating_db.specs.declared.apply_fault.ApplyFault.{ApplyFault}
 use Rattle.operating_db.specs.declared.apply_fault.ApplyFault.TheVariants.{UnknownWagon, Step, OrderKnown, TooManyOpen, UnknownOrder, OrderClosed, UnknownNetwork, SameNetwork}
 use Rattle.operating_db.specs.declared.event.Event.{Event}
@@ -36,13 +35,6 @@ abbrev pub order_place : List OrderRowValue → (promise : Option (List ℕ)) �
 order_place orders None = None
 order_place orders (Some id) = option_map (λ row. row.text.place) (order_in orders id)
 
--- what a message changes: the row of its wagon is there with this promise, and the status table has this change
-pub record IsChange (office : Office) (message : message.Message) (change : Change) (promise : Option (List ℕ)) : Type 0 where
-  pub row : WagonRow
-  pub found : wagon_in office.wagons message.wagon ≡ Some row
-  pub promise_is : promise ≡ row.promise
-  pub stepped : step_of row message (order_place office.orders row.promise) ≡ Ok change
-
 abbrev pub moved : Office → (number : List ℕ) → (promise : Option (List ℕ)) → Result Change StepFault → Result Office ApplyFault
 moved office number promise (Err fault) = Err (Step fault)
 moved office number promise (Ok change) = Ok (record office {
@@ -58,16 +50,12 @@ message_to office message (Some row) = moved office message.wagon row.promise (s
 abbrev pub after_order : Office → Order → Result Office ApplyFault
 after_order office text =
     if is_some (order_in office.orders text.id) then Err OrderKnown
-    else if nat_lt MAX_OPEN_WAGONS (open_wagons office.orders + text.wagons) then Err TooManyOpen
+    else if nat_lt max_open_wagons (open_wagons office.orders + text.wagons) then Err TooManyOpen
     else Ok (record office { orders = office.orders ++ placed_row text ∷ [] })
 
 -- A withdrawal ends each promise to the order, on the wagons too. The wagons that filled it stay.
 abbrev pub unpromised : List ℕ → WagonRow → WagonRow
 unpromised id row = if is_promise_to row.promise id then record row { promise = None } else row
-
--- the wagons, where these numbers lose their promises
-abbrev pub unpromised_among : List (List ℕ) → List WagonRow → List WagonRow
-unpromised_among numbers rows = map (λ row. if is_among row.number numbers then with_promise None row else row) rows
 
 abbrev pub withdrawn_from : Office → (id : List ℕ) → Option OrderRowValue → Result Office ApplyFault
 withdrawn_from office id None = Err UnknownOrder

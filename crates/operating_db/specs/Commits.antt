@@ -5,7 +5,7 @@ use Rattle.wagon_state.specs.declared.wagon_row.WagonRow.{WagonRow}
 use Rattle.wagon_state.specs.Free.{free_of}
 use Rattle.load_orders.specs.Lack.{lack_of}
 use Rattle.load_orders.specs.OrderRow.{OrderRowValue}
-use Rattle.office_rows.specs.Rows.{wagon_in, order_in, at_wagon, at_order, promised_to}
+use Rattle.database_rows.specs.Rows.{wagon_in, order_in, at_wagon, at_order, promised_to}
 use Rattle.operating_db.specs.Office.{Office}
 
 abbrev pub Pair : Type 0
@@ -38,22 +38,12 @@ pub record IsPromisable (office : Office) (pairs : List Pair) (pair : Pair) : Ty
 abbrev pub CanPromise : Office → List Pair → Type 0
 CanPromise office pairs = All (IsPromisable office pairs) pairs
 
--- the same, as a test
-abbrev pub is_promisable : Office → List Pair → Pair → Bool
-is_promisable office pairs pair =
-    nat_le (times_of_wagon pair.0 pairs) 1 && is_free_row (wagon_in office.wagons pair.0) && nat_le (times_of_order pair.1 pairs) (lack_in (order_in office.orders pair.1))
-
 -- a wagon with another promise; one that is given to an order
 abbrev pub with_promise : Option (List ℕ) → WagonRow → WagonRow
 with_promise promise row = record row { promise = promise }
 
 abbrev pub given_to : List ℕ → WagonRow → WagonRow
 given_to id row = with_promise (Some id) row
-
--- what a pair that is promised now asks for
-pub record IsNext (office : Office) (pair : Pair) : Type 0 where
-  pub free : is_free_row (wagon_in office.wagons pair.0) ≡ true
-  pub lacking : 0 < lack_in (order_in office.orders pair.1)
 
 -- each pair is promised, on the wagon's side and on the order's
 abbrev pub promise_pair : Office → Pair → Office

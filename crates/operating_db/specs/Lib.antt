@@ -7,3 +7,4 @@ pub mod Problem
 pub mod Promises
 pub mod State
 pub mod Steps
+pub mod inner

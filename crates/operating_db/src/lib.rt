@@ -7,6 +7,7 @@ mod laws;
 mod limits;
 mod lists;
 mod office_state;
+mod pair_counts;
 mod promises;
 
 pub use apply_fault::ApplyFault;
@@ -14,3 +15,4 @@ pub use event::Event;
 pub use laws::events_keep_offices;
 pub use limits::MAX_NETWORKS;
 pub use office_state::OfficeState;
+pub use pair_counts::times_of_order;

@@ -1,25 +1,26 @@
 //! The state of an office.
 ghost use Rattle.std.specs.Prelude.{◌≡◌, ◌≤◌, ◌↔◌, IsTrue, Ok, Err, IfOk, IfErr, IsOk, OnErr, OnOk, MatchResult, option_copied, option_map};
 ghost use Rattle.std.specs.List.{list_all};
-ghost use Rattle.office_rows.specs.Kept.{IsOrderRows, IsWagonRows};
-ghost use Rattle.office_rows.specs.Rows.{order_in, wagon_in};
-ghost use Rattle.operating_db.specs.After.{IsChange, after_call, after_order, after_revision, message_to, order_place, withdrawn_from};
+ghost use Rattle.database_rows.specs.Kept.{IsOrderRows, IsWagonRows};
+ghost use Rattle.database_rows.specs.Rows.{order_in, wagon_in};
+ghost use Rattle.operating_db.specs.After.{after_call, after_order, after_revision, message_to, order_place, withdrawn_from};
+ghost use Rattle.operating_db.specs.inner.EventParts.{IsChange, IsNext, is_promisable};
 ghost use Rattle.operating_db.specs.ApplyFault.{IsPlace, IsRefusal, IsRefusalOf};
-ghost use Rattle.operating_db.specs.Commits.{CanPromise, IsNext, is_free_row, is_promisable, lack_in, promise_all, promise_pair, times_of_order, times_of_wagon};
+ghost use Rattle.operating_db.specs.Commits.{CanPromise, is_free_row, lack_in, promise_all, promise_pair};
 ghost use Rattle.operating_db.specs.Office.{first_office};
 ghost use Rattle.operating_db.specs.Problem.{free_count, problem_of};
 ghost use Rattle.operating_db.specs.Promises.{PromisesAgree};
-ghost use Rattle.operating_db.specs.State.{IsState};
+ghost use Rattle.operating_db.specs.State.{IsState, max_networks};
 ghost use Rattle.operating_db.specs.Steps.{IsPromised};
 
-use crate::limits::MAX_NETWORKS;
 use crate::lists::{free_count, free_wagons, waiting_orders};
+use crate::pair_counts::{times_of_order, times_of_wagon};
 use crate::promises::{end_promises, set_promise, settle};
 use crate::{ApplyFault, Event};
 use cost_table::Problem;
 use load_orders::OrderRow;
 use move_messages::{Message, OrderText};
-use office_rows::{MAX_OPEN_WAGONS, OrderRows, WagonRows};
+use database_rows::{MAX_OPEN_WAGONS, OrderRows, WagonRows};
 use rail_codes::{ClassCode, Moment, OrderId, Place, WagonNumber};
 use std::alloc::{AllocError, Global};
 use std::marker::Model;
@@ -53,7 +54,7 @@ impl OfficeState {
     /// The office of a roster, where there are so many networks: no order, and the first network is in force.
     pub fn new(alloc: Global, roster: &Roster, networks: u32) -> Result<OfficeState, AllocError>
         requires from_one { 1 ≤ networks }
-        requires few { networks ≤ MAX_NETWORKS }
+        requires few { networks ≤ max_networks }
         ensures { IfOk result (λ state. state ≡ record { office = first_office roster.now; networks = networks }) }
     {
         let _rows = roster.rows();
@@ -164,8 +165,8 @@ impl OfficeState {
         }
     }
 
-    /// How many wagons an order lacks; an unknown one lacks none.
-    fn lack(&self, id: OrderId) -> u32
+    /// How many wagons an order lacks; an unknown one lacks none. Takes no memory.
+    pub fn lack(&self, id: OrderId) -> u32
         ensures { result ≡ lack_in (order_in self.now.office.orders id) }
     {
         match self.orders.get(id) {
@@ -373,18 +374,4 @@ impl OfficeState {
         self.network = network;
         Ok(())
     }
-}
-
-/// In how many pairs a wagon stands.
-fn times_of_wagon(number: WagonNumber, pairs: &[(WagonNumber, OrderId)]) -> usize
-    ensures { result ≡ times_of_wagon number pairs.now }
-{
-    pairs.iter().filter(|pair| number == pair.0).count()
-}
-
-/// In how many pairs an order stands.
-fn times_of_order(id: OrderId, pairs: &[(WagonNumber, OrderId)]) -> usize
-    ensures { result ≡ times_of_order id pairs.now }
-{
-    pairs.iter().filter(|pair| id == pair.1).count()
 }

@@ -1,11 +1,12 @@
 //! Promises, on the side of the wagons and on that of the orders.
 ghost use Rattle.std.specs.Prelude.{◌≡◌, true, IfSome};
-ghost use Rattle.office_rows.specs.Rows.{at_wagon, order_in};
-ghost use Rattle.operating_db.specs.After.{orders_after, unpromised_among};
+ghost use Rattle.database_rows.specs.Rows.{at_wagon, order_in};
+ghost use Rattle.operating_db.specs.After.{orders_after};
 ghost use Rattle.operating_db.specs.Commits.{with_promise};
+ghost use Rattle.operating_db.specs.inner.EventParts.{unpromised_among};
 ghost use Rattle.operating_db.specs.Promises.{is_among, promised_of};
 
-use office_rows::{OrderRows, WagonRows};
+use database_rows::{OrderRows, WagonRows};
 use rail_codes::{OrderId, WagonNumber};
 use wagon_state::{Effect, WagonRow};
 

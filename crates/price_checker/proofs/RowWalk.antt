@@ -9,7 +9,7 @@ use Rattle.cost_table.specs.Table.{Table, IsRow, cost_in, row_at, order_count}
 use Rattle.price_checker.specs.declared.check_fault.CheckFault.{CheckFault}
 use Rattle.price_checker.specs.declared.check_fault.CheckFault.TheVariants.{PriceGap}
 use Rattle.price_checker.specs.Faults.{first_below, gap_at, gap_of_wagon}
-use Rattle.price_checker.specs.RowWalk.{gap_of_row}
+use Rattle.price_checker.specs.inner.RowWalk.{gap_of_row}
 use Rattle.price_checker.proofs.FirstBelow.{first_from, first_below-from, first_from-same}
 
 abbrev pub gap_at_order : ℕ → List (ℕ × ℕ) → ℕ → List ℕ → ℕ → Option CheckFault

@@ -1,8 +1,9 @@
+-- Certificates: a plan and prices which show that no plan costs less.
 use Rattle.std.specs.Prelude.{◌≡◌, ◌+◌, ◌*◌, ◌<◌, ◌≤◌, ℕ, List, length, Some, sum, slice_index}
 use Rattle.cost_table.specs.Table.{Table, cost_at, penalty_at, lack_at, wagon_count, order_count}
 use Rattle.cost_table.specs.Plan.{IsPlan, cost_of, sum_below}
 
--- A plan, a price u for each wagon and a price v for each order, which show that no plan costs less.
+-- A plan, a price u in km for each wagon and a price v in km for each order, which show that no plan costs less.
 pub record IsCertificate (t : Table) (pairs : List (ℕ × ℕ)) (u v : List ℕ) : Type 0 where
   pub wagons : length u ≡ wagon_count t
   pub orders : length v ≡ order_count t

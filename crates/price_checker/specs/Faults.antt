@@ -1,3 +1,4 @@
+-- The faults of pairs and prices, each with its number, in the order in which they are looked for.
 use Rattle.std.specs.Prelude.{◌+◌, ◌*◌, ◌==◌, nat_lt, nat_le, ℕ, zero, suc, ◌&&◌, ◌||◌, if◌then◌else◌, Bool, List, [], ◌∷◌, ◌++◌, length, Option, Some, None, is_some, slice_index, sum}
 use Rattle.std.specs.Option.{option_or}
 use Rattle.cost_table.specs.Table.{Table, cost_at, lack_at, penalty_at, wagon_count, order_count}

@@ -1,3 +1,3 @@
 pub mod Certificate
 pub mod Faults
-pub mod RowWalk
+pub mod inner

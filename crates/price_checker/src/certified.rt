@@ -1,3 +1,4 @@
+//! The answer of a check that passed.
 ghost use Rattle.std.specs.Prelude.{◌≡◌};
 
 use std::marker::Model;

@@ -1,3 +1,4 @@
+//! Why pairs and prices are no certificate.
 ghost use Rattle.std.specs.Prelude.{◌≡◌};
 
 use thiserror::Error;
@@ -11,8 +12,8 @@ pub enum CheckFault {
     /// The wagon and the order of a pair that is out of range or has no cost (62).
     #[error("NotAllowed")]
     NotAllowed(usize, usize),
-    /// The wagon and the order of a pair whose wagon stands before it, or whose order stands before it as often
-    /// as it lacks (63).
+    /// The wagon and the order of a pair whose wagon is in an earlier pair, or whose order is in as many earlier
+    /// pairs as it lacks wagons (63).
     #[error("UsedTwice")]
     UsedTwice(usize, usize),
     /// A wagon and an order whose price passes the pair's cost and the wagon's price (64).
@@ -21,7 +22,8 @@ pub enum CheckFault {
     /// An order whose price passes its penalty (65).
     #[error("OverPenalty")]
     OverPenalty(usize),
-    /// The plan's cost with all wagons' prices, and the price of each wagon that an order lacks, which differ (66).
+    /// The plan's cost with all wagons' prices, and what all orders pay (the price of an order for each wagon that it
+    /// lacks), in kilometres, which differ (66).
     #[error("SumsDiffer")]
     SumsDiffer(u128, u128),
 }

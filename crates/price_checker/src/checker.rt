@@ -1,20 +1,22 @@
+//! The checker: each test in its order.
 ghost use Rattle.std.specs.Prelude.{◌≡◌, ◌<◌, ◌≤◌, ◌+◌, ◌*◌, ◌^◌, ◌==◌, ◌↔◌, [], None, length, sum, All, IsOk, OnOk, IfOk};
 ghost use Rattle.std.specs.Result.{result_err};
 ghost use Rattle.cost_table.specs.Table.{IsTable, lack_at, wagon_count, order_count};
+ghost use Rattle.cost_table.specs.TableLimits.{max_table_wagons};
 ghost use Rattle.cost_table.specs.Plan.{IsPlan, IsOptimal, cost_of, uses, serves, sum_below};
 ghost use Rattle.price_checker.specs.Certificate.{IsCertificate};
-ghost use Rattle.price_checker.specs.RowWalk.{gap_of_row};
+ghost use Rattle.price_checker.specs.inner.RowWalk.{gap_of_row};
 ghost use Rattle.price_checker.specs.Faults.{first_fault, wrong_lengths, not_allowed, used_twice, price_gap, over_penalty, sums_differ, paid_by_orders};
 
 use crate::{Certified, CheckFault, Prices};
 use cost_table::{Cells, cost};
 
-/// Checks that the pairs are a plan of the table and that the prices show it to be an optimal one. It takes no
-/// memory.
+/// Checks that the pairs are a plan of the table and that the prices, in kilometres, show it to be an optimal one.
+/// Allocates nothing.
 ///
 /// The first of these is answered: `WrongLengths` (61); `NotAllowed` (62), the first pair that is out of range or
-/// has no cost; `UsedTwice` (63), the first pair whose wagon stands before it, or whose order stands before it as
-/// often as it lacks; `PriceGap` (64), the least wagon and its least order whose price passes the cost and the
+/// has no cost; `UsedTwice` (63), the first pair whose wagon is in an earlier pair, or whose order is in as many
+/// earlier pairs as it lacks wagons; `PriceGap` (64), the least wagon and its least order whose price passes the cost and the
 /// wagon's price; `OverPenalty` (65), the least order whose price passes its penalty; `SumsDiffer` (66).
 pub fn check(
     cells: &Cells,
@@ -140,9 +142,9 @@ fn check_penalties(cells: &Cells, v: &[u64]) -> Result<(), CheckFault>
 
 /// All numbers of a short list together.
 fn total(prices: &[u64]) -> u128
-    requires { length prices.now ≤ 1000 }
+    requires { length prices.now ≤ max_table_wagons }
     ensures value { result ≡ sum prices.now }
-    ensures limit { result ≤ 1000 * 2 ^ 64 }
+    ensures limit { result ≤ max_table_wagons * 2 ^ 64 }
 {
     let mut total: u128 = 0;
     for price in prices {

@@ -1,3 +1,4 @@
+//! Dual prices.
 /// Dual prices of a table, in kilometres.
 #[derive(Debug, Drop)]
 pub struct Prices {

@@ -1,3 +1,4 @@
+-- Moments: what is read of a text, and what is printed.
 use Rattle.std.proofs.Common.{◌≡◌, ℕ, ◌*◌, ◌/◌, ◌^◌, ◌<◌, ◌++◌, ℤ, pos, negsuc, ◌≤ℤ◌, int_div, unsigned_abs, List, [], ◌∷◌, Ok, Err, true, arith, ap, refl, sym, ◌∙◌, inl, rules, nat_le}
 use Rattle.std.proofs.lemmas.Bool.Decides.{nat_tests}
 use Rattle.std.specs.Int.{FitsUnsignedBits}
@@ -8,7 +9,7 @@ use Rattle.std.proofs.lemmas.Int.{by_lt_z}
 use Rattle.jiff.proofs.OnLiterals.{jiff_on_literals}
 use Rattle.jiff.proofs.SpanFacts.{signed_arith}
 use Rattle.rail_codes.specs.declared.code_fault.CodeFault.TheVariants.{BadMoment, MomentOutOfRange}
-use Rattle.rail_codes.specs.Moment.{IsMoment, moment_of_seconds, moment_of_instant, moment_of, clock_text, IsMomentText}
+use Rattle.rail_codes.specs.Moment.{first_second, last_second, IsMoment, moment_of_seconds, moment_of_instant, moment_of, clock_text, IsMomentText}
 
 -- no instant is read
 pub moment_of-err : (text : List ℕ) (e : Error) → Err e ≡ parse_timestamp text → moment_of text ≡ Err BadMoment
@@ -42,8 +43,8 @@ pub moment_of-printed : (seconds : ℕ) (t : Timestamp) (shown : DateTime) (text
 moment_of-printed seconds t shown text valid is same printed =
     let read = parse_timestamp-text shown t same in
     let whole : seconds * 1_000_000_000 / 1_000_000_000 ≡ seconds = omega arith in
-    let least : nat_le 946_684_800 seconds ≡ true = grind (arith, nat_tests) in
-    let most : nat_le seconds 4_102_444_799 ≡ true = grind (arith, nat_tests) in
+    let least : nat_le first_second seconds ≡ true = grind (arith, nat_tests) in
+    let most : nat_le seconds last_second ≡ true = grind (arith, nat_tests) in
     ap moment_of printed ∙ moment_of-ok _ _ (sym read) ∙ rw (is, whole, least, most) refl
 
 -- the first day of 1970

@@ -1,4 +1,5 @@
-use Rattle.std.proofs.Common.{◌≡◌, ℕ, ◌+◌, ◌-◌, ◌*◌, ◌%◌, ◌<◌, ◌≤◌, ◌↔◌, ◌++◌, ◌⊎◌, inl, inr, true, false, ◌==◌, List, [], ◌∷◌, length, get_or, take, drop, Ok, arith, ap, refl, sym, ◌∙◌, add-one, drop-cons, length-append, get_or-take, eqb-true, eq-eqb, append-nil, append_assoc, set}
+-- Wagon numbers: what is kept of a text, and the weighted digit sum.
+use Rattle.std.proofs.Common.{◌≡◌, ℕ, zero, suc, ◌+◌, ◌-◌, ◌*◌, ◌%◌, ◌<◌, ◌≤◌, ◌↔◌, ◌++◌, ◌⊎◌, inl, inr, true, false, ◌==◌, List, [], ◌∷◌, length, get_or, take, drop, Ok, arith, ap, refl, sym, ◌∙◌, add-one, drop-cons, length-append, get_or-take, eqb-true, eq-eqb, append-nil, append_assoc, set}
 use Rattle.std.proofs.Math.Nat.{mul-le-mul_left}
 use Rattle.std.proofs.lemmas.Bool.Decides.{nat_tests}
 use Rattle.std.proofs.lemmas.List.{drop_all, take_all, take_more_set}
@@ -78,12 +79,21 @@ kept_characters-whole text digits i done twelve so_far =
 pub weighted_from-drop : (weight : ℕ) (xs : List ℕ) (i : ℕ) → i < length xs → weighted_from weight (drop i xs) ≡ digit_sum (weight * (get_or xs i 0 - 48)) + weighted_from (3 - weight) (drop (i + 1) xs)
 weighted_from-drop weight xs i within = rw (add-one, drop-cons xs i 0 within) refl
 
--- the weighted digit sum of the last digit
-pub weighted_from-last : (xs : List ℕ) → length xs ≡ 12 → weighted_from 1 (drop 11 xs) ≡ digit_sum (1 * (get_or xs 11 0 - 48))
-weighted_from-last xs twelve =
-    let last : 11 < length xs = omega arith in
-    let none : drop 12 xs ≡ [] = drop_all 12 xs (omega arith) in
-    weighted_from-drop 1 xs 11 last ∙ rw none (omega arith)
+-- the weight of the digit n places further on
+abbrev turned : ℕ → ℕ → ℕ
+turned weight zero = weight
+turned weight (suc n) = turned (3 - weight) n
+
+-- the last of n + 1 digits adds its own weighted digit
+weighted_from-last : (weight : ℕ) (xs : List ℕ) (n : ℕ) → length xs ≡ n + 1 → weighted_from weight xs ≡ weighted_from weight (take n xs) + digit_sum (turned weight n * (get_or xs n 0 - 48))
+weighted_from-last weight [] n h = absurd (omega arith)
+weighted_from-last weight (c ∷ []) zero h = omega arith
+weighted_from-last weight (c ∷ d ∷ cs) zero h = absurd (omega arith)
+weighted_from-last weight (c ∷ cs) (suc n) h = omega (arith, weighted_from-last (3 - weight) cs n (omega arith))
+
+-- the weighted digit sum of twelve digits: that of the first eleven, and the last digit
+pub weighted_digit_sum-twelve : (xs : List ℕ) → length xs ≡ 12 → weighted_digit_sum xs ≡ weighted_digit_sum (take 11 xs) + digit_sum (1 * (get_or xs 11 0 - 48))
+weighted_digit_sum-twelve xs twelve = weighted_from-last 2 xs 11 twelve
 
 -- a digit of twelve, at a place of the first eleven
 pub first_eleven-digit : (xs : List ℕ) (i : ℕ) → are_twelve_digits xs ≡ true → i < 11 → (get_or (take 11 xs) i 0 ≡ get_or xs i 0) × (48 ≤ get_or xs i 0) × (get_or xs i 0 ≤ 57)

@@ -1,3 +1,4 @@
+-- Why a text or a number is no code.
 use Rattle.std.specs.Prelude.{ℕ}
 use Rattle.rail_codes.specs.declared.code_fault.CodeFault.{CodeFault}
 use Rattle.rail_codes.specs.declared.code_fault.CodeFault.TheVariants.{NotTwelveDigits, CheckDigit, BadPlace, BadClass, BadCompany, BadOrderId, BadMoment, MomentOutOfRange}

@@ -4,5 +4,5 @@ pub mod Company
 pub mod Moment
 pub mod OrderId
 pub mod Place
-pub mod ShortText
 pub mod WagonNumber
+pub mod inner

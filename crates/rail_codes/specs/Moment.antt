@@ -1,17 +1,26 @@
+-- Moments, as whole seconds, and their texts.
 use Rattle.std.specs.Prelude.{◌≡◌, ℕ, ◌+◌, ◌/◌, ◌%◌, ◌≤◌, nat_le, ◌&&◌, if◌then◌else◌, ℤ, pos, negsuc, unsigned_abs, List, [], ◌∷◌, ◌++◌, Result, Ok, Err}
 use Rattle.jiff.specs.Types.{DateTime}
 use Rattle.jiff.specs.Words.{Error, parse_timestamp, civil_seconds}
 use Rattle.rail_codes.specs.declared.code_fault.CodeFault.{CodeFault}
 use Rattle.rail_codes.specs.declared.code_fault.CodeFault.TheVariants.{BadMoment, MomentOutOfRange}
 
--- whole seconds since 1970-01-01T00:00:00Z, from the first second of 2000 to the last of 2099
+-- the first second of the year 2000, in seconds since 1970-01-01T00:00:00Z
+abbrev pub first_second : ℕ
+first_second = 946_684_800
+
+-- the last second of the year 2099, in seconds since 1970-01-01T00:00:00Z
+abbrev pub last_second : ℕ
+last_second = 4_102_444_799
+
+-- whole seconds since 1970-01-01T00:00:00Z, within these limits
 abbrev pub IsMoment : ℕ → Type 0
-IsMoment seconds = (946_684_800 ≤ seconds) × (seconds ≤ 4_102_444_799)
+IsMoment seconds = (first_second ≤ seconds) × (seconds ≤ last_second)
 
 -- a number of seconds as a moment, or the fault
 abbrev pub moment_of_seconds : ℕ → Result ℕ CodeFault
 moment_of_seconds seconds =
-    if nat_le 946_684_800 seconds && nat_le seconds 4_102_444_799 then Ok seconds else Err MomentOutOfRange
+    if nat_le first_second seconds && nat_le seconds last_second then Ok seconds else Err MomentOutOfRange
 
 -- the whole second at or below an instant, which is told in nanoseconds; one before 1970 is out of range
 abbrev pub moment_of_instant : ℤ → Result ℕ CodeFault

@@ -9,11 +9,14 @@ use crate::short_text::ShortText;
 use std::alloc::{AllocError, Global};
 use std::marker::Model;
 
+/// The most letters of a class; it has one at least.
+const MAX_CLASS_LETTERS: usize = 12;
+
 /// A wagon's class: 1 to 12 ASCII letters, whose meaning is not judged. Classes are compared as
 /// whole texts with case. A contract sees the letters as ASCII codes.
 #[derive(Clone, Copy, Debug, PartialEq, Eq, PartialOrd, Ord, Hash)]
 pub struct ClassCode {
-    letters: ShortText<12>,
+    letters: ShortText<MAX_CLASS_LETTERS>,
 }
 
 impl Model for ClassCode {
@@ -62,8 +65,9 @@ impl ClassCode {
     }
 }
 
+/// Whether these are 1 to 12 ASCII letters.
 fn is_class_code(letters: &[u8]) -> bool
     ensures { result ≡ is_class_code letters.now }
 {
-    1 <= letters.len() && letters.len() <= 12 && are_letters(letters)
+    1 <= letters.len() && letters.len() <= MAX_CLASS_LETTERS && are_letters(letters)
 }

@@ -62,18 +62,21 @@ impl Company {
     }
 }
 
+/// Whether each is 0-9 or A-Z; there are four.
 fn is_company(characters: &[u8; 4]) -> bool
     ensures { result ≡ is_company characters.now }
 {
     are_company_characters(characters)
 }
 
+/// Whether each is 0-9 or A-Z.
 fn are_company_characters(characters: &[u8]) -> bool
     ensures { result ≡ list_all is_company_character characters.now }
 {
     characters.iter().all(|c| is_company_character(*c))
 }
 
+/// Whether it is 0-9 or A-Z.
 fn is_company_character(c: u8) -> bool
     ensures { result ≡ is_company_character c }
 {

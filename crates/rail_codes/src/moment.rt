@@ -11,7 +11,7 @@ use std::marker::Model;
 /// 2000-01-01T00:00:00Z, in seconds since 1970-01-01T00:00:00Z.
 const FIRST_SECOND: u64 = 946_684_800;
 
-/// 2099-12-31T23:59:59Z.
+/// 2099-12-31T23:59:59Z, in seconds since 1970-01-01T00:00:00Z.
 const LAST_SECOND: u64 = 4_102_444_799;
 
 /// A moment: a whole second from the year 2000 to the year 2099, in UTC. A contract sees the

@@ -9,11 +9,14 @@ use crate::short_text::ShortText;
 use std::alloc::{AllocError, Global};
 use std::marker::Model;
 
+/// The most characters of an order's name; it has one at least.
+const MAX_ORDER_ID_CHARACTERS: usize = 16;
+
 /// An order's name: 1 to 16 characters, each A-Z, 0-9 or hyphen. A contract sees the characters as
 /// ASCII codes. Names are compared as texts.
 #[derive(Clone, Copy, Debug, PartialEq, Eq, PartialOrd, Ord, Hash)]
 pub struct OrderId {
-    text: ShortText<16>,
+    text: ShortText<MAX_ORDER_ID_CHARACTERS>,
 }
 
 impl Model for OrderId {
@@ -63,18 +66,23 @@ impl OrderId {
     }
 }
 
+/// Whether these are 1 to 16 characters of an order's name.
 fn is_order_id(characters: &[u8]) -> bool
     ensures { result ≡ is_order_id characters.now }
 {
-    1 <= characters.len() && characters.len() <= 16 && are_order_characters(characters)
+    1 <= characters.len()
+        && characters.len() <= MAX_ORDER_ID_CHARACTERS
+        && are_order_characters(characters)
 }
 
+/// Whether each is A-Z, 0-9 or a hyphen.
 fn are_order_characters(characters: &[u8]) -> bool
     ensures { result ≡ list_all is_order_character characters.now }
 {
     characters.iter().all(|c| is_order_character(*c))
 }
 
+/// Whether it is A-Z, 0-9 or a hyphen.
 fn is_order_character(c: u8) -> bool
     ensures { result ≡ is_order_character c }
 {

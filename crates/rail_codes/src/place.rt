@@ -61,6 +61,7 @@ impl Place {
     }
 }
 
+/// Whether these are two letters A-Z and five digits.
 fn is_place(characters: &[u8; 7]) -> bool
     ensures { result ≡ is_place characters.now }
 {

@@ -6,7 +6,7 @@ ghost use Rattle.std.specs.Cmp.Lexicographic.{pointwise, slice_cmp, nat_list_eq_
 ghost use Rattle.std.specs.Cmp.Rules.{hashing};
 ghost use Rattle.std.specs.Hash as fed;
 ghost use Rattle.std.proofs.Common.{rules};
-ghost use Rattle.rail_codes.specs.ShortText.{padded};
+ghost use Rattle.rail_codes.specs.inner.ShortText.{padded};
 
 use std::cmp::Ordering;
 use std::hash::{Hash, Hasher};
@@ -22,7 +22,7 @@ pub(crate) struct ShortText<const ROOM: usize> {
 
 impl<const ROOM: usize> Model for ShortText<ROOM> {
     ghost use Rattle.std.specs.Prelude.{ℕ, List, length, take};
-    ghost use Rattle.rail_codes.specs.ShortText.{IsPadded, padded, length-take-used};
+    ghost use Rattle.rail_codes.specs.inner.ShortText.{IsPadded, padded, length-take-used};
 
     ghost Value = { List ℕ };
 
@@ -36,6 +36,7 @@ impl<const ROOM: usize> Model for ShortText<ROOM> {
 }
 
 impl<const ROOM: usize> ShortText<ROOM> {
+    /// A text of at most `ROOM` bytes.
     pub(crate) fn new(text: &[u8]) -> ShortText<ROOM>
         requires room { length text.now ≤ ROOM }
         requires short { length text.now < 256 }
@@ -47,6 +48,7 @@ impl<const ROOM: usize> ShortText<ROOM> {
         }
     }
 
+    /// The bytes of the text.
     pub(crate) fn as_bytes(&self) -> &[u8]
         ensures { result.now ≡ self.now }
     {

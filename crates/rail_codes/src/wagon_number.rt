@@ -1,6 +1,7 @@
 //! Wagon numbers.
-ghost use Rattle.std.specs.Prelude.{◌≡◌, ◌≤◌, ◌*◌, ℕ, ◌%◌, ◌==◌, ◌↔◌, IsTrue, if◌then◌else◌, Some, None, Ok, IsOk, IfOk, IfSome, List, slice_index, string_bytes};
-ghost use Rattle.rail_codes.specs.WagonNumber.{kept_characters, are_twelve_digits, value_of_digit, digit_sum, weighted_digit_sum, wagon_number_of, IsWagonNumber};
+ghost use Rattle.std.specs.Prelude.{◌≡◌, ◌≤◌, ◌*◌, ℕ, ◌%◌, ◌↔◌, IsTrue, if◌then◌else◌, Some, None, Ok, IsOk, IfOk, IfSome, List, take, string_bytes};
+ghost use Rattle.rail_codes.specs.inner.CheckDigit.{missing_to_ten};
+ghost use Rattle.rail_codes.specs.WagonNumber.{kept_characters, are_twelve_digits, digit_sum, weighted_digit_sum, wagon_number_of, IsWagonNumber};
 
 use crate::CodeFault;
 use crate::ascii_text::ascii_text;
@@ -39,7 +40,7 @@ impl WagonNumber {
         let Some(digits) = twelve_digits(text.as_bytes()) else {
             return Err(CodeFault::NotTwelveDigits);
         };
-        if digits[11] - b'0' != check_digit(&digits) {
+        if !ends_in_check_digit(&digits) {
             return Err(CodeFault::CheckDigit);
         }
         Ok(WagonNumber { digits })
@@ -73,7 +74,8 @@ fn twelve_digits(text: &[u8]) -> Option<[u8; 12]>
     }
 }
 
-/// A text of twelve digits and nothing else, as most are. It is read at once, where `kept_digits` goes byte by byte.
+/// A text of twelve digits and nothing else, as most are: read at once, where
+/// `kept_digits` goes byte by byte.
 fn plain_digits(text: &[u8]) -> Option<[u8; 12]>
     ensures { IfSome result (λ digits. (digits ≡ text.now) × IsTrue (are_twelve_digits digits)) }
 {
@@ -105,10 +107,19 @@ fn kept_digits(text: &[u8]) -> Option<[u8; 12]>
     if count == 12 { Some(digits) } else { None }
 }
 
-/// The digit that brings the weighted digit sum of the first eleven digits to a multiple of ten.
+/// Whether the last digit is the check digit of the first eleven.
+fn ends_in_check_digit(digits: &[u8; 12]) -> bool
+    requires { IsTrue (are_twelve_digits digits.now) }
+    ensures { IsTrue result ↔ (weighted_digit_sum digits.now % 10 ≡ 0) }
+{
+    check_digit(digits) == digits[11] - b'0'
+}
+
+/// The digit that brings the weighted digit sum of the first eleven digits to the next multiple of
+/// ten.
 fn check_digit(digits: &[u8; 12]) -> u8
     requires { IsTrue (are_twelve_digits digits.now) }
-    ensures { IsTrue (result == value_of_digit (slice_index digits.now 11)) ↔ (weighted_digit_sum digits.now % 10 ≡ 0) }
+    ensures { result ≡ missing_to_ten (weighted_digit_sum (take 11 digits.now)) }
 {
     let mut sum = 0;
     let mut weight = 2;

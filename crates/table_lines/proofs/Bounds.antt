@@ -12,9 +12,10 @@ use Rattle.json_fields.specs.declared.fault.LineFault.{LineFault}
 use Rattle.json_fields.specs.Values.{◌>>=◌, number_within, list_of_each}
 use Rattle.json_fields.specs.Fields.{Gives}
 use Rattle.json_fields.proofs.Bounds.{bind_ok, number_is_within, HoldsOfRead, list_holds, field_holds, optional_field_holds}
-use Rattle.cost_table.specs.declared.limits.TheConstants.{MAX_COST, MAX_LACK}
+use Rattle.move_messages.specs.Order.{max_order_wagons}
+use Rattle.cost_table.specs.TableLimits.{max_cost}
 use Rattle.cost_table.specs.Rows.{IsNumber}
-use Rattle.cost_table.specs.Table.{IsLack}
+use Rattle.load_orders.specs.Wanted.{IsLack}
 use Rattle.table_lines.specs.TableLine.{cell_of, row_of, cells_of, lacks_of}
 
 abbrev done : Option ℕ → Result (Option ℕ) FieldFault
@@ -23,11 +24,11 @@ done x = Ok x
 ok_is : (x y : Option ℕ) → done x ≡ done y → x ≡ y
 ok_is x y e = cc
 
-cell_by : (b : Bool) (d : Data) (x : Option ℕ) → cond b (done None) (number_within 0 MAX_COST d >>= λ cost. done (Some cost)) ≡ Ok x → IsNumber x
+cell_by : (b : Bool) (d : Data) (x : Option ℕ) → cond b (done None) (number_within 0 max_cost d >>= λ cost. done (Some cost)) ≡ Ok x → IsNumber x
 cell_by true d x e = subst IsNumber (ok_is None x e) tt
 cell_by false d x e =
-    let a = bind_ok (number_within 0 MAX_COST d) (λ cost. done (Some cost)) x e in
-    subst IsNumber (ok_is (Some a.0) x a.2) ((number_is_within 0 MAX_COST d a.0 a.1).1)
+    let a = bind_ok (number_within 0 max_cost d) (λ cost. done (Some cost)) x e in
+    subst IsNumber (ok_is (Some a.0) x a.2) ((number_is_within 0 max_cost d a.0 a.1).1)
 
 cell_is : HoldsOfRead cell_of IsNumber
 unfolding cell_of
@@ -45,5 +46,5 @@ cells_are d (Err e) given = tt
 
 pub lacks_are : (d : Data) (r : Result (Option (Vec ℕ)) LineFault) → Gives (λ lacks. option_map (λ list. list.items) lacks) r (lacks_of d) → IfOk r (λ lacks. IfSome lacks (λ list. All IsLack list.items))
 lacks_are d (Ok None) given = tt
-lacks_are d (Ok (Some list)) given = optional_field_holds (list_of_each (number_within 1 MAX_LACK)) (All IsLack) (list_holds (number_within 1 MAX_LACK) IsLack (number_is_within 1 MAX_LACK)) Lacks d list.items given
+lacks_are d (Ok (Some list)) given = optional_field_holds (list_of_each (number_within 1 max_order_wagons)) (All IsLack) (list_holds (number_within 1 max_order_wagons) IsLack (number_is_within 1 max_order_wagons)) Lacks d list.items given
 lacks_are d (Err e) given = tt

@@ -6,7 +6,8 @@ use Rattle.serde_json.specs.declared.value.Value.{Value}
 use Rattle.json_fields.specs.declared.field.Field.{Field}
 use Rattle.json_fields.specs.declared.fault.FieldFault.{FieldFault}
 use Rattle.json_fields.specs.declared.fault.LineFault.{LineFault}
-use Rattle.json_fields.specs.Values.{after, each}
+use Rattle.json_fields.specs.Values.{each}
+use Rattle.json_fields.specs.inner.Loops.{after}
 use Rattle.json_fields.specs.Fields.{Fails, in_field}
 use Rattle.json_fields.proofs.Items.{in_field_err, stops}
 

@@ -1,1 +1,3 @@
 pub mod TableLine
+pub mod TableRefusals
+pub mod TableCost

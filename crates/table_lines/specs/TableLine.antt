@@ -9,10 +9,11 @@ use Rattle.json_fields.specs.declared.fault.LineFault.{LineFault}
 use Rattle.json_fields.specs.Values.{◌>>=◌, number_within, wagon_number_from, order_id_from, list_of_each, pair_of}
 use Rattle.json_fields.specs.Fields.{list_at, optional_list_at}
 use Rattle.json_fields.specs.Line.{object_of}
-use Rattle.cost_table.specs.declared.limits.TheConstants.{MAX_COST, MAX_LACK}
+use Rattle.move_messages.specs.Order.{max_order_wagons}
+use Rattle.cost_table.specs.TableLimits.{max_cost}
 use Rattle.table_lines.specs.declared.table_line.TableLine.{TableLine}
 
--- a table line without where it lies in memory; numbers and names of codes are texts
+-- a table line, as a contract sees it: wagon numbers and the names of orders are texts
 pub record TableText : Type 0 where
   pub wagons : List (List ℕ)
   pub orders : List (List ℕ)
@@ -23,43 +24,48 @@ pub record TableText : Type 0 where
   pub u : List ℕ
   pub v : List ℕ
 
+-- what a contract sees of the value that was read
 abbrev pub table_text : TableLine → TableText
 table_text line =
     record { wagons = line.wagons.items; orders = line.orders.items; cells = map (λ row. row.items) line.cells.items; penalties = line.penalties.items; lacks = option_map (λ list. list.items) line.lacks; pairs = line.pairs.items; u = line.u.items; v = line.v.items }
 
 -- ---- fields
 
--- null where the pair is not allowed
+-- the cost of a cell in km, null where the pair is not allowed
 unfoldable pub cell_of : Data → Result (Option ℕ) FieldFault
-cell_of d = if is_some (as_null d) then Ok None else number_within 0 MAX_COST d >>= λ cost. Ok (Some cost)
+cell_of d = if is_some (as_null d) then Ok None else number_within 0 max_cost d >>= λ cost. Ok (Some cost)
 
+-- the costs of one wagon
 abbrev pub row_of : Data → Result (List (Option ℕ)) FieldFault
 row_of d = list_of_each cell_of d
 
+-- the rows of costs, one for each wagon
 abbrev pub cells_of : Data → Result (List (List (Option ℕ))) LineFault
 cells_of d = list_at row_of Cells d
 
+-- how many wagons each order lacks: one at least, and no more than an order wants
 abbrev pub lacks_of : Data → Result (Option (List ℕ)) LineFault
-lacks_of d = optional_list_at (number_within 1 MAX_LACK) Lacks d
+lacks_of d = optional_list_at (number_within 1 max_order_wagons) Lacks d
 
--- the dual prices of the wagons, or those of the orders
+-- the dual prices of the wagons, or those of the orders, in km
 abbrev pub prices_of : Field → Data → Result (List ℕ) LineFault
 prices_of field d = list_at (number_within 0 (2 ^ 64 - 1)) field d
 
 -- ---- the whole line
 
--- the fields of an object, each tried in turn
+-- the fields of an object, in the order in which they are tried
 unfoldable pub table_text_of : Data → Result TableText LineFault
 table_text_of d = do
   wagons ← list_at wagon_number_from Wagons d
   orders ← list_at order_id_from Orders d
   cells ← cells_of d
-  penalties ← list_at (number_within 0 MAX_COST) Penalties d
+  penalties ← list_at (number_within 0 max_cost) Penalties d
   lacks ← lacks_of d
   pairs ← list_at pair_of Pairs d
   u ← prices_of WagonPrices d
   v ← prices_of OrderPrices d
   Ok (record { wagons = wagons; orders = orders; cells = cells; penalties = penalties; lacks = lacks; pairs = pairs; u = u; v = v })
 
+-- the table that a line is, or its first fault
 unfoldable pub table_line_of : List ℕ → Result TableText LineFault
 table_line_of bytes = object_of bytes >>= table_text_of

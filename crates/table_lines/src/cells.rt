@@ -1,3 +1,5 @@
+//! The rows of costs of a table line.
+
 ghost use Rattle.std.specs.Prelude.{◌≡◌, All, IfOk, Result, map};
 ghost use Rattle.serde_json.specs.Data.{Data};
 ghost use Rattle.serde_json.specs.View.{view, items_view};
@@ -14,7 +16,7 @@ use json_fields::{
 use serde_json::Value;
 use std::alloc::Global;
 
-/// Costs of cells, null where the pair is not allowed.
+/// Costs of cells in km, null where the pair is not allowed.
 #[derive(Clone, Copy, Debug)]
 pub(crate) struct CellKind;
 
@@ -33,7 +35,7 @@ impl ItemKind for CellKind {
     }
 }
 
-/// Each row of cells, up to the first with a fault.
+/// Each row of costs, up to the first that is refused.
 fn rows_of(alloc: Global, rows: &[Value]) -> Result<Vec<Vec<Option<u64>>>, LineFault>
     ensures { Gives (λ found. map (λ row. row.items) found.items) result
         (in_field Field.Cells (each meaning.row_of (items_view rows.now))) }
@@ -46,7 +48,7 @@ fn rows_of(alloc: Global, rows: &[Value]) -> Result<Vec<Vec<Option<u64>>>, LineF
     Ok(found)
 }
 
-/// The rows of cells, one for each wagon.
+/// The rows of costs, one for each wagon.
 #[tactic(auto, unfolding(json_fields::specs::Fields::field_of, json_fields::specs::Values::list_of_each))]
 pub(crate) fn cells_at(alloc: Global, object: &Value) -> Result<Vec<Vec<Option<u64>>>, LineFault>
     ensures meaning { Gives (λ rows. map (λ row. row.items) rows.items) result

@@ -1,11 +1,13 @@
+//! How many wagons each order of a table line lacks.
+
 ghost use Rattle.std.specs.Prelude.{All, IfOk, IfSome, option_map};
 ghost use Rattle.serde_json.specs.View.{view};
 ghost use Rattle.json_fields.specs.Fields.{Gives};
 ghost use Rattle.table_lines.specs.TableLine as meaning;
-ghost use Rattle.cost_table.specs.Table.{IsLack};
+ghost use Rattle.load_orders.specs.Wanted.{IsLack};
 
-use cost_table::MAX_LACK;
 use json_fields::{CountKind, Field, LineFault, optional_list_at};
+use move_messages::MAX_ORDER_WAGONS;
 use serde_json::Value;
 use std::alloc::Global;
 
@@ -17,7 +19,7 @@ pub(crate) fn lacks_at(alloc: Global, object: &Value) -> Result<Option<Vec<u32>>
 {
     let kind = CountKind {
         low: 1,
-        high: MAX_LACK,
+        high: MAX_ORDER_WAGONS,
     };
     optional_list_at(alloc, object, Field::Lacks, &kind)
 }

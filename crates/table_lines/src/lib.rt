@@ -1,10 +1,15 @@
-//! Table lines: a distribution problem, a plan and its prices, as one JSON object a line.
+//! Table lines: a distribution problem, a plan and its prices, as one JSON object a line, and what such a line is
+//! answered.
 #![tactic(auto)]
 
 mod cells;
 mod lacks;
+mod table_answer;
 mod table_line;
 mod table_reading;
+mod table_refusal;
 
+pub use table_answer::table_cost;
 pub use table_line::TableLine;
 pub use table_reading::read_table_line;
+pub use table_refusal::TableRefusal;

@@ -1,9 +1,12 @@
+//! Table lines, read field by field.
+
 ghost use Rattle.std.specs.Prelude.{◌≤◌, All, IfOk, IfSome};
 ghost use Rattle.serde_json.specs.View.{view};
 ghost use Rattle.json_fields.specs.Fields.{Gives};
 ghost use Rattle.table_lines.specs.TableLine.{table_text, table_text_of, table_line_of};
 ghost use Rattle.cost_table.specs.Rows.{IsNumber};
-ghost use Rattle.cost_table.specs.Table.{IsLack};
+ghost use Rattle.cost_table.specs.TableLimits.{max_cost};
+ghost use Rattle.load_orders.specs.Wanted.{IsLack};
 
 use crate::cells::cells_at;
 use crate::lacks::lacks_at;
@@ -19,25 +22,27 @@ use std::alloc::Global;
 ///
 /// The bytes are no JSON value (21), or no object (22); else the fields are tried in the order
 /// wagons, orders, cells, penalties, lacks, pairs, u, v, and the first that is missing (24) or bad
-/// (25) is the answer. `lacks` may be missing. `OutOfMemory` (1) may come in place of any answer.
+/// (25) is the answer. `lacks` may be missing. `OutOfMemory` (1) may be the
+/// answer in place of any other.
 #[tactic(auto, unfolding(crate::specs::TableLine::table_line_of))]
 pub fn read_table_line(alloc: Global, bytes: &[u8]) -> Result<TableLine, LineFault>
     ensures meaning { Gives table_text result (table_line_of bytes.now) }
     ensures costs { IfOk result (λ line. All (λ row. All IsNumber row.items) line.cells.items) }
     ensures penalties { IfOk result
-        (λ line. All (λ penalty. penalty ≤ MAX_COST) line.penalties.items) }
+        (λ line. All (λ penalty. penalty ≤ max_cost) line.penalties.items) }
     ensures lacks { IfOk result (λ line. IfSome line.lacks (λ lacks. All IsLack lacks.items)) }
 {
     let object = object_of(alloc, bytes)?;
     table_of(alloc, &object)
 }
 
+/// The table that an object gives.
 #[tactic(auto, unfolding(crate::specs::TableLine::table_text_of))]
 fn table_of(alloc: Global, object: &Value) -> Result<TableLine, LineFault>
     ensures meaning { Gives table_text result (table_text_of (view object.now)) }
     ensures costs { IfOk result (λ line. All (λ row. All IsNumber row.items) line.cells.items) }
     ensures penalties { IfOk result
-        (λ line. All (λ penalty. penalty ≤ MAX_COST) line.penalties.items) }
+        (λ line. All (λ penalty. penalty ≤ max_cost) line.penalties.items) }
     ensures lacks { IfOk result (λ line. IfSome line.lacks (λ lacks. All IsLack lacks.items)) }
 {
     let wagons = wagon_numbers_at(alloc, object, Field::Wagons)?;

@@ -15,8 +15,8 @@ use Rattle.std.specs.Ordering.{is_eq, ordering_index, ordering_reverse}
 use Rattle.std.specs.declared.cmp.Ordering.{Ordering}
 use Rattle.std.specs.declared.cmp.Ordering.TheVariants.{Less, Equal, Greater}
 use Rattle.wagon_state.specs.declared.wagon_row.WagonRow.{WagonRow}
-use Rattle.wagon_roster.specs.Roster.{IsGapFor, IsRoster, IsRosterRow, by_number, compare_numbers, has_wagon, is_same_number}
-use Rattle.wagon_roster.specs.declared.limits.TheConstants.{MAX_WAGONS}
+use Rattle.wagon_roster.specs.Roster.{IsRoster, IsRosterRow, by_number, compare_numbers, has_wagon, is_same_number, max_roster_wagons}
+use Rattle.wagon_roster.specs.inner.Places.{IsGapFor}
 
 pub by_number_total : IsTotalOrder by_number
 by_number_total = on_total (λ (row : WagonRow). row.number) nat_list_cmp_total
@@ -141,7 +141,7 @@ unfolding IsStrictlySortedBy
 IsRoster-empty = record { few = omega arith; ascending = tt; each = All-nil IsRosterRow }
 
 -- a roster with the row of one more wagon in its gap
-pub IsRoster-insert : (rows : List WagonRow) (row : WagonRow) (at : ℕ) → IsRoster rows → IsRosterRow row → length rows < MAX_WAGONS → IsGapFor rows row.number at
+pub IsRoster-insert : (rows : List WagonRow) (row : WagonRow) (at : ℕ) → IsRoster rows → IsRosterRow row → length rows < max_roster_wagons → IsGapFor rows row.number at
     → IsRoster (insert rows at row)
 IsRoster-insert rows row at roster one few gap = record {
   few = omega (arith, length-insert rows at row gap.within);

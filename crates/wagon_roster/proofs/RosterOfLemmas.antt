@@ -8,13 +8,13 @@ use Rattle.std.proofs.lemmas.Map.Keys.{IsDistinct-head, IsDistinct-push, IsDisti
 use Rattle.std.specs.Cmp.{IsEquivalence}
 use Rattle.std.specs.List.{AllByRecursion, IsDistinct}
 use Rattle.std.specs.List.Sorted.{IsPermutation}
+use Rattle.csv_records.specs.Fields.{Record}
 use Rattle.wagon_state.specs.declared.wagon_row.WagonRow.{WagonRow}
 use Rattle.wagon_roster.proofs.RosterLemmas.{by_number_total, same_order}
 use Rattle.wagon_roster.specs.Reading.{◌>>=◌, Gives, Stops, is_failure, rows_of, with_read, with_record, with_records}
-use Rattle.wagon_roster.specs.Records.{Record, is_header, wagon_record}
-use Rattle.wagon_roster.specs.Roster.{IsRoster, has_wagon, is_same_wagon}
+use Rattle.wagon_roster.specs.Records.{is_header, wagon_record}
+use Rattle.wagon_roster.specs.Roster.{IsRoster, has_wagon, is_same_wagon, max_roster_wagons}
 use Rattle.wagon_roster.specs.RosterOf.{IsAnswered, IsRosterOf}
-use Rattle.wagon_roster.specs.declared.limits.TheConstants.{MAX_WAGONS}
 use Rattle.wagon_roster.specs.declared.roster_fault.RosterFault.{RosterFault}
 use Rattle.wagon_roster.specs.declared.roster_fault.RosterFault.TheVariants.{OutOfMemory, DuplicateWagon, TooLarge, BadRosterRow, ReadFailed}
 
@@ -25,7 +25,7 @@ same_wagon = on_equiv (λ (row : WagonRow). row.number) (lists_equiv nat_eq_equi
 record SaysFrom (n : ℕ) (rows : List WagonRow) (records : List Record) (end : List WagonRow) : Type 0 where
   more : List WagonRow
   each_read : map wagon_record records ≡ map Some more
-  few_records : length records + n ≤ MAX_WAGONS + 2
+  few_records : length records + n ≤ max_roster_wagons + 2
   all : end ≡ rows ++ more
   no_wagon_twice : IsDistinct is_same_wagon end
 
@@ -33,11 +33,11 @@ record SaysFrom (n : ℕ) (rows : List WagonRow) (records : List Record) (end : 
 record SaysOne (n : ℕ) (rows : List WagonRow) (fields : Record) (more : List WagonRow) : Type 0 where
   row : WagonRow
   is_read : wagon_record fields ≡ Some row
-  few_records : n ≤ MAX_WAGONS + 1
+  few_records : n ≤ max_roster_wagons + 1
   new : has_wagon rows row.number ≡ false
   made : more ≡ rows ++ row ∷ []
 
-one_read : (n : ℕ) (rows : List WagonRow) (fields : Record) (more : List WagonRow) (read : Option WagonRow) → wagon_record fields ≡ read → n ≤ MAX_WAGONS + 1
+one_read : (n : ℕ) (rows : List WagonRow) (fields : Record) (more : List WagonRow) (read : Option WagonRow) → wagon_record fields ≡ read → n ≤ max_roster_wagons + 1
     → with_read n rows read ≡ Ok more → SaysOne n rows fields more
 one_read n rows fields more None read few e = cc e
 one_read n rows fields more (Some row) read few e = elim (cases_Bool (has_wagon rows row.number)) [
@@ -48,9 +48,9 @@ one_read n rows fields more (Some row) read few e = elim (cases_Bool (has_wagon 
 ]
 
 says_one : (n : ℕ) (rows : List WagonRow) (fields : Record) (more : List WagonRow) → with_record n rows fields ≡ Ok more → SaysOne n rows fields more
-says_one n rows fields more e = elim (cases_Bool (nat_lt (MAX_WAGONS + 1) n)) [
+says_one n rows fields more e = elim (cases_Bool (nat_lt (max_roster_wagons + 1) n)) [
   | inl past ↦ cc (rw past at e)
-  | inr within ↦ one_read n rows fields more (wagon_record fields) refl (ltb-false (MAX_WAGONS + 1) n within) (rw within at e)
+  | inr within ↦ one_read n rows fields more (wagon_record fields) refl (ltb-false (max_roster_wagons + 1) n within) (rw within at e)
 ]
 
 -- one record, and then the others
@@ -73,7 +73,7 @@ says_step n rows fields records end (Ok more) is others e =
     let one = says_one n rows fields more is in
     says_then n rows more fields records end one (others more one e)
 
-says_from : (n : ℕ) (rows : List WagonRow) (records : List Record) (end : List WagonRow) → n ≤ MAX_WAGONS + 2 → IsDistinct is_same_wagon rows
+says_from : (n : ℕ) (rows : List WagonRow) (records : List Record) (end : List WagonRow) → n ≤ max_roster_wagons + 2 → IsDistinct is_same_wagon rows
     → with_records n rows records ≡ Ok end → SaysFrom n rows records end
 says_from n rows [] end few apart e =
     let same : rows ≡ end = cc e in
@@ -97,13 +97,15 @@ IsRosterOf-read (header ∷ below) rows roster e same kept = elim (cases_Bool (i
       let says = says_from 2 [] below rows (lit≤ tt) none_twice (rw right at e) in
       let all : rows ≡ says.more = says.all in
       record {
-        header = header;
-        below = below;
         rows = rows;
-        header_first = refl;
-        header_right = right;
-        each_read = says.each_read ∙ ap (map Some) (sym all);
-        few_records = omega (arith, says.few_records);
+        file = record {
+          header = header;
+          below = below;
+          header_first = refl;
+          header_right = right;
+          each_read = says.each_read ∙ ap (map Some) (sym all);
+          few_records = omega (arith, says.few_records);
+        };
         no_wagon_twice = says.no_wagon_twice;
         same_rows = same;
         in_order = kept;
@@ -125,7 +127,7 @@ none_before (x ∷ xs) row more apart =
     rw (flipped, others) refl
 
 rows_are_read : (n : ℕ) (rows : List WagonRow) (records : List Record) (more : List WagonRow) → map wagon_record records ≡ map Some more
-    → length records + n ≤ MAX_WAGONS + 2 → IsDistinct is_same_wagon (rows ++ more) → with_records n rows records ≡ Ok (rows ++ more)
+    → length records + n ≤ max_roster_wagons + 2 → IsDistinct is_same_wagon (rows ++ more) → with_records n rows records ≡ Ok (rows ++ more)
 rows_are_read n rows [] [] each few apart = ap Ok (sym (append-nil rows))
 rows_are_read n rows [] (row ∷ more) each few apart = cc each
 rows_are_read n rows (fields ∷ records) [] each few apart = cc each
@@ -133,7 +135,7 @@ rows_are_read n rows (fields ∷ records) (row ∷ more) each few apart =
     let is : wagon_record fields ≡ Some row = cc each in
     let others : map wagon_record records ≡ map Some more = cc each in
     let new = none_before rows row more apart in
-    let step : with_record n rows fields ≡ Ok (rows ++ row ∷ []) = rw (le-ltb (MAX_WAGONS + 1) n (omega arith), is, new) refl in
+    let step : with_record n rows fields ≡ Ok (rows ++ row ∷ []) = rw (le-ltb (max_roster_wagons + 1) n (omega arith), is, new) refl in
     let joined : (rows ++ row ∷ []) ++ more ≡ rows ++ row ∷ more = rw append_assoc refl in
     let rest : with_records (n + 1) (rows ++ row ∷ []) records ≡ Ok ((rows ++ row ∷ []) ++ more) =
     rows_are_read (n + 1) (rows ++ row ∷ []) records more others (omega arith) (rw joined apart) in
@@ -141,7 +143,7 @@ rows_are_read n rows (fields ∷ records) (row ∷ more) each few apart =
 
 IsRosterOf-is_read : (records : List Record) (roster : List WagonRow) (h : IsRosterOf records roster) → rows_of records ≡ Ok h.rows
 IsRosterOf-is_read records roster h =
-    rw (h.header_first, h.header_right) (rows_are_read 2 [] h.below h.rows h.each_read (omega (arith, h.few_records)) h.no_wagon_twice)
+    rw (h.file.header_first, h.file.header_right) (rows_are_read 2 [] h.file.below h.rows h.file.each_read (omega (arith, h.file.few_records)) h.no_wagon_twice)
 
 pub exact_from : (records : List Record) (result : Result (List WagonRow) RosterFault) → Gives result (rows_of records) → IfOk result IsRoster → IfOk result (IsRosterOf records)
 exact_from records (Ok roster) gives kept = IsRosterOf-read records gives.rows roster gives.are_read gives.same kept

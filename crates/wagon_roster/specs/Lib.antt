@@ -3,3 +3,4 @@ pub mod Records
 pub mod Roster
 pub mod RosterFault
 pub mod RosterOf
+pub mod inner

@@ -1,14 +1,10 @@
 -- The rows of wagons that the records of a file say, or the first fault.
-use Rattle.std.specs.Prelude.{◌≡◌, ℕ, ◌+◌, ◌≤◌, Bool, true, false, IfSome, if◌then◌else◌, nat_lt, List, [], ◌∷◌, ◌++◌, Option, Some, None, Result, Ok, Err}
+use Rattle.std.specs.Prelude.{◌≡◌, ℕ, ◌+◌, Bool, true, false, if◌then◌else◌, nat_lt, List, [], ◌∷◌, ◌++◌, Option, Some, None, Result, Ok, Err}
 use Rattle.std.specs.List.Sorted.{IsPermutation}
-use Rattle.csv.specs.Reading.{AreRecords, ReadRecord, Ready, default_config, has_failed, is_flexible, reader_config, reader_state, reader_trim, source_of, strip_bom}
-use Rattle.csv.specs.declared.parser.State.TheVariants as st
-use Rattle.csv.specs.declared.reader.Reader.{Reader}
-use Rattle.csv.specs.declared.reader.Trim.TheVariants as trim
+use Rattle.csv_records.specs.Fields.{Record}
 use Rattle.wagon_state.specs.declared.wagon_row.WagonRow.{WagonRow}
-use Rattle.wagon_roster.specs.Records.{Record, is_header, wagon_record}
-use Rattle.wagon_roster.specs.Roster.{has_wagon}
-use Rattle.wagon_roster.specs.declared.limits.TheConstants.{MAX_WAGONS}
+use Rattle.wagon_roster.specs.Records.{is_header, wagon_record}
+use Rattle.wagon_roster.specs.Roster.{has_wagon, max_roster_wagons}
 use Rattle.wagon_roster.specs.declared.roster_fault.RosterFault.{RosterFault}
 use Rattle.wagon_roster.specs.declared.roster_fault.RosterFault.TheVariants.{OutOfMemory, DuplicateWagon, TooLarge, BadRosterRow, ReadFailed}
 
@@ -22,7 +18,7 @@ with_read n rows (Some row) = with_wagon rows row
 
 -- rows and what the record of number n says, which is at most the 1,000th below the header
 abbrev pub with_record : ℕ → List WagonRow → Record → Result (List WagonRow) RosterFault
-with_record n rows fields = if nat_lt (MAX_WAGONS + 1) n then Err TooLarge else with_read n rows (wagon_record fields)
+with_record n rows fields = if nat_lt (max_roster_wagons + 1) n then Err TooLarge else with_read n rows (wagon_record fields)
 
 infixl 10 ◌>>=◌
 abbrev pub ◌>>=◌ : {A B : Type 0} → Result A RosterFault → (A → Result B RosterFault) → Result B RosterFault
@@ -46,14 +42,6 @@ Stops (DuplicateWagon number) read = read ≡ Err (DuplicateWagon number)
 Stops TooLarge read = read ≡ Err TooLarge
 Stops (BadRosterRow n) read = read ≡ Err (BadRosterRow n)
 
--- why a wagon was not added
-abbrev pub RefusesWagon : RosterFault → List WagonRow → WagonRow → Type 0
-RefusesWagon OutOfMemory rows row = Unit {0}
-RefusesWagon (DuplicateWagon number) rows row = (number ≡ row.number) × (has_wagon rows number ≡ true)
-RefusesWagon TooLarge rows row = ⊥
-RefusesWagon (BadRosterRow n) rows row = ⊥
-RefusesWagon ReadFailed rows row = ⊥
-
 -- The roster has exactly the rows that were read, in whatever order.
 pub record HasRowsOf (read : Result (List WagonRow) RosterFault) (roster : List WagonRow) : Type 0 where
   pub rows : List WagonRow
@@ -65,42 +53,10 @@ abbrev pub Gives : Result (List WagonRow) RosterFault → Result (List WagonRow)
 Gives (Ok roster) read = HasRowsOf read roster
 Gives (Err fault) read = Stops fault read
 
--- the records of a file of these bytes are those that csv gives with its default settings and no header row
-abbrev pub AreRecordsOf : List ℕ → List Record → Type 0
-AreRecordsOf bytes records = AreRecords default_config st.StartRecord (strip_bom bytes) records
-
--- the records that a reader has left, where the bytes that it has left are known
-abbrev pub AreLeft : {R : Type 0} → (R → Option (List ℕ)) → Reader R → List Record → Type 0
-AreLeft remaining reader records = IfSome (source_of remaining reader) (λ bytes. AreRecords default_config (reader_state reader) bytes records)
-
--- a reader with the default settings, but that records may be of any length, whose next read gives a record
-pub record IsSetUp {R : Type 0} (reader : Reader R) : Type 0 where
-  pub plain : reader_trim reader ≡ trim.None
-  pub ready : Ready reader
-  pub settings : reader_config reader ≡ default_config
-  pub flexible : is_flexible reader ≡ true
-
+-- memory or the reader failed
 abbrev pub is_failure : RosterFault → Bool
 is_failure OutOfMemory = true
 is_failure ReadFailed = true
 is_failure (DuplicateWagon number) = false
 is_failure TooLarge = false
 is_failure (BadRosterRow n) = false
-
--- ---- how often a reader of records was asked for one
-
--- one request for a record: it was answered, or the reader failed
-pub data IsRequest {R : Type 0} (remaining : R → Option (List ℕ)) (before after : Reader R) : Type 0 where
-  answered : (found : Bool) (fields : List (List ℕ)) → ReadRecord remaining before after found fields → IsRequest remaining before after
-  failed : has_failed after ≡ true → IsRequest remaining before after
-
--- so many requests, one after another
-pub data AreRequests {R : Type 0} (remaining : R → Option (List ℕ)) (before : Reader R) : ℕ → Reader R → Type 0 where
-  none_yet : AreRequests remaining before 0 before
-  one_more : (count : ℕ) (between after : Reader R) → AreRequests remaining before count between → IsRequest remaining between after → AreRequests remaining before (count + 1) after
-
--- at most so many
-pub record AsksAtMost {R : Type 0} (remaining : R → Option (List ℕ)) (before : Reader R) (most : ℕ) (after : Reader R) : Type 0 where
-  pub count : ℕ
-  pub few : count ≤ most
-  pub requests : AreRequests remaining before count after

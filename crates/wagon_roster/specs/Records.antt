@@ -1,26 +1,15 @@
 -- What the fields of a record of a roster say.
-use Rattle.std.specs.Prelude.{ℕ, Bool, false, ◌&&◌, ◌||◌, ◌==◌, ◌+◌, ◌*◌, ◌-◌, if◌then◌else◌, fold, nat_eq, nat_lt, List, [], ◌∷◌, length, Option, Some, None, codes}
-use Rattle.std.specs.List.{list_all}
-use Rattle.std.specs.Char.{is_ascii_digit}
-use Rattle.std.specs.Cmp.Lexicographic.{pointwise}
+use Rattle.std.specs.Prelude.{ℕ, Bool, false, ◌&&◌, if◌then◌else◌, nat_lt, List, [], ◌∷◌, Option, Some, None, codes}
 use Rattle.std.specs.Result.{result_ok}
-use Rattle.std.specs.Str.{is_utf8}
+use Rattle.csv_records.specs.Fields.{Record, ◌>>=◌, is_text, place_in, text_in, whole_number_in}
 use Rattle.rail_codes.specs.ClassCode.{class_code_of}
 use Rattle.rail_codes.specs.Moment.{moment_of}
-use Rattle.rail_codes.specs.Place.{place_of}
 use Rattle.rail_codes.specs.WagonNumber.{wagon_number_of}
 use Rattle.wagon_state.specs.declared.load.Load.TheVariants.{Loaded, Unladen}
 use Rattle.wagon_state.specs.declared.status.Status.{Status}
 use Rattle.wagon_state.specs.declared.status.Status.TheVariants.{Empty, Loading, Ready, Journey, Yard, Arrived, Unloading}
 use Rattle.wagon_state.specs.declared.wagon_row.WagonRow.{WagonRow}
-use Rattle.wagon_roster.specs.declared.limits.TheConstants.{MAX_DIGITS, MAX_LOAD}
-
--- a record of CSV: its fields, each by its bytes
-abbrev pub Record : Type 0
-Record = List (List ℕ)
-
-abbrev pub is_text : List ℕ → List ℕ → Bool
-is_text text field = pointwise nat_eq field text
+use Rattle.wagon_roster.specs.Roster.{max_load}
 
 -- whether a record is the header
 abbrev pub is_header : Record → Bool
@@ -29,40 +18,21 @@ is_header (wagon ∷ class ∷ load ∷ status ∷ place ∷ moment ∷ []) =
     && is_text (codes "status") status && is_text (codes "place") place && is_text (codes "moment") moment
 is_header fields = false
 
-infixl 10 ◌>>=◌
-abbrev pub ◌>>=◌ : {A B : Type 0} → Option A → (A → Option B) → Option B
-None >>= f = None
-(Some x) >>= f = f x
-
--- a field as text, where its bytes are UTF-8
-abbrev pub text_in : List ℕ → Option (List ℕ)
-text_in field = if is_utf8 field then Some field else None
-
 abbrev pub number_in : List ℕ → Option (List ℕ)
 number_in field = text_in field >>= λ text. result_ok (wagon_number_of text)
 
 abbrev pub class_in : List ℕ → Option (List ℕ)
 class_in field = text_in field >>= λ text. result_ok (class_code_of text)
 
-abbrev pub place_in : List ℕ → Option (List ℕ)
-place_in field = text_in field >>= λ text. result_ok (place_of text)
-
 abbrev pub moment_in : List ℕ → Option ℕ
 moment_in field = text_in field >>= λ text. result_ok (moment_of text)
 
--- the number that ASCII digits spell
-abbrev pub spelled_number : List ℕ → ℕ
-spelled_number digits = fold (λ n digit. n * 10 + (digit - 48)) 0 digits
-
-abbrev pub digits_in : List ℕ → Option ℕ
-digits_in field = if list_all is_ascii_digit field then Some (spelled_number field) else None
-
 -- kg: 1 to 7 digits that spell a number of at most 200,000
 abbrev pub load_in : List ℕ → Option ℕ
-load_in field = if (length field == 0) || nat_lt MAX_DIGITS (length field) then None else digits_in field >>= within_limit
+load_in field = whole_number_in field >>= within_limit
   where
     within_limit : ℕ → Option ℕ
-    within_limit number = if nat_lt MAX_LOAD number then None else Some number
+    within_limit number = if nat_lt max_load number then None else Some number
 
 -- the status that a word says of a wagon at this place; an empty one has been ready since the moment
 abbrev pub status_in : (word place : List ℕ) → (moment : ℕ) → Option Status

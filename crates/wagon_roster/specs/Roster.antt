@@ -1,15 +1,21 @@
 -- What a roster is.
 use Rattle.std.specs.Prelude.{◌≡◌, ℕ, ◌≤◌, Bool, false, nat_eq, List, length, None, All}
 use Rattle.std.specs.Cmp.Lexicographic.{pointwise, slice_cmp}
-use Rattle.std.specs.List.{AllWithin, list_any}
+use Rattle.std.specs.List.{list_any}
 use Rattle.std.specs.List.Sorted.{IsStrictlySortedBy}
 use Rattle.std.specs.Ordering.{nat_cmp}
 use Rattle.std.specs.declared.cmp.Ordering.{Ordering}
-use Rattle.std.specs.declared.cmp.Ordering.TheVariants.{Less, Greater}
 use Rattle.wagon_state.specs.declared.status.Status.{Status}
 use Rattle.wagon_state.specs.declared.status.Status.TheVariants.{Empty}
 use Rattle.wagon_state.specs.declared.wagon_row.WagonRow.{WagonRow}
-use Rattle.wagon_roster.specs.declared.limits.TheConstants.{MAX_LOAD, MAX_WAGONS}
+
+-- the most that a wagon may carry, in kg
+abbrev pub max_load : ℕ
+max_load = 200000
+
+-- the most wagons of a roster
+abbrev pub max_roster_wagons : ℕ
+max_roster_wagons = 1000
 
 -- whether two wagon numbers are the same
 abbrev pub is_same_number : List ℕ → List ℕ → Bool
@@ -36,19 +42,13 @@ IsReadySince moment status = Unit {0}
 
 -- the row of a wagon that nobody holds and that is promised to nobody
 pub record IsRosterRow (row : WagonRow) : Type 0 where
-  pub few_kg : row.load_limit ≤ MAX_LOAD
+  pub few_kg : row.load_limit ≤ max_load
   pub not_held : row.held ≡ false
   pub not_promised : row.promise ≡ None
   pub ready : IsReadySince row.last row.status
 
 -- rows of few wagons, each number above the one before
 pub record IsRoster (rows : List WagonRow) : Type 0 where
-  pub few : length rows ≤ MAX_WAGONS
+  pub few : length rows ≤ max_roster_wagons
   pub ascending : IsStrictlySortedBy by_number rows
   pub each : All IsRosterRow rows
-
--- a place before which the numbers are less than this one, and from which on they are greater
-pub record IsGapFor (rows : List WagonRow) (number : List ℕ) (place : ℕ) : Type 0 where
-  pub within : place ≤ length rows
-  pub before : AllWithin (λ row. compare_numbers row.number number ≡ Less) rows 0 place
-  pub after : AllWithin (λ row. compare_numbers row.number number ≡ Greater) rows place (length rows)

@@ -1,3 +1,4 @@
+-- The numbers of the faults of reading a roster.
 use Rattle.std.specs.Prelude.{ℕ}
 use Rattle.wagon_roster.specs.declared.roster_fault.RosterFault.{RosterFault}
 use Rattle.wagon_roster.specs.declared.roster_fault.RosterFault.TheVariants.{OutOfMemory, DuplicateWagon, TooLarge, BadRosterRow, ReadFailed}

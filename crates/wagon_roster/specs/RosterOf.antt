@@ -1,24 +1,20 @@
 -- The roster of a file's records in the subject's own words, apart from how it is read.
-use Rattle.std.specs.Prelude.{◌≡◌, ℕ, ◌≤◌, List, ◌∷◌, length, Option, Some, IfSome, IfOk, IsTrue, Result, Ok, Err, map}
+use Rattle.std.specs.Prelude.{◌≡◌, ℕ, List, Option, IfSome, IfOk, IsTrue, Result, Ok, Err}
 use Rattle.std.specs.List.{IsDistinct}
 use Rattle.std.specs.List.Sorted.{IsPermutation}
+use Rattle.csv_records.specs.Fields.{Record}
+use Rattle.csv_records.specs.Files.{AreBelowHeader, AreRecordsOf}
 use Rattle.wagon_state.specs.declared.wagon_row.WagonRow.{WagonRow}
-use Rattle.wagon_roster.specs.Reading.{AreRecordsOf, Gives, is_failure, rows_of}
-use Rattle.wagon_roster.specs.Records.{Record, is_header, wagon_record}
-use Rattle.wagon_roster.specs.Roster.{IsRoster, is_same_wagon}
-use Rattle.wagon_roster.specs.declared.limits.TheConstants.{MAX_WAGONS}
+use Rattle.wagon_roster.specs.Reading.{Gives, is_failure, rows_of}
+use Rattle.wagon_roster.specs.Records.{is_header, wagon_record}
+use Rattle.wagon_roster.specs.Roster.{IsRoster, is_same_wagon, max_roster_wagons}
 use Rattle.wagon_roster.specs.declared.roster_fault.RosterFault.{RosterFault}
 
 -- The records are the header and below it one for each wagon, in any order, and the roster has exactly their rows,
 -- ascending by number.
 pub record IsRosterOf (records : List Record) (roster : List WagonRow) : Type 0 where
-  pub header : Record
-  pub below : List Record
   pub rows : List WagonRow
-  pub header_first : records ≡ header ∷ below
-  pub header_right : IsTrue (is_header header)
-  pub each_read : map wagon_record below ≡ map Some rows
-  pub few_records : length below ≤ MAX_WAGONS
+  pub file : AreBelowHeader is_header wagon_record max_roster_wagons records rows
   pub no_wagon_twice : IsDistinct is_same_wagon rows
   pub same_rows : IsPermutation rows roster
   pub in_order : IsRoster roster

@@ -7,6 +7,6 @@ mod roster;
 mod roster_fault;
 mod wagon_record;
 
-pub use limits::{MAX_DIGITS, MAX_LOAD, MAX_WAGONS};
+pub use limits::MAX_ROSTER_WAGONS;
 pub use roster::Roster;
 pub use roster_fault::RosterFault;

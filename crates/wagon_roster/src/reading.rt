@@ -1,15 +1,17 @@
-ghost use Rattle.std.specs.Prelude.{◌≡◌, ◌+◌, [], IfErr, IfOk, IsErrOf, IsTrue, true, List, OnOk, if◌then◌else◌};
-ghost use Rattle.csv.specs.Reading.{ReadRecord, error_kind, has_failed, is_io, stops_reader};
-ghost use Rattle.csv.specs.Records.{fields_of};
-ghost use Rattle.wagon_roster.specs.Reading.{AreLeft, AsksAtMost, Gives, IsRequest, IsSetUp, is_failure, rows_of, with_records};
-ghost use Rattle.wagon_roster.specs.Records.{Record};
+//! Reading a roster from CSV.
+ghost use Rattle.std.specs.Prelude.{◌≡◌, IfOk, IsErrOf, true, List};
+ghost use Rattle.csv.specs.Reading.{has_failed};
+ghost use Rattle.csv_records.specs.Fields.{Record};
+ghost use Rattle.csv_records.specs.inner.Requests.{AreLeft, AsksAtMost, IsSetUp};
+ghost use Rattle.wagon_roster.specs.Reading.{Gives, rows_of};
 ghost use Rattle.wagon_roster.specs.Roster.{IsRoster};
 ghost use Rattle.wagon_roster.specs.RosterOf.{IsReadFrom};
 
-use crate::limits::MAX_WAGONS;
+use crate::limits::MAX_ROSTER_WAGONS;
 use crate::wagon_record::{is_header, read_wagon};
 use crate::{Roster, RosterFault};
-use csv::{ByteRecord, Error, Reader, ReaderBuilder};
+use csv::{ByteRecord, Reader};
+use csv_records::{FromRecords, open_records, read_records};
 use std::alloc::Global;
 use std::io::Read;
 
@@ -24,18 +26,14 @@ impl Roster {
     /// Refused at the first record with a fault, in this order: `TooLarge` (53) for a record past the 1,000th below
     /// the header, `BadRosterRow` (78) with its number for one that is not of this shape, the header being record 1,
     /// `DuplicateWagon` (51) with its wagon for one whose wagon an earlier record names. A file with no record is
-    /// `BadRosterRow(1)`. `ReadFailed` (93) comes where the reader failed, and `OutOfMemory` (1) where memory was
-    /// refused.
+    /// `BadRosterRow(1)`. `ReadFailed` (93) comes where the reader failed, and `OutOfMemory` (1) where the program
+    /// was out of memory.
     ///
-    /// At most 1,002 records are asked for, so it returns wherever the reader comes to its end or fails.
+    /// At most 1,002 records are asked for, so it returns wherever `csv` answers each request for a record.
     pub fn read_rows<R: Read + Drop>(alloc: Global, reader: R) -> Result<Roster, RosterFault>
         ensures { IsReadFrom (R.remaining reader) result }
     {
-        let mut records = ReaderBuilder::new()
-            .has_headers(false)
-            // The lengths of records are judged here, record by record.
-            .flexible(true)
-            .from_reader(alloc, reader);
+        let mut records = open_records(alloc, reader);
         read_all(alloc, &mut records)
     }
 }
@@ -46,73 +44,52 @@ fn read_all<R: Read>(alloc: Global, records: &mut Reader<R>) -> Result<Roster, R
     ensures meaning { (all : List Record) × AreLeft R.remaining records.old all × Gives result (rows_of all) }
     ensures roster { IfOk result IsRoster }
     ensures stopped { IsErrOf result RosterFault.ReadFailed → has_failed records.new ≡ true }
-    ensures asked { AsksAtMost R.remaining records.old (MAX_WAGONS + 2) records.new }
+    ensures asked { AsksAtMost R.remaining records.old 1002 records.new }
 {
-    let mut fields = ByteRecord::new(alloc);
-    if !next_record(records, &mut fields)? {
-        return Err(RosterFault::BadRosterRow(1));
-    }
-    if !is_header(&fields) {
-        return Err(RosterFault::BadRosterRow(1));
-    }
-    read_below_header(records, &mut fields, Roster::empty(alloc))
+    read_records(alloc, records)
 }
 
-/// Reads the records below the header.
-fn read_below_header<R: Read>(
-    records: &mut Reader<R>,
-    fields: &mut ByteRecord,
-    empty: Roster,
-) -> Result<Roster, RosterFault>
-    requires set_up { IsSetUp records.old }
-    requires none { empty ≡ [] }
-    ensures meaning { (rest : List Record) × AreLeft R.remaining records.old rest × Gives result (with_records 2 [] rest) }
-    ensures roster { IfOk result IsRoster }
-    ensures stopped { IsErrOf result RosterFault.ReadFailed → has_failed records.new ≡ true }
-    ensures asked { AsksAtMost R.remaining records.old (MAX_WAGONS + 1) records.new }
-{
-    let mut roster = empty;
-    for number in 2..MAX_WAGONS + 2 {
-        if !next_record(records, fields)? {
-            return Ok(roster);
+impl FromRecords for Roster {
+    ghost use Rattle.std.proofs.Common.{lit<};
+    ghost use Rattle.wagon_roster.specs.Reading.{Stops, rows_of};
+    ghost use Rattle.wagon_roster.specs.Roster.{max_roster_wagons};
+    ghost use Rattle.wagon_roster.specs.inner.Reading.{IsReadSoFar, stops_failure, told_apart};
+
+    type Fault = RosterFault;
+
+    const MOST_RECORDS: u32 = MAX_ROSTER_WAGONS;
+
+    ghost MOST_RECORDS = { max_roster_wagons };
+
+    ghost made_of = { λ roster records. IsReadSoFar roster records };
+
+    ghost refuses = { λ fault records. Stops fault (rows_of records) };
+
+    ghost counted = { lit< tt };
+
+    ghost failures = { λ failure fault records gives. stops_failure failure fault (rows_of records) gives };
+
+    ghost told_apart = { λ fault memory reader. told_apart fault memory reader };
+
+    fn of_header(alloc: Global, header: &ByteRecord) -> Result<Roster, RosterFault> {
+        if !is_header(header) {
+            return Err(RosterFault::BadRosterRow(1));
         }
+        Ok(Roster::empty(alloc))
+    }
+
+    fn with_record(self, number: u32, fields: &ByteRecord) -> Result<Roster, RosterFault> {
         let Some(row) = read_wagon(fields) else {
             return Err(RosterFault::BadRosterRow(number));
         };
-        roster = roster.with_wagon(row)?;
+        self.with_wagon(row)
     }
-    if next_record(records, fields)? {
-        return Err(RosterFault::TooLarge);
-    }
-    Ok(roster)
-}
 
-/// Reads the next record, and answers whether there was one.
-fn next_record<R: Read>(
-    records: &mut Reader<R>,
-    fields: &mut ByteRecord,
-) -> Result<bool, RosterFault>
-    requires { IsSetUp records.old }
-    ensures reads { IfOk result (λ found. ReadRecord R.remaining records.old records.new found (fields_of fields.new)) }
-    ensures still { OnOk result (IsSetUp records.new) }
-    ensures failed { IfErr result (λ fault. IsTrue (is_failure fault)) }
-    ensures stopped { IsErrOf result RosterFault.ReadFailed → has_failed records.new ≡ true }
-    ensures asked { IsRequest R.remaining records.old records.new }
-{
-    match records.read_byte_record(fields) {
-        Ok(found) => Ok(found),
-        Err(error) => Err(fault_of(&error)),
+    fn no_header() -> RosterFault {
+        RosterFault::BadRosterRow(1)
     }
-}
 
-/// Why the reader of records stopped: its reader failed, or memory was refused.
-fn fault_of(error: &Error) -> RosterFault
-    requires { IsTrue (stops_reader (error_kind error.now)) }
-    ensures { result ≡ (if is_io (error_kind error.now) then RosterFault.ReadFailed else RosterFault.OutOfMemory) }
-{
-    if error.is_io_error() {
-        RosterFault::ReadFailed
-    } else {
-        RosterFault::OutOfMemory
+    fn too_many() -> RosterFault {
+        RosterFault::TooLarge
     }
 }

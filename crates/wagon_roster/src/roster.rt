@@ -1,10 +1,11 @@
+//! A roster: the rows of a fleet.
 ghost use Rattle.std.specs.Prelude.{◌≡◌, ◌<◌, ◌∷◌, [], true, false, IfErr, IfOk, OnOk, length};
 ghost use Rattle.std.specs.List.Sorted.{IsPermutation, IsStrictlySortedBy};
-ghost use Rattle.wagon_roster.specs.Reading.{RefusesWagon};
-ghost use Rattle.wagon_roster.specs.Roster.{IsGapFor, IsRoster, IsRosterRow, by_number, has_wagon};
+ghost use Rattle.wagon_roster.specs.Roster.{IsRoster, IsRosterRow, by_number, has_wagon, max_roster_wagons};
+ghost use Rattle.wagon_roster.specs.inner.Reading.{RefusesWagon};
+ghost use Rattle.wagon_roster.specs.inner.Places.{IsGapFor};
 
 use crate::RosterFault;
-use crate::limits::MAX_WAGONS;
 use rail_codes::WagonNumber;
 use std::alloc::{AllocError, Global};
 use std::marker::Model;
@@ -40,13 +41,14 @@ impl Roster {
     }
 
     /// The roster with the row of one more wagon. It is dropped where it has a row of that wagon, with
-    /// `DuplicateWagon`, and where memory is refused.
+    /// `DuplicateWagon`, and where the program is out of memory.
     pub(crate) fn with_wagon(self, row: WagonRow) -> Result<Roster, RosterFault>
-        requires room { length self < MAX_WAGONS }
+        requires room { length self < max_roster_wagons }
         requires row { IsRosterRow row }
         ensures added { IfOk result (λ roster. IsPermutation (row ∷ self) roster) }
         ensures new { OnOk result (has_wagon self row.number ≡ false) }
         ensures refused { IfErr result (λ fault. RefusesWagon fault self row) }
+        ensures roster { IfOk result IsRoster }
     {
         let Roster { mut rows } = self;
         match place_of(&rows, row.number) {

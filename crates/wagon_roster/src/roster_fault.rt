@@ -1,6 +1,8 @@
+//! Why no roster was read.
 ghost use Rattle.std.specs.Prelude.{◌≡◌};
 ghost use Rattle.wagon_roster.specs.declared.roster_fault.RosterFault.TheVariants.{OutOfMemory};
 
+use csv_records::RecordFault;
 use rail_codes::WagonNumber;
 use std::alloc::{AllocError, AllocFailed};
 use thiserror::Error;
@@ -8,7 +10,7 @@ use thiserror::Error;
 /// Why no roster was read. The message is the fault's name.
 #[derive(Clone, Copy, Debug, PartialEq, Eq, Error)]
 pub enum RosterFault {
-    /// Memory was refused (1).
+    /// Out of memory (1).
     #[error("OutOfMemory")]
     OutOfMemory,
     /// A record names a wagon that an earlier one named (51).
@@ -55,5 +57,18 @@ impl<T: Drop> From<AllocFailed<T>> for RosterFault {
 
     fn from(_error: AllocFailed<T>) -> RosterFault {
         RosterFault::OutOfMemory
+    }
+}
+
+impl From<RecordFault> for RosterFault {
+    ghost use Rattle.wagon_roster.specs.inner.Reading.{fault_of};
+
+    ghost from_gives = { λ failure fault. fault ≡ fault_of failure };
+
+    fn from(failure: RecordFault) -> RosterFault {
+        match failure {
+            RecordFault::OutOfMemory => RosterFault::OutOfMemory,
+            RecordFault::ReadFailed => RosterFault::ReadFailed,
+        }
     }
 }

@@ -1,12 +1,13 @@
+//! One record of a roster: the wagon that it says.
 ghost use Rattle.std.specs.Prelude.{◌≡◌, ◌≢◌, ◌≤◌, [], ◌∷◌, length, option_map, IfSome, IfNone};
 ghost use Rattle.csv.specs.Records.{fields_of};
-ghost use Rattle.wagon_roster.specs.Records.{class_in, digits_in, is_header, is_text, load_in, moment_in, number_in, place_in, status_in, text_in, wagon_record};
-ghost use Rattle.wagon_roster.specs.Roster.{IsRosterRow};
+ghost use Rattle.wagon_roster.specs.Records.{class_in, is_header, load_in, moment_in, number_in, status_in, wagon_record};
+ghost use Rattle.wagon_roster.specs.Roster.{IsRosterRow, max_load};
 
-use crate::limits::{MAX_DIGITS, MAX_LOAD};
 use csv::ByteRecord;
+use csv_records::{is_text, place_of, text_of, whole_number};
+use move_messages::MAX_LOAD;
 use rail_codes::{ClassCode, Moment, Place, WagonNumber};
-use std::str;
 use wagon_state::{Load, Status, WagonRow};
 
 /// The six fields of a record, in the header's order.
@@ -27,7 +28,7 @@ pub fn read_wagon(row: &ByteRecord) -> Option<WagonRow>
     ensures row { IfSome result IsRosterRow }
 {
     let fields = six_fields(row)?;
-    let place = read_place(fields.place)?;
+    let place = place_of(fields.place)?;
     let last = read_moment(fields.moment)?;
     Some(WagonRow {
         number: read_number(fields.wagon)?,
@@ -75,37 +76,21 @@ fn six_fields(row: &ByteRecord) -> Option<Fields<'_>>
     })
 }
 
-fn is_text(text: &str, field: &[u8]) -> bool
-    ensures { result ≡ is_text text.now field.now }
-{
-    field == text.as_bytes()
-}
-
-/// The field as text.
-fn text_of(field: &[u8]) -> Option<&str>
-    ensures { option_map (λ text. text.now) result ≡ text_in field.now }
-{
-    str::from_utf8(field).ok()
-}
-
+/// The wagon number that a field says.
 fn read_number(field: &[u8]) -> Option<WagonNumber>
     ensures { result ≡ number_in field.now }
 {
     WagonNumber::read(text_of(field)?).ok()
 }
 
+/// The class that a field says.
 fn read_class(field: &[u8]) -> Option<ClassCode>
     ensures { result ≡ class_in field.now }
 {
     ClassCode::read(text_of(field)?).ok()
 }
 
-fn read_place(field: &[u8]) -> Option<Place>
-    ensures { result ≡ place_in field.now }
-{
-    Place::read(text_of(field)?).ok()
-}
-
+/// The moment that a field says.
 fn read_moment(field: &[u8]) -> Option<Moment>
     ensures { result ≡ moment_in field.now }
 {
@@ -115,30 +100,11 @@ fn read_moment(field: &[u8]) -> Option<Moment>
 /// The kg that a field says, in 1 to 7 digits, at most 200,000.
 fn read_load(field: &[u8]) -> Option<u32>
     ensures meaning { result ≡ load_in field.now }
-    ensures within { IfSome result (λ n. n ≤ MAX_LOAD) }
+    ensures within { IfSome result (λ n. n ≤ max_load) }
 {
-    if field.is_empty() || field.len() > MAX_DIGITS {
-        return None;
-    }
-    let number = read_digits(field)?;
+    let number = whole_number(field)?;
     if number > MAX_LOAD {
         return None;
-    }
-    Some(number)
-}
-
-/// The number that a field of digits spells.
-#[tactic(auto, using(crate::proofs::RecordLemmas::of_digits))]
-fn read_digits(field: &[u8]) -> Option<u32>
-    requires { length field.now ≤ MAX_DIGITS }
-    ensures { result ≡ digits_in field.now }
-{
-    let mut number = 0;
-    for digit in field {
-        if !digit.is_ascii_digit() {
-            return None;
-        }
-        number = number * 10 + u32::from(*digit - b'0');
     }
     Some(number)
 }

@@ -1,9 +1,11 @@
+-- Free wagons: those that may be promised.
 use Rattle.std.specs.Prelude.{Bool, false, List, ℕ, Option, Some, None}
 use Rattle.wagon_state.specs.declared.status.Status.{Status}
 use Rattle.wagon_state.specs.declared.status.Status.TheVariants.{Empty}
 use Rattle.wagon_state.specs.declared.wagon_row.WagonRow.{WagonRow}
 use Rattle.wagon_state.specs.declared.free_wagon.FreeWagon.{FreeWagon}
 
+-- the free wagon of a row with this status, hold and promise
 abbrev pub free_by : WagonRow → Status → (held : Bool) → (promise : Option (List ℕ)) → Option FreeWagon
 free_by row (Empty place ready) false None =
     Some (record { number = row.number; class = row.class; load_limit = row.load_limit; place = place; ready = ready })

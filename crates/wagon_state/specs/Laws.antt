@@ -1,4 +1,4 @@
--- Words for what holds of every message, whatever the table says.
+-- What holds of every movement message that is accepted, whatever the status table says.
 use Rattle.std.specs.Prelude.{◌≡◌, ◌⊎◌, ℕ, List, Option, None, IsSome}
 use Rattle.move_messages.specs.declared.message.Message.{Message}
 use Rattle.move_messages.specs.declared.message.MessageKind.TheVariants.{Release, Delivery}
@@ -15,6 +15,7 @@ pub record IsSameWagon (before after : WagonRow) : Type 0 where
   pub class : after.class ≡ before.class
   pub load_limit : after.load_limit ≡ before.load_limit
 
+-- the status Empty
 abbrev pub IsEmpty : Status → Type 0
 IsEmpty (Empty place ready) = Unit {0}
 IsEmpty status = ⊥

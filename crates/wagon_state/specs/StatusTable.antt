@@ -16,7 +16,7 @@ use Rattle.wagon_state.specs.declared.step_fault.StepFault.TheVariants.{Earlier,
 use Rattle.wagon_state.specs.declared.status_table.Line.{Line}
 
 -- A line of the table says the status that follows, what becomes of a promise, and whether the message must name
--- the place where the wagon is. A line that wants the wagon's own place keeps a promise.
+-- the place where the wagon is. A line for the wagon's own place keeps a promise.
 abbrev pub own_place : Status → Line
 own_place next = record { next = next; effect = effect.None; own_place = true }
 
@@ -55,7 +55,7 @@ place_of (Unloading place) = place
 abbrev pub is_same_place : List ℕ → List ℕ → Bool
 is_same_place place other = pointwise nat_eq place other
 
--- whether there is an order, at this place
+-- whether there is an order and it is at this place
 abbrev pub is_at : Option (List ℕ) → List ℕ → Bool
 is_at None place = false
 is_at (Some at) place = is_same_place at place
@@ -65,7 +65,7 @@ abbrev pub held_after : MessageKind → Bool → Bool
 held_after (Exception hold) held = hold
 held_after kind held = held
 
--- where there is no promise, nothing becomes of it
+-- what becomes of a promise; nothing where there is none
 abbrev pub effect_on : Option (List ℕ) → Effect → Effect
 effect_on None on_promise = effect.None
 effect_on (Some order) on_promise = on_promise
@@ -84,17 +84,20 @@ change_by row message line =
       effect = effect_on row.promise line.effect;
     }
 
+-- the change by a line, where the message names a place that the line allows
 abbrev pub placed : WagonRow → Message → Line → Result Change StepFault
 placed row message line =
     if line.own_place && not (is_same_place message.place (place_of row.status)) then Err WrongPlace
     else Ok (change_by row message line)
 
+-- the change by the line that fits, if there is one
 abbrev pub fitted : WagonRow → Message → Option Line → Result Change StepFault
 fitted row message None = Err WrongStatus
 fitted row message (Some line) = placed row message line
 
 -- what a message makes of a row, where `order_place` is the place of the order that the wagon is promised to; or
--- the first fault: the message is older than the last one, no line fits, the line wants another place
+-- the first fault: the message is older than the last one, no line fits, or the message names a place that the
+-- line does not allow
 unfoldable pub step_of : WagonRow → Message → (order_place : Option (List ℕ)) → Result Change StepFault
 step_of row message order_place =
     if nat_lt message.moment row.last then Err Earlier

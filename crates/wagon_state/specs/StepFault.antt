@@ -1,3 +1,4 @@
+-- The numbers of the refusals of a message.
 use Rattle.std.specs.Prelude.{ℕ}
 use Rattle.wagon_state.specs.declared.step_fault.StepFault.{StepFault}
 use Rattle.wagon_state.specs.declared.step_fault.StepFault.TheVariants.{Earlier, WrongStatus, WrongPlace}

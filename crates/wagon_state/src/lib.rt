@@ -1,6 +1,6 @@
 //! The state of each wagon of a fleet, and what a movement message makes of it.
 //!
-//! None of these calls takes memory.
+//! Nothing is allocated here.
 #![tactic(auto)]
 
 mod change;

@@ -1,4 +1,4 @@
-//! Loads.
+//! Whether a wagon carries a load.
 
 /// Whether a wagon on its way carries a load.
 #[derive(Clone, Copy, Debug, PartialEq, Eq, Hash)]

@@ -1,4 +1,4 @@
-//! The status table.
+//! The status table: what each message makes of the row of its wagon.
 ghost use Rattle.std.specs.Prelude.{◌≡◌, ◌≤◌, ◌↔◌, IsSome, IfOk};
 ghost use Rattle.wagon_state.specs.Laws.{IsSameWagon, IsEmpty, IsEmptiedBy, IsPromiseAfter};
 ghost use Rattle.wagon_state.specs.StatusTable.{table_line, own_place, any_place, is_at, step_of, held_after, promise_after, effect_on};
@@ -28,7 +28,7 @@ struct Line {
 ///
 /// Refused with `Earlier` (31) where the message is older than the row's last one, else with
 /// `WrongStatus` (32) where no line of the status table has this message and the row's status, else
-/// with `WrongPlace` (33) where the line wants the wagon's place and the message names another.
+/// with `WrongPlace` (33) where the line is for the wagon's own place and the message names another.
 #[tactic(auto, unfolding(crate::specs::StatusTable::step_of))]
 pub fn step(
     row: &WagonRow,
@@ -90,7 +90,7 @@ fn table_line(message: &Message, status: Status, at_order: bool) -> Option<Line>
     })
 }
 
-/// A line that wants the wagon's own place and keeps a promise.
+/// A line for messages that name the wagon's own place. It keeps a promise.
 fn own_place(next: Status) -> Line
     ensures { result ≡ own_place next }
 {
@@ -101,7 +101,7 @@ fn own_place(next: Status) -> Line
     }
 }
 
-/// A line that fits at any place.
+/// A line for messages that may name any place.
 fn any_place(next: Status, effect: Effect) -> Line
     ensures { result ≡ any_place next effect }
 {
@@ -112,7 +112,7 @@ fn any_place(next: Status, effect: Effect) -> Line
     }
 }
 
-/// Whether there is an order, at this place.
+/// Whether there is an order and it is at this place.
 fn is_at(order_place: Option<Place>, place: Place) -> bool
     ensures { result ≡ is_at order_place place }
 {
@@ -139,7 +139,7 @@ fn promise_after(effect: Effect, promise: Option<OrderId>) -> Option<OrderId>
     }
 }
 
-/// Where there is no promise, nothing becomes of it.
+/// What becomes of a promise; nothing where there is none.
 fn effect_on(promise: Option<OrderId>, effect: Effect) -> Effect
     ensures { result ≡ effect_on promise effect }
 {

@@ -12,7 +12,7 @@ pub enum StepFault {
     /// The status table has no line for this message and the wagon's status (32).
     #[error("WrongStatus")]
     WrongStatus,
-    /// The line wants the wagon's own place, and the message names another (33).
+    /// The line of the status table is for the wagon's own place, and the message names another (33).
     #[error("WrongPlace")]
     WrongPlace,
 }

@@ -1,4 +1,4 @@
-//! What the office knows of a wagon.
+//! The row of a wagon.
 
 use crate::Status;
 use rail_codes::{ClassCode, Moment, OrderId, WagonNumber};
@@ -16,7 +16,7 @@ pub struct WagonRow {
     pub status: Status,
     /// Whether it is held.
     pub held: bool,
-    /// When its last accepted message says that something happened, in seconds since 1970.
+    /// The moment that its last accepted message names, in seconds since 1970.
     pub last: Moment,
     /// The order that it is promised to.
     pub promise: Option<OrderId>,

@@ -1,6 +1,6 @@
 -- What cutting one line off an input does to the bytes that were read and not yet cut.
 use Rattle.std.specs.Prelude.{◌≡◌, ℕ, ◌<◌, Bool, true, false, List, [], ◌∷◌, ◌++◌, length}
-use Rattle.line_engine.specs.Lines.{line_feed, has_feed, first_line, most_bytes}
+use Rattle.line_engine.specs.Lines.{line_feed, has_feed, first_line, max_line_bytes}
 use Rattle.line_engine.specs.declared.window.LineEnd.{LineEnd}
 use Rattle.line_engine.specs.declared.window.LineEnd.TheVariants.{Feed, Input}
 use Rattle.line_engine.specs.declared.window.LineStop.{LineStop}
@@ -18,5 +18,5 @@ CutsLine old taken line new Input = (old ++ taken ≡ line) × (new ≡ []) × (
 
 -- Why no line was cut off these bytes: their first line is too long, or the reader failed before its end.
 abbrev pub StopsLine : List ℕ → Bool → LineStop → Type 0
-StopsLine bytes has_failed TooLong = most_bytes < length (first_line bytes)
+StopsLine bytes has_failed TooLong = max_line_bytes < length (first_line bytes)
 StopsLine bytes has_failed ReadFailed = (has_feed bytes ≡ false) × (has_failed ≡ true)

@@ -1,6 +1,6 @@
 use Rattle.std.proofs.Common.{◌<◌, length, refl, arith, get_or}
 use Rattle.std.proofs.lemmas.List.{get_or_read}
-use Rattle.assignment.specs.Path.{AreWays}
+use Rattle.assignment.specs.inner.Path.{AreWays}
 use Rattle.assignment.proofs.HandOn.{handing_more}
 use Rattle.assignment.proofs.path.hand_on.Goals as goal
 

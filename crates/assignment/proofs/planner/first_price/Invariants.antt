@@ -1,5 +1,5 @@
 use Rattle.std.proofs.Common.{ℕ, ◌<◌, ◌≤◌}
-use Rattle.assignment.specs.Columns.{cost_in}
+use Rattle.assignment.specs.inner.Columns.{cost_in}
 use Rattle.assignment.proofs.planner.first_price.Given as goal
 
 abbrev pub invariant-loop-cell : goal.invariant-loop-cell

@@ -3,7 +3,7 @@ use Rattle.std.specs.Prelude.{slice_index_or, []}
 use Rattle.std.specs.Vec.{with_item}
 use Rattle.cost_table.specs.Table.{order_count, penalty_at}
 use Rattle.assignment.specs.declared.state.State.{State}
-use Rattle.assignment.specs.Columns.{IsColumn}
+use Rattle.assignment.specs.inner.Columns.{IsColumn}
 use Rattle.assignment.proofs.Writes.{written_length}
 use Rattle.assignment.proofs.FirstPrices.{first_price_is, prices_more}
 use Rattle.assignment.proofs.planner.first_prices.Goals as goal

@@ -1,8 +1,8 @@
 use Rattle.std.proofs.Common.{◌≡◌, ◌+◌, ℕ, Some, length, get_or, ◌∙◌, ap, arith}
 use Rattle.std.specs.Vec.{with_items}
 use Rattle.std.proofs.lemmas.List.{with_items_is}
-use Rattle.assignment.specs.Path.{AreHandedOn, given_up, one_if}
-use Rattle.assignment.specs.State.{IsState, AreCounted, served, one_more}
+use Rattle.assignment.specs.inner.Path.{AreHandedOn, given_up, one_if}
+use Rattle.assignment.specs.inner.State.{IsState, AreCounted, served, one_more}
 use Rattle.assignment.proofs.Limits.{wagon_limit}
 use Rattle.assignment.proofs.Raised.{AreRaised, priced_raised, held_raised}
 use Rattle.assignment.proofs.Unit.{counted_more}

@@ -1,6 +1,6 @@
 use Rattle.std.proofs.Common.{◌≡◌, All, take}
 use Rattle.cost_table.specs.Problem.{lacks_of}
-use Rattle.cost_table.specs.Table.{IsLack}
+use Rattle.load_orders.specs.Wanted.{IsLack}
 use Rattle.cost_table.proofs.allowed.lacks.Given as goal
 
 abbrev pub invariant-loop-wanted : goal.invariant-loop-wanted

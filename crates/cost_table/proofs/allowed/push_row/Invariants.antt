@@ -1,5 +1,6 @@
 use Rattle.std.proofs.Common.{take}
-use Rattle.cost_table.specs.Allowed.{Reaches, AddsRow}
+use Rattle.cost_table.specs.Allowed.{Reaches}
+use Rattle.cost_table.specs.inner.AllowedRows.{AddsRow}
 use Rattle.cost_table.proofs.allowed.push_row.Given as goal
 
 abbrev pub invariant-loop-j : goal.invariant-loop-j

@@ -1,5 +1,6 @@
 use Rattle.std.proofs.Common.{take}
-use Rattle.cost_table.specs.Allowed.{Reaches, AreRowsOf}
+use Rattle.cost_table.specs.Allowed.{Reaches}
+use Rattle.cost_table.specs.inner.AllowedRows.{AreRowsOf}
 use Rattle.cost_table.proofs.allowed.rows.Given as goal
 
 abbrev pub invariant-loop-wagon : goal.invariant-loop-wagon

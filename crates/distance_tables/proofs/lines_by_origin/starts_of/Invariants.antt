@@ -1,5 +1,5 @@
 use Rattle.std.proofs.Common.{◌≡◌, vec_len}
-use Rattle.distance_tables.specs.Starts.{AreStarts}
+use Rattle.distance_tables.specs.inner.Starts.{AreStarts}
 use Rattle.distance_tables.proofs.lines_by_origin.starts_of.Given as goal
 
 abbrev pub invariant-loop-place : goal.invariant-loop-place

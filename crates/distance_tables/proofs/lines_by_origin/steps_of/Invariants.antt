@@ -1,5 +1,5 @@
 use Rattle.std.proofs.Common.{◌≡◌, map, take}
-use Rattle.distance_tables.specs.Steps.{step_of}
+use Rattle.distance_tables.specs.inner.Steps.{step_of}
 use Rattle.distance_tables.proofs.lines_by_origin.steps_of.Given as goal
 
 abbrev pub invariant-loop-line : goal.invariant-loop-line

@@ -1,7 +1,7 @@
 use Rattle.std.proofs.Common.{◌≡◌, ◌<◌, length}
 use Rattle.std.specs.List.{All}
 use Rattle.std.specs.Vec.Iter.{into_iter_items}
-use Rattle.distance_tables.specs.Shares.{put_rows}
+use Rattle.distance_tables.specs.inner.Shares.{put_rows}
 use Rattle.distance_tables.proofs.many_threads.put_rows.Given as goal
 
 abbrev pub invariant-loop-origin : goal.invariant-loop-origin

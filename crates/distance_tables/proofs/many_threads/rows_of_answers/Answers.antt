@@ -1,5 +1,5 @@
 use Rattle.std.proofs.Common.{◌≡◌, ◌∙◌, arith, rules, length}
-use Rattle.distance_tables.specs.Shares.{put_rows}
+use Rattle.distance_tables.specs.inner.Shares.{put_rows}
 use Rattle.distance_tables.proofs.Searching.{whole_slice}
 use Rattle.distance_tables.proofs.Sharing.{IsGathered-more, IsGathered-end, next_known, length-put_rows}
 use Rattle.distance_tables.proofs.many_threads.rows_of_answers.Goals as goal

@@ -1,5 +1,5 @@
 use Rattle.std.proofs.Common.{◌≡◌, map, take}
-use Rattle.distance_tables.specs.Numbers.{distance_of}
+use Rattle.distance_tables.specs.inner.Numbers.{distance_of}
 use Rattle.distance_tables.proofs.search.distances.Given as goal
 
 abbrev pub invariant-loop-label : goal.invariant-loop-label

@@ -1,9 +1,9 @@
 use Rattle.std.proofs.Common.{◌<◌, ◌≤◌, length, get_or, subst, arith}
 use Rattle.distance_tables.specs.declared.step.Step.{Step}
-use Rattle.distance_tables.specs.Steps.{step_of, line_from}
+use Rattle.distance_tables.specs.inner.Steps.{step_of, line_from}
 use Rattle.std.specs.List.{Contains}
-use Rattle.distance_tables.specs.Search.{label_at, plus_line, LabelAtMost}
-use Rattle.distance_tables.specs.Numbers.{known}
+use Rattle.distance_tables.specs.inner.Search.{label_at, plus_line, LabelAtMost}
+use Rattle.distance_tables.specs.inner.Numbers.{known}
 use Rattle.distance_tables.proofs.Numbering.{length_known}
 use Rattle.distance_tables.proofs.Relaxing.{IsLineFrom-at, fits_km, fits_minutes, Improves-trans, Improves-Relaxes, label-Relaxes, AreBounded-Relaxes, LabelAtMost-Relaxes, relaxed_more}
 use Rattle.distance_tables.proofs.search.relax_lines.Goals as goal

@@ -1,9 +1,9 @@
 use Rattle.std.proofs.Common.{◌≡◌, Some}
-use Rattle.distance_tables.specs.Numbers.{known}
-use Rattle.distance_tables.specs.Turns.{waits}
+use Rattle.distance_tables.specs.inner.Numbers.{known}
+use Rattle.distance_tables.specs.inner.Turns.{waits}
 use Rattle.std.specs.List.{AllWithin}
-use Rattle.distance_tables.specs.Search.{label_at, plus_line, AreBounded, LabelAtMost, Improves}
-use Rattle.distance_tables.specs.Steps.{line_from}
+use Rattle.distance_tables.specs.inner.Search.{label_at, plus_line, AreBounded, LabelAtMost, Improves}
+use Rattle.distance_tables.specs.inner.Steps.{line_from}
 use Rattle.distance_tables.proofs.search.relax_lines.Given as goal
 
 abbrev pub invariant-loop-step : goal.invariant-loop-step

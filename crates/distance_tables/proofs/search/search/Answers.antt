@@ -1,5 +1,5 @@
 use Rattle.std.proofs.Common.{◌<◌, List, Option, Some, length, set, subst, sym, arith}
-use Rattle.distance_tables.specs.Turns.{waits}
+use Rattle.distance_tables.specs.inner.Turns.{waits}
 use Rattle.std.proofs.lemmas.Bool.{iff_false}
 use Rattle.distance_tables.specs.declared.distance.Distance.{Distance}
 use Rattle.distance_tables.proofs.Numbering.{length_known}

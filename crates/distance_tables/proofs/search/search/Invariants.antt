@@ -1,7 +1,7 @@
 use Rattle.std.proofs.Common.{length}
-use Rattle.distance_tables.specs.Numbers.{known}
-use Rattle.distance_tables.specs.Turns.{waits}
-use Rattle.distance_tables.specs.Search.{work_left}
+use Rattle.distance_tables.specs.inner.Numbers.{known}
+use Rattle.distance_tables.specs.inner.Turns.{waits}
+use Rattle.distance_tables.specs.inner.Search.{work_left}
 use Rattle.distance_tables.proofs.Searching.{IsSearch}
 use Rattle.distance_tables.proofs.search.search.Given as goal
 

@@ -1,7 +1,8 @@
 use Rattle.std.proofs.Common.{◌≡◌, ◌≤◌, drop, length}
 use Rattle.std.specs.Prelude.{vec_len, vec_capacity}
 use Rattle.serde_json.specs.View.{items_view}
-use Rattle.json_fields.specs.Values.{after, each}
+use Rattle.json_fields.specs.Values.{each}
+use Rattle.json_fields.specs.inner.Loops.{after}
 use Rattle.json_fields.proofs.lists.each.Given as goal
 
 -- What is read so far and the rest are what all are read as; there is room for the rest.

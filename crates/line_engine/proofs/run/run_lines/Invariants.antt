@@ -1,5 +1,5 @@
 use Rattle.std.proofs.Common.{◌+◌, ◌-◌, ◌≤◌}
-use Rattle.line_engine.specs.Lines.{most_lines}
+use Rattle.line_engine.specs.Lines.{max_input_lines}
 use Rattle.line_engine.proofs.Running.{StandsHere}
 use Rattle.line_engine.proofs.run.run_lines.Given as goal
 
@@ -8,9 +8,9 @@ abbrev pub invariant-lines : goal.invariant-lines
 invariant-lines g l = record {
   here : StandsHere {H = g.row.H.Denot} g.H.Handler.answers g.H.Handler.runs_out (g.R.Source.remaining l.fn.reader) (g.R.Source.remaining l.reader)
       (g.W.Sink.contents l.fn.writer) (g.W.Sink.contents l.writer) l.fn.handler l.handler (l.count.lines + 1) l.window l.count.refused;
-  lines : l.count.lines ≤ most_lines;
+  lines : l.count.lines ≤ max_input_lines;
   refusals : l.count.refused ≤ l.count.lines;
 }
 
 abbrev pub decreases-lines : goal.decreases-lines
-decreases-lines g l = most_lines - l.count.lines
+decreases-lines g l = max_input_lines - l.count.lines

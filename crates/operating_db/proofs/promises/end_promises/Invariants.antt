@@ -1,5 +1,5 @@
 use Rattle.std.proofs.Common.{◌≡◌, take}
-use Rattle.operating_db.specs.After.{unpromised_among}
+use Rattle.operating_db.specs.inner.EventParts.{unpromised_among}
 use Rattle.operating_db.proofs.promises.end_promises.Given as goal
 
 abbrev pub invariant-loop-number : goal.invariant-loop-number

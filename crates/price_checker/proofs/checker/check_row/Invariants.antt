@@ -1,5 +1,5 @@
 use Rattle.std.proofs.Common.{◌≡◌, drop}
-use Rattle.price_checker.specs.RowWalk.{gap_of_row}
+use Rattle.price_checker.specs.inner.RowWalk.{gap_of_row}
 use Rattle.price_checker.proofs.checker.check_row.Given as goal
 
 abbrev pub invariant-loop-cell : goal.invariant-loop-cell

@@ -1,5 +1,8 @@
-use Rattle.std.proofs.Common.{◌≡◌, ◌-◌, arith, length, length-take-le, get_or, take}
-use Rattle.rail_codes.proofs.WagonNumbers.{are_twelve_digits-cases, list_all-digit, first_eleven-digit, digit_sum-product, summed-more, weighted_from-last, completes}
+use Rattle.std.proofs.Common.{◌≡◌, ◌-◌, arith, ap, [], length, length-take-le, get_or, drop, take}
+use Rattle.std.proofs.lemmas.List.{drop_all}
+use Rattle.rail_codes.specs.WagonNumber.{weighted_digit_sum}
+use Rattle.rail_codes.specs.inner.CheckDigit.{missing_to_ten}
+use Rattle.rail_codes.proofs.WagonNumbers.{first_eleven-digit, digit_sum-product, summed-more}
 use Rattle.rail_codes.proofs.wagon_number.check_digit.Goals as goal
 
 pub weighted_digit-sum-requires : goal.weighted_digit-sum-requires
@@ -16,15 +19,13 @@ loop-digit-preserved c =
     record {
       small = omega arith;
       weight = omega arith;
-      summed = rw (c.weighted_digit-sum.ensures, digit.0) (summed-more c.loop-digit.weight c.loop-digit.sum c.args.digits.now c.loop-digit.digit-index (omega arith) c.loop-digit.invariant.summed);
+      summed = rw c.weighted_digit-sum.ensures (summed-more c.loop-digit.weight c.loop-digit.sum (take 11 c.args.digits.now) c.loop-digit.digit-index (omega arith) c.loop-digit.invariant.summed);
     }
 
 pub returns : goal.returns
 returns c =
     let eleven : length (take 11 c.args.digits.now) ≡ 11 = length-take-le 11 c.args.digits.now (omega arith) in
-    let at : c.loop-digit.digit-index ≡ 11 = omega arith in
-    let one : c.loop-digit.weight ≡ 1 = omega arith in
-    let twelve = are_twelve_digits-cases c.args.digits.now c.requires in
-    let last = list_all-digit c.args.digits.now 11 twelve.1 (omega arith) in
-    let summed = rw (at, one, weighted_from-last c.args.digits.now twelve.0) at c.loop-digit.invariant.summed in
-    rw (← summed) (completes c.loop-digit.sum (get_or c.args.digits.now 11 0) last.0 last.1)
+    let none : drop c.loop-digit.digit-index (take 11 c.args.digits.now) ≡ [] = drop_all c.loop-digit.digit-index (take 11 c.args.digits.now) (omega arith) in
+    let summed = rw none at c.loop-digit.invariant.summed in
+    let whole : c.loop-digit.sum ≡ weighted_digit_sum (take 11 c.args.digits.now) = omega (arith, summed) in
+    ap missing_to_ten whole

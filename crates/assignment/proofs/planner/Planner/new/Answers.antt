@@ -1,6 +1,6 @@
 use Rattle.std.proofs.Common.{◌≡◌, ℕ, zero, suc, Option, None, length, get_or, replicate, refl, sym, ◌∙◌, ap, rules}
 use Rattle.std.proofs.lemmas.List.{length-replicate}
-use Rattle.assignment.specs.State.{order_at}
+use Rattle.assignment.specs.inner.State.{order_at}
 use Rattle.assignment.proofs.planner.Planner.new.Goals as goal
 
 all_same : {X : Type 0} (n i : ℕ) (a : X) → get_or (replicate n a) i a ≡ a

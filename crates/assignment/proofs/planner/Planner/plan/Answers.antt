@@ -6,8 +6,8 @@ use Rattle.cost_table.specs.Plan.{IsPlanList}
 use Rattle.price_checker.specs.Certificate.{IsCertificate}
 use Rattle.price_checker.proofs.Duality.{certificates_optimal}
 use Rattle.assignment.specs.declared.state.State.{State}
-use Rattle.assignment.specs.State.{IsState, AreCounted, order_at, taken_at}
-use Rattle.assignment.specs.Pairs.{pairs_below}
+use Rattle.assignment.specs.inner.State.{IsState, AreCounted, order_at, taken_at}
+use Rattle.assignment.specs.inner.Pairs.{pairs_below}
 use Rattle.assignment.proofs.Serving.{IsServing}
 use Rattle.assignment.proofs.Limits.{cell_order}
 use Rattle.assignment.proofs.FirstPrices.{state_first, counted_first}

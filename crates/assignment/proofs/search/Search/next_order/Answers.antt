@@ -1,7 +1,7 @@
 use Rattle.std.proofs.Common.{◌<◌, length, refl, sym, ap, arith, subst}
 use Rattle.std.proofs.lemmas.List.{get_or_read}
 use Rattle.assignment.specs.declared.search.Search.{Search}
-use Rattle.assignment.specs.Search.{IsSearch}
+use Rattle.assignment.specs.inner.Search.{IsSearch}
 use Rattle.assignment.proofs.Settle.{IsPopped, IsSettled, search_popped, search_done}
 use Rattle.assignment.proofs.Next.{order_read, next_known, settled_next, orders_room, front_settled, stale_none, stale_settled, orders_held}
 use Rattle.assignment.proofs.search.Search.next_order.Goals as goal

@@ -1,6 +1,6 @@
 use Rattle.std.proofs.Common.{◌≡◌, ◌<◌, length, arith, subst}
 use Rattle.cost_table.specs.Table.{order_count}
-use Rattle.assignment.specs.Columns.{IsColumn}
+use Rattle.assignment.specs.inner.Columns.{IsColumn}
 use Rattle.assignment.proofs.Scan.{IsScanning, scanned_all}
 use Rattle.assignment.proofs.search.Search.scan_order.Goals as goal
 

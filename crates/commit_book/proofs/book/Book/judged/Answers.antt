@@ -3,7 +3,7 @@ use Rattle.std.proofs.lemmas.Result.{IfErr-weaker, on_ok_weaker}
 use Rattle.operating_db.specs.Office.{StateValue}
 use Rattle.commit_book.specs.BookStep.{refusal_in}
 use Rattle.commit_book.specs.History.{replay}
-use Rattle.commit_book.specs.Kept.{setting_of}
+use Rattle.commit_book.specs.inner.Kept.{setting_of}
 use Rattle.commit_book.proofs.Books.{kept_as}
 use Rattle.commit_book.proofs.Judging.{accepted_by, full, not_kept, orders_fit, refused_by, wagons_fit}
 use Rattle.commit_book.proofs.book.Book.judged.Goals as goal

@@ -1,5 +1,6 @@
 use Rattle.std.proofs.Common.{◌≡◌, ◌∙◌, refl, subst}
-use Rattle.commit_book.specs.BookStep.{IsCall, answer_or}
+use Rattle.commit_book.specs.BookStep.{IsCall}
+use Rattle.commit_book.specs.inner.Entered.{answer_or}
 use Rattle.commit_book.specs.Setting.{Setting}
 use Rattle.commit_book.specs.declared.answer.Answer.{Answer}
 use Rattle.commit_book.proofs.BookCalls.{run_step}

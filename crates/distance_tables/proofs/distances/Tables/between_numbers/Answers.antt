@@ -1,6 +1,6 @@
 use Rattle.std.proofs.Common.{Option, Some, length, arith, subst}
 use Rattle.distance_tables.specs.declared.distance.Distance.{Distance}
-use Rattle.distance_tables.specs.Rows.{IsNear}
+use Rattle.distance_tables.specs.inner.Rows.{IsNear}
 use Rattle.distance_tables.proofs.Walks.{near_read}
 use Rattle.distance_tables.proofs.distances.Tables.between_numbers.Goals as goal
 

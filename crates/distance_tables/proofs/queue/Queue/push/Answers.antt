@@ -5,7 +5,7 @@ use Rattle.std.specs.List.Sorted.{IsPermutation}
 use Rattle.std.specs.declared.cmp.Reverse.{Reverse}
 use Rattle.distance_tables.specs.declared.turn.Turn.{Turn}
 use Rattle.distance_tables.specs.declared.waiting.Waiting.{Waiting}
-use Rattle.distance_tables.specs.Turns.{waiting_of, waits}
+use Rattle.distance_tables.specs.inner.Turns.{waiting_of, waits}
 use Rattle.distance_tables.proofs.queue.Queue.push.Goals as goal
 
 pub returns : goal.returns

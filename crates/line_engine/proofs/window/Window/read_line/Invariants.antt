@@ -1,5 +1,5 @@
 use Rattle.std.proofs.Common.{◌≡◌, ◌+◌, ◌-◌, ◌<◌, List, ℕ, length, false}
-use Rattle.line_engine.specs.Lines.{most_bytes}
+use Rattle.line_engine.specs.Lines.{max_line_bytes}
 use Rattle.line_engine.proofs.Reading.{ReadSoFar}
 use Rattle.line_engine.proofs.window.Window.read_line.Given as goal
 
@@ -9,4 +9,4 @@ invariant-loop-self g l =
     × (g.R.Source.has_failed l.fn.reader ≡ false → g.R.Source.has_failed l.reader ≡ false)
 
 abbrev pub decreases-loop-self : goal.decreases-loop-self
-decreases-loop-self g l = (most_bytes + 1) - length l.line
+decreases-loop-self g l = (max_line_bytes + 1) - length l.line

@@ -1,0 +1,5 @@
+-- What only the proofs and the private functions of this crate need.
+pub mod CommitTests
+pub mod Entered
+pub mod Kept
+pub mod Ledger

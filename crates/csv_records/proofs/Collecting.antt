@@ -1,0 +1,74 @@
+-- What reading answers, from what each record gives: records so far, a fault at one, the end, and a failure.
+use Rattle.std.proofs.Common.{◌≡◌, ℕ, ◌+◌, true, false, List, [], ◌∷◌, ◌++◌, length, Option, Result, Ok, Err, refl, arith, length-append}
+use Rattle.std.proofs.lemmas.List.{append-nil, append_assoc}
+use Rattle.csv.specs.Reading.{ReadRecord, source_of}
+use Rattle.csv.specs.declared.reader.Reader.{Reader}
+use Rattle.csv_records.proofs.Remaining.{Between, between_more, between_start, left_after, none_left, records_left}
+use Rattle.csv_records.specs.Fields.{Record}
+use Rattle.csv_records.specs.inner.Requests.{AreLeft, IsAnswer, IsSetUp}
+
+module _ {R T F : Type 0} (remaining : R → Option (List ℕ)) (made_of : T → List Record → Type 0) (refuses : F → List Record → Type 0) (start : Reader R) where
+  -- From start on a reader has given records up to below a number, and this was made of them.
+  pub record HasRead (now : Reader R) (number : ℕ) (made : T) : Type 0 where
+    pub done : List Record
+    pub between : Between remaining start now done
+    pub is_made : made_of made done
+    pub counted : length done + 1 ≡ number
+
+  -- what was answered is that of all records from start on
+  abbrev pub Answers : Result T F → Type 0
+  Answers result = (all : List Record) × AreLeft remaining start all × IsAnswer made_of refuses result all
+
+  -- the first record
+  first_between : (b : Reader R) (fields : Record) → IsSetUp start → ReadRecord remaining start b true fields → Between remaining start b (fields ∷ [])
+  first_between b fields set r = between_more remaining start start b [] fields (source_of remaining start) set r (between_start remaining start (source_of remaining start) refl)
+
+  pub HasRead-first : (b : Reader R) (fields : Record) (made : T) → IsSetUp start → ReadRecord remaining start b true fields → made_of made (fields ∷ []) → HasRead b 2 made
+  HasRead-first b fields made set r is = record { done = fields ∷ []; between = first_between b fields set r; is_made = is; counted = refl }
+
+  -- one record more
+  pub HasRead-more : (a b : Reader R) (number : ℕ) (made more : T) (fields : Record) (h : HasRead a number made) → IsSetUp a → ReadRecord remaining a b true fields
+      → ((done : List Record) → made_of made done → length done + 1 ≡ number → made_of more (done ++ fields ∷ [])) → HasRead b (number + 1) more
+  HasRead-more a b number made more fields h set r is = record {
+    done = h.done ++ fields ∷ [];
+    between = between_more remaining start a b h.done fields (source_of remaining start) set r h.between;
+    is_made = is h.done h.is_made h.counted;
+    counted = omega (arith, h.counted, length-append h.done (fields ∷ []));
+  }
+
+  -- a failure of memory or of the reader may come at any record
+  pub Answers-failure : (result : Result T F) (fault : F) → result ≡ Err fault → ((records : List Record) → refuses fault records) → Answers result
+  Answers-failure result fault e any =
+      let (rest, left) = records_left remaining start in
+      (rest, left, rw e (any rest))
+
+  -- there is no record
+  pub Answers-none : (b : Reader R) (fields : Record) (fault : F) → IsSetUp start → ReadRecord remaining start b false fields → refuses fault [] → Answers (Err fault)
+  Answers-none b fields fault set r refused = ([], none_left remaining start b fields (source_of remaining start) refl set r, refused)
+
+  -- the first record is refused
+  pub Answers-first : (b : Reader R) (fields : Record) (result : Result T F) (fault : F) → IsSetUp start → ReadRecord remaining start b true fields → result ≡ Err fault
+      → ((rest : List Record) → refuses fault (fields ∷ rest)) → Answers result
+  Answers-first b fields result fault set r e refused =
+      let (rest, left) = records_left remaining b in
+      (fields ∷ rest, left_after remaining start b (fields ∷ []) rest (source_of remaining start) (first_between b fields set r) left, rw e (refused rest))
+
+  -- a later record is refused
+  pub Answers-later : (a b : Reader R) (number : ℕ) (made : T) (fields : Record) (result : Result T F) (fault : F) (h : HasRead a number made) → IsSetUp a
+      → ReadRecord remaining a b true fields → result ≡ Err fault
+      → ((done rest : List Record) → made_of made done → length done + 1 ≡ number → refuses fault (done ++ fields ∷ rest)) → Answers result
+  Answers-later a b number made fields result fault h set r e refused =
+      let (rest, left) = records_left remaining b in
+      let between = between_more remaining start a b h.done fields (source_of remaining start) set r h.between in (
+        (h.done ++ fields ∷ []) ++ rest,
+        left_after remaining start b (h.done ++ fields ∷ []) rest (source_of remaining start) between left,
+        rw e (rw append_assoc (refused h.done rest h.is_made h.counted)),
+      )
+
+  -- there is no record more
+  pub Answers-end : (a b : Reader R) (number : ℕ) (made : T) (fields : Record) (h : HasRead a number made) → IsSetUp a → ReadRecord remaining a b false fields → Answers (Ok made)
+  Answers-end a b number made fields h set r = (
+    h.done ++ [],
+    left_after remaining start a h.done [] (source_of remaining start) h.between (none_left remaining a b fields (source_of remaining a) refl set r),
+    rw append-nil h.is_made,
+  )

@@ -1,0 +1,4 @@
+pub mod Asking
+pub mod Collecting
+pub mod FieldLemmas
+pub mod Remaining

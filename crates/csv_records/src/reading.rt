@@ -1,0 +1,83 @@
+//! Reading a header and the records below it.
+ghost use Rattle.std.specs.Prelude.{◌≡◌, ◌+◌, IfErr, IfOk, IsErrOf, IsTrue, true, List, OnOk, if◌then◌else◌, option_map};
+ghost use Rattle.csv.specs.Reading.{ReadRecord, error_kind, has_failed, is_io, reader_state, source_of, stops_reader, strip_bom};
+ghost use Rattle.csv.specs.Records.{fields_of};
+ghost use Rattle.csv.specs.declared.parser.State.TheVariants as st;
+ghost use Rattle.csv_records.specs.Fields.{Record};
+ghost use Rattle.csv_records.specs.inner.Requests.{AreLeft, AsksAtMost, IsAnswer, IsRequest, IsSetUp};
+
+use crate::{FromRecords, RecordFault};
+use csv::{ByteRecord, Error, Reader, ReaderBuilder};
+use std::alloc::Global;
+use std::io::Read;
+
+/// A reader whose records may have any number of fields, and whose first record is the header.
+pub fn open_records<R: Read>(alloc: Global, reader: R) -> Reader<R>
+    ensures set_up { IsSetUp result }
+    ensures source { source_of R.remaining result ≡ option_map strip_bom (R.remaining reader) }
+    ensures state { reader_state result ≡ st.StartRecord }
+{
+    ReaderBuilder::new()
+        .has_headers(false)
+        // The lengths of records are judged by those who read them.
+        .flexible(true)
+        .from_reader(alloc, reader)
+}
+
+/// Collects a value from a header and the records below it, which are numbered from 2. At most two records more
+/// are asked for than a file may have below its header, so it returns wherever `csv` answers each request for a
+/// record.
+pub fn read_records<R: Read, T: FromRecords>(
+    alloc: Global,
+    reader: &mut Reader<R>,
+) -> Result<T, T::Fault>
+    requires { IsSetUp reader.old }
+    ensures meaning { (all : List Record) × AreLeft R.remaining reader.old all × IsAnswer T.made_of T.refuses result all }
+    ensures stopped { IfErr result (λ fault. T.Fault.from_gives RecordFault.ReadFailed fault → has_failed reader.new ≡ true) }
+    ensures asked { AsksAtMost R.remaining reader.old (T.MOST_RECORDS + 2) reader.new }
+{
+    let mut fields = ByteRecord::new(alloc);
+    if !next_record(reader, &mut fields)? {
+        return Err(T::no_header());
+    }
+    let mut made = T::of_header(alloc, &fields)?;
+    for number in 2..T::MOST_RECORDS + 2 {
+        if !next_record(reader, &mut fields)? {
+            return Ok(made);
+        }
+        made = made.with_record(number, &fields)?;
+    }
+    if next_record(reader, &mut fields)? {
+        return Err(T::too_many());
+    }
+    Ok(made)
+}
+
+/// Reads the next record, and answers whether there was one.
+fn next_record<R: Read>(
+    reader: &mut Reader<R>,
+    fields: &mut ByteRecord,
+) -> Result<bool, RecordFault>
+    requires { IsSetUp reader.old }
+    ensures reads { IfOk result (λ found. ReadRecord R.remaining reader.old reader.new found (fields_of fields.new)) }
+    ensures still { OnOk result (IsSetUp reader.new) }
+    ensures stopped { IsErrOf result RecordFault.ReadFailed → has_failed reader.new ≡ true }
+    ensures asked { IsRequest R.remaining reader.old reader.new }
+{
+    match reader.read_byte_record(fields) {
+        Ok(found) => Ok(found),
+        Err(error) => Err(fault_of(&error)),
+    }
+}
+
+/// Why the reader of records stopped: its reader failed, or it was out of memory.
+fn fault_of(error: &Error) -> RecordFault
+    requires { IsTrue (stops_reader (error_kind error.now)) }
+    ensures { result ≡ (if is_io (error_kind error.now) then RecordFault.ReadFailed else RecordFault.OutOfMemory) }
+{
+    if error.is_io_error() {
+        RecordFault::ReadFailed
+    } else {
+        RecordFault::OutOfMemory
+    }
+}

@@ -1,0 +1,23 @@
+use Rattle.std.proofs.Common.{refl, arith}
+use Rattle.std.specs.BTreeMap.{get}
+use Rattle.std.specs.Cmp.Lexicographic.{slice_cmp}
+use Rattle.std.specs.Ordering.{nat_cmp}
+use Rattle.load_orders.proofs.Rows.{row_without}
+use Rattle.database_rows.specs.Rows.{freed_of}
+use Rattle.database_rows.proofs.Orders.{IsRowAt, changed_is, indexed_with, known_at, row_at}
+use Rattle.database_rows.proofs.order_rows.OrderRows.end_promise.Goals as goal
+
+pub unwrap-place-requires : goal.unwrap-place-requires
+unwrap-place-requires c = known_at c.args.self.now c.args.id c.place_of.result c.place_of.ensures c.requires
+
+at : (c : goal.After-self-1) → IsRowAt c.self.inside.rows.items c.args.id c.unwrap-place.result c.index_mut.result.now
+at c =
+    row_at c.self.inside.rows.items c.args.id c.place_of.result c.unwrap-place.result c.index_mut.result.now c.self.invariant.kept (rw (← c.self.view_is) at c.place_of.ensures) c.unwrap-place.ensures c.index_mut.ensures.value
+
+pub invariant_of-self : goal.invariant_of-self
+invariant_of-self c =
+    rw c.end_promise.ensures.row (indexed_with c.self.inside.rows.items (get (slice_cmp nat_cmp) c.self.inside.places) c.self.inside.open_wagons c.self.inside.open_wagons c.args.id c.unwrap-place.result c.index_mut.result.now (freed_of c.args.number c.index_mut.result.now) c.self.invariant (at c) refl
+    (row_without c.index_mut.result.now c.args.number (at c).valid) refl (omega arith))
+
+pub returns : goal.returns
+returns c = rw (c.end_promise.ensures.row, ← c.self.view_is) (changed_is c.self.inside.rows.items c.args.id c.unwrap-place.result c.index_mut.result.now (freed_of c.args.number) c.self.invariant.kept (at c))

@@ -1,0 +1,24 @@
+use Rattle.std.proofs.Common.{refl, arith}
+use Rattle.std.specs.BTreeMap.{get}
+use Rattle.std.specs.Cmp.Lexicographic.{slice_cmp}
+use Rattle.std.specs.Ordering.{nat_cmp}
+use Rattle.load_orders.proofs.Rows.{row_withdrawn}
+use Rattle.database_rows.specs.Rows.{taken_back, wanted_open}
+use Rattle.database_rows.proofs.Orders.{IsRowAt, changed_is, indexed_with, known_at, less_all, row_at, wanted_within}
+use Rattle.database_rows.proofs.order_rows.OrderRows.withdraw.Goals as goal
+
+pub unwrap-place-requires : goal.unwrap-place-requires
+unwrap-place-requires c = known_at c.args.self.now c.args.id c.place_of.result c.place_of.ensures c.requires
+
+at : (c : goal.After-self-1) → IsRowAt c.self.inside.rows.items c.args.id c.unwrap-place.result c.index_mut-row.result.now
+at c =
+    row_at c.self.inside.rows.items c.args.id c.place_of.result c.unwrap-place.result c.index_mut-row.result.now c.self.invariant.kept (rw (← c.self.view_is) at c.place_of.ensures) c.unwrap-place.ensures c.index_mut-row.ensures.value
+
+pub invariant_of-self : goal.invariant_of-self
+invariant_of-self c =
+    rw c.withdraw.ensures (indexed_with c.self.inside.rows.items (get (slice_cmp nat_cmp) c.self.inside.places) c.self.inside.open_wagons _ c.args.id c.unwrap-place.result c.index_mut-row.result.now (taken_back c.index_mut-row.result.now) c.self.invariant (at c) refl
+    (row_withdrawn c.index_mut-row.result.now (at c).valid) (less_all c.self.inside.open_wagons c.wanted_open.result (wanted_open c.index_mut-row.result.now) c.wanted_open.ensures
+    (wanted_within c.self.inside.rows.items (get (slice_cmp nat_cmp) c.self.inside.places) c.self.inside.open_wagons c.args.id c.unwrap-place.result c.index_mut-row.result.now c.self.invariant (at c))) (omega arith))
+
+pub returns : goal.returns
+returns c = rw (c.withdraw.ensures, ← c.self.view_is) (changed_is c.self.inside.rows.items c.args.id c.unwrap-place.result c.index_mut-row.result.now taken_back c.self.invariant.kept (at c))

@@ -1,0 +1,7 @@
+pub mod Numbers
+pub mod Rows
+pub mod Search
+pub mod Shares
+pub mod Starts
+pub mod Steps
+pub mod Turns

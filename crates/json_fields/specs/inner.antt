@@ -1,0 +1,2 @@
+-- What only private functions and proofs of json_fields need.
+pub mod Loops

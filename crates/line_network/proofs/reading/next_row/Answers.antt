@@ -1,7 +1,0 @@
-use Rattle.std.proofs.Common.{rules}
-use Rattle.csv.specs.Records.{fields_of}
-use Rattle.line_network.specs.Reading.{answered}
-use Rattle.line_network.proofs.reading.next_row.Goals as goal
-
-pub returns-in-Ok-clause-asked : goal.returns-in-Ok-clause-asked
-returns-in-Ok-clause-asked g c = answered c.in-Ok.found (fields_of c.read_byte_record.new.row) (search rules)

@@ -1,0 +1,43 @@
+-- What reading a network keeps from record to record, and why a place is not added.
+use Rattle.std.specs.Prelude.{◌≡◌, ℕ, ◌+◌, ◌*◌, ◌<◌, ◌≤◌, ◌++◌, List, length, Result}
+use Rattle.csv_records.specs.Fields.{Record}
+use Rattle.csv_records.specs.declared.record_fault.RecordFault.{RecordFault}
+use Rattle.csv_records.specs.declared.record_fault.RecordFault.TheVariants as rf
+use Rattle.line_network.specs.Network.{NetworkValue, max_line_km, max_line_minutes, max_places}
+use Rattle.line_network.specs.Reading.{Stops, network_of, with_rows}
+use Rattle.line_network.specs.declared.line_record.LineRecord.{LineRecord}
+use Rattle.line_network.specs.declared.network_fault.NetworkFault.{NetworkFault}
+use Rattle.line_network.specs.declared.network_fault.NetworkFault.TheVariants.{OutOfMemory, BadRow, TooManyPlaces, TooManyLines, ReadFailed}
+
+-- These records, the header among them, say this network, whatever follows them.
+pub record IsReadSoFar (network : NetworkValue) (records : List Record) : Type 0 where
+  pub so_far : (rest : List Record) → network_of (records ++ rest) ≡ with_rows (length records + 1) network rest
+  pub few : length network.lines + 2 ≤ 2 * length records
+
+-- the kilometres and minutes of a record are within the limit
+pub record HasLengths (r : LineRecord) : Type 0 where
+  pub some_km : 1 ≤ r.km
+  pub most_km : r.km ≤ max_line_km
+  pub some_minutes : 1 ≤ r.minutes
+  pub most_minutes : r.minutes ≤ max_line_minutes
+
+-- why a place was not added
+abbrev pub RefusesPlace : NetworkFault → List (List ℕ) → Type 0
+RefusesPlace OutOfMemory places = Unit {0}
+RefusesPlace TooManyPlaces places = max_places < length places
+RefusesPlace (BadRow n) places = ⊥
+RefusesPlace TooManyLines places = ⊥
+RefusesPlace ReadFailed places = ⊥
+
+-- what a failure of reading records is called here
+abbrev pub fault_of : RecordFault → NetworkFault
+fault_of rf.OutOfMemory = OutOfMemory
+fault_of rf.ReadFailed = ReadFailed
+
+-- a failure says nothing of the records
+pub stops_failure : (failure : RecordFault) (fault : NetworkFault) (answer : Result NetworkValue NetworkFault) → fault ≡ fault_of failure → Stops fault answer
+stops_failure rf.OutOfMemory fault answer e = rw e tt
+stops_failure rf.ReadFailed fault answer e = rw e tt
+
+pub told_apart : (fault : NetworkFault) → fault ≡ OutOfMemory → fault ≡ ReadFailed → ⊥
+told_apart fault memory reader = cc (memory, reader)

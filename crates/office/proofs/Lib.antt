@@ -1,3 +1,0 @@
-pub mod Even
-pub mod Positions
-pub mod Named

@@ -1,0 +1,32 @@
+-- What the parts of an event ask for and make, as the private functions of an office do them.
+use Rattle.std.specs.Prelude.{◌≡◌, ◌<◌, ℕ, Bool, true, nat_le, ◌&&◌, if◌then◌else◌, List, map, Option, Some, None, Ok}
+use Rattle.move_messages.specs.declared.message.Message as message
+use Rattle.wagon_state.specs.StatusTable.{step_of}
+use Rattle.wagon_state.specs.declared.change.Change.{Change}
+use Rattle.wagon_state.specs.declared.wagon_row.WagonRow.{WagonRow}
+use Rattle.database_rows.specs.Rows.{wagon_in, order_in}
+use Rattle.operating_db.specs.After.{order_place}
+use Rattle.operating_db.specs.Commits.{Pair, is_free_row, lack_in, times_of_order, times_of_wagon, with_promise}
+use Rattle.operating_db.specs.Office.{Office}
+use Rattle.operating_db.specs.Promises.{is_among}
+
+-- what a message changes: the row of its wagon is there with this promise, and the status table has this change
+pub record IsChange (office : Office) (message : message.Message) (change : Change) (promise : Option (List ℕ)) : Type 0 where
+  pub row : WagonRow
+  pub found : wagon_in office.wagons message.wagon ≡ Some row
+  pub promise_is : promise ≡ row.promise
+  pub stepped : step_of row message (order_place office.orders row.promise) ≡ Ok change
+
+-- the wagons, where these numbers lose their promises
+abbrev pub unpromised_among : List (List ℕ) → List WagonRow → List WagonRow
+unpromised_among numbers rows = map (λ row. if is_among row.number numbers then with_promise None row else row) rows
+
+-- whether a pair can be promised, as a test of `IsPromisable`
+abbrev pub is_promisable : Office → List Pair → Pair → Bool
+is_promisable office pairs pair =
+    nat_le (times_of_wagon pair.0 pairs) 1 && is_free_row (wagon_in office.wagons pair.0) && nat_le (times_of_order pair.1 pairs) (lack_in (order_in office.orders pair.1))
+
+-- what a pair that is promised now asks for
+pub record IsNext (office : Office) (pair : Pair) : Type 0 where
+  pub free : is_free_row (wagon_in office.wagons pair.0) ≡ true
+  pub lacking : 0 < lack_in (order_in office.orders pair.1)

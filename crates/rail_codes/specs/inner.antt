@@ -1,0 +1,3 @@
+-- What only private functions and proofs of rail_codes need.
+pub mod CheckDigit
+pub mod ShortText

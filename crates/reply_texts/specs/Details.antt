@@ -1,0 +1,51 @@
+-- The details of a refusal: what its reply has behind the number.
+use Rattle.std.specs.Prelude.{ℕ, List, [], ◌∷◌, ◌++◌, decimal}
+use Rattle.json_fields.specs.Field.{field_name}
+use Rattle.json_fields.specs.Faults.{field_fault_number}
+use Rattle.json_fields.specs.declared.fault.LineFault.{LineFault}
+use Rattle.json_fields.specs.declared.fault.LineFault.TheVariants as line
+use Rattle.cost_table.specs.declared.table_fault.TableFault.{TableFault}
+use Rattle.cost_table.specs.declared.table_fault.TableFault.TheVariants as table
+use Rattle.named_pairs.specs.declared.named_fault.NamedFault.{NamedFault}
+use Rattle.named_pairs.specs.declared.named_fault.NamedFault.TheVariants as check
+use Rattle.table_lines.specs.declared.table_refusal.TableRefusal.{TableRefusal}
+use Rattle.table_lines.specs.declared.table_refusal.TableRefusal.TheVariants.{OutOfMemory, Line, Table, Check}
+
+-- a word behind a space
+abbrev pub then : List ℕ → List ℕ
+then word = 32 ∷ word
+
+-- of a line: the name of a field that is missing; the name of one that is bad, and the number of its fault
+abbrev pub line_details : LineFault → List ℕ
+line_details line.OutOfMemory = []
+line_details line.NotJson = []
+line_details line.NotAnObject = []
+line_details line.UnknownType = []
+line_details (line.MissingField field) = then (field_name field)
+line_details (line.BadField field fault) = then (field_name field) ++ then (decimal (field_fault_number fault))
+
+-- of a table: the wagon or the order that is listed twice
+abbrev pub table_details : TableFault → List ℕ
+table_details table.OutOfMemory = []
+table_details (table.DuplicateWagon wagon) = then wagon
+table_details (table.DuplicateOrder order) = then order
+table_details table.TooLarge = []
+table_details table.UnevenRows = []
+
+-- of pairs and prices: the wagon and the order, or the order; the two sums that differ, in km
+abbrev pub check_details : NamedFault → List ℕ
+check_details check.OutOfMemory = []
+check_details check.WrongLengths = []
+check_details (check.NotAllowed wagon order) = then wagon ++ then order
+check_details (check.UsedTwice wagon order) = then wagon ++ then order
+check_details (check.PriceGap wagon order) = then wagon ++ then order
+check_details (check.OverPenalty order) = then order
+check_details (check.SumsDiffer left right) = then (decimal left) ++ then (decimal right)
+check_details (check.NotInProblem wagon order) = then wagon ++ then order
+
+-- of a table line
+abbrev pub table_line_details : TableRefusal → List ℕ
+table_line_details OutOfMemory = []
+table_line_details (Line fault) = line_details fault
+table_line_details (Table fault) = table_details fault
+table_line_details (Check fault) = check_details fault

@@ -1,0 +1,34 @@
+-- The texts of replies, each with its line feed: what stands behind the line's number and a space.
+use Rattle.std.specs.Prelude.{ℕ, List, [], ◌∷◌, ◌++◌, codes, decimal}
+use Rattle.json_fields.specs.Faults.{line_fault_number}
+use Rattle.json_fields.specs.declared.fault.LineFault.{LineFault}
+use Rattle.table_lines.specs.TableRefusals.{table_refusal_number}
+use Rattle.table_lines.specs.declared.table_refusal.TableRefusal.{TableRefusal}
+use Rattle.reply_texts.specs.Details.{then, line_details, table_line_details}
+
+-- a refusal's number and its details
+abbrev pub refused_text : ℕ → List ℕ → List ℕ
+refused_text number details = codes "refused" ++ then (decimal number) ++ details ++ 10 ∷ []
+
+-- a line that isn't one of those that are read
+abbrev pub line_refused_text : LineFault → List ℕ
+line_refused_text fault = refused_text (line_fault_number fault) (line_details fault)
+
+abbrev pub table_refused_text : TableRefusal → List ℕ
+table_refused_text refusal = refused_text (table_refusal_number refusal) (table_line_details refusal)
+
+-- the cost of a plan that passes, in km
+abbrev pub optimal_text : ℕ → List ℕ
+optimal_text cost = codes "optimal" ++ then (decimal cost) ++ 10 ∷ []
+
+-- the number of the entry that an event is
+abbrev pub accepted_text : ℕ → List ℕ
+accepted_text entry = codes "accepted" ++ then (decimal entry) ++ 10 ∷ []
+
+-- the number of the entry that the same message is
+abbrev pub repeated_text : ℕ → List ℕ
+repeated_text entry = codes "repeated" ++ then (decimal entry) ++ 10 ∷ []
+
+-- the version of a problem, and how many wagons and orders it has
+abbrev pub begun_text : ℕ → ℕ → ℕ → List ℕ
+begun_text version wagons orders = codes "begun" ++ then (decimal version) ++ then (decimal wagons) ++ then (decimal orders) ++ 10 ∷ []

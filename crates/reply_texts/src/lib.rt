@@ -1,0 +1,10 @@
+//! The texts of replies: each reply that the program gives to a line, and no other crate's.
+#![tactic(auto)]
+
+mod details;
+mod replies;
+mod words;
+
+pub use replies::{
+    push_accepted, push_begun, push_line_refused, push_optimal, push_repeated, push_table_refused,
+};

@@ -1,0 +1,82 @@
+//! Whole replies, behind the line's number. `Err` only when out of memory; part of the text may be there then.
+ghost use Rattle.std.specs.Prelude.{◌≡◌, ◌++◌, [], ◌∷◌, codes, decimal, OnOk};
+ghost use Rattle.reply_texts.specs.Details.{then};
+ghost use Rattle.reply_texts.specs.ReplyTexts.{accepted_text, begun_text, line_refused_text, optimal_text, repeated_text, table_refused_text};
+
+use crate::details::{push_line_details, push_table_line_details};
+use crate::words::{push_number, push_numbers};
+use json_fields::LineFault;
+use line_engine::ReplyText;
+use std::alloc::AllocError;
+use table_lines::TableRefusal;
+
+/// Adds `refused` and the number of a refusal.
+fn push_refused(reply: &mut ReplyText, number: u32) -> Result<(), AllocError>
+    ensures { OnOk result (reply.new ≡ reply.old ++ (codes "refused" ++ then (decimal number))) }
+{
+    reply.push_bytes(b"refused")?;
+    push_number(reply, u128::from(number))
+}
+
+/// Adds a word, a number behind it, and the line feed.
+fn push_counted(reply: &mut ReplyText, word: &[u8], number: u128) -> Result<(), AllocError>
+    ensures { OnOk result (reply.new ≡ reply.old ++ (word.now ++ then (decimal number) ++ 10 ∷ [])) }
+{
+    reply.push_bytes(word)?;
+    push_number(reply, number)?;
+    reply.push_bytes(b"\n")
+}
+
+/// Adds `refused CODE` and the details of a line's fault.
+pub fn push_line_refused(reply: &mut ReplyText, fault: &LineFault) -> Result<(), AllocError>
+    ensures { OnOk result (reply.new ≡ reply.old ++ line_refused_text fault.now) }
+{
+    push_refused(reply, fault.number())?;
+    push_line_details(reply, fault)?;
+    reply.push_bytes(b"\n")
+}
+
+/// Adds `refused CODE` and the details of a table line's refusal.
+pub fn push_table_refused(reply: &mut ReplyText, refusal: &TableRefusal) -> Result<(), AllocError>
+    ensures { OnOk result (reply.new ≡ reply.old ++ table_refused_text refusal.now) }
+{
+    push_refused(reply, refusal.number())?;
+    push_table_line_details(reply, refusal)?;
+    reply.push_bytes(b"\n")
+}
+
+/// Adds `optimal COST`, in kilometres.
+pub fn push_optimal(reply: &mut ReplyText, cost: u128) -> Result<(), AllocError>
+    ensures { OnOk result (reply.new ≡ reply.old ++ optimal_text cost) }
+{
+    push_counted(reply, b"optimal", cost)
+}
+
+/// Adds `accepted ENTRY`.
+pub fn push_accepted(reply: &mut ReplyText, entry: u64) -> Result<(), AllocError>
+    ensures { OnOk result (reply.new ≡ reply.old ++ accepted_text entry) }
+{
+    push_counted(reply, b"accepted", u128::from(entry))
+}
+
+/// Adds `repeated ENTRY`.
+pub fn push_repeated(reply: &mut ReplyText, entry: u64) -> Result<(), AllocError>
+    ensures { OnOk result (reply.new ≡ reply.old ++ repeated_text entry) }
+{
+    push_counted(reply, b"repeated", u128::from(entry))
+}
+
+/// Adds `begun VERSION WAGONS ORDERS`.
+pub fn push_begun(
+    reply: &mut ReplyText,
+    version: u64,
+    wagons: usize,
+    orders: usize,
+) -> Result<(), AllocError>
+    ensures { OnOk result (reply.new ≡ reply.old ++ begun_text version wagons orders) }
+{
+    reply.push_bytes(b"begun")?;
+    push_number(reply, u128::from(version))?;
+    push_numbers(reply, wagons as u128, orders as u128)?;
+    reply.push_bytes(b"\n")
+}

@@ -1,0 +1,47 @@
+//! Words of a reply, each behind a space.
+ghost use Rattle.std.specs.Prelude.{◌≡◌, ◌++◌, decimal, OnOk};
+ghost use Rattle.reply_texts.specs.Details.{then};
+
+use line_engine::ReplyText;
+use rail_codes::{OrderId, WagonNumber};
+use std::alloc::AllocError;
+
+/// Adds a word.
+pub(crate) fn push_word(reply: &mut ReplyText, word: &[u8]) -> Result<(), AllocError>
+    ensures { OnOk result (reply.new ≡ reply.old ++ then word.now) }
+{
+    reply.push_bytes(b" ")?;
+    reply.push_bytes(word)
+}
+
+/// Adds a number.
+pub(crate) fn push_number(reply: &mut ReplyText, number: u128) -> Result<(), AllocError>
+    ensures { OnOk result (reply.new ≡ reply.old ++ then (decimal number)) }
+{
+    reply.push_bytes(b" ")?;
+    reply.push_number(number)
+}
+
+/// Adds two numbers.
+pub(crate) fn push_numbers(
+    reply: &mut ReplyText,
+    first: u128,
+    second: u128,
+) -> Result<(), AllocError>
+    ensures { OnOk result (reply.new ≡ reply.old ++ (then (decimal first) ++ then (decimal second))) }
+{
+    push_number(reply, first)?;
+    push_number(reply, second)
+}
+
+/// Adds a wagon and an order.
+pub(crate) fn push_pair(
+    reply: &mut ReplyText,
+    wagon: &WagonNumber,
+    order: &OrderId,
+) -> Result<(), AllocError>
+    ensures { OnOk result (reply.new ≡ reply.old ++ (then wagon.now ++ then order.now)) }
+{
+    push_word(reply, wagon.digits())?;
+    push_word(reply, order.as_bytes())
+}

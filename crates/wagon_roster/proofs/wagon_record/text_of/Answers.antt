@@ -1,5 +1,0 @@
-use Rattle.wagon_roster.proofs.RecordLemmas.{text_in-read}
-use Rattle.wagon_roster.proofs.wagon_record.text_of.Goals as goal
-
-pub returns : goal.returns
-returns c = rw c.ok.ensures.value (text_in-read _ _ c.args.field.now c.from_utf8.result c.from_utf8.ensures.cases)
