@@ -1,9 +1,9 @@
 //! Steps of a book: calls with their answers, and what the book holds between them.
 
-use crate::books::{Start, answer, book_of, reply_to, version_begun};
-use crate::orders::are_placed;
-use crate::plans::is_planned;
-use crate::states::{has_entry, has_problem, has_state, is_loading, is_promised, is_ready};
+use super::books::{Start, answer, book_of, reply_to, version_begun};
+use super::orders::are_placed;
+use super::plans::is_planned;
+use super::states::{has_entry, has_problem, has_state, is_loading, is_promised, is_ready};
 use commit_book::{Answer, Book, Refusal, Reply};
 use load_orders::OrderState;
 use named_pairs::NamedFault;
