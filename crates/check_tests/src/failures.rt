@@ -5,6 +5,11 @@ use office::{FromRead, RunFault, ToWrite, check_run};
 use std::alloc::Global;
 use test_samples::{MemoryReader, MemorySink, MemorySource, MemoryWriter};
 
+/// The first bytes of the output.
+fn output(count: usize) -> &'static [u8] {
+    &OUTPUT[..count.min(OUTPUT.len())]
+}
+
 /// Whether a run stops so where the reader fails behind so many bytes, once or each time, after these bytes of output.
 fn stops_reading(alloc: Global, given: usize, once: bool, line: u64, output: &[u8]) -> bool {
     let mut reader = MemorySource::failing(INPUT, 1, given, once);
@@ -35,7 +40,7 @@ const READS: [(usize, u64, usize); 7] = [
 #[test]
 fn a_reader_fails(rt: HostRuntime) {
     for (given, line, written) in READS {
-        let output = &OUTPUT[..written];
+        let output = output(written);
         assert!(rt;
             stops_reading(rt.alloc(), given, false, line, output),
             "{given}"
@@ -50,7 +55,7 @@ fn a_reader_fails(rt: HostRuntime) {
 #[test]
 fn a_reader_of_std_fails(rt: HostRuntime) {
     for (given, line, written) in READS {
-        let output = &OUTPUT[..written];
+        let output = output(written);
         assert!(rt;
             stops_reading_std(rt.alloc(), given, false, line, output),
             "{given}"
@@ -75,7 +80,7 @@ fn stops_writing(
     let mut reader = MemorySource::new(INPUT, 100);
     let mut writer = MemorySink::failing(alloc, step, room, once);
     let answer = check_run(alloc, &mut reader, &mut writer);
-    let is_written = writer.bytes() == OUTPUT.get(..room).unwrap_or(OUTPUT);
+    let is_written = writer.bytes() == output(room);
     answer == Err(RunFault::WriteFailed(line)) && is_written && writer.writes() == writes
 }
 
@@ -103,7 +108,7 @@ fn stops_writing_std(alloc: Global, room: usize, once: bool, line: u64, writes: 
     let mut written = MemoryWriter::failing(alloc, room, once);
     let mut writer = ToWrite::new(&mut written);
     let answer = check_run(alloc, &mut reader, &mut writer);
-    let is_written = written.bytes() == OUTPUT.get(..room).unwrap_or(OUTPUT);
+    let is_written = written.bytes() == output(room);
     answer == Err(RunFault::WriteFailed(line)) && is_written && written.writes() == writes
 }
 

@@ -1,6 +1,7 @@
 //! Command lines that are refused, and why.
 
-use move_messages::{LineFault, read_line};
+use json_fields::LineFault;
+use move_messages::read_line;
 use std::alloc::{AllocError, Global};
 use std::test::Fail;
 

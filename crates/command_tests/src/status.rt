@@ -36,13 +36,13 @@ fn status(alloc: Global, word: Word, at: &str, since: &str) -> Result<Status, Fa
     })
 }
 
-/// A wagon in this status at a place since 06:00, when its last message was.
-fn row(alloc: Global, word: Word, at: &str) -> Result<WagonRow, Fail> {
+/// A wagon in this status, whose last message was at 06:00.
+fn row(alloc: Global, status: Status) -> Result<WagonRow, Fail> {
     Ok(WagonRow {
         number: wagon(FAR)?,
         class: class("Eanos")?,
         load_limit: 60_000,
-        status: status(alloc, word, at, "06:00")?,
+        status,
         held: false,
         last: time(alloc, "06:00")?,
         promise: None,
@@ -60,25 +60,21 @@ fn promised(row: WagonRow) -> Result<WagonRow, Fail> {
 /// A message for the wagon: its kind, place and time.
 type Told = (MessageKind, &'static str, &'static str);
 
-fn message(alloc: Global, told: Told) -> Result<Message, Fail> {
-    let (kind, at, moment) = told;
-    Ok(Message {
-        id: message_id()?,
-        kind,
-        wagon: wagon(FAR)?,
-        place: place(at)?,
-        moment: time(alloc, moment)?,
-    })
-}
-
 /// What a message makes of a row whose promise, if it has one, is to an order at DE00001; or the refusal's number.
 fn change(alloc: Global, row: &WagonRow, told: Told) -> Result<Result<Change, u32>, Fail> {
+    let (kind, at, moment) = told;
     let order_place = if row.promise.is_some() {
         Some(place("DE00001")?)
     } else {
         None
     };
-    let message = message(alloc, told)?;
+    let message = Message {
+        id: message_id()?,
+        kind,
+        wagon: row.number,
+        place: place(at)?,
+        moment: time(alloc, moment)?,
+    };
     Ok(step(row, &message, order_place).map_err(|fault| fault.number()))
 }
 
@@ -91,7 +87,8 @@ const REFUSED: &[(Told, u32)] = &[
 
 /// The number of a message's refusal, 0 where it is accepted.
 fn refusal(alloc: Global, told: Told) -> Result<u32, Fail> {
-    let row = row(alloc, Word::Loading, "DE00003")?;
+    let start = status(alloc, Word::Loading, "DE00003", "06:00")?;
+    let row = row(alloc, start)?;
     match change(alloc, &row, told)? {
         Ok(_) => Ok(0),
         Err(number) => Ok(number),
@@ -171,9 +168,10 @@ const LOADED: &[Accepted] = &[
     ),
 ];
 
-/// The first message of a list that isn't accepted so, counted from 0.
-fn first_other(alloc: Global, start: WagonRow, cases: &[Accepted]) -> Result<Option<usize>, Fail> {
-    let mut row = start;
+/// The first message to a wagon that is loaded at DE00003 that isn't accepted so, counted from 0.
+fn first_other(alloc: Global, cases: &[Accepted]) -> Result<Option<usize>, Fail> {
+    let start = status(alloc, Word::Loading, "DE00003", "06:00")?;
+    let mut row = row(alloc, start)?;
     for (k, case) in cases.iter().enumerate() {
         match accepted(alloc, &row, *case)? {
             Some(next) => row = next,
@@ -185,9 +183,7 @@ fn first_other(alloc: Global, start: WagonRow, cases: &[Accepted]) -> Result<Opt
 
 #[test]
 fn a_wagon_is_loaded_and_emptied(rt: HostRuntime) -> Result<(), Fail> {
-    let alloc = rt.alloc();
-    let start = row(alloc, Word::Loading, "DE00003")?;
-    assert_eq!(rt; first_other(alloc, start, LOADED)?, None);
+    assert_eq!(rt; first_other(rt.alloc(), LOADED)?, None);
     Ok(())
 }
 
@@ -250,7 +246,8 @@ const SINGLE: &[Single] = &[
 /// Whether a message is accepted so.
 fn is_accepted(alloc: Global, single: Single) -> Result<bool, Fail> {
     let (has_promise, word, case) = single;
-    let row = row(alloc, word, "DE00002")?;
+    let start = status(alloc, word, "DE00002", "06:00")?;
+    let row = row(alloc, start)?;
     let row = if has_promise { promised(row)? } else { row };
     Ok(accepted(alloc, &row, case)?.is_some())
 }
@@ -295,7 +292,8 @@ fn held(
 
 /// The first of the holds that goes otherwise, counted from 0.
 fn first_other_hold(alloc: Global) -> Result<Option<usize>, Fail> {
-    let mut row = promised(row(alloc, Word::Empty, "DE00002")?)?;
+    let start = status(alloc, Word::Empty, "DE00002", "06:00")?;
+    let mut row = promised(row(alloc, start)?)?;
     for (k, case) in HELD.iter().enumerate() {
         match held(alloc, &row, *case)? {
             Some(next) => row = next,
@@ -325,7 +323,8 @@ fn free_at(alloc: Global) -> Result<FreeWagon, Fail> {
 #[test]
 fn free_wagons(rt: HostRuntime) -> Result<(), Fail> {
     let alloc = rt.alloc();
-    let empty = row(alloc, Word::Empty, "DE00002")?;
+    let start = status(alloc, Word::Empty, "DE00002", "06:00")?;
+    let empty = row(alloc, start)?;
     assert_eq!(rt; free(&empty), Some(free_at(alloc)?));
     assert_eq!(rt; free(&promised(empty)?), None);
     assert_eq!(rt;
@@ -335,6 +334,12 @@ fn free_wagons(rt: HostRuntime) -> Result<(), Fail> {
         }),
         None
     );
-    assert_eq!(rt; free(&row(alloc, Word::Loading, "DE00002")?), None);
+    assert_eq!(rt;
+        free(&WagonRow {
+            status: Status::Loading(place("DE00002")?),
+            ..empty
+        }),
+        None
+    );
     Ok(())
 }

@@ -2,35 +2,18 @@
 ghost use Rattle.operating_db.specs.Steps.{IsPromised};
 
 use load_orders::OrderState;
-use move_messages::{Classes, CommitText, Message, MessageKind, OrderText, Pairs, PriceList};
+use move_messages::{CommitText, Message, MessageKind, OrderText, Pairs, PriceList};
 use operating_db::{ApplyFault, Event, OfficeState};
-use rail_codes::{ClassCode, Company, MessageId, Moment, OrderId, Place, WagonNumber};
 use std::alloc::Global;
 use std::test::Fail;
+use test_samples::{class, message_id, order_id, order_text, place, time, wagon};
 use wagon_roster::Roster;
 use wagon_state::{Status, WagonRow};
-
-/// The sample's wagon at DE00001, and that at DE00002; one that the sample hasn't.
-pub(crate) const FIRST: &str = "338447961008";
-
-pub(crate) const SECOND: &str = "218124712173";
-
-pub(crate) const UNKNOWN: &str = "338447961040";
-
-/// Two empty wagons.
-pub(crate) const SAMPLE: &str =
-    "wagon,class,load,status,place,moment\n338447961008,Eanos,60000,empty,DE00001,2026-03-01T00:00:00Z\n218124712173,Eanos,60000,empty,DE00002,2026-03-01T00:00:00Z\n";
 
 /// The office of a roster, where there are two networks.
 pub(crate) fn office_of(alloc: Global, roster: &str) -> Result<OfficeState, Fail> {
     let roster = Roster::read_rows(alloc, roster.as_bytes())?;
     Ok(OfficeState::new(alloc, &roster, 2)?)
-}
-
-/// A moment of the day, as `01:30`.
-pub(crate) fn at(alloc: Global, time: &str) -> Result<Moment, Fail> {
-    let text = format!(in alloc; "2026-03-01T{time}:00Z")?;
-    Ok(Moment::read(text.as_str())?)
 }
 
 /// The number that an event is refused with, and 0 where it happens. `possible` answers the same before.
@@ -52,56 +35,45 @@ fn number_of(answer: Result<(), ApplyFault>) -> u32 {
     }
 }
 
-/// The answer to a message.
-fn tell(
+/// The message of this kind for a wagon.
+fn message(
     alloc: Global,
-    office: &mut OfficeState,
-    wagon: &str,
+    number: &str,
     kind: MessageKind,
-    place: &str,
-    time: &str,
-) -> Result<u32, Fail> {
-    let message = Message {
-        id: MessageId {
-            company: Company::read("0080")?,
-            number: 1,
-        },
+    at: &str,
+    text: &str,
+) -> Result<Message, Fail> {
+    Ok(Message {
+        id: message_id()?,
         kind,
-        wagon: WagonNumber::read(wagon)?,
-        place: Place::read(place)?,
-        moment: at(alloc, time)?,
-    };
+        wagon: wagon(number)?,
+        place: place(at)?,
+        moment: time(alloc, text)?,
+    })
+}
+
+/// The answer to a message.
+fn tell(alloc: Global, office: &mut OfficeState, message: Message) -> Result<u32, Fail> {
     answer(alloc, office, &Event::Message(message))
 }
 
-/// An order at DE00003 for so many wagons of class `Eanos`, 50,000 kg each, by four o'clock.
+/// An order for so many wagons, by four o'clock.
 fn order(name: &str, wagons: u32) -> Result<OrderText, Fail> {
-    order_by(name, wagons, "2026-03-01T04:00:00Z")
-}
-
-/// The same by another moment.
-pub(crate) fn order_by(name: &str, wagons: u32, latest: &str) -> Result<OrderText, Fail> {
-    let classes = [ClassCode::read("Eanos")?];
-    let text = OrderText::new(
-        OrderId::read(name)?,
-        Place::read("DE00003")?,
-        Classes::from_slice(&classes).ok_or("one class")?,
-        50_000,
-        Moment::read(latest)?,
-        1000,
-        wagons,
-    );
-    Ok(text.ok_or("an order")?)
+    order_text(name, wagons, "2026-03-01T04:00:00Z")
 }
 
 /// The answer to an order.
-pub(crate) fn place(alloc: Global, office: &mut OfficeState, text: OrderText) -> Result<u32, Fail> {
+pub(crate) fn place_order(
+    alloc: Global,
+    office: &mut OfficeState,
+    text: OrderText,
+) -> Result<u32, Fail> {
     answer(alloc, office, &Event::Place(text))
 }
 
 /// The answer to a withdrawal.
 fn withdraw(alloc: Global, office: &mut OfficeState, name: &str) -> Result<u32, Fail> {
-    answer(alloc, office, &Event::Withdraw(OrderId::read(name)?))
+    answer(alloc, office, &Event::Withdraw(order_id(name)?))
 }
 
 /// The answer to a revision.
@@ -112,8 +84,8 @@ fn revise(alloc: Global, office: &mut OfficeState, network: u32) -> Result<u32, 
 /// The pairs of a commit.
 fn pairs_of(alloc: Global, names: &[(&str, &str)]) -> Result<Pairs, Fail> {
     let mut pairs = Vec::new(alloc);
-    for (wagon, order) in names {
-        pairs.push((WagonNumber::read(wagon)?, OrderId::read(order)?))?;
+    for (number, name) in names {
+        pairs.push((wagon(number)?, order_id(name)?))?;
     }
     Ok(Pairs::from_vec(pairs))
 }
@@ -122,7 +94,7 @@ fn pairs_of(alloc: Global, names: &[(&str, &str)]) -> Result<Pairs, Fail> {
 fn commit(alloc: Global, office: &mut OfficeState, names: &[(&str, &str)]) -> Result<bool, Fail> {
     let commit = CommitText {
         version: 1,
-        at: at(alloc, "01:00")?,
+        at: time(alloc, "01:00")?,
         pairs: pairs_of(alloc, names)?,
         u: PriceList::from_vec(Vec::new(alloc)),
         v: PriceList::from_vec(Vec::new(alloc)),
@@ -142,7 +114,7 @@ fn place_all(
 ) -> Result<bool, Fail> {
     for k in 0..count {
         let name = format!(in alloc; "O{}", k as u64 + 1)?;
-        if place(alloc, office, order(name.as_str(), wagons)?)? != 0 {
+        if place_order(alloc, office, order(name.as_str(), wagons)?)? != 0 {
             return Ok(false);
         }
     }
@@ -156,55 +128,59 @@ fn has_problem(
     wagons: usize,
     orders: usize,
 ) -> Result<bool, Fail> {
-    let problem = office.problem(alloc, at(alloc, "01:00")?)?;
+    let problem = office.problem(alloc, time(alloc, "01:00")?)?;
     Ok(problem.wagons().len() == wagons && problem.orders().len() == orders)
 }
 
 /// Whether so many free wagons of a class stand at a place.
-fn has_free(office: &OfficeState, class: &str, place: &str, count: usize) -> Result<bool, Fail> {
-    let free = office.free_count(ClassCode::read(class)?, Place::read(place)?);
-    Ok(free == count)
+fn has_free(office: &OfficeState, code: &str, at: &str, count: usize) -> Result<bool, Fail> {
+    Ok(office.free_count(class(code)?, place(at)?) == count)
 }
 
-/// Whether a wagon is empty at a place since a moment of the day.
+/// Whether a wagon is empty at a place since a time.
 fn is_empty(
     alloc: Global,
     office: &OfficeState,
     number: &str,
-    place: &str,
+    at: &str,
     ready: &str,
 ) -> Result<bool, Fail> {
-    let status = Status::Empty(Place::read(place)?, at(alloc, ready)?);
+    let status = Status::Empty(place(at)?, time(alloc, ready)?);
     Ok(wagon_row(office, number)?.status == status)
 }
 
 /// Whether a wagon is loaded at a place; whether it is unloaded there.
-fn is_loading(office: &OfficeState, number: &str, place: &str) -> Result<bool, Fail> {
-    let status = Status::Loading(Place::read(place)?);
+fn is_loading(office: &OfficeState, number: &str, at: &str) -> Result<bool, Fail> {
+    let status = Status::Loading(place(at)?);
     Ok(wagon_row(office, number)?.status == status)
 }
 
-fn is_unloading(office: &OfficeState, number: &str, place: &str) -> Result<bool, Fail> {
-    let status = Status::Unloading(Place::read(place)?);
+fn is_unloading(office: &OfficeState, number: &str, at: &str) -> Result<bool, Fail> {
+    let status = Status::Unloading(place(at)?);
     Ok(wagon_row(office, number)?.status == status)
 }
 
 /// The row of a wagon.
 fn wagon_row(office: &OfficeState, number: &str) -> Result<WagonRow, Fail> {
-    Ok(*office.wagon(WagonNumber::read(number)?).ok_or("no wagon")?)
+    Ok(*office.wagon(wagon(number)?).ok_or("no wagon")?)
 }
 
-/// Whether a wagon is promised to an order, and the order has it among its promised ones.
-fn is_promised(office: &OfficeState, number: &str, name: &str) -> Result<bool, Fail> {
-    let (number, id) = (WagonNumber::read(number)?, OrderId::read(name)?);
-    let wagon = office.wagon(number).ok_or("no wagon")?;
+/// Whether a wagon's row has a promise to an order, and the order has the wagon among its promised ones; or neither.
+fn is_promised(
+    office: &OfficeState,
+    number: &str,
+    name: &str,
+    promised: bool,
+) -> Result<bool, Fail> {
+    let row = wagon_row(office, number)?;
+    let id = order_id(name)?;
     let order = office.order(id).ok_or("no order")?;
-    Ok(wagon.promise == Some(id) && order.promised().contains(&number))
+    Ok((row.promise == Some(id)) == promised && order.promised().contains(&row.number) == promised)
 }
 
-/// Whether an order has come so far.
+/// Whether an order is in this state.
 fn has_state(office: &OfficeState, name: &str, state: OrderState) -> Result<bool, Fail> {
-    let row = office.order(OrderId::read(name)?).ok_or("no order")?;
+    let row = office.order(order_id(name)?).ok_or("no order")?;
     Ok(row.state() == state)
 }
 
@@ -233,9 +209,9 @@ pub(crate) enum Step<'a> {
     Loading(&'a str, &'a str),
     /// A wagon is unloaded at a place.
     Unloading(&'a str, &'a str),
-    /// A wagon is promised to an order, and the order has it; or not.
+    /// A wagon is promised to an order, and the order has it; or neither.
     Promised(&'a str, &'a str, bool),
-    /// An order has come so far.
+    /// An order is in this state.
     State(&'a str, OrderState),
     /// This network is in force, of so many.
     Network(u32, u32),
@@ -247,10 +223,12 @@ pub(crate) enum Step<'a> {
 fn happens(alloc: Global, office: &mut OfficeState, step: Step<'_>) -> Result<bool, Fail> {
     Ok(match step {
         Step::Tell(wagon, kind, place, time, refusal) => {
-            tell(alloc, office, wagon, kind, place, time)? == refusal
+            let message = message(alloc, wagon, kind, place, time)?;
+            tell(alloc, office, message)? == refusal
         }
-        Step::Place(name, wagons, refusal) => place(alloc, office, order(name, wagons)?)?
-            == refusal,
+        Step::Place(name, wagons, refusal) => {
+            place_order(alloc, office, order(name, wagons)?)? == refusal
+        }
         Step::PlaceAll(count, wagons) => place_all(alloc, office, count, wagons)?,
         Step::Withdraw(name, refusal) => withdraw(alloc, office, name)? == refusal,
         Step::Revise(network, refusal) => revise(alloc, office, network)? == refusal,
@@ -267,9 +245,7 @@ fn is_so(alloc: Global, office: &OfficeState, step: Step<'_>) -> Result<bool, Fa
         Step::Empty(wagon, place, ready) => is_empty(alloc, office, wagon, place, ready),
         Step::Loading(wagon, place) => is_loading(office, wagon, place),
         Step::Unloading(wagon, place) => is_unloading(office, wagon, place),
-        Step::Promised(wagon, order, promised) => {
-            Ok(is_promised(office, wagon, order)? == promised)
-        }
+        Step::Promised(wagon, order, promised) => is_promised(office, wagon, order, promised),
         Step::State(name, state) => has_state(office, name, state),
         Step::Network(network, networks) => {
             Ok(office.network() == network && office.networks() == networks)
@@ -281,14 +257,18 @@ fn is_so(alloc: Global, office: &OfficeState, step: Step<'_>) -> Result<bool, Fa
     }
 }
 
-/// The first step that goes otherwise in the office of a roster, counted from 0.
-pub(crate) fn first_other(
-    alloc: Global,
-    roster: &str,
-    steps: &[Step<'_>],
-) -> Result<Option<usize>, Fail> {
-    let mut office = office_of(alloc, roster)?;
-    for (k, step) in steps.iter().enumerate() {
+/// The office of a roster, and what happens to it.
+#[derive(Clone, Copy)]
+pub(crate) struct Case<'a> {
+    pub(crate) name: &'a str,
+    pub(crate) roster: &'a str,
+    pub(crate) steps: &'a [Step<'a>],
+}
+
+/// The first step of a case that goes otherwise, counted from 0.
+pub(crate) fn first_other(alloc: Global, case: &Case<'_>) -> Result<Option<usize>, Fail> {
+    let mut office = office_of(alloc, case.roster)?;
+    for (k, step) in case.steps.iter().enumerate() {
         if !happens(alloc, &mut office, *step)? {
             return Ok(Some(k));
         }

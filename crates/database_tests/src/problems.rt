@@ -1,22 +1,20 @@
 //! The problem of an office, and its table over the sample network.
 
-use crate::days::{SAMPLE, at, office_of, order_by, place};
+use crate::days::{office_of, place_order};
 use cost_table::cells;
 use distance_tables::tables;
 use line_network::read_lines;
 use std::alloc::Global;
 use std::test::Fail;
-
-const NETWORK: &str =
-    "from,to,km,minutes,way\nDE00001,DE00002,100,120,both\nDE00002,DE00003,50,60,both\nDE00001,DE00003,160,90,one\n";
+use test_samples::{NETWORK, ROSTER, order_text, time};
 
 /// The kilometres of the wagon at DE00001 for an order that waits until this moment, and of that at DE00002.
 fn kilometres(alloc: Global, latest: &str) -> Result<(Option<u64>, Option<u64>), Fail> {
-    let mut office = office_of(alloc, SAMPLE)?;
-    if place(alloc, &mut office, order_by("O1", 1, latest)?)? != 0 {
+    let mut office = office_of(alloc, ROSTER)?;
+    if place_order(alloc, &mut office, order_text("O1", 1, latest)?)? != 0 {
         return Err(Fail::new("the order is refused"));
     }
-    let problem = office.problem(alloc, at(alloc, "01:00")?)?;
+    let problem = office.problem(alloc, time(alloc, "01:00")?)?;
     let network = read_lines(alloc, NETWORK.as_bytes())?;
     let table = cells(alloc, &problem, &tables(alloc, &network)?)?;
     // The wagon at DE00002 has the lower number.

@@ -3,13 +3,15 @@
 use commit_book::Refusal;
 use cost_table::TableFault;
 use distance_tables::{NetworksFault, WorkFault};
+use json_fields::{Field, FieldFault, LineFault};
 use line_network::NetworkFault;
-use move_messages::{Field, FieldFault, LineFault};
-use office::{Refusal as TableRefusal, RunFault};
+use named_pairs::NamedFault;
+use office::RunFault;
 use operating_db::ApplyFault;
 use price_checker::CheckFault;
 use rail_codes::CodeFault;
 use std::test::Fail;
+use table_lines::TableRefusal;
 use test_samples::{FAR, misnamed, order_id, wagon};
 use wagon_roster::RosterFault;
 use wagon_state::StepFault;
@@ -139,6 +141,23 @@ fn check_faults(rt: HostRuntime) -> Result<(), Fail> {
 }
 
 #[test]
+fn named_faults(rt: HostRuntime) -> Result<(), Fail> {
+    let (number, id) = (wagon(FAR)?, order_id("O1")?);
+    let faults = [
+        (NamedFault::OutOfMemory, "OutOfMemory"),
+        (NamedFault::WrongLengths, "WrongLengths"),
+        (NamedFault::NotAllowed(number, id), "NotAllowed"),
+        (NamedFault::UsedTwice(number, id), "UsedTwice"),
+        (NamedFault::PriceGap(number, id), "PriceGap"),
+        (NamedFault::OverPenalty(id), "OverPenalty"),
+        (NamedFault::SumsDiffer(1, 2), "SumsDiffer"),
+        (NamedFault::NotInProblem(number, id), "NotInProblem"),
+    ];
+    assert_eq!(rt; misnamed(rt.alloc(), &faults)?, None);
+    Ok(())
+}
+
+#[test]
 fn apply_faults(rt: HostRuntime) -> Result<(), Fail> {
     let faults = [
         (ApplyFault::OutOfMemory, "OutOfMemory"),
@@ -160,6 +179,7 @@ fn refusals_of_a_book(rt: HostRuntime) -> Result<(), Fail> {
     let faults = [
         (Refusal::OutOfMemory, "OutOfMemory"),
         (Refusal::Step(StepFault::Earlier), "Earlier"),
+        (Refusal::Check(NamedFault::WrongLengths), "WrongLengths"),
         (Refusal::IdReused, "IdReused"),
         (Refusal::BookFull, "BookFull"),
         (Refusal::UnknownWagon, "UnknownWagon"),
@@ -182,6 +202,11 @@ fn refusals_of_a_table_line(rt: HostRuntime) -> Result<(), Fail> {
     let faults = [
         (TableRefusal::OutOfMemory, "OutOfMemory"),
         (TableRefusal::Line(LineFault::NotJson), "NotJson"),
+        (TableRefusal::Table(TableFault::TooLarge), "TooLarge"),
+        (
+            TableRefusal::Check(NamedFault::SumsDiffer(1, 2)),
+            "SumsDiffer",
+        ),
     ];
     assert_eq!(rt; misnamed(rt.alloc(), &faults)?, None);
     Ok(())

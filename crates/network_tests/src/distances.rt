@@ -116,17 +116,22 @@ impl Gate for MeetingGate {
     }
 }
 
-/// As many workers as there are to be are at work at once: two, and three.
+/// Whether so many workers are at work at once, and make the tables that one thread makes.
+fn meet<R: Threads + Wait>(
+    rt: &R,
+    alloc: Global,
+    workers: usize,
+    wanted: u64,
+) -> Result<bool, Fail> {
+    let gate = MeetingGate::new(wanted);
+    let is_same = like_one_thread(rt, alloc, workers, &gate)?;
+    Ok(is_same && gate.is_passed())
+}
+
 #[test]
 fn workers_meet(rt: HostRuntime) -> Result<(), Fail> {
-    for (workers, wanted) in [(2, 2), (3, 3)] {
-        let gate = MeetingGate::new(wanted);
-        assert!(rt;
-            like_one_thread(&rt, rt.alloc(), workers, &gate)?,
-            "{workers}"
-        );
-        assert!(rt; gate.is_passed(), "{workers}");
-    }
+    assert!(rt; meet(&rt, rt.alloc(), 2, 2)?);
+    assert!(rt; meet(&rt, rt.alloc(), 3, 3)?);
     Ok(())
 }
 

@@ -64,20 +64,18 @@ fn positions_of_names(rt: HostRuntime) -> Result<(), Fail> {
 
 /// So many equal wagons.
 fn wagons(alloc: Global, count: u32) -> Result<Vec<FreeWagon>, Fail> {
-    let wagon = free_wagon(FAR, "Eanos", "DE00001")?;
     let mut wagons = Vec::new(alloc);
     for _ in 0..count {
-        wagons.push(wagon)?;
+        wagons.push(free_wagon(FAR, "Eanos", "DE00001")?)?;
     }
     Ok(wagons)
 }
 
 /// So many equal orders.
 fn orders(alloc: Global, count: u32) -> Result<Vec<Wanted>, Fail> {
-    let order = wanted("O1", "2026-03-01T04:00:00Z")?;
     let mut orders = Vec::new(alloc);
     for _ in 0..count {
-        orders.push(order)?;
+        orders.push(wanted("O1", "2026-03-01T04:00:00Z")?)?;
     }
     Ok(orders)
 }

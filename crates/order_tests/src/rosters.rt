@@ -99,8 +99,10 @@ fn fault_of(alloc: Global, bytes: &[u8]) -> Option<RosterFault> {
 /// Why the sample roster with one more record is none, and the number of the refusal.
 fn fault_with(alloc: Global, record: &str) -> Result<Option<(RosterFault, u32)>, Fail> {
     let text = format!(in alloc; "{ROSTER}{record}\n")?;
-    let fault = fault_of(alloc, text.as_bytes());
-    Ok(fault.map(|fault| (fault, fault.number())))
+    match fault_of(alloc, text.as_bytes()) {
+        Some(fault) => Ok(Some((fault, fault.number()))),
+        None => Ok(None),
+    }
 }
 
 #[test]

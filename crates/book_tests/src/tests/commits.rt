@@ -1,9 +1,9 @@
 //! Commits that are accepted, and each reason why one is refused.
 
-use crate::books::{SAMPLE, Start};
-use crate::lines::{BEGIN, COMMIT, DEPARTURE};
-use crate::steps::Step::{Accepted, Begun, Entries, Problem, Refused};
-use crate::steps::{Case, first_other};
+use super::books::{SAMPLE, Start};
+use super::lines::{BEGIN, COMMIT, DEPARTURE};
+use super::steps::Step::{Accepted, Begun, Entries, Problem, Refused};
+use super::steps::{Case, first_other};
 use std::test::Fail;
 use test_samples::ORDER;
 

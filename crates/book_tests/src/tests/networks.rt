@@ -1,9 +1,9 @@
 //! Books of several networks.
 
-use crate::books::{SAMPLE, Start};
-use crate::lines::{BEGIN, COMMIT};
-use crate::steps::Step::{Accepted, Begun, Problem, Refused};
-use crate::steps::{Case, first_other};
+use super::books::{SAMPLE, Start};
+use super::lines::{BEGIN, COMMIT};
+use super::steps::Step::{Accepted, Begun, Problem, Refused};
+use super::steps::{Case, first_other};
 use std::test::Fail;
 use test_samples::{NETWORK, ORDER};
 

@@ -2,11 +2,11 @@
 ghost use Rattle.std.specs.Prelude.{All, IsTrue};
 ghost use Rattle.commit_book.specs.Snap.{IsInRange};
 
-use crate::books::{SAMPLE, Start, call};
-use crate::lines::COMMIT;
-use crate::states::ONE;
-use crate::steps::Step::{Accepted, Entries, Planned, Refused};
-use crate::steps::{Case, first_other};
+use super::books::{SAMPLE, Start, call};
+use super::lines::COMMIT;
+use super::states::ONE;
+use super::steps::Step::{Accepted, Entries, Planned, Refused};
+use super::steps::{Case, first_other};
 use assignment::certified_plan;
 use commit_book::{Book, Call, Reply, Snap};
 use cost_table::{Plan, Problem, cells};

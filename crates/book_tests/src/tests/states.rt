@@ -1,6 +1,6 @@
 //! What a book holds: its entries, its problem, and the rows of its office.
 
-use crate::books::call;
+use super::books::call;
 use commit_book::{Book, Call};
 use load_orders::OrderState;
 use operating_db::Event;

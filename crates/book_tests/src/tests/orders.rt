@@ -1,9 +1,9 @@
 //! Orders that are placed and withdrawn, and orders for several wagons.
 
-use crate::books::{SAMPLE, Start, reply_to};
-use crate::lines::WITHDRAWAL;
-use crate::steps::Step::{Accepted, PlacedAll, Problem, Refused};
-use crate::steps::{Case, first_other};
+use super::books::{SAMPLE, Start, reply_to};
+use super::lines::WITHDRAWAL;
+use super::steps::Step::{Accepted, PlacedAll, Problem, Refused};
+use super::steps::{Case, first_other};
 use commit_book::{Book, Reply};
 use std::alloc::Global;
 use std::test::Fail;

@@ -1,9 +1,9 @@
 //! Messages, their ids and what is full.
 
-use crate::books::{SAMPLE, Start};
-use crate::lines::{DEPARTURE, OTHER_PLACE};
-use crate::steps::Step::{Accepted, Entries, Refused, Repeated};
-use crate::steps::{Case, first_other};
+use super::books::{SAMPLE, Start};
+use super::lines::{DEPARTURE, OTHER_PLACE};
+use super::steps::Step::{Accepted, Entries, Refused, Repeated};
+use super::steps::{Case, first_other};
 use std::test::Fail;
 use test_samples::ORDER;
 

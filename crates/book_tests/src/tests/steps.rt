@@ -1,11 +1,12 @@
 //! Steps of a book: calls with their answers, and what the book holds between them.
 
-use crate::books::{Start, answer, book_of, reply_to, version_begun};
-use crate::orders::are_placed;
-use crate::plans::is_planned;
-use crate::states::{has_entry, has_problem, has_state, is_loading, is_promised, is_ready};
+use super::books::{Start, answer, book_of, reply_to, version_begun};
+use super::orders::are_placed;
+use super::plans::is_planned;
+use super::states::{has_entry, has_problem, has_state, is_loading, is_promised, is_ready};
 use commit_book::{Answer, Book, Refusal, Reply};
 use load_orders::OrderState;
+use named_pairs::NamedFault;
 use std::alloc::Global;
 use std::test::Fail;
 
@@ -93,16 +94,25 @@ fn is_refused(
 /// What a refusal names: a wagon, an order, both, two sums or nothing.
 fn names(alloc: Global, refusal: Refusal) -> Result<String, Fail> {
     match refusal {
-        Refusal::NotAllowed(wagon, order)
-        | Refusal::UsedTwice(wagon, order)
-        | Refusal::PriceGap(wagon, order)
-        | Refusal::NotInProblem(wagon, order) => {
+        Refusal::Check(fault) => names_in_check(alloc, fault),
+        Refusal::OrderChanged(order) => Ok(order.text(alloc)?),
+        Refusal::WagonChanged(wagon) => Ok(wagon.text(alloc)?),
+        _ => Ok(String::new(alloc)),
+    }
+}
+
+/// What a fault of the price checker names.
+fn names_in_check(alloc: Global, fault: NamedFault) -> Result<String, Fail> {
+    match fault {
+        NamedFault::NotAllowed(wagon, order)
+        | NamedFault::UsedTwice(wagon, order)
+        | NamedFault::PriceGap(wagon, order)
+        | NamedFault::NotInProblem(wagon, order) => {
             let (wagon, order) = (wagon.text(alloc)?, order.text(alloc)?);
             Ok(format!(in alloc; "{wagon} {order}")?)
         }
-        Refusal::OverPenalty(order) | Refusal::OrderChanged(order) => Ok(order.text(alloc)?),
-        Refusal::WagonChanged(wagon) => Ok(wagon.text(alloc)?),
-        Refusal::SumsDiffer(pairs, orders) => Ok(format!(in alloc; "{pairs} {orders}")?),
+        NamedFault::OverPenalty(order) => Ok(order.text(alloc)?),
+        NamedFault::SumsDiffer(pairs, orders) => Ok(format!(in alloc; "{pairs} {orders}")?),
         _ => Ok(String::new(alloc)),
     }
 }

@@ -1,9 +1,9 @@
 //! Entries of a book, and a run of calls.
 
-use crate::books::{SAMPLE, Start, book_of, run};
-use crate::lines::{BEGIN, COMMIT, DEPARTURE, OTHER_PLACE};
-use crate::steps::Step::{Accepted, Begun, Entries, Entry, Event, Refused};
-use crate::steps::{Case, first_other};
+use super::books::{SAMPLE, Start, book_of, run};
+use super::lines::{BEGIN, COMMIT, DEPARTURE, OTHER_PLACE};
+use super::steps::Step::{Accepted, Begun, Entries, Entry, Event, Refused};
+use super::steps::{Case, first_other};
 use commit_book::{Answer, Refusal, Reply};
 use std::alloc::Global;
 use std::test::Fail;

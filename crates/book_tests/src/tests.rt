@@ -1,0 +1,14 @@
+//! Books and what is called on them, step by step.
+
+mod books;
+mod commits;
+mod entries;
+mod limits;
+mod lines;
+mod messages;
+mod networks;
+mod orders;
+mod plans;
+mod promises;
+mod states;
+mod steps;
