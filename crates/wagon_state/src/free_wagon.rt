@@ -1,4 +1,4 @@
-//! Free wagons.
+//! Free wagons: those that may be promised.
 ghost use Rattle.std.specs.Prelude.{◌≡◌, IsTrue, IfSome};
 ghost use Rattle.wagon_state.specs.Free.{free_of};
 
