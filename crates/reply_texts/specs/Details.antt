@@ -8,6 +8,8 @@ use Rattle.cost_table.specs.declared.table_fault.TableFault.{TableFault}
 use Rattle.cost_table.specs.declared.table_fault.TableFault.TheVariants as table
 use Rattle.named_pairs.specs.declared.named_fault.NamedFault.{NamedFault}
 use Rattle.named_pairs.specs.declared.named_fault.NamedFault.TheVariants as check
+use Rattle.commit_book.specs.declared.refusal.Refusal.{Refusal}
+use Rattle.commit_book.specs.declared.refusal.Refusal.TheVariants as book
 use Rattle.table_lines.specs.declared.table_refusal.TableRefusal.{TableRefusal}
 use Rattle.table_lines.specs.declared.table_refusal.TableRefusal.TheVariants.{OutOfMemory, Line, Table, Check}
 
@@ -49,3 +51,21 @@ table_line_details OutOfMemory = []
 table_line_details (Line fault) = line_details fault
 table_line_details (Table fault) = table_details fault
 table_line_details (Check fault) = check_details fault
+
+-- of a call on the book: the wagon or the order that has changed
+abbrev pub book_details : Refusal → List ℕ
+book_details book.OutOfMemory = []
+book_details (book.Step fault) = []
+book_details (book.Check fault) = check_details fault
+book_details book.IdReused = []
+book_details book.BookFull = []
+book_details book.UnknownWagon = []
+book_details book.OrderKnown = []
+book_details book.TooManyOpen = []
+book_details book.UnknownOrder = []
+book_details book.OrderClosed = []
+book_details book.UnknownNetwork = []
+book_details book.SameNetwork = []
+book_details book.NotKept = []
+book_details (book.WagonChanged wagon) = then wagon
+book_details (book.OrderChanged order) = then order

@@ -2,9 +2,11 @@
 use Rattle.std.specs.Prelude.{ℕ, List, [], ◌∷◌, ◌++◌, codes, decimal}
 use Rattle.json_fields.specs.Faults.{line_fault_number}
 use Rattle.json_fields.specs.declared.fault.LineFault.{LineFault}
+use Rattle.commit_book.specs.Refusal.{refusal_number}
+use Rattle.commit_book.specs.declared.refusal.Refusal.{Refusal}
 use Rattle.table_lines.specs.TableRefusals.{table_refusal_number}
 use Rattle.table_lines.specs.declared.table_refusal.TableRefusal.{TableRefusal}
-use Rattle.reply_texts.specs.Details.{then, line_details, table_line_details}
+use Rattle.reply_texts.specs.Details.{then, book_details, line_details, table_line_details}
 
 -- a refusal's number and its details
 abbrev pub refused_text : ℕ → List ℕ → List ℕ
@@ -16,6 +18,9 @@ line_refused_text fault = refused_text (line_fault_number fault) (line_details f
 
 abbrev pub table_refused_text : TableRefusal → List ℕ
 table_refused_text refusal = refused_text (table_refusal_number refusal) (table_line_details refusal)
+
+abbrev pub book_refused_text : Refusal → List ℕ
+book_refused_text refusal = refused_text (refusal_number refusal) (book_details refusal)
 
 -- the cost of a plan that passes, in km
 abbrev pub optimal_text : ℕ → List ℕ

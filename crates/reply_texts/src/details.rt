@@ -1,8 +1,9 @@
 //! The details of a refusal, behind its number.
 ghost use Rattle.std.specs.Prelude.{◌≡◌, ◌++◌, OnOk};
-ghost use Rattle.reply_texts.specs.Details.{check_details, line_details, table_details, table_line_details};
+ghost use Rattle.reply_texts.specs.Details.{book_details, check_details, line_details, table_details, table_line_details};
 
 use crate::words::{push_number, push_numbers, push_pair, push_word};
+use commit_book::Refusal;
 use cost_table::TableFault;
 use json_fields::LineFault;
 use line_engine::ReplyText;
@@ -71,5 +72,28 @@ pub(crate) fn push_table_line_details(
         TableRefusal::Line(fault) => push_line_details(reply, fault),
         TableRefusal::Table(fault) => push_table_details(reply, fault),
         TableRefusal::Check(fault) => push_check_details(reply, fault),
+    }
+}
+
+/// Adds the details of a book's refusal.
+pub(crate) fn push_book_details(reply: &mut ReplyText, refusal: &Refusal) -> Result<(), AllocError>
+    ensures { OnOk result (reply.new ≡ reply.old ++ book_details refusal.now) }
+{
+    match refusal {
+        Refusal::Check(fault) => push_check_details(reply, fault),
+        Refusal::WagonChanged(wagon) => push_word(reply, wagon.digits()),
+        Refusal::OrderChanged(order) => push_word(reply, order.as_bytes()),
+        Refusal::OutOfMemory
+        | Refusal::Step(_)
+        | Refusal::IdReused
+        | Refusal::BookFull
+        | Refusal::UnknownWagon
+        | Refusal::OrderKnown
+        | Refusal::TooManyOpen
+        | Refusal::UnknownOrder
+        | Refusal::OrderClosed
+        | Refusal::UnknownNetwork
+        | Refusal::SameNetwork
+        | Refusal::NotKept => Ok(()),
     }
 }

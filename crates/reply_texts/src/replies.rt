@@ -1,10 +1,11 @@
 //! Whole replies, behind the line's number. `Err` only when out of memory; part of the text may be there then.
 ghost use Rattle.std.specs.Prelude.{◌≡◌, ◌++◌, [], ◌∷◌, codes, decimal, OnOk};
 ghost use Rattle.reply_texts.specs.Details.{then};
-ghost use Rattle.reply_texts.specs.ReplyTexts.{accepted_text, begun_text, line_refused_text, optimal_text, repeated_text, table_refused_text};
+ghost use Rattle.reply_texts.specs.ReplyTexts.{accepted_text, book_refused_text, begun_text, line_refused_text, optimal_text, repeated_text, table_refused_text};
 
-use crate::details::{push_line_details, push_table_line_details};
+use crate::details::{push_book_details, push_line_details, push_table_line_details};
 use crate::words::{push_number, push_numbers};
+use commit_book::Refusal;
 use json_fields::LineFault;
 use line_engine::ReplyText;
 use std::alloc::AllocError;
@@ -42,6 +43,15 @@ pub fn push_table_refused(reply: &mut ReplyText, refusal: &TableRefusal) -> Resu
 {
     push_refused(reply, refusal.number())?;
     push_table_line_details(reply, refusal)?;
+    reply.push_bytes(b"\n")
+}
+
+/// Adds `refused CODE` and the details of a book's refusal.
+pub fn push_book_refused(reply: &mut ReplyText, refusal: &Refusal) -> Result<(), AllocError>
+    ensures { OnOk result (reply.new ≡ reply.old ++ book_refused_text refusal.now) }
+{
+    push_refused(reply, refusal.number())?;
+    push_book_details(reply, refusal)?;
     reply.push_bytes(b"\n")
 }
 
