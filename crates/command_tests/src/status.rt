@@ -172,6 +172,9 @@ const LOADED: &[Accepted] = &[
 fn first_other(alloc: Global, cases: &[Accepted]) -> Result<Option<usize>, Fail> {
     let start = status(alloc, Word::Loading, "DE00003", "06:00")?;
     let mut row = row(alloc, start)?;
+    if row.promise.is_some() {
+        return Err(Fail::new("promised from the start"));
+    }
     for (k, case) in cases.iter().enumerate() {
         match accepted(alloc, &row, *case)? {
             Some(next) => row = next,
@@ -249,6 +252,9 @@ fn is_accepted(alloc: Global, single: Single) -> Result<bool, Fail> {
     let start = status(alloc, word, "DE00002", "06:00")?;
     let row = row(alloc, start)?;
     let row = if has_promise { promised(row)? } else { row };
+    if row.promise.is_some() != has_promise {
+        return Ok(false);
+    }
     Ok(accepted(alloc, &row, case)?.is_some())
 }
 
@@ -294,6 +300,9 @@ fn held(
 fn first_other_hold(alloc: Global) -> Result<Option<usize>, Fail> {
     let start = status(alloc, Word::Empty, "DE00002", "06:00")?;
     let mut row = promised(row(alloc, start)?)?;
+    if row.promise.is_none() {
+        return Err(Fail::new("not promised"));
+    }
     for (k, case) in HELD.iter().enumerate() {
         match held(alloc, &row, *case)? {
             Some(next) => row = next,
