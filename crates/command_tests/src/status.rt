@@ -85,20 +85,20 @@ const REFUSED: &[(Told, u32)] = &[
     ((Release, "DE00002", "06:00"), 33),
 ];
 
-/// The number of a message's refusal, 0 where it is accepted.
-fn refusal(alloc: Global, told: Told) -> Result<u32, Fail> {
+/// The number of a message's refusal, where it is refused.
+fn refusal(alloc: Global, told: Told) -> Result<Option<u32>, Fail> {
     let start = status(alloc, Word::Loading, "DE00003", "06:00")?;
     let row = row(alloc, start)?;
-    match change(alloc, &row, told)? {
-        Ok(_) => Ok(0),
-        Err(number) => Ok(number),
+    if row.promise.is_some() {
+        return Ok(None);
     }
+    Ok(change(alloc, &row, told)?.err())
 }
 
 #[test]
 fn refused_messages(rt: HostRuntime) -> Result<(), Fail> {
     for (k, (told, number)) in REFUSED.iter().enumerate() {
-        assert_eq!(rt; refusal(rt.alloc(), *told)?, *number, "{k}");
+        assert_eq!(rt; refusal(rt.alloc(), *told)?, Some(*number), "{k}");
     }
     Ok(())
 }
@@ -172,6 +172,9 @@ const LOADED: &[Accepted] = &[
 fn first_other(alloc: Global, cases: &[Accepted]) -> Result<Option<usize>, Fail> {
     let start = status(alloc, Word::Loading, "DE00003", "06:00")?;
     let mut row = row(alloc, start)?;
+    if row.promise.is_some() {
+        return Err(Fail::new("promised from the start"));
+    }
     for (k, case) in cases.iter().enumerate() {
         match accepted(alloc, &row, *case)? {
             Some(next) => row = next,
@@ -249,6 +252,9 @@ fn is_accepted(alloc: Global, single: Single) -> Result<bool, Fail> {
     let start = status(alloc, word, "DE00002", "06:00")?;
     let row = row(alloc, start)?;
     let row = if has_promise { promised(row)? } else { row };
+    if row.promise.is_some() != has_promise {
+        return Ok(false);
+    }
     Ok(accepted(alloc, &row, case)?.is_some())
 }
 
@@ -294,6 +300,9 @@ fn held(
 fn first_other_hold(alloc: Global) -> Result<Option<usize>, Fail> {
     let start = status(alloc, Word::Empty, "DE00002", "06:00")?;
     let mut row = promised(row(alloc, start)?)?;
+    if row.promise.is_none() {
+        return Err(Fail::new("not promised"));
+    }
     for (k, case) in HELD.iter().enumerate() {
         match held(alloc, &row, *case)? {
             Some(next) => row = next,
