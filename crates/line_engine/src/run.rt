@@ -173,13 +173,21 @@ pub fn run_lines<R: Source, W: Sink, H: Handler>(
     requires reader { R.has_failed reader.old ≡ false }
     requires writer { W.has_failed writer.old ≡ false }
     ensures ok { IfOk result (λ count. Ends H.answers H.runs_out (record {
-        from = R.remaining reader.old; to = R.remaining reader.new;
-        held = W.contents writer.old; holds = W.contents writer.new;
-        old = handler.old; new = handler.new }) count) }
+      from = R.remaining reader.old;
+      to = R.remaining reader.new;
+      held = W.contents writer.old;
+      holds = W.contents writer.new;
+      old = handler.old;
+      new = handler.new;
+    }) count) }
     ensures err { IfErr result (λ fault. Stops H.answers H.runs_out (record {
-        from = R.remaining reader.old; to = R.remaining reader.new;
-        held = W.contents writer.old; holds = W.contents writer.new;
-        old = handler.old; new = handler.new })
+      from = R.remaining reader.old;
+      to = R.remaining reader.new;
+      held = W.contents writer.old;
+      holds = W.contents writer.new;
+      old = handler.old;
+      new = handler.new;
+    })
         (record { reader = R.has_failed reader.new; writer = W.has_failed writer.new }) fault) }
 {
     let mut window = Window::new(alloc)?;

@@ -4,6 +4,7 @@
 mod table_checker;
 
 pub use line_engine::{
-    DeviceFailed, FromRead, MAX_INPUT_LINES, MAX_LINE_BYTES, RunCount, RunFault, Sink, Source, ToWrite,
+    DeviceFailed, FromRead, MAX_INPUT_LINES, MAX_LINE_BYTES, RunCount, RunFault, Sink, Source,
+    ToWrite,
 };
 pub use table_checker::{TableChecker, check_run};

@@ -57,11 +57,21 @@ pub fn check_run<R: Source, W: Sink>(
     requires reader { R.has_failed reader.old ≡ false }
     requires writer { W.has_failed writer.old ≡ false }
     ensures ok { IfOk result (λ count. Ends {H = TableChecker} ChecksLine (λ _ _ _. Unit {0}) (record {
-        from = R.remaining reader.old; to = R.remaining reader.new;
-        held = W.contents writer.old; holds = W.contents writer.new; old = record {}; new = record {} }) count) }
+      from = R.remaining reader.old;
+      to = R.remaining reader.new;
+      held = W.contents writer.old;
+      holds = W.contents writer.new;
+      old = record {};
+      new = record {};
+    }) count) }
     ensures err { IfErr result (λ fault. Stops {H = TableChecker} ChecksLine (λ _ _ _. Unit {0}) (record {
-        from = R.remaining reader.old; to = R.remaining reader.new;
-        held = W.contents writer.old; holds = W.contents writer.new; old = record {}; new = record {} })
+      from = R.remaining reader.old;
+      to = R.remaining reader.new;
+      held = W.contents writer.old;
+      holds = W.contents writer.new;
+      old = record {};
+      new = record {};
+    })
         (record { reader = R.has_failed reader.new; writer = W.has_failed writer.new }) fault) }
 {
     run_lines(alloc, reader, writer, &mut TableChecker)

@@ -15,8 +15,6 @@ pub use messages::misnamed;
 pub use orders::order_text;
 pub use reading::{MemoryReader, MemorySource};
 pub use rosters::{numbers_list, roster_of, wagon_text};
-pub use texts::{
-    FAR, NEAR, NETWORK, NETWORK_HEADER, ORDER, ROSTER, ROSTER_HEADER, UNKNOWN,
-};
+pub use texts::{FAR, NEAR, NETWORK, NETWORK_HEADER, ORDER, ROSTER, ROSTER_HEADER, UNKNOWN};
 pub use wagons::free_wagon;
 pub use writing::{MemorySink, MemoryWriter};

@@ -13,7 +13,8 @@ const ABOUT: &str = "The fleet office: plans for empty freight wagons, with pric
      them least. Without a word it does `check`.";
 
 /// What `check` does.
-const CHECK_HELP: &str = "Reads table lines from standard input, one JSON object a line: wagons, orders,\n\
+const CHECK_HELP: &str =
+    "Reads table lines from standard input, one JSON object a line: wagons, orders,\n\
      the cost of each allowed pair in kilometres, penalties, a plan and its prices.\n\
      Replies `N optimal COST` where the prices prove the plan of line N least, else\n\
      `N refused CODE` and details. Exits with 0, with 1 where a line was refused,\n\

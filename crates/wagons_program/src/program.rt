@@ -5,9 +5,8 @@ use crate::command_line::{Word, not_utf8, read_words};
 use crate::stop::Stop;
 use clap::Error;
 use clap::error::ErrorKind;
-use std::env;
-use std::io;
 use std::process::ExitCode;
+use std::{env, io};
 
 /// The status of a run that could not start or stopped.
 const STOPPED: u8 = 2;
