@@ -2,7 +2,7 @@
 ghost use Rattle.std.specs.Prelude.{◌≡◌, ◌+◌, ◌*◌, ◌<◌, ◌≤◌, ◌↔◌, ℕ, List, All, IfOk, OnOk, IfSome, IsTrue, Option, Some, length, map, max};
 ghost use Rattle.line_network.specs.Network.{place_index};
 ghost use Rattle.distance_tables.specs.Distance.{IsAnswered};
-ghost use Rattle.distance_tables.specs.declared.distances.TheConstants.{MAX_DISTANCE};
+ghost use Rattle.distance_tables.specs.Distance.{max_distance};
 ghost use Rattle.cost_table.specs.Allowed.{Reaches, IsTableOf};
 ghost use Rattle.cost_table.specs.inner.AllowedRows.{AddsRow, AreRowsOf};
 ghost use Rattle.cost_table.specs.Problem.{penalties_of, lacks_of};
@@ -151,7 +151,7 @@ fn distance(tables: &Tables, from: Option<usize>, to: Option<usize>) -> Option<(
     requires from { IfSome from (λ k. k < length tables.now.places) }
     requires to { IfSome to (λ k. k < length tables.now.places) }
     ensures meaning { (a b : List ℕ) → place_index tables.now.places a ≡ from → place_index tables.now.places b ≡ to → IsAnswered tables.now a b result }
-    ensures limit { IfSome result (λ d. (d.0 ≤ MAX_DISTANCE) × (d.1 ≤ MAX_DISTANCE)) }
+    ensures limit { IfSome result (λ d. (d.0 ≤ max_distance) × (d.1 ≤ max_distance)) }
 {
     tables.between_numbers(from?, to?)
 }

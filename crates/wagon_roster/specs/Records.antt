@@ -9,7 +9,7 @@ use Rattle.wagon_state.specs.declared.load.Load.TheVariants.{Loaded, Unladen}
 use Rattle.wagon_state.specs.declared.status.Status.{Status}
 use Rattle.wagon_state.specs.declared.status.Status.TheVariants.{Empty, Loading, Ready, Journey, Yard, Arrived, Unloading}
 use Rattle.wagon_state.specs.declared.wagon_row.WagonRow.{WagonRow}
-use Rattle.wagon_roster.specs.Roster.{max_load}
+use Rattle.move_messages.specs.Order.{max_load}
 
 -- whether a record is the header
 abbrev pub is_header : Record → Bool

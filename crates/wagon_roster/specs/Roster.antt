@@ -5,13 +5,10 @@ use Rattle.std.specs.List.{list_any}
 use Rattle.std.specs.List.Sorted.{IsStrictlySortedBy}
 use Rattle.std.specs.Ordering.{nat_cmp}
 use Rattle.std.specs.declared.cmp.Ordering.{Ordering}
+use Rattle.move_messages.specs.Order.{max_load}
 use Rattle.wagon_state.specs.declared.status.Status.{Status}
 use Rattle.wagon_state.specs.declared.status.Status.TheVariants.{Empty}
 use Rattle.wagon_state.specs.declared.wagon_row.WagonRow.{WagonRow}
-
--- the most that a wagon may carry, in kg
-abbrev pub max_load : ℕ
-max_load = 200000
 
 -- the most wagons of a roster
 abbrev pub max_roster_wagons : ℕ

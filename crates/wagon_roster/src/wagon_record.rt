@@ -2,7 +2,8 @@
 ghost use Rattle.std.specs.Prelude.{◌≡◌, ◌≢◌, ◌≤◌, [], ◌∷◌, length, option_map, IfSome, IfNone};
 ghost use Rattle.csv.specs.Records.{fields_of};
 ghost use Rattle.wagon_roster.specs.Records.{class_in, is_header, load_in, moment_in, number_in, status_in, wagon_record};
-ghost use Rattle.wagon_roster.specs.Roster.{IsRosterRow, max_load};
+ghost use Rattle.move_messages.specs.Order.{max_load};
+ghost use Rattle.wagon_roster.specs.Roster.{IsRosterRow};
 
 use csv::ByteRecord;
 use csv_records::{is_text, place_of, text_of, whole_number};
