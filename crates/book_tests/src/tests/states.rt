@@ -45,15 +45,15 @@ fn row_of(book: &Book, number: &str) -> Result<WagonRow, Fail> {
 }
 
 /// Whether a wagon that isn't held is empty at a place since a moment.
-pub(crate) fn is_ready(book: &Book, number: &str, place: &str, since: &str) -> Result<bool, Fail> {
+pub(crate) fn is_ready(book: &Book, number: &str, at: &str, since: &str) -> Result<bool, Fail> {
     let row = row_of(book, number)?;
-    let status = Status::Empty(place(place)?, moment(since)?);
+    let status = Status::Empty(place(at)?, moment(since)?);
     Ok(row.status == status && !row.held)
 }
 
 /// Whether a wagon is loaded at a place.
-pub(crate) fn is_loading(book: &Book, number: &str, place: &str) -> Result<bool, Fail> {
-    let status = Status::Loading(place(place)?);
+pub(crate) fn is_loading(book: &Book, number: &str, at: &str) -> Result<bool, Fail> {
+    let status = Status::Loading(place(at)?);
     Ok(row_of(book, number)?.status == status)
 }
 
