@@ -4,6 +4,7 @@ use commit_book::{Answer, Book, Call, Limits, Refusal, Reply};
 use distance_tables::{Networks, tables};
 use line_network::read_lines;
 use move_messages::{Command, read_line};
+use named_pairs::NamedFault;
 use std::alloc::Global;
 use std::sync::Arc;
 use std::test::Fail;
@@ -58,31 +59,65 @@ pub(crate) fn call(alloc: Global, line: &str) -> Result<Call, Fail> {
     }
 }
 
-/// What a book answers to a line's call.
-pub(crate) fn answer(alloc: Global, book: &mut Book, line: &str) -> Result<Answer, Fail> {
-    Ok(match call(alloc, line)? {
-        Call::Message(message) => answer_of(book.message(alloc, &message)),
-        Call::Place(text) => answer_of(book.place(alloc, &text)),
-        Call::Withdraw(id) => answer_of(book.withdraw(alloc, id)),
-        Call::Begin(at) => Answer::Begun(book.begin(alloc, at)?.version()),
-        Call::Commit(commit) => answer_of(book.commit(alloc, &commit)),
-        Call::Revise(network) => answer_of(book.revise(alloc, network)),
-    })
+/// What a book answers to a line's call; of a refusal its number and what it names.
+#[derive(Debug, Drop)]
+pub(crate) enum Told {
+    Done(Reply),
+    Begun(u64),
+    Refused(u32, String),
 }
 
-fn answer_of(reply: Result<Reply, Refusal>) -> Answer {
+/// What a book answers to a line's call.
+pub(crate) fn what_is_told(alloc: Global, book: &mut Book, line: &str) -> Result<Told, Fail> {
+    match call(alloc, line)? {
+        Call::Message(message) => told_of(alloc, book.message(alloc, &message)),
+        Call::Place(text) => told_of(alloc, book.place(alloc, &text)),
+        Call::Withdraw(id) => told_of(alloc, book.withdraw(alloc, id)),
+        Call::Begin(at) => Ok(Told::Begun(book.begin(alloc, at)?.version())),
+        Call::Commit(commit) => told_of(alloc, book.commit(alloc, &commit)),
+        Call::Revise(network) => told_of(alloc, book.revise(alloc, network)),
+    }
+}
+
+/// A reply, or of a refusal its number and what it names.
+pub(crate) fn told_of(alloc: Global, reply: Result<Reply, Refusal>) -> Result<Told, Fail> {
     match reply {
-        Ok(reply) => Answer::Done(reply),
-        Err(refusal) => Answer::Refused(refusal),
+        Ok(reply) => Ok(Told::Done(reply)),
+        Err(refusal) => Ok(Told::Refused(refusal.number(), names(alloc, refusal)?)),
+    }
+}
+
+/// What a refusal names: a wagon, an order, both, two sums or nothing.
+fn names(alloc: Global, refusal: Refusal) -> Result<String, Fail> {
+    match refusal {
+        Refusal::Check(fault) => names_in_check(alloc, fault),
+        Refusal::OrderChanged(order) => Ok(order.text(alloc)?),
+        Refusal::WagonChanged(wagon) => Ok(wagon.text(alloc)?),
+        _ => Ok(String::new(alloc)),
+    }
+}
+
+/// What a fault of the price checker names.
+fn names_in_check(alloc: Global, fault: NamedFault) -> Result<String, Fail> {
+    match fault {
+        NamedFault::NotAllowed(wagon, order)
+        | NamedFault::UsedTwice(wagon, order)
+        | NamedFault::PriceGap(wagon, order)
+        | NamedFault::NotInProblem(wagon, order) => {
+            let (wagon, order) = (wagon.text(alloc)?, order.text(alloc)?);
+            Ok(format!(in alloc; "{wagon} {order}")?)
+        }
+        NamedFault::OverPenalty(order) => Ok(order.text(alloc)?),
+        NamedFault::SumsDiffer(pairs, orders) => Ok(format!(in alloc; "{pairs} {orders}")?),
+        _ => Ok(String::new(alloc)),
     }
 }
 
 /// The reply to a line's event, `None` where it is refused or none.
 pub(crate) fn reply_to(alloc: Global, book: &mut Book, line: &str) -> Result<Option<Reply>, Fail> {
-    match answer(alloc, book, line)? {
-        Answer::Done(reply) => Ok(Some(reply)),
-        Answer::Begun(_) => Ok(None),
-        Answer::Refused(_refusal) => Ok(None),
+    match what_is_told(alloc, book, line)? {
+        Told::Done(reply) => Ok(Some(reply)),
+        Told::Begun(_) | Told::Refused(_, _) => Ok(None),
     }
 }
 
@@ -92,10 +127,9 @@ pub(crate) fn version_begun(
     book: &mut Book,
     line: &str,
 ) -> Result<Option<u64>, Fail> {
-    match answer(alloc, book, line)? {
-        Answer::Done(_) => Ok(None),
-        Answer::Begun(version) => Ok(Some(version)),
-        Answer::Refused(_refusal) => Ok(None),
+    match what_is_told(alloc, book, line)? {
+        Told::Begun(version) => Ok(Some(version)),
+        Told::Done(_) | Told::Refused(_, _) => Ok(None),
     }
 }
 

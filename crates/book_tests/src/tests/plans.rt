@@ -2,7 +2,7 @@
 ghost use Rattle.std.specs.Prelude.{All, IsTrue};
 ghost use Rattle.commit_book.specs.Snap.{IsInRange};
 
-use super::books::{SAMPLE, Start, call};
+use super::books::{SAMPLE, Start, Told, call, told_of};
 use super::lines::COMMIT;
 use super::states::ONE;
 use super::steps::Step::{Accepted, Entries, Planned, Refused};
@@ -49,8 +49,9 @@ pub(crate) fn is_planned(
 ) -> Result<bool, Fail> {
     let snap = book.begin(alloc, moment(ONE)?)?;
     let (commit, least) = planned(alloc, &snap)?;
-    if book.commit(alloc, &commit)? != Reply::Accepted(entry) {
-        return Ok(false);
+    match told_of(alloc, book.commit(alloc, &commit))? {
+        Told::Done(Reply::Accepted(number)) if number == entry => {}
+        _ => return Ok(false),
     }
     Ok(least == cost && Call::Commit(commit) == call(alloc, line)?)
 }

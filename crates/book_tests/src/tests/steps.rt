@@ -1,12 +1,11 @@
 //! Steps of a book: calls with their answers, and what the book holds between them.
 
-use super::books::{Start, answer, book_of, reply_to, version_begun};
+use super::books::{Start, Told, book_of, reply_to, version_begun, what_is_told};
 use super::orders::are_placed;
 use super::plans::is_planned;
 use super::states::{has_entry, has_problem, has_state, is_loading, is_promised, is_ready};
-use commit_book::{Answer, Book, Refusal, Reply};
+use commit_book::{Book, Reply};
 use load_orders::OrderState;
-use named_pairs::NamedFault;
 use std::alloc::Global;
 use std::test::Fail;
 
@@ -85,35 +84,9 @@ fn is_refused(
     number: u32,
     named: &str,
 ) -> Result<bool, Fail> {
-    let Answer::Refused(refusal) = answer(alloc, book, line)? else {
-        return Ok(false);
-    };
-    Ok(refusal.number() == number && names(alloc, refusal)?.as_str() == named)
-}
-
-/// What a refusal names: a wagon, an order, both, two sums or nothing.
-fn names(alloc: Global, refusal: Refusal) -> Result<String, Fail> {
-    match refusal {
-        Refusal::Check(fault) => names_in_check(alloc, fault),
-        Refusal::OrderChanged(order) => Ok(order.text(alloc)?),
-        Refusal::WagonChanged(wagon) => Ok(wagon.text(alloc)?),
-        _ => Ok(String::new(alloc)),
-    }
-}
-
-/// What a fault of the price checker names.
-fn names_in_check(alloc: Global, fault: NamedFault) -> Result<String, Fail> {
-    match fault {
-        NamedFault::NotAllowed(wagon, order)
-        | NamedFault::UsedTwice(wagon, order)
-        | NamedFault::PriceGap(wagon, order)
-        | NamedFault::NotInProblem(wagon, order) => {
-            let (wagon, order) = (wagon.text(alloc)?, order.text(alloc)?);
-            Ok(format!(in alloc; "{wagon} {order}")?)
-        }
-        NamedFault::OverPenalty(order) => Ok(order.text(alloc)?),
-        NamedFault::SumsDiffer(pairs, orders) => Ok(format!(in alloc; "{pairs} {orders}")?),
-        _ => Ok(String::new(alloc)),
+    match what_is_told(alloc, book, line)? {
+        Told::Refused(code, name) => Ok(code == number && name.as_str() == named),
+        Told::Done(_) | Told::Begun(_) => Ok(false),
     }
 }
 
