@@ -1,4 +1,4 @@
-//! `wagons --help`, run by the gate with its arguments and the text that it prints.
+//! `wagons --version`, run by the gate with its arguments and the text that it prints.
 #![tactic(auto)]
 
 use std::process::ExitCode;
