@@ -10,6 +10,14 @@ Answering H = H → List ℕ → List ℕ → Bool → H → Type 0
 abbrev pub RunningOut : Type 0 → Type 1
 RunningOut H = H → List ℕ → H → Type 0
 
+-- the most bytes of a line's number and the space behind it, as they stand in a reply before it is answered
+abbrev pub max_head_bytes : ℕ
+max_head_bytes = 41
+
+-- a reply of so many bytes takes no memory
+abbrev pub least_room : ℕ
+least_room = 256
+
 -- what is replied behind the line's number where memory was refused
 abbrev pub out_of_memory_body : List ℕ
 out_of_memory_body = codes "refused 1\n"

@@ -1,6 +1,7 @@
 //! What answers the lines of a run.
-ghost use Rattle.std.specs.Prelude.{◌≡◌, ℕ, Bool, List, ◌++◌, MatchResult};
+ghost use Rattle.std.specs.Prelude.{◌≡◌, ℕ, ◌≤◌, Bool, List, ◌++◌, length, MatchResult};
 ghost use Rattle.line_engine.specs.Outcome.{is_refusal};
+ghost use Rattle.line_engine.specs.Replies.{max_head_bytes};
 
 use crate::reply_text::ReplyText;
 use std::alloc::{AllocError, Global};
@@ -25,21 +26,26 @@ impl Outcome {
 
 /// What answers lines, one after the other.
 pub trait Handler {
+    /// What a line may change, and the lines after it see.
+    type State;
+
     /// From a state, a line may get this reply behind its number, be refused or not, and leave that state.
-    ghost answers: { Self → List ℕ → List ℕ → Bool → Self → Type 0 };
+    ghost answers: { Self.State → List ℕ → List ℕ → Bool → Self.State → Type 0 };
 
     /// What a state may become at a line whose reply is refused for memory.
-    ghost runs_out: { Self → List ℕ → Self → Type 0 };
+    ghost runs_out: { Self.State → List ℕ → Self.State → Type 0 };
 
-    /// Adds the reply to a line, with its line feed. Where memory is refused, what was added is dropped
-    /// and the reply is `refused 1`.
+    /// Adds the reply to a line, with its line feed, behind the line's number. Where memory is refused, what was added
+    /// is dropped and the reply is `refused 1`.
     fn answer(
-        &mut self,
+        &self,
         alloc: Global,
+        state: &mut Self::State,
         line: &[u8],
         reply: &mut ReplyText,
     ) -> Result<Outcome, AllocError>
+        requires short { length reply.old ≤ max_head_bytes }
         ensures { MatchResult result
-            (λ outcome. (body : List ℕ) × (reply.new ≡ reply.old ++ body) × answers self.old line.now body (is_refusal outcome) self.new)
-            (λ _. runs_out self.old line.now self.new) };
+            (λ outcome. (body : List ℕ) × (reply.new ≡ reply.old ++ body) × answers state.old line.now body (is_refusal outcome) state.new)
+            (λ _. runs_out state.old line.now state.new) };
 }

@@ -1,13 +1,13 @@
 //! The text of a reply.
-ghost use Rattle.std.specs.Prelude.{◌≡◌, ◌+◌, ◌<◌, ◌≤◌, ◌^◌, ◌++◌, [], ◌∷◌, length, decimal, OnOk, IfOk};
-ghost use Rattle.line_engine.specs.Replies.{out_of_memory_body};
+ghost use Rattle.std.specs.Prelude.{◌≡◌, ◌+◌, ◌<◌, ◌≤◌, ◌^◌, ◌++◌, [], ◌∷◌, length, decimal, OnOk, IfOk, IsOk};
+ghost use Rattle.line_engine.specs.Replies.{least_room, max_head_bytes, out_of_memory_body};
 
 use itoa::Buffer;
 use std::alloc::{AllocError, Global};
 use std::marker::Model;
 
-/// Room for the number of a line and the reply `refused 1`, allocated once.
-const LEAST_ROOM: usize = 64;
+/// Room for the number of a line and a short reply, allocated once.
+const LEAST_ROOM: usize = 256;
 
 /// A reply while it is put together.
 #[derive(Drop)]
@@ -17,13 +17,13 @@ pub struct ReplyText {
 
 impl Model for ReplyText {
     ghost use Rattle.std.specs.Prelude.{ℕ, List, ◌≤◌, vec_capacity};
-    ghost use Rattle.line_engine.specs.declared.reply_text.TheConstants.{LEAST_ROOM};
+    ghost use Rattle.line_engine.specs.Replies.{least_room};
 
     ghost Value = { List ℕ };
 
     ghost view = { λ t. t.bytes.items };
 
-    ghost invariant = { λ t. LEAST_ROOM ≤ vec_capacity t.bytes };
+    ghost invariant = { λ t. least_room ≤ vec_capacity t.bytes };
 }
 
 impl ReplyText {
@@ -38,7 +38,7 @@ impl ReplyText {
     /// Begins the reply to this line anew: its number and a space. Takes no memory.
     pub(crate) fn begin(&mut self, number: u64)
         ensures text { self.new ≡ decimal number ++ 32 ∷ [] }
-        ensures short { length self.new ≤ 41 }
+        ensures short { length self.new ≤ max_head_bytes }
     {
         let mut digits = Buffer::new();
         let text = digits.format(number);
@@ -61,23 +61,26 @@ impl ReplyText {
         self.bytes.as_slice()
     }
 
-    /// Adds text at the end.
+    /// Adds text at the end. Up to 256 bytes in all take no memory.
     pub fn push_str(&mut self, text: &str) -> Result<(), AllocError>
         ensures ok { OnOk result (self.new ≡ self.old ++ text.now) }
+        ensures room { length self.old + length text.now ≤ least_room → IsOk result }
     {
         self.bytes.extend_from_slice(text.as_bytes())
     }
 
-    /// Adds bytes at the end.
+    /// Adds bytes at the end. Up to 256 bytes in all take no memory.
     pub fn push_bytes(&mut self, bytes: &[u8]) -> Result<(), AllocError>
         ensures ok { OnOk result (self.new ≡ self.old ++ bytes.now) }
+        ensures room { length self.old + length bytes.now ≤ least_room → IsOk result }
     {
         self.bytes.extend_from_slice(bytes)
     }
 
-    /// Adds a whole number in decimal digits at the end.
+    /// Adds a whole number in decimal digits at the end. Up to 256 bytes in all take no memory.
     pub fn push_number(&mut self, number: u128) -> Result<(), AllocError>
         ensures ok { OnOk result (self.new ≡ self.old ++ decimal number) }
+        ensures room { length self.old + length (decimal number) ≤ least_room → IsOk result }
     {
         let mut digits = Buffer::new();
         self.push_str(digits.format(number))

@@ -118,15 +118,16 @@ fn write_all<W: Sink>(writer: &mut W, bytes: &[u8]) -> Result<(), DeviceFailed>
 /// Puts the reply to a line that isn't blank together, and answers whether it is a refusal.
 fn respond<H: Handler>(
     alloc: Global,
-    handler: &mut H,
+    handler: &H,
+    state: &mut H::State,
     number: u64,
     line: &[u8],
     reply: &mut ReplyText,
 ) -> bool
-    ensures { (body : List ℕ) × (reply.new ≡ decimal number ++ 32 ∷ body) × Responds H.answers H.runs_out handler.old line.now body result handler.new }
+    ensures { (body : List ℕ) × (reply.new ≡ decimal number ++ 32 ∷ body) × Responds H.answers H.runs_out state.old line.now body result state.new }
 {
     reply.begin(number);
-    match handler.answer(alloc, line, reply) {
+    match handler.answer(alloc, state, line, reply) {
         Ok(outcome) => outcome.is_refusal(),
         Err(_) => {
             reply.refuse_for_memory(number);
@@ -138,22 +139,23 @@ fn respond<H: Handler>(
 /// Answers one line, in one write, and tells whether it was refused. A blank line gets no reply.
 fn serve<W: Sink, H: Handler>(
     alloc: Global,
-    handler: &mut H,
+    handler: &H,
+    state: &mut H::State,
     writer: &mut W,
     number: u64,
     line: &[u8],
     reply: &mut ReplyText,
 ) -> Result<bool, DeviceFailed>
-    ensures ok { IfOk result (λ refused. (text : List ℕ) × AnswersLine H.answers H.runs_out number handler.old line.now text refused handler.new
+    ensures ok { IfOk result (λ refused. (text : List ℕ) × AnswersLine H.answers H.runs_out number state.old line.now text refused state.new
         × Appends (W.contents writer.old) (W.contents writer.new) text) }
-    ensures err { OnErr result ((text : List ℕ) × (refused : Bool) × AnswersLine H.answers H.runs_out number handler.old line.now text refused handler.new
+    ensures err { OnErr result ((text : List ℕ) × (refused : Bool) × AnswersLine H.answers H.runs_out number state.old line.now text refused state.new
         × (part : List ℕ) × (unwritten : List ℕ) × (text ≡ part ++ unwritten)
         × Appends (W.contents writer.old) (W.contents writer.new) part × (W.has_failed writer.new ≡ true)) }
 {
     if is_blank(line) {
         return Ok(false);
     }
-    let refused = respond(alloc, handler, number, line, reply);
+    let refused = respond(alloc, handler, state, number, line, reply);
     write_all(writer, reply.as_slice())?;
     Ok(refused)
 }
@@ -168,7 +170,8 @@ pub fn run_lines<R: Source, W: Sink, H: Handler>(
     alloc: Global,
     reader: &mut R,
     writer: &mut W,
-    handler: &mut H,
+    handler: &H,
+    state: &mut H::State,
 ) -> Result<RunCount, RunFault>
     requires reader { R.has_failed reader.old ≡ false }
     requires writer { W.has_failed writer.old ≡ false }
@@ -177,16 +180,16 @@ pub fn run_lines<R: Source, W: Sink, H: Handler>(
       to = R.remaining reader.new;
       held = W.contents writer.old;
       holds = W.contents writer.new;
-      old = handler.old;
-      new = handler.new;
+      old = state.old;
+      new = state.new;
     }) count) }
     ensures err { IfErr result (λ fault. Stops H.answers H.runs_out (record {
       from = R.remaining reader.old;
       to = R.remaining reader.new;
       held = W.contents writer.old;
       holds = W.contents writer.new;
-      old = handler.old;
-      new = handler.new;
+      old = state.old;
+      new = state.new;
     })
         (record { reader = R.has_failed reader.new; writer = W.has_failed writer.new }) fault) }
 {
@@ -211,7 +214,8 @@ pub fn run_lines<R: Source, W: Sink, H: Handler>(
             Ok(end) => end,
             Err(stop) => return Err(RunFault::at_line(stop, number)),
         };
-        let served = serve(alloc, handler, writer, number, line.as_slice(), &mut reply);
+        let text = line.as_slice();
+        let served = serve(alloc, handler, state, writer, number, text, &mut reply);
         let refused = match served {
             Ok(refused) => refused,
             Err(_) => return Err(RunFault::WriteFailed(number)),

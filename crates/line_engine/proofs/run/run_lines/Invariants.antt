@@ -6,8 +6,8 @@ use Rattle.line_engine.proofs.run.run_lines.Given as goal
 -- the lines so far are answered, what was read behind them is in the window
 abbrev pub invariant-lines : goal.invariant-lines
 invariant-lines g l = record {
-  here : StandsHere {H = g.row.H.Denot} g.H.Handler.answers g.H.Handler.runs_out (g.R.Source.remaining l.fn.reader) (g.R.Source.remaining l.reader)
-      (g.W.Sink.contents l.fn.writer) (g.W.Sink.contents l.writer) l.fn.handler l.handler (l.count.lines + 1) l.window l.count.refused;
+  here : StandsHere g.H.Handler.answers g.H.Handler.runs_out (g.R.Source.remaining l.fn.reader) (g.R.Source.remaining l.reader)
+      (g.W.Sink.contents l.fn.writer) (g.W.Sink.contents l.writer) l.fn.state l.state (l.count.lines + 1) l.window l.count.refused;
   lines : l.count.lines ≤ max_input_lines;
   refusals : l.count.refused ≤ l.count.lines;
 }

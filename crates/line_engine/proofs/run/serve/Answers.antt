@@ -11,7 +11,7 @@ returns-in_err-write_all-clause-err g c =
     rw p.1 (
       decimal c.args.number ++ 32 ∷ reply.0,
       c.respond-refused.result,
-      answers_responded {H = g.row.H.Denot} g.H.Handler.answers g.H.Handler.runs_out c.args.number c.args.handler.now c.args.line.now reply.0 c.respond-refused.result c.respond-refused.new.handler (sym c.is_blank.ensures ∙ c.if-is_blank.false) reply.2,
+      answers_responded g.H.Handler.answers g.H.Handler.runs_out c.args.number c.args.state.now c.args.line.now reply.0 c.respond-refused.result c.respond-refused.new.state (sym c.is_blank.ensures ∙ c.if-is_blank.false) reply.2,
       part.0,
       part.1,
       sym reply.1 ∙ sym c.as_slice.ensures ∙ part.2,
