@@ -68,3 +68,28 @@ none_of f o h = ap (option_map f) h
 -- what was looked for among the kept problems
 pub kept_none : {A : Type 0} (f : A → KeptProblem) (kept : List KeptProblem) (which : ℕ × ℕ) (o : Option A) → option_map f o ≡ kept_as kept which → is_kept (map which_of kept) which ≡ is_some o
 kept_none f kept which o h = kept_is_found kept which ∙ ap is_some (sym h) ∙ some_mapped f o
+
+-- the table of a kept problem, where it was found
+pub kept_table : (setting : Setting) (history : List Event) (kept : List KeptProblem) (version at : ℕ) (one : KeptProblem) → IsBook setting history kept → kept_as kept (version, at) ≡ Some one → IsTableAt setting history version at one.cells
+kept_table setting history kept version at one book found =
+    let commit : CommitText = record { version = version; at = at; pairs = []; u = []; v = [] } in
+    (named_problem setting history kept commit one book found).is_table
+
+-- ---- what a begin keeps
+
+is_this_same : (which : ℕ × ℕ) → is_this which which ≡ true
+is_this_same which = rw (nat_eq_refl which.0, nat_eq_refl which.1) refl
+
+is_kept_last : (kept : List (ℕ × ℕ)) (which : ℕ × ℕ) → is_kept (kept ++ which ∷ []) which ≡ true
+is_kept_last [] which = rw (is_this_same which) refl
+is_kept_last (first ∷ kept) which = rw (is_kept_last kept which) (or_true (is_this which first))
+
+kept_after_by : (setting : Setting) (kept : List (ℕ × ℕ)) (which : ℕ × ℕ) (there room : Bool) → is_kept kept which ≡ there
+    → is_kept (if there then kept else if room then kept ++ which ∷ [] else drop 1 kept ++ which ∷ []) which ≡ true
+kept_after_by setting kept which true room is = is
+kept_after_by setting kept which false true is = is_kept_last kept which
+kept_after_by setting kept which false false is = is_kept_last (drop 1 kept) which
+
+-- a problem is kept after its begin
+pub begun_is_kept : (setting : Setting) (kept : List (ℕ × ℕ)) (which : ℕ × ℕ) → is_kept (kept_after setting kept which) which ≡ true
+begun_is_kept setting kept which = kept_after_by setting kept which (is_kept kept which) (nat_lt (length kept) setting.kept) refl

@@ -1,12 +1,12 @@
 //! The book: its history, the office after it, and the problems that commits may name.
-ghost use Rattle.std.specs.Prelude.{◌≡◌, [], IfErr, IfOk, OnErr, OnOk, Some, length, option_map};
+ghost use Rattle.std.specs.Prelude.{◌≡◌, [], IfErr, IfOk, IfSome, OnErr, OnOk, Some, is_some, length, option_map, true};
 ghost use Rattle.distance_tables.specs.Networks.{network_at};
 ghost use Rattle.operating_db.specs.Steps.{IsPromised};
 ghost use Rattle.commit_book.specs.BookStep.{IsCall, answer_of, begun_of, is_full, is_kept, kept_after};
 ghost use Rattle.commit_book.specs.inner.Entered.{IsEntered};
 ghost use Rattle.commit_book.specs.inner.CommitTests.{IsAccepted, IsRefused};
 ghost use Rattle.commit_book.specs.Headline.{IsProved};
-ghost use Rattle.commit_book.specs.History.{Owes, entry_at, replay};
+ghost use Rattle.commit_book.specs.History.{IsTableAt, Owes, entry_at, replay};
 ghost use Rattle.commit_book.specs.inner.Kept.{IsKeptAt, which_of};
 ghost use Rattle.commit_book.specs.Snap.{IsVersionNumber, snap_of};
 ghost use Rattle.commit_book.specs.declared.call.Call.TheVariants as call;
@@ -16,7 +16,7 @@ use crate::kept_problems::{KeptProblem, find_kept, keep};
 use crate::ledger::Ledger;
 use crate::same_messages::is_same;
 use crate::{Limits, Refusal, Reply, Snap};
-use cost_table::cells;
+use cost_table::{Cells, cells};
 use distance_tables::{Networks, Tables};
 use move_messages::{CommitText, Message, OrderText};
 use operating_db::{Event, OfficeState};
@@ -139,10 +139,12 @@ impl Book {
     }
 
     /// The problem of the present version at a moment, which is kept so that a commit may name it. It goes behind the
-    /// kept ones, unless it is among them; where there are as many as the limit says, the oldest is dropped.
+    /// kept ones, unless it is among them; where there are as many as the limit says, the oldest is dropped. `Err` only
+    /// when out of memory; nothing has changed then.
     pub fn begin(&mut self, alloc: Global, at: Moment) -> Result<Snap, AllocError>
         ensures call { IsCall self.old.setting self.old.state (call.Begin at) (begun_of result) self.new.state }
         ensures snap { IfOk result (λ snap. snap ≡ snap_of self.old.setting self.old.state.history at) }
+        ensures kept { OnOk result (is_kept self.new.state.kept (length self.old.state.history, at) ≡ true) }
         ensures setting { self.new.setting ≡ self.old.setting }
     {
         let snap = self.snap(alloc, at)?;
@@ -168,6 +170,16 @@ impl Book {
             }
             Err(refusal) => Err(refusal),
         }
+    }
+
+    /// The table of the problem of a version at a moment, over the network in force in that version; none where that
+    /// problem isn't kept. Takes no memory.
+    pub fn kept_cells(&self, version: u64, at: Moment) -> Option<&Cells>
+        ensures kept { is_some result ≡ is_kept self.now.state.kept (version, at) }
+        ensures table { IfSome result (λ cells. IsTableAt self.now.setting self.now.state.history version at cells.now) }
+    {
+        let kept = find_kept(&self.kept, version, at)?;
+        Some(&kept.cells)
     }
 
     /// Tests a commit.
@@ -234,7 +246,7 @@ impl Book {
     fn is_kept(&self, version: u64, at: Moment) -> bool
         ensures { result ≡ is_kept self.now.state.kept (version, at) }
     {
-        find_kept(&self.kept, version, at).is_some()
+        self.kept_cells(version, at).is_some()
     }
 
     /// The problem of the present version at a moment, with its table over the network in force.

@@ -64,6 +64,7 @@ impl ReplyText {
     /// Adds text at the end. Up to 256 bytes in all take no memory.
     pub fn push_str(&mut self, text: &str) -> Result<(), AllocError>
         ensures ok { OnOk result (self.new ≡ self.old ++ text.now) }
+        ensures long { OnOk result (length self.new ≡ length self.old + length text.now) }
         ensures room { length self.old + length text.now ≤ least_room → IsOk result }
     {
         self.bytes.extend_from_slice(text.as_bytes())
@@ -72,6 +73,7 @@ impl ReplyText {
     /// Adds bytes at the end. Up to 256 bytes in all take no memory.
     pub fn push_bytes(&mut self, bytes: &[u8]) -> Result<(), AllocError>
         ensures ok { OnOk result (self.new ≡ self.old ++ bytes.now) }
+        ensures long { OnOk result (length self.new ≡ length self.old + length bytes.now) }
         ensures room { length self.old + length bytes.now ≤ least_room → IsOk result }
     {
         self.bytes.extend_from_slice(bytes)
@@ -80,7 +82,8 @@ impl ReplyText {
     /// Adds a whole number in decimal digits at the end. Up to 256 bytes in all take no memory.
     pub fn push_number(&mut self, number: u128) -> Result<(), AllocError>
         ensures ok { OnOk result (self.new ≡ self.old ++ decimal number) }
-        ensures room { length self.old + length (decimal number) ≤ least_room → IsOk result }
+        ensures short { OnOk result (length self.new ≤ length self.old + 40) }
+        ensures room { length self.old + 40 ≤ least_room → IsOk result }
     {
         let mut digits = Buffer::new();
         self.push_str(digits.format(number))

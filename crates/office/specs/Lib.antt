@@ -1,1 +1,2 @@
+pub mod CommandReplies
 pub mod Replies

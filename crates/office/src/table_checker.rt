@@ -13,13 +13,16 @@ use table_lines::{TableRefusal, table_cost};
 pub struct TableChecker;
 
 impl Handler for TableChecker {
+    type State = ();
+
     ghost answers = { ChecksLine };
 
     ghost runs_out = { λ _ _ _. Unit {0} };
 
     fn answer(
-        &mut self,
+        &self,
         alloc: Global,
+        _state: &mut (),
         line: &[u8],
         reply: &mut ReplyText,
     ) -> Result<Outcome, AllocError> {
@@ -56,23 +59,23 @@ pub fn check_run<R: Source, W: Sink>(
 ) -> Result<RunCount, RunFault>
     requires reader { R.has_failed reader.old ≡ false }
     requires writer { W.has_failed writer.old ≡ false }
-    ensures ok { IfOk result (λ count. Ends {H = TableChecker} ChecksLine (λ _ _ _. Unit {0}) (record {
+    ensures ok { IfOk result (λ count. Ends {H = Unit {0}} ChecksLine (λ _ _ _. Unit {0}) (record {
       from = R.remaining reader.old;
       to = R.remaining reader.new;
       held = W.contents writer.old;
       holds = W.contents writer.new;
-      old = record {};
-      new = record {};
+      old = tt;
+      new = tt;
     }) count) }
-    ensures err { IfErr result (λ fault. Stops {H = TableChecker} ChecksLine (λ _ _ _. Unit {0}) (record {
+    ensures err { IfErr result (λ fault. Stops {H = Unit {0}} ChecksLine (λ _ _ _. Unit {0}) (record {
       from = R.remaining reader.old;
       to = R.remaining reader.new;
       held = W.contents writer.old;
       holds = W.contents writer.new;
-      old = record {};
-      new = record {};
+      old = tt;
+      new = tt;
     })
         (record { reader = R.has_failed reader.new; writer = W.has_failed writer.new }) fault) }
 {
-    run_lines(alloc, reader, writer, &mut TableChecker)
+    run_lines(alloc, reader, writer, &TableChecker, &mut ())
 }

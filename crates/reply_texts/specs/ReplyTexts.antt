@@ -34,6 +34,13 @@ accepted_text entry = codes "accepted" ++ then (decimal entry) ++ 10 ∷ []
 abbrev pub repeated_text : ℕ → List ℕ
 repeated_text entry = codes "repeated" ++ then (decimal entry) ++ 10 ∷ []
 
--- the version of a problem, and how many wagons and orders it has
-abbrev pub begun_text : ℕ → ℕ → ℕ → List ℕ
-begun_text version wagons orders = codes "begun" ++ then (decimal version) ++ then (decimal wagons) ++ then (decimal orders) ++ 10 ∷ []
+-- a version, and how many wagons and orders its problem has
+abbrev pub counted : (version wagons orders : ℕ) → List ℕ
+counted version wagons orders = then (decimal version) ++ then (decimal wagons) ++ then (decimal orders)
+
+abbrev pub begun_text : (version wagons orders : ℕ) → List ℕ
+begun_text version wagons orders = codes "begun" ++ counted version wagons orders ++ 10 ∷ []
+
+-- the head of a plan: the same, and its cost, in km
+abbrev pub planned_text : (version wagons orders cost : ℕ) → List ℕ
+planned_text version wagons orders cost = codes "plan" ++ counted version wagons orders ++ then (decimal cost) ++ 10 ∷ []

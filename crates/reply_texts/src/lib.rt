@@ -6,6 +6,6 @@ mod replies;
 mod words;
 
 pub use replies::{
-    push_accepted, push_begun, push_book_refused, push_line_refused, push_optimal, push_repeated,
-    push_table_refused,
+    push_accepted, push_begun, push_book_refused, push_line_refused, push_optimal, push_planned,
+    push_repeated, push_table_refused,
 };

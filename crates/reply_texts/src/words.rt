@@ -1,5 +1,6 @@
 //! Words of a reply, each behind a space.
-ghost use Rattle.std.specs.Prelude.{◌≡◌, ◌++◌, decimal, OnOk};
+ghost use Rattle.std.specs.Prelude.{◌≡◌, ◌+◌, ◌≤◌, ◌++◌, decimal, length, IsOk, OnOk};
+ghost use Rattle.line_engine.specs.Replies.{least_room};
 ghost use Rattle.reply_texts.specs.Details.{then};
 
 use line_engine::ReplyText;
@@ -16,7 +17,9 @@ pub(crate) fn push_word(reply: &mut ReplyText, word: &[u8]) -> Result<(), AllocE
 
 /// Adds a number.
 pub(crate) fn push_number(reply: &mut ReplyText, number: u128) -> Result<(), AllocError>
-    ensures { OnOk result (reply.new ≡ reply.old ++ then (decimal number)) }
+    ensures text { OnOk result (reply.new ≡ reply.old ++ then (decimal number)) }
+    ensures short { OnOk result (length reply.new ≤ length reply.old + 41) }
+    ensures room { length reply.old + 41 ≤ least_room → IsOk result }
 {
     reply.push_bytes(b" ")?;
     reply.push_number(number)
@@ -28,7 +31,9 @@ pub(crate) fn push_numbers(
     first: u128,
     second: u128,
 ) -> Result<(), AllocError>
-    ensures { OnOk result (reply.new ≡ reply.old ++ (then (decimal first) ++ then (decimal second))) }
+    ensures text { OnOk result (reply.new ≡ reply.old ++ (then (decimal first) ++ then (decimal second))) }
+    ensures short { OnOk result (length reply.new ≤ length reply.old + 82) }
+    ensures room { length reply.old + 82 ≤ least_room → IsOk result }
 {
     push_number(reply, first)?;
     push_number(reply, second)

@@ -1,0 +1,101 @@
+-- What a run replies to a command line, behind the line's number, and what the line does to the book.
+use Rattle.std.specs.Prelude.{◌≡◌, ◌⊎◌, ℕ, Bool, true, false, List, [], ◌∷◌, ◌++◌, length, Result, Ok, Err}
+use Rattle.json_fields.specs.declared.fault.LineFault.{LineFault}
+use Rattle.move_messages.specs.Commands.{command_of}
+use Rattle.move_messages.specs.declared.command.Command.{Command}
+use Rattle.move_messages.specs.declared.command.Command.TheVariants as command
+use Rattle.cost_table.specs.Plan.{IsOptimal, cost_of}
+use Rattle.cost_table.specs.Problem.{ProblemValue}
+use Rattle.cost_table.specs.Table.{Table}
+use Rattle.price_checker.specs.Certificate.{IsCertificate}
+use Rattle.operating_db.specs.Office.{StateValue}
+use Rattle.commit_book.specs.BookStep.{BookValue, IsStep}
+use Rattle.commit_book.specs.History.{IsTableAt, replay}
+use Rattle.commit_book.specs.Snap.{SnapValue, snap_of}
+use Rattle.commit_book.specs.declared.answer.Answer.{Answer}
+use Rattle.commit_book.specs.declared.answer.Answer.TheVariants.{Done, Begun, Refused}
+use Rattle.commit_book.specs.declared.call.Call.{Call}
+use Rattle.commit_book.specs.declared.call.Call.TheVariants as call
+use Rattle.commit_book.specs.declared.reply.Reply.TheVariants.{Accepted, Repeated}
+use Rattle.reply_texts.specs.ReplyTexts.{accepted_text, begun_text, book_refused_text, line_refused_text, planned_text, repeated_text}
+use Rattle.dispatch_sheet.specs.CertificateLine.{IsCertificateLine}
+use Rattle.dispatch_sheet.specs.PlanText.{plan_text_of}
+use Rattle.dispatch_sheet.specs.SheetText.{IsSheetText}
+
+-- the version that a book has reached, and its problem at a moment
+abbrev pub present : BookValue → (at : ℕ) → SnapValue
+present book at = snap_of book.setting book.state.history at
+
+-- the office of that version
+abbrev pub present_office : BookValue → StateValue
+present_office book = record { office = replay book.setting book.state.history; networks = length book.setting.networks }
+
+-- ---- events
+
+-- the text of an answer to a call; a begin's has the counts of the version's problem at its moment
+abbrev pub answer_text : Answer → List ℕ
+answer_text (Done (Accepted n)) = accepted_text n
+answer_text (Done (Repeated n)) = repeated_text n
+answer_text (Refused refusal) = book_refused_text refusal
+answer_text (Begun n) = []
+
+abbrev pub is_refused : Answer → Bool
+is_refused (Refused refusal) = true
+is_refused (Done reply) = false
+is_refused (Begun n) = false
+
+-- a call is a step of the book, and the reply is its answer
+pub record RepliesToCall (old : BookValue) (call : Call) (body : List ℕ) (refused : Bool) (new : BookValue) : Type 0 where
+  pub answer : Answer
+  pub step : IsStep old.setting old.state call answer new.state
+  pub setting : new.setting ≡ old.setting
+  pub text : body ≡ answer_text answer
+  pub mark : refused ≡ is_refused answer
+
+-- ---- begins and plans
+
+-- the book after a begin at a moment
+pub record IsBegun (old : BookValue) (at : ℕ) (new : BookValue) : Type 0 where
+  pub step : IsStep old.setting old.state (call.Begin at) (Begun (length old.state.history)) new.state
+  pub setting : new.setting ≡ old.setting
+
+abbrev pub begun_reply : SnapValue → List ℕ
+begun_reply snap = begun_text snap.version (length snap.problem.wagons) (length snap.problem.orders)
+
+-- A begin, and then a plan of that problem's table at the lowest total cost; the certificate has the plan's pairs.
+pub record IsPlanned (old : BookValue) (at : ℕ) (body : List ℕ) : Type 0 where
+  pub table : Table
+  pub is_table : IsTableAt old.setting old.state.history (length old.state.history) at table
+  pub pairs : List (ℕ × ℕ)
+  pub u : List ℕ
+  pub v : List ℕ
+  pub optimal : IsOptimal table pairs
+  pub certificate : IsCertificate table pairs u v
+  pub line : List ℕ
+  pub is_line : IsCertificateLine (present old at) pairs u v line
+  pub text : body ≡ planned_reply (present old at) (cost_of table pairs) ++ plan_text_of (present old at).problem table pairs ++ line ++ 10 ∷ []
+  where
+    planned_reply : SnapValue → ℕ → List ℕ
+    planned_reply snap cost = planned_text snap.version (length snap.problem.wagons) (length snap.problem.orders) cost
+
+-- ---- lines
+
+-- the reply to a command, or to a line that is none
+abbrev pub RepliesToCommand : BookValue → Result Command LineFault → List ℕ → Bool → BookValue → Type 0
+RepliesToCommand old (Err fault) body refused new = (body ≡ line_refused_text fault) × (refused ≡ true) × (new ≡ old)
+RepliesToCommand old (Ok (command.Message message)) body refused new = RepliesToCall old (call.Message message) body refused new
+RepliesToCommand old (Ok (command.Place text)) body refused new = RepliesToCall old (call.Place text) body refused new
+RepliesToCommand old (Ok (command.Withdraw id)) body refused new = RepliesToCall old (call.Withdraw id) body refused new
+RepliesToCommand old (Ok (command.Revise network)) body refused new = RepliesToCall old (call.Revise network) body refused new
+RepliesToCommand old (Ok (command.Commit commit)) body refused new = RepliesToCall old (call.Commit commit) body refused new
+RepliesToCommand old (Ok (command.Begin at)) body refused new = (body ≡ begun_reply (present old at)) × (refused ≡ false) × IsBegun old at new
+RepliesToCommand old (Ok (command.Plan at)) body refused new = IsPlanned old at body × (refused ≡ false) × IsBegun old at new
+RepliesToCommand old (Ok command.Sheet) body refused new = IsSheetText (length old.state.history) (present_office old) body × (refused ≡ false) × (new ≡ old)
+
+-- the reply to a line's bytes
+abbrev pub RepliesToLine : BookValue → List ℕ → List ℕ → Bool → BookValue → Type 0
+RepliesToLine old line body refused new = RepliesToCommand old (command_of line) body refused new
+
+-- what a line does whose reply is that memory is out: nothing, but a plan line may have begun
+abbrev pub LeavesOutOfMemory : BookValue → List ℕ → BookValue → Type 0
+LeavesOutOfMemory old line new = (new ≡ old) ⊎ ((at : ℕ) × (command_of line ≡ Ok (command.Plan at)) × IsBegun old at new)

@@ -1,0 +1,179 @@
+//! The run that brings command lines to a book.
+ghost use Rattle.std.specs.Prelude.{◌≡◌, ◌⊎◌, ◌≤◌, ◌++◌, ◌×◌, false, true, List, ℕ, IfOk, IfErr, MatchResult, OnErr, length};
+ghost use Rattle.commit_book.specs.BookStep.{answer_of};
+ghost use Rattle.commit_book.specs.Headline.{IsProved};
+ghost use Rattle.line_engine.specs.Outcome.{is_refusal};
+ghost use Rattle.line_engine.specs.Replies.{max_head_bytes};
+ghost use Rattle.line_engine.specs.Runs.{Ends, Stops};
+ghost use Rattle.office.specs.CommandReplies.{IsBegun, IsPlanned, LeavesOutOfMemory, RepliesToCommand, RepliesToLine, answer_text, begun_reply, is_refused, present};
+
+use assignment::plan;
+use commit_book::{Book, Refusal, Reply, Snap};
+use cost_table::{Cells, Plan, cost};
+use dispatch_sheet::{certificate_line, plan_text, sheet_text};
+use json_fields::LineFault;
+use line_engine::{Handler, Outcome, ReplyText, RunCount, RunFault, Sink, Source, run_lines};
+use move_messages::{Command, read_line};
+use price_checker::Prices;
+use rail_codes::Moment;
+use reply_texts::{
+    push_accepted, push_begun, push_book_refused, push_line_refused, push_planned, push_repeated,
+};
+use std::alloc::{AllocError, Global};
+
+/// Brings command lines to a book.
+#[derive(Clone, Copy, Debug, PartialEq, Eq)]
+pub struct CommandLines;
+
+impl Handler for CommandLines {
+    type State = Book;
+
+    ghost answers = { RepliesToLine };
+
+    ghost runs_out = { LeavesOutOfMemory };
+
+    fn answer(
+        &self,
+        alloc: Global,
+        book: &mut Book,
+        line: &[u8],
+        reply: &mut ReplyText,
+    ) -> Result<Outcome, AllocError> {
+        match read_line(alloc, line) {
+            Ok(command) => answer_command(alloc, book, &command, reply),
+            Err(LineFault::OutOfMemory) => Err(AllocError),
+            Err(fault) => {
+                push_line_refused(reply, &fault)?;
+                Ok(Outcome::Refused)
+            }
+        }
+    }
+}
+
+/// Does what a command asks for, and adds the reply.
+fn answer_command(
+    alloc: Global,
+    book: &mut Book,
+    command: &Command,
+    reply: &mut ReplyText,
+) -> Result<Outcome, AllocError> {
+    match command {
+        Command::Message(message) => push_answer(reply, book.message(alloc, message)),
+        Command::Place(text) => push_answer(reply, book.place(alloc, text)),
+        Command::Withdraw(id) => push_answer(reply, book.withdraw(alloc, *id)),
+        Command::Revise(network) => push_answer(reply, book.revise(alloc, *network)),
+        Command::Commit(commit) => push_answer(reply, book.commit(alloc, commit)),
+        Command::Begin(at) => {
+            let snap = book.begin(alloc, *at)?;
+            push_begun_reply(reply, &snap)?;
+            Ok(Outcome::Answered)
+        }
+        Command::Plan(at) => {
+            let snap = book.begin(alloc, *at)?;
+            push_plan(alloc, reply, book, &snap)?;
+            Ok(Outcome::Answered)
+        }
+        Command::Sheet => {
+            let text = sheet_text(alloc, book.len(), book.state())?;
+            reply.push_str(&text)?;
+            Ok(Outcome::Answered)
+        }
+    }
+}
+
+/// Adds the answer to an event. `Err` only where it is refused and memory is out.
+fn push_answer(
+    reply: &mut ReplyText,
+    answer: Result<Reply, Refusal>,
+) -> Result<Outcome, AllocError> {
+    match answer {
+        Ok(Reply::Accepted(entry)) => {
+            push_accepted(reply, entry)?;
+            Ok(Outcome::Answered)
+        }
+        Ok(Reply::Repeated(entry)) => {
+            push_repeated(reply, entry)?;
+            Ok(Outcome::Answered)
+        }
+        Err(Refusal::OutOfMemory) => Err(AllocError),
+        Err(refusal) => {
+            push_book_refused(reply, &refusal)?;
+            Ok(Outcome::Refused)
+        }
+    }
+}
+
+/// Adds the reply to a begin.
+fn push_begun_reply(reply: &mut ReplyText, snap: &Snap) -> Result<(), AllocError> {
+    let problem = snap.problem();
+    push_begun(reply, snap.version(), problem.wagons().len(), problem.orders().len())
+}
+
+/// Plans the problem just begun, whose table the book keeps, and adds the plan and its certificate.
+fn push_plan(
+    alloc: Global,
+    reply: &mut ReplyText,
+    book: &Book,
+    snap: &Snap,
+) -> Result<(), AllocError> {
+    let cells = book.kept_cells(snap.version(), snap.at()).unwrap();
+    let (plan, prices) = plan(alloc, cells)?;
+    push_planned_reply(alloc, reply, snap, cells, &plan, &prices)
+}
+
+/// Adds the reply to a plan line: its head, the plan and its certificate.
+fn push_planned_reply(
+    alloc: Global,
+    reply: &mut ReplyText,
+    snap: &Snap,
+    cells: &Cells,
+    plan: &Plan,
+    prices: &Prices,
+) -> Result<(), AllocError> {
+    let problem = snap.problem();
+    let wagons = problem.wagons().len();
+    let orders = problem.orders().len();
+    push_planned(reply, snap.version(), wagons, orders, cost(cells, plan.pairs()))?;
+    reply.push_str(&plan_text(alloc, snap, cells, plan)?)?;
+    reply.push_str(&certificate_line(alloc, snap, plan, prices)?)?;
+    reply.push_bytes(b"\n")
+}
+
+/// Brings the command lines of a reader to a book, one after the other, each answered by one reply, written at once.
+///
+/// Replies are those of the manual: `N accepted ENTRY`, `N repeated ENTRY`, `N begun ..`, `N plan ..` with the plan and
+/// its certificate, `N sheet ..`, and `N refused CODE` with its details; blank lines get none. A plan line is a begin,
+/// and planning over the table that the book keeps of it. It stops as `run_lines` says: 1, and 91 to 94 with the line's
+/// number; the book is then as after the lines before, for 94 as after that line.
+pub fn run<R: Source, W: Sink>(
+    alloc: Global,
+    reader: &mut R,
+    writer: &mut W,
+    book: &mut Book,
+) -> Result<RunCount, RunFault>
+    requires reader { R.has_failed reader.old ≡ false }
+    requires writer { W.has_failed writer.old ≡ false }
+    ensures ok { IfOk result (λ count. Ends RepliesToLine LeavesOutOfMemory (record {
+      from = R.remaining reader.old;
+      to = R.remaining reader.new;
+      held = W.contents writer.old;
+      holds = W.contents writer.new;
+      old = book.old;
+      new = book.new;
+    }) count) }
+    ensures err { IfErr result (λ fault. Stops RepliesToLine LeavesOutOfMemory (record {
+      from = R.remaining reader.old;
+      to = R.remaining reader.new;
+      held = W.contents writer.old;
+      holds = W.contents writer.new;
+      old = book.old;
+      new = book.new;
+    })
+        (record { reader = R.has_failed reader.new; writer = W.has_failed writer.new }) fault) }
+    ensures proved { IsProved book.new.setting book.new.state.history }
+{
+    let count = run_lines(alloc, reader, writer, &CommandLines, book);
+    // Whatever was called, the book's history is legal and its commits are proved.
+    let _state = book.state();
+    count
+}
