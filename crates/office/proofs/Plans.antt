@@ -37,15 +37,18 @@ pub planned_by : (snap : SnapValue) (t : Table) (pairs : List (ℕ × ℕ)) (u v
     → (body : List ℕ) × (whole ≡ old ++ body) × IsPlanned snap t body
 planned_by snap t pairs u v old head text line with_head with_text with_line whole optimal certificate is_head is_text is_line reads h1 h2 h3 h4 =
     let parts : whole ≡ old ++ (head ++ text ++ line ++ 10 ∷ []) =
-    h4 ∙ ap (λ (xs : List ℕ). xs ++ 10 ∷ []) (h3 ∙ ap (λ (xs : List ℕ). xs ++ line) (h2 ∙ ap (λ (xs : List ℕ). xs ++ text) h1)) ∙ joined old head text line in
-    (head ++ text ++ line ++ 10 ∷ [], parts, record {
-      pairs = pairs;
-      u = u;
-      v = v;
-      optimal = optimal;
-      certificate = certificate;
-      line = line;
-      is_line = is_line;
-      reads = reads;
-      text = rw (is_head, is_text) refl;
-    })
+    h4 ∙ ap (λ (xs : List ℕ). xs ++ 10 ∷ []) (h3 ∙ ap (λ (xs : List ℕ). xs ++ line) (h2 ∙ ap (λ (xs : List ℕ). xs ++ text) h1)) ∙ joined old head text line in (
+      head ++ text ++ line ++ 10 ∷ [],
+      parts,
+      record {
+        pairs = pairs;
+        u = u;
+        v = v;
+        optimal = optimal;
+        certificate = certificate;
+        line = line;
+        is_line = is_line;
+        reads = reads;
+        text = rw (is_head, is_text) refl;
+      },
+    )

@@ -8,7 +8,7 @@ use Rattle.cost_table.specs.Plan.{IsOptimal, cost_of}
 use Rattle.cost_table.specs.Table.{Table}
 use Rattle.price_checker.specs.Certificate.{IsCertificate}
 use Rattle.operating_db.specs.Office.{StateValue}
-use Rattle.commit_book.specs.BookStep.{BookValue, IsStep}
+use Rattle.commit_book.specs.BookStep.{BookValue, IsRun, IsStep}
 use Rattle.commit_book.specs.History.{IsTableAt, replay}
 use Rattle.commit_book.specs.Snap.{SnapValue, snap_of}
 use Rattle.commit_book.specs.declared.answer.Answer.{Answer}
@@ -107,3 +107,12 @@ LeavesOutOfMemory old command new = new ≡ old
 -- the same of a line's bytes
 abbrev pub RunsOutOfMemory : BookValue → List ℕ → BookValue → Type 0
 RunsOutOfMemory old line new = LeavesOutOfMemory old (command_of line) new
+
+-- ---- runs
+
+-- calls, one after the other, led from a book to another
+pub record IsLedTo (old new : BookValue) : Type 0 where
+  pub calls : List Call
+  pub answers : List Answer
+  pub run : IsRun old.setting old.state calls answers new.state
+  pub setting : new.setting ≡ old.setting

@@ -12,7 +12,7 @@ ghost use Rattle.commit_book.specs.Snap.{IsInRange};
 ghost use Rattle.cost_table.specs.Plan.{IsOptimal};
 ghost use Rattle.price_checker.specs.Certificate.{IsCertificate};
 ghost use Rattle.dispatch_sheet.specs.PlanText.{FitsProblem};
-ghost use Rattle.office.specs.CommandReplies.{IsPlanOf, IsPlanned, LeavesOutOfMemory, RepliesToCommand, RepliesToLine, RunsOutOfMemory, answer_text, begun_reply, is_refused, present};
+ghost use Rattle.office.specs.CommandReplies.{IsLedTo, IsPlanOf, IsPlanned, LeavesOutOfMemory, RepliesToCommand, RepliesToLine, RunsOutOfMemory, answer_text, begun_reply, is_refused, present};
 
 use assignment::plan;
 use commit_book::{Book, Refusal, Reply, Snap};
@@ -94,10 +94,7 @@ fn answer_command(
 }
 
 /// Adds the answer to an event. `Err` only where it is refused and memory is out.
-fn push_answer(
-    reply: &mut ReplyText,
-    answer: Result<Reply, Refusal>,
-) -> Result<Outcome, AllocError>
+fn push_answer(reply: &mut ReplyText, answer: Result<Reply, Refusal>) -> Result<Outcome, AllocError>
     requires short { length reply.old ≤ max_head_bytes }
     ensures text { OnOk result (reply.new ≡ reply.old ++ answer_text (answer_of answer)) }
     ensures mark { IfOk result (λ outcome. is_refusal outcome ≡ is_refused (answer_of answer)) }
@@ -127,7 +124,12 @@ fn push_begun_reply(reply: &mut ReplyText, snap: &Snap) -> Result<(), AllocError
     ensures room { length reply.old ≤ max_head_bytes → IsOk result }
 {
     let problem = snap.problem();
-    push_begun(reply, snap.version(), problem.wagons().len(), problem.orders().len())
+    push_begun(
+        reply,
+        snap.version(),
+        problem.wagons().len(),
+        problem.orders().len(),
+    )
 }
 
 /// Plans the problem just begun, whose table the book keeps, and adds the plan and its certificate.
@@ -163,7 +165,13 @@ fn push_planned_reply(
     let problem = snap.problem();
     let wagons = problem.wagons().len();
     let orders = problem.orders().len();
-    push_planned(reply, snap.version(), wagons, orders, cost(cells, plan.pairs()))?;
+    push_planned(
+        reply,
+        snap.version(),
+        wagons,
+        orders,
+        cost(cells, plan.pairs()),
+    )?;
     reply.push_str(&plan_text(alloc, snap, cells, plan)?)?;
     reply.push_str(&certificate_line(alloc, snap, plan, prices)?)?;
     reply.push_bytes(b"\n")
@@ -200,6 +208,7 @@ pub fn run<R: Source, W: Sink>(
       new = book.new;
     })
         (record { reader = R.has_failed reader.new; writer = W.has_failed writer.new }) fault) }
+    ensures calls { IsLedTo book.old book.new }
     ensures proved { IsProved book.new.setting book.new.state.history }
 {
     let count = run_lines(alloc, reader, writer, &CommandLines, book);

@@ -15,5 +15,5 @@ returns c =
     rw (c.version.ensures.value, c.wagons-wagons.ensures.wagons, c.orders-orders.ensures.orders, c.problem-problem.ensures, c.cost.ensures.value, c.pairs.ensures.pairs) refl in
     on_ok_weaker c.push_bytes.result
     (λ added. planned_by c.args.snap.now c.args.cells.now c.args.plan.now c.args.prices.now.u.items c.args.prices.now.v.items c.args.reply.now _ _ _ _ _ _ _ c.requires.optimal c.requires.certificate head
-      c.in_ok-plan_text.ensures c.in_ok-certificate_line.ensures.text c.in_ok-certificate_line.ensures.reads c.in_ok-push_planned.ensures (c.in_ok-push_str.ensures.ok ∙ ap (λ (xs : List ℕ). c.push_planned.new.reply ++ xs) c.deref.ensures) (c.in_ok-push_str-2.ensures.ok ∙ ap (λ (xs : List ℕ). c.push_str.new.self ++ xs) c.deref-2.ensures) added)
+    c.in_ok-plan_text.ensures c.in_ok-certificate_line.ensures.text c.in_ok-certificate_line.ensures.reads c.in_ok-push_planned.ensures (c.in_ok-push_str.ensures.ok ∙ ap (λ (xs : List ℕ). c.push_planned.new.reply ++ xs) c.deref.ensures) (c.in_ok-push_str-2.ensures.ok ∙ ap (λ (xs : List ℕ). c.push_str.new.self ++ xs) c.deref-2.ensures) added)
     c.push_bytes.ensures.ok
