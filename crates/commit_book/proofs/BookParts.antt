@@ -1,6 +1,7 @@
 -- A book's parts, when an event is entered and when a problem is kept.
 use Rattle.std.proofs.Common.{◌≡◌, ◌∙◌, ℕ, false, List, [], ◌∷◌, ◌++◌, length, map, Option, Some, None, is_some, refl, sym, ap, arith, subst}
 use Rattle.std.specs.Prelude.{IsOk, option_map}
+use Rattle.move_messages.specs.declared.commit_text.CommitText.{CommitText}
 use Rattle.std.proofs.Math.Seq.{take-length}
 use Rattle.line_network.specs.Network.{NetworkValue}
 use Rattle.distance_tables.specs.Networks.{network_at}
@@ -12,13 +13,13 @@ use Rattle.operating_db.specs.Problem.{problem_of}
 use Rattle.operating_db.specs.Steps.{IsPromised}
 use Rattle.operating_db.specs.declared.event.Event.{Event}
 use Rattle.commit_book.specs.BookStep.{is_full, is_kept}
-use Rattle.commit_book.specs.History.{IsEntry, Owes, after_all, problem_at, replay, version}
-use Rattle.commit_book.specs.inner.Kept.{IsBookOf, IsKeptAt, setting_of, which_of, with_kept}
+use Rattle.commit_book.specs.History.{IsEntry, IsTableAt, Owes, after_all, problem_at, replay, version}
+use Rattle.commit_book.specs.inner.Kept.{IsBook, IsBookOf, IsKeptAt, setting_of, which_of, with_kept}
 use Rattle.commit_book.specs.inner.Ledger.{LedgerValue, office_of}
 use Rattle.commit_book.specs.Limits.{LimitNumbers}
 use Rattle.commit_book.specs.Setting.{Setting}
 use Rattle.commit_book.specs.declared.kept_problems.KeptProblem.{KeptProblem}
-use Rattle.commit_book.proofs.Books.{book_keep, book_push, kept_as, kept_is_found}
+use Rattle.commit_book.proofs.Books.{book_keep, book_push, kept_as, kept_is_found, named_problem}
 use Rattle.commit_book.proofs.Runs.{IsLegalEntry, room_of}
 
 -- the office of a ledger is the replay
@@ -75,21 +76,3 @@ kept_table setting history kept version at one book found =
     let commit : CommitText = record { version = version; at = at; pairs = []; u = []; v = [] } in
     (named_problem setting history kept commit one book found).is_table
 
--- ---- what a begin keeps
-
-is_this_same : (which : ℕ × ℕ) → is_this which which ≡ true
-is_this_same which = rw (nat_eq_refl which.0, nat_eq_refl which.1) refl
-
-is_kept_last : (kept : List (ℕ × ℕ)) (which : ℕ × ℕ) → is_kept (kept ++ which ∷ []) which ≡ true
-is_kept_last [] which = rw (is_this_same which) refl
-is_kept_last (first ∷ kept) which = rw (is_kept_last kept which) (or_true (is_this which first))
-
-kept_after_by : (setting : Setting) (kept : List (ℕ × ℕ)) (which : ℕ × ℕ) (there room : Bool) → is_kept kept which ≡ there
-    → is_kept (if there then kept else if room then kept ++ which ∷ [] else drop 1 kept ++ which ∷ []) which ≡ true
-kept_after_by setting kept which true room is = is
-kept_after_by setting kept which false true is = is_kept_last kept which
-kept_after_by setting kept which false false is = is_kept_last (drop 1 kept) which
-
--- a problem is kept after its begin
-pub begun_is_kept : (setting : Setting) (kept : List (ℕ × ℕ)) (which : ℕ × ℕ) → is_kept (kept_after setting kept which) which ≡ true
-begun_is_kept setting kept which = kept_after_by setting kept which (is_kept kept which) (nat_lt (length kept) setting.kept) refl

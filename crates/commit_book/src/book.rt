@@ -178,8 +178,10 @@ impl Book {
         ensures kept { is_some result ≡ is_kept self.now.state.kept (version, at) }
         ensures table { IfSome result (λ cells. IsTableAt self.now.setting self.now.state.history version at cells.now) }
     {
-        let kept = find_kept(&self.kept, version, at)?;
-        Some(&kept.cells)
+        match find_kept(&self.kept, version, at) {
+            Some(kept) => Some(&kept.cells),
+            None => None,
+        }
     }
 
     /// Tests a commit.

@@ -1,0 +1,5 @@
+pub mod Words
+pub mod PlanText
+pub mod Sheet
+pub mod Certificate
+pub mod inner

@@ -1,0 +1,97 @@
+-- The text of an office's state: a line for its version, for each wagon and for each order.
+use Rattle.std.specs.Prelude.{◌≡◌, ℕ, Bool, true, false, List, [], ◌∷◌, ◌++◌, map, Option, Some, None, nat_lt, if◌then◌else◌, codes, decimal}
+use Rattle.std.specs.List.{AllZip, concat, join_with_byte}
+use Rattle.rail_codes.specs.Moment.{IsMomentText}
+use Rattle.wagon_state.specs.declared.load.Load.TheVariants.{Loaded, Unladen}
+use Rattle.wagon_state.specs.declared.status.Status.{Status}
+use Rattle.wagon_state.specs.declared.status.Status.TheVariants.{Empty, Loading, Ready, Journey, Yard, Arrived, Unloading}
+use Rattle.wagon_state.specs.declared.wagon_row.WagonRow.{WagonRow}
+use Rattle.wagon_state.specs.StatusTable.{place_of}
+use Rattle.load_orders.specs.declared.order_state.OrderState.{OrderState}
+use Rattle.load_orders.specs.declared.order_state.OrderState.TheVariants.{Waiting, Promised, Filled, Withdrawn}
+use Rattle.load_orders.specs.Lack.{state_of}
+use Rattle.load_orders.specs.OrderRow.{OrderRowValue}
+use Rattle.operating_db.specs.Office.{StateValue}
+use Rattle.dispatch_sheet.specs.Words.{then}
+
+-- ---- wagons
+
+abbrev pub status_word : Status → List ℕ
+status_word (Empty place ready) = codes "empty"
+status_word (Loading place) = codes "loading"
+status_word (Ready place) = codes "ready"
+status_word (Journey Loaded place) = codes "journey_loaded"
+status_word (Journey Unladen place) = codes "journey_empty"
+status_word (Yard Loaded place) = codes "yard_loaded"
+status_word (Yard Unladen place) = codes "yard_empty"
+status_word (Arrived Loaded place) = codes "arrived_loaded"
+status_word (Arrived Unladen place) = codes "arrived_empty"
+status_word (Unloading place) = codes "unloading"
+
+-- whether a wagon is held
+abbrev pub hold_word : Bool → List ℕ
+hold_word true = codes "held"
+hold_word false = codes "-"
+
+-- the order that a wagon is promised to
+abbrev pub promise_word : Option (List ℕ) → List ℕ
+promise_word None = codes "-"
+promise_word (Some order) = order
+
+-- a wagon: number, class, load limit in kg, status and place, last moment, hold and promise
+pub record IsWagonLine (row : WagonRow) (line : List ℕ) : Type 0 where
+  pub last : List ℕ
+  pub moment : IsMomentText row.last last
+  pub text :
+      line
+      ≡ codes "wagon" ++ then row.number ++ then row.class ++ then (decimal row.load_limit) ++ then (status_word row.status)
+      ++ then (place_of row.status) ++ then last ++ then (hold_word row.held) ++ then (promise_word row.promise) ++ 10 ∷ []
+
+-- ---- orders
+
+abbrev pub state_word : OrderState → List ℕ
+state_word Waiting = codes "waiting"
+state_word Promised = codes "promised"
+state_word Filled = codes "filled"
+state_word Withdrawn = codes "withdrawn"
+
+-- the promised wagons, then those that filled the order, each of these marked
+abbrev pub listed_wagons : OrderRowValue → List (List ℕ)
+listed_wagons row = row.promised ++ map (λ number. number ++ codes "*") row.filled
+
+-- the wagons of a list, parted by commas
+abbrev pub list_word : List (List ℕ) → List ℕ
+list_word [] = codes "-"
+list_word (wagon ∷ wagons) = join_with_byte 44 (wagon ∷ wagons)
+
+-- an order: name, place, latest moment, penalty in km, state, how many wagons it wants, and the list of its wagons
+pub record IsOrderLine (row : OrderRowValue) (line : List ℕ) : Type 0 where
+  pub latest : List ℕ
+  pub moment : IsMomentText row.text.latest latest
+  pub text :
+      line
+      ≡ codes "order" ++ then row.text.id ++ then row.text.place ++ then latest ++ then (decimal row.text.penalty)
+      ++ then (state_word (state_of row)) ++ then (decimal row.text.wagons) ++ then (list_word (listed_wagons row)) ++ 10 ∷ []
+
+-- ---- the sheet
+
+-- a text of lines, one for each row, one after the other
+pub record AreLines {A : Type 0} (IsLine : A → List ℕ → Type 0) (rows : List A) (text : List ℕ) : Type 0 where
+  pub lines : List (List ℕ)
+  pub each : AllZip IsLine rows lines
+  pub whole : text ≡ concat lines
+
+abbrev pub version_line : ℕ → List ℕ
+version_line version = codes "sheet" ++ then (decimal version) ++ 10 ∷ []
+
+-- the network in force, where there is more than one
+abbrev pub network_line : StateValue → List ℕ
+network_line state = if nat_lt 1 state.networks then codes "network" ++ then (decimal state.office.network) ++ 10 ∷ [] else []
+
+-- the version, the wagons ascending by number, the orders as placed, and the network
+pub record IsSheetText (version : ℕ) (state : StateValue) (text : List ℕ) : Type 0 where
+  pub wagons : List ℕ
+  pub orders : List ℕ
+  pub wagon_lines : AreLines IsWagonLine state.office.wagons wagons
+  pub order_lines : AreLines IsOrderLine state.office.orders orders
+  pub whole : text ≡ version_line version ++ wagons ++ orders ++ network_line state
