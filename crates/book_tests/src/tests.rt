@@ -4,7 +4,6 @@ mod books;
 mod commits;
 mod entries;
 mod limits;
-mod lines;
 mod messages;
 mod networks;
 mod orders;

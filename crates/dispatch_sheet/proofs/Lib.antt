@@ -1,0 +1,4 @@
+pub mod Lines
+pub mod PlanLines
+pub mod Lists
+pub mod Certificates

@@ -5,7 +5,7 @@ use Rattle.cost_table.specs.Plan.{pair_cost, serves}
 use Rattle.cost_table.specs.Problem.{ProblemValue, order_names, wagon_names, lacks_of, penalties_of}
 use Rattle.cost_table.specs.Table.{Table, lack_at, penalty_at, wagon_count}
 use Rattle.named_pairs.specs.NamedFaults.{name_at}
-use Rattle.dispatch_sheet.specs.Words.{then}
+use Rattle.dispatch_sheet.specs.Words.{next_word}
 
 -- The table has as many wagons as the problem, and its orders' penalties and lacks.
 pub record FitsProblem (problem : ProblemValue) (t : Table) : Type 0 where
@@ -16,13 +16,13 @@ pub record FitsProblem (problem : ProblemValue) (t : Table) : Type 0 where
 -- a wagon that goes to an order, with its kilometres
 abbrev pub assign_line : ProblemValue → Table → ℕ × ℕ → List ℕ
 assign_line problem t pair =
-    codes "assign" ++ then (name_at (wagon_names problem.wagons) pair.0) ++ then (name_at (order_names problem.orders) pair.1)
-    ++ then (decimal (pair_cost t pair)) ++ 10 ∷ []
+    codes "assign" ++ next_word (name_at (wagon_names problem.wagons) pair.0) ++ next_word (name_at (order_names problem.orders) pair.1)
+    ++ next_word (decimal (pair_cost t pair)) ++ 10 ∷ []
 
 -- a wagon that order j misses, with its penalty in km
 abbrev pub refuse_line : ProblemValue → Table → ℕ → List ℕ
 refuse_line problem t j =
-    codes "refuse" ++ then (name_at (order_names problem.orders) j) ++ then (decimal (penalty_at t j)) ++ 10 ∷ []
+    codes "refuse" ++ next_word (name_at (order_names problem.orders) j) ++ next_word (decimal (penalty_at t j)) ++ 10 ∷ []
 
 -- the wagons of a plan that go to order j
 abbrev pub assign_lines : ProblemValue → Table → List (ℕ × ℕ) → ℕ → List ℕ

@@ -12,7 +12,7 @@ use Rattle.load_orders.specs.declared.order_state.OrderState.TheVariants.{Waitin
 use Rattle.load_orders.specs.Lack.{state_of}
 use Rattle.load_orders.specs.OrderRow.{OrderRowValue}
 use Rattle.operating_db.specs.Office.{StateValue}
-use Rattle.dispatch_sheet.specs.Words.{then}
+use Rattle.dispatch_sheet.specs.Words.{next_word}
 
 -- ---- wagons
 
@@ -39,13 +39,17 @@ promise_word None = codes "-"
 promise_word (Some order) = order
 
 -- a wagon: number, class, load limit in kg, status and place, last moment, hold and promise
+abbrev pub wagon_text : WagonRow → (last : List ℕ) → List ℕ
+wagon_text row last =
+    codes "wagon" ++ next_word row.number ++ next_word row.class ++ next_word (decimal row.load_limit)
+    ++ next_word (status_word row.status) ++ next_word (place_of row.status) ++ next_word last
+    ++ next_word (hold_word row.held) ++ next_word (promise_word row.promise) ++ 10 ∷ []
+
+-- the line of a wagon, where `last` is the text of its last moment
 pub record IsWagonLine (row : WagonRow) (line : List ℕ) : Type 0 where
   pub last : List ℕ
   pub moment : IsMomentText row.last last
-  pub text :
-      line
-      ≡ codes "wagon" ++ then row.number ++ then row.class ++ then (decimal row.load_limit) ++ then (status_word row.status)
-      ++ then (place_of row.status) ++ then last ++ then (hold_word row.held) ++ then (promise_word row.promise) ++ 10 ∷ []
+  pub text : line ≡ wagon_text row last
 
 -- ---- orders
 
@@ -65,13 +69,17 @@ list_word [] = codes "-"
 list_word (wagon ∷ wagons) = join_with_byte 44 (wagon ∷ wagons)
 
 -- an order: name, place, latest moment, penalty in km, state, how many wagons it wants, and the list of its wagons
+abbrev pub order_text : OrderRowValue → (latest : List ℕ) → List ℕ
+order_text row latest =
+    codes "order" ++ next_word row.text.id ++ next_word row.text.place ++ next_word latest ++ next_word (decimal row.text.penalty)
+    ++ next_word (state_word (state_of row)) ++ next_word (decimal row.text.wagons)
+    ++ next_word (list_word (listed_wagons row)) ++ 10 ∷ []
+
+-- the line of an order, where `latest` is the text of its latest moment
 pub record IsOrderLine (row : OrderRowValue) (line : List ℕ) : Type 0 where
   pub latest : List ℕ
   pub moment : IsMomentText row.text.latest latest
-  pub text :
-      line
-      ≡ codes "order" ++ then row.text.id ++ then row.text.place ++ then latest ++ then (decimal row.text.penalty)
-      ++ then (state_word (state_of row)) ++ then (decimal row.text.wagons) ++ then (list_word (listed_wagons row)) ++ 10 ∷ []
+  pub text : line ≡ order_text row latest
 
 -- ---- the sheet
 
@@ -82,11 +90,11 @@ pub record AreLines {A : Type 0} (IsLine : A → List ℕ → Type 0) (rows : Li
   pub whole : text ≡ concat lines
 
 abbrev pub version_line : ℕ → List ℕ
-version_line version = codes "sheet" ++ then (decimal version) ++ 10 ∷ []
+version_line version = codes "sheet" ++ next_word (decimal version) ++ 10 ∷ []
 
 -- the network in force, where there is more than one
 abbrev pub network_line : StateValue → List ℕ
-network_line state = if nat_lt 1 state.networks then codes "network" ++ then (decimal state.office.network) ++ 10 ∷ [] else []
+network_line state = if nat_lt 1 state.networks then codes "network" ++ next_word (decimal state.office.network) ++ 10 ∷ [] else []
 
 -- the version, the wagons ascending by number, the orders as placed, and the network
 pub record IsSheetText (version : ℕ) (state : StateValue) (text : List ℕ) : Type 0 where

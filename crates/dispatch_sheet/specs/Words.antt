@@ -2,5 +2,5 @@
 use Rattle.std.specs.Prelude.{ℕ, List, ◌∷◌}
 
 -- a word behind a space
-abbrev pub then : List ℕ → List ℕ
-then word = 32 ∷ word
+abbrev pub next_word : List ℕ → List ℕ
+next_word word = 32 ∷ word

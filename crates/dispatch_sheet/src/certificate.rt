@@ -1,8 +1,9 @@
 //! The line of a plan's certificate.
-ghost use Rattle.std.specs.Prelude.{◌≡◌, ◌-◌, ◌^◌, ◌≤◌, All, IfOk, Ok, string_bytes};
+ghost use Rattle.std.specs.Prelude.{◌≡◌, ◌-◌, ◌^◌, ◌≤◌, All, IfOk, OnOk, Ok, string_bytes};
 ghost use Rattle.serde_json.specs.View.{view};
+ghost use Rattle.rail_codes.specs.Moment.{moment_of};
 ghost use Rattle.json_fields.specs.Values.{list_of_each, number_within, pair_of};
-ghost use Rattle.move_messages.specs.Commands.{command_of, max_version};
+ghost use Rattle.move_messages.specs.Commands.{command_of, commit_text_of, max_version};
 ghost use Rattle.move_messages.specs.declared.command.Command.TheVariants.{Commit};
 ghost use Rattle.commit_book.specs.Snap.{IsInRange};
 ghost use Rattle.dispatch_sheet.specs.Certificate.{commit_data, commit_of, pair_data, pairs_data, prices_data, IsCertificateLine};
@@ -39,25 +40,35 @@ fn commit_line(alloc: Global, commit: &CommitText) -> Result<String, AllocError>
     ensures reads { IfOk result (λ line. command_of (string_bytes line) ≡ Ok (Commit commit.now)) }
 {
     let at = commit.at.text(alloc)?;
+    let value = commit_value(alloc, commit, at)?;
+    value.to_string(alloc)
+}
+
+/// A commit, with the text of its moment.
+fn commit_value(alloc: Global, commit: &CommitText, at: String) -> Result<Value, AllocError>
+    requires version { commit.now.version ≤ max_version }
+    requires at { moment_of (string_bytes at) ≡ Ok commit.now.at }
+    ensures value { IfOk result (λ value. view value ≡ commit_data commit.now (string_bytes at)) }
+    ensures reads { OnOk result (commit_text_of (commit_data commit.now (string_bytes at)) ≡ Ok commit.now) }
+{
     let pairs = pairs_value(alloc, commit.pairs.as_slice())?;
     let u = prices_value(alloc, commit.u.as_slice())?;
     let v = prices_value(alloc, commit.v.as_slice())?;
     let version = commit.version;
-    let value = json!(in alloc; {
-        "at": &at,
+    json!(in alloc; {
+        "at": at,
         "pairs": pairs,
         "type": "commit",
         "u": u,
         "v": v,
         "version": version,
-    })?;
-    value.to_string(alloc)
+    })
 }
 
 /// Pairs of a wagon and an order, as lists of two texts.
 fn pairs_value(alloc: Global, pairs: &[(WagonNumber, OrderId)]) -> Result<Value, AllocError>
     ensures value { IfOk result (λ value. view value ≡ pairs_data pairs.now) }
-    ensures reads { IfOk result (λ value. list_of_each pair_of (view value) ≡ Ok pairs.now) }
+    ensures reads { OnOk result (list_of_each pair_of (pairs_data pairs.now) ≡ Ok pairs.now) }
 {
     let mut values = Vec::with_capacity(alloc, pairs.len())?;
     for (number, id) in pairs {
@@ -69,7 +80,7 @@ fn pairs_value(alloc: Global, pairs: &[(WagonNumber, OrderId)]) -> Result<Value,
 /// A wagon and an order, as a list of two texts.
 fn pair_value(alloc: Global, number: WagonNumber, id: OrderId) -> Result<Value, AllocError>
     ensures value { IfOk result (λ value. view value ≡ pair_data (number, id)) }
-    ensures reads { IfOk result (λ value. pair_of (view value) ≡ Ok (number, id)) }
+    ensures reads { OnOk result (pair_of (pair_data (number, id)) ≡ Ok (number, id)) }
 {
     let wagon = number.text(alloc)?;
     let order = id.text(alloc)?;
@@ -82,7 +93,7 @@ fn pair_value(alloc: Global, number: WagonNumber, id: OrderId) -> Result<Value, 
 /// Prices, as a list of numbers.
 fn prices_value(alloc: Global, prices: &[u64]) -> Result<Value, AllocError>
     ensures value { IfOk result (λ value. view value ≡ prices_data prices.now) }
-    ensures reads { IfOk result (λ value. list_of_each (number_within 0 (2 ^ 64 - 1)) (view value) ≡ Ok prices.now) }
+    ensures reads { OnOk result (list_of_each (number_within 0 (2 ^ 64 - 1)) (prices_data prices.now) ≡ Ok prices.now) }
 {
     let mut values = Vec::with_capacity(alloc, prices.len())?;
     for price in prices {

@@ -1,7 +1,7 @@
 //! The lines of an office's orders.
 ghost use Rattle.std.specs.Prelude.{◌≡◌, ◌++◌, [], ◌∷◌, Bool, false, true, codes, if◌then◌else◌, map, IsTrue, not, OnOk, string_bytes};
-ghost use Rattle.dispatch_sheet.specs.Sheet.{list_word, listed_wagons, state_word, AreLines, IsOrderLine};
-ghost use Rattle.dispatch_sheet.specs.Words.{then};
+ghost use Rattle.dispatch_sheet.specs.Sheet.{list_word, listed_wagons, order_text, state_word, AreLines, IsOrderLine};
+ghost use Rattle.dispatch_sheet.specs.Words.{next_word};
 ghost use Rattle.dispatch_sheet.specs.inner.Pushed.{listed, Adds};
 
 use crate::words::{push_ascii, push_code, push_number, push_word};
@@ -23,16 +23,23 @@ pub(crate) fn push_order_rows(
     Ok(())
 }
 
-/// Adds `order ORDER PLACE LATEST PENALTY STATE WAGONS LIST`.
+/// Adds the line of an order.
 fn push_order_row(alloc: Global, text: &mut String, row: &OrderRow) -> Result<(), AllocError>
     ensures { OnOk result (Adds (IsOrderLine row.now) (string_bytes text.old) (string_bytes text.new)) }
 {
+    let latest = row.text().latest().text(alloc)?;
+    push_order_text(text, row, latest.as_str())
+}
+
+/// Adds `order ORDER PLACE LATEST PENALTY STATE WAGONS LIST`.
+fn push_order_text(text: &mut String, row: &OrderRow, latest: &str) -> Result<(), AllocError>
+    ensures { OnOk result (string_bytes text.new ≡ string_bytes text.old ++ order_text row.now latest.now) }
+{
     let order = row.text();
-    let latest = order.latest().text(alloc)?;
     text.push_str("order")?;
     push_code(text, order.id().as_bytes())?;
     push_code(text, order.place().as_bytes())?;
-    push_word(text, latest.as_str())?;
+    push_word(text, latest)?;
     push_number(text, order.penalty())?;
     push_word(text, state_word(row.state()))?;
     push_number(text, u64::from(order.wagons()))?;
@@ -53,7 +60,7 @@ fn state_word(state: OrderState) -> &'static str
 
 /// Adds the list of an order's wagons.
 fn push_wagon_list(text: &mut String, row: &OrderRow) -> Result<(), AllocError>
-    ensures { OnOk result (string_bytes text.new ≡ string_bytes text.old ++ then (list_word (listed_wagons row.now))) }
+    ensures { OnOk result (string_bytes text.new ≡ string_bytes text.old ++ next_word (list_word (listed_wagons row.now))) }
 {
     let promised = row.promised();
     let filled = row.filled();

@@ -24,9 +24,10 @@ pub fn plan_text(
     ensures { IfOk result (λ text. string_bytes text ≡ plan_text_of snap.now.problem cells.now plan.now) }
 {
     let problem = snap.problem();
+    let pairs = plan.pairs();
     let mut text = String::new(alloc);
     for j in 0..problem.orders().len() {
-        push_order_lines(&mut text, problem, cells, plan.pairs(), j)?;
+        push_order_lines(&mut text, problem, cells, pairs, j)?;
     }
     Ok(text)
 }

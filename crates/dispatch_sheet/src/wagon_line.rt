@@ -1,8 +1,9 @@
 //! The lines of an office's wagons.
 ghost use Rattle.std.specs.Prelude.{◌≡◌, ◌++◌, OnOk, string_bytes};
 ghost use Rattle.wagon_state.specs.StatusTable.{place_of};
-ghost use Rattle.dispatch_sheet.specs.Sheet.{hold_word, promise_word, status_word, AreLines, IsWagonLine};
-ghost use Rattle.dispatch_sheet.specs.Words.{then};
+ghost use Rattle.wagon_state.specs.declared.load.Load.TheVariants.{Loaded, Unladen};
+ghost use Rattle.dispatch_sheet.specs.Sheet.{hold_word, promise_word, status_word, wagon_text, AreLines, IsWagonLine};
+ghost use Rattle.dispatch_sheet.specs.Words.{next_word};
 ghost use Rattle.dispatch_sheet.specs.inner.Pushed.{Adds};
 
 use crate::words::{push_code, push_number, push_word};
@@ -24,47 +25,74 @@ pub(crate) fn push_wagon_lines(
     Ok(())
 }
 
-/// Adds `wagon NUMBER CLASS LOAD STATUS PLACE LAST HOLD PROMISE`.
+/// Adds the line of a wagon.
 fn push_wagon_line(alloc: Global, text: &mut String, row: &WagonRow) -> Result<(), AllocError>
     ensures { OnOk result (Adds (IsWagonLine row.now) (string_bytes text.old) (string_bytes text.new)) }
 {
     let last = row.last.text(alloc)?;
+    push_wagon_text(text, row, last.as_str())
+}
+
+/// Adds `wagon NUMBER CLASS LOAD STATUS PLACE LAST HOLD PROMISE`.
+fn push_wagon_text(text: &mut String, row: &WagonRow, last: &str) -> Result<(), AllocError>
+    ensures { OnOk result (string_bytes text.new ≡ string_bytes text.old ++ wagon_text row.now last.now) }
+{
     text.push_str("wagon")?;
     push_code(text, row.number.digits())?;
     push_code(text, row.class.as_bytes())?;
     push_number(text, u64::from(row.load_limit))?;
     push_status(text, row.status)?;
-    push_word(text, last.as_str())?;
+    push_word(text, last)?;
     push_word(text, hold_word(row.held))?;
     push_promise(text, row.promise)?;
     text.push_str("\n")
 }
 
-/// Adds the word of a status, and the place.
+/// Adds the word of a status, and where the wagon is.
 fn push_status(text: &mut String, status: Status) -> Result<(), AllocError>
-    ensures { OnOk result (string_bytes text.new ≡ string_bytes text.old ++ (then (status_word status) ++ then (place_of status))) }
+    ensures { OnOk result (string_bytes text.new ≡ string_bytes text.old ++ (next_word (status_word status) ++ next_word (place_of status))) }
 {
-    let (word, place) = word_and_place(status);
-    push_word(text, word)?;
-    push_code(text, place.as_bytes())
+    push_word(text, status_word(&status))?;
+    push_code(text, place_of(&status).as_bytes())
 }
 
-/// The word of a status, and where the wagon is.
-fn word_and_place(status: Status) -> (&'static str, Place)
-    ensures word { let word = result.0 in word.now ≡ status_word status }
-    ensures place { result.1 ≡ place_of status }
+fn status_word(status: &Status) -> &'static str
+    ensures { result.now ≡ status_word status.now }
 {
-    match status {
-        Status::Empty(place, _) => ("empty", place),
-        Status::Loading(place) => ("loading", place),
-        Status::Ready(place) => ("ready", place),
-        Status::Journey(Load::Loaded, place) => ("journey_loaded", place),
-        Status::Journey(Load::Unladen, place) => ("journey_empty", place),
-        Status::Yard(Load::Loaded, place) => ("yard_loaded", place),
-        Status::Yard(Load::Unladen, place) => ("yard_empty", place),
-        Status::Arrived(Load::Loaded, place) => ("arrived_loaded", place),
-        Status::Arrived(Load::Unladen, place) => ("arrived_empty", place),
-        Status::Unloading(place) => ("unloading", place),
+    match *status {
+        Status::Empty(_, _) => "empty",
+        Status::Loading(_) => "loading",
+        Status::Ready(_) => "ready",
+        Status::Journey(load, _) => by_load(load, "journey_loaded", "journey_empty"),
+        Status::Yard(load, _) => by_load(load, "yard_loaded", "yard_empty"),
+        Status::Arrived(load, _) => by_load(load, "arrived_loaded", "arrived_empty"),
+        Status::Unloading(_) => "unloading",
+    }
+}
+
+/// The word of a wagon that carries a load, or of one that doesn't.
+fn by_load(load: Load, loaded: &'static str, unladen: &'static str) -> &'static str
+    ensures loaded { load ≡ Loaded → result.now ≡ loaded.now }
+    ensures unladen { load ≡ Unladen → result.now ≡ unladen.now }
+{
+    match load {
+        Load::Loaded => loaded,
+        Load::Unladen => unladen,
+    }
+}
+
+/// Where a wagon is, as far as is known.
+fn place_of(status: &Status) -> Place
+    ensures { result ≡ place_of status.now }
+{
+    match *status {
+        Status::Empty(place, _)
+        | Status::Loading(place)
+        | Status::Ready(place)
+        | Status::Journey(_, place)
+        | Status::Yard(_, place)
+        | Status::Arrived(_, place)
+        | Status::Unloading(place) => place,
     }
 }
 
@@ -77,7 +105,7 @@ fn hold_word(held: bool) -> &'static str
 
 /// Adds the order that a wagon is promised to.
 fn push_promise(text: &mut String, promise: Option<OrderId>) -> Result<(), AllocError>
-    ensures { OnOk result (string_bytes text.new ≡ string_bytes text.old ++ then (promise_word promise)) }
+    ensures { OnOk result (string_bytes text.new ≡ string_bytes text.old ++ next_word (promise_word promise)) }
 {
     match promise {
         None => push_word(text, "-"),

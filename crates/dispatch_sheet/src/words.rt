@@ -1,7 +1,7 @@
 //! Words of a line, each behind a space. `Err` only when out of memory; part of the text may be there then.
 ghost use Rattle.std.specs.Prelude.{◌≡◌, ◌++◌, decimal, OnOk, string_bytes};
 ghost use Rattle.std.specs.Str.{IsAscii};
-ghost use Rattle.dispatch_sheet.specs.Words.{then};
+ghost use Rattle.dispatch_sheet.specs.Words.{next_word};
 
 use std::alloc::AllocError;
 use std::fmt::Write;
@@ -17,7 +17,7 @@ pub(crate) fn push_ascii(text: &mut String, characters: &[u8]) -> Result<(), All
 /// Adds a code's characters.
 pub(crate) fn push_code(text: &mut String, characters: &[u8]) -> Result<(), AllocError>
     requires { IsAscii characters.now }
-    ensures { OnOk result (string_bytes text.new ≡ string_bytes text.old ++ then characters.now) }
+    ensures { OnOk result (string_bytes text.new ≡ string_bytes text.old ++ next_word characters.now) }
 {
     text.push_str(" ")?;
     push_ascii(text, characters)
@@ -25,7 +25,7 @@ pub(crate) fn push_code(text: &mut String, characters: &[u8]) -> Result<(), Allo
 
 /// Adds a word.
 pub(crate) fn push_word(text: &mut String, word: &str) -> Result<(), AllocError>
-    ensures { OnOk result (string_bytes text.new ≡ string_bytes text.old ++ then word.now) }
+    ensures { OnOk result (string_bytes text.new ≡ string_bytes text.old ++ next_word word.now) }
 {
     text.push_str(" ")?;
     text.push_str(word)
@@ -33,7 +33,7 @@ pub(crate) fn push_word(text: &mut String, word: &str) -> Result<(), AllocError>
 
 /// Adds a number.
 pub(crate) fn push_number(text: &mut String, number: u64) -> Result<(), AllocError>
-    ensures { OnOk result (string_bytes text.new ≡ string_bytes text.old ++ then (decimal number)) }
+    ensures { OnOk result (string_bytes text.new ≡ string_bytes text.old ++ next_word (decimal number)) }
 {
     write!(text, " {number}")
 }

@@ -5,11 +5,10 @@ use Rattle.move_messages.specs.Commands.{command_of}
 use Rattle.move_messages.specs.declared.command.Command.{Command}
 use Rattle.move_messages.specs.declared.command.Command.TheVariants as command
 use Rattle.cost_table.specs.Plan.{IsOptimal, cost_of}
-use Rattle.cost_table.specs.Problem.{ProblemValue}
 use Rattle.cost_table.specs.Table.{Table}
 use Rattle.price_checker.specs.Certificate.{IsCertificate}
 use Rattle.operating_db.specs.Office.{StateValue}
-use Rattle.commit_book.specs.BookStep.{BookValue, IsStep}
+use Rattle.commit_book.specs.BookStep.{BookValue, IsRun, IsStep}
 use Rattle.commit_book.specs.History.{IsTableAt, replay}
 use Rattle.commit_book.specs.Snap.{SnapValue, snap_of}
 use Rattle.commit_book.specs.declared.answer.Answer.{Answer}
@@ -18,9 +17,9 @@ use Rattle.commit_book.specs.declared.call.Call.{Call}
 use Rattle.commit_book.specs.declared.call.Call.TheVariants as call
 use Rattle.commit_book.specs.declared.reply.Reply.TheVariants.{Accepted, Repeated}
 use Rattle.reply_texts.specs.ReplyTexts.{accepted_text, begun_text, book_refused_text, line_refused_text, planned_text, repeated_text}
-use Rattle.dispatch_sheet.specs.CertificateLine.{IsCertificateLine}
+use Rattle.dispatch_sheet.specs.Certificate.{IsCertificateLine, commit_of}
 use Rattle.dispatch_sheet.specs.PlanText.{plan_text_of}
-use Rattle.dispatch_sheet.specs.SheetText.{IsSheetText}
+use Rattle.dispatch_sheet.specs.Sheet.{IsSheetText}
 
 -- the version that a book has reached, and its problem at a moment
 abbrev pub present : BookValue → (at : ℕ) → SnapValue
@@ -32,7 +31,7 @@ present_office book = record { office = replay book.setting book.state.history; 
 
 -- ---- events
 
--- the text of an answer to a call; a begin's has the counts of the version's problem at its moment
+-- the text of an answer to a call that is no begin
 abbrev pub answer_text : Answer → List ℕ
 answer_text (Done (Accepted n)) = accepted_text n
 answer_text (Done (Repeated n)) = repeated_text n
@@ -62,21 +61,25 @@ pub record IsBegun (old : BookValue) (at : ℕ) (new : BookValue) : Type 0 where
 abbrev pub begun_reply : SnapValue → List ℕ
 begun_reply snap = begun_text snap.version (length snap.problem.wagons) (length snap.problem.orders)
 
--- A begin, and then a plan of that problem's table at the lowest total cost; the certificate has the plan's pairs.
-pub record IsPlanned (old : BookValue) (at : ℕ) (body : List ℕ) : Type 0 where
-  pub table : Table
-  pub is_table : IsTableAt old.setting old.state.history (length old.state.history) at table
+abbrev pub planned_reply : SnapValue → (cost : ℕ) → List ℕ
+planned_reply snap cost = planned_text snap.version (length snap.problem.wagons) (length snap.problem.orders) cost
+
+-- The reply to a plan line, over the table of the version just begun: a plan at the lowest total cost, and the line of a
+-- commit of it whose prices are a certificate. Sent back, that line is read as this commit.
+pub record IsPlanned (snap : SnapValue) (table : Table) (body : List ℕ) : Type 0 where
   pub pairs : List (ℕ × ℕ)
   pub u : List ℕ
   pub v : List ℕ
   pub optimal : IsOptimal table pairs
   pub certificate : IsCertificate table pairs u v
   pub line : List ℕ
-  pub is_line : IsCertificateLine (present old at) pairs u v line
-  pub text : body ≡ planned_reply (present old at) (cost_of table pairs) ++ plan_text_of (present old at).problem table pairs ++ line ++ 10 ∷ []
-  where
-    planned_reply : SnapValue → ℕ → List ℕ
-    planned_reply snap cost = planned_text snap.version (length snap.problem.wagons) (length snap.problem.orders) cost
+  pub is_line : IsCertificateLine (commit_of snap pairs u v) line
+  pub reads : command_of line ≡ Ok (command.Commit (commit_of snap pairs u v))
+  pub text : body ≡ planned_reply snap (cost_of table pairs) ++ plan_text_of snap.problem table pairs ++ line ++ 10 ∷ []
+
+-- a plan of the present version's problem at a moment
+abbrev pub IsPlanOf : BookValue → (at : ℕ) → (body : List ℕ) → Type 0
+IsPlanOf old at body = (table : Table) × IsTableAt old.setting old.state.history (length old.state.history) at table × IsPlanned (present old at) table body
 
 -- ---- lines
 
@@ -89,13 +92,27 @@ RepliesToCommand old (Ok (command.Withdraw id)) body refused new = RepliesToCall
 RepliesToCommand old (Ok (command.Revise network)) body refused new = RepliesToCall old (call.Revise network) body refused new
 RepliesToCommand old (Ok (command.Commit commit)) body refused new = RepliesToCall old (call.Commit commit) body refused new
 RepliesToCommand old (Ok (command.Begin at)) body refused new = (body ≡ begun_reply (present old at)) × (refused ≡ false) × IsBegun old at new
-RepliesToCommand old (Ok (command.Plan at)) body refused new = IsPlanned old at body × (refused ≡ false) × IsBegun old at new
+RepliesToCommand old (Ok (command.Plan at)) body refused new = IsPlanOf old at body × (refused ≡ false) × IsBegun old at new
 RepliesToCommand old (Ok command.Sheet) body refused new = IsSheetText (length old.state.history) (present_office old) body × (refused ≡ false) × (new ≡ old)
 
 -- the reply to a line's bytes
 abbrev pub RepliesToLine : BookValue → List ℕ → List ℕ → Bool → BookValue → Type 0
 RepliesToLine old line body refused new = RepliesToCommand old (command_of line) body refused new
 
--- what a line does whose reply is that memory is out: nothing, but a plan line may have begun
-abbrev pub LeavesOutOfMemory : BookValue → List ℕ → BookValue → Type 0
-LeavesOutOfMemory old line new = (new ≡ old) ⊎ ((at : ℕ) × (command_of line ≡ Ok (command.Plan at)) × IsBegun old at new)
+-- what a command does whose reply is that memory is out: nothing; but a plan may have begun
+abbrev pub LeavesOutOfMemory : BookValue → Result Command LineFault → BookValue → Type 0
+LeavesOutOfMemory old (Ok (command.Plan at)) new = (new ≡ old) ⊎ IsBegun old at new
+LeavesOutOfMemory old command new = new ≡ old
+
+-- the same of a line's bytes
+abbrev pub RunsOutOfMemory : BookValue → List ℕ → BookValue → Type 0
+RunsOutOfMemory old line new = LeavesOutOfMemory old (command_of line) new
+
+-- ---- runs
+
+-- calls, one after the other, led from a book to another
+pub record IsLedTo (old new : BookValue) : Type 0 where
+  pub calls : List Call
+  pub answers : List Answer
+  pub run : IsRun old.setting old.state calls answers new.state
+  pub setting : new.setting ≡ old.setting

@@ -1,11 +1,18 @@
 //! The run that brings command lines to a book.
-ghost use Rattle.std.specs.Prelude.{◌≡◌, ◌⊎◌, ◌≤◌, ◌++◌, ◌×◌, false, true, List, ℕ, IfOk, IfErr, MatchResult, OnErr, length};
+ghost use Rattle.std.specs.Prelude.{◌≡◌, ◌≢◌, ◌⊎◌, ◌≤◌, ◌++◌, false, true, List, ℕ, All, Err, IfOk, IfErr, MatchResult, Ok, IsOk, OnErr, OnOk, length};
 ghost use Rattle.commit_book.specs.BookStep.{answer_of};
 ghost use Rattle.commit_book.specs.Headline.{IsProved};
+ghost use Rattle.commit_book.specs.declared.answer.Answer.TheVariants.{Refused};
+ghost use Rattle.commit_book.specs.declared.refusal.Refusal.TheVariants.{OutOfMemory};
+ghost use Rattle.commit_book.specs.BookStep.{is_kept};
 ghost use Rattle.line_engine.specs.Outcome.{is_refusal};
 ghost use Rattle.line_engine.specs.Replies.{max_head_bytes};
 ghost use Rattle.line_engine.specs.Runs.{Ends, Stops};
-ghost use Rattle.office.specs.CommandReplies.{IsBegun, IsPlanned, LeavesOutOfMemory, RepliesToCommand, RepliesToLine, answer_text, begun_reply, is_refused, present};
+ghost use Rattle.commit_book.specs.Snap.{IsInRange};
+ghost use Rattle.cost_table.specs.Plan.{IsOptimal};
+ghost use Rattle.price_checker.specs.Certificate.{IsCertificate};
+ghost use Rattle.dispatch_sheet.specs.PlanText.{FitsProblem};
+ghost use Rattle.office.specs.CommandReplies.{IsLedTo, IsPlanOf, IsPlanned, LeavesOutOfMemory, RepliesToCommand, RepliesToLine, RunsOutOfMemory, answer_text, begun_reply, is_refused, present};
 
 use assignment::plan;
 use commit_book::{Book, Refusal, Reply, Snap};
@@ -30,7 +37,7 @@ impl Handler for CommandLines {
 
     ghost answers = { RepliesToLine };
 
-    ghost runs_out = { LeavesOutOfMemory };
+    ghost runs_out = { RunsOutOfMemory };
 
     fn answer(
         &self,
@@ -56,7 +63,12 @@ fn answer_command(
     book: &mut Book,
     command: &Command,
     reply: &mut ReplyText,
-) -> Result<Outcome, AllocError> {
+) -> Result<Outcome, AllocError>
+    requires short { length reply.old ≤ max_head_bytes }
+    ensures { MatchResult result
+        (λ outcome. (body : List ℕ) × (reply.new ≡ reply.old ++ body) × RepliesToCommand book.old (Ok command.now) body (is_refusal outcome) book.new)
+        (λ _. LeavesOutOfMemory book.old (Ok command.now) book.new) }
+{
     match command {
         Command::Message(message) => push_answer(reply, book.message(alloc, message)),
         Command::Place(text) => push_answer(reply, book.place(alloc, text)),
@@ -82,10 +94,13 @@ fn answer_command(
 }
 
 /// Adds the answer to an event. `Err` only where it is refused and memory is out.
-fn push_answer(
-    reply: &mut ReplyText,
-    answer: Result<Reply, Refusal>,
-) -> Result<Outcome, AllocError> {
+fn push_answer(reply: &mut ReplyText, answer: Result<Reply, Refusal>) -> Result<Outcome, AllocError>
+    requires short { length reply.old ≤ max_head_bytes }
+    ensures text { OnOk result (reply.new ≡ reply.old ++ answer_text (answer_of answer)) }
+    ensures mark { IfOk result (λ outcome. is_refusal outcome ≡ is_refused (answer_of answer)) }
+    ensures memory { OnOk result (answer_of answer ≢ Refused OutOfMemory) }
+    ensures refused { OnErr result (is_refused (answer_of answer) ≡ true) }
+{
     match answer {
         Ok(Reply::Accepted(entry)) => {
             push_accepted(reply, entry)?;
@@ -104,9 +119,17 @@ fn push_answer(
 }
 
 /// Adds the reply to a begin.
-fn push_begun_reply(reply: &mut ReplyText, snap: &Snap) -> Result<(), AllocError> {
+fn push_begun_reply(reply: &mut ReplyText, snap: &Snap) -> Result<(), AllocError>
+    ensures text { OnOk result (reply.new ≡ reply.old ++ begun_reply snap.now) }
+    ensures room { length reply.old ≤ max_head_bytes → IsOk result }
+{
     let problem = snap.problem();
-    push_begun(reply, snap.version(), problem.wagons().len(), problem.orders().len())
+    push_begun(
+        reply,
+        snap.version(),
+        problem.wagons().len(),
+        problem.orders().len(),
+    )
 }
 
 /// Plans the problem just begun, whose table the book keeps, and adds the plan and its certificate.
@@ -115,7 +138,11 @@ fn push_plan(
     reply: &mut ReplyText,
     book: &Book,
     snap: &Snap,
-) -> Result<(), AllocError> {
+) -> Result<(), AllocError>
+    requires kept { is_kept book.now.state.kept (snap.now.version, snap.now.problem.at) ≡ true }
+    requires present { snap.now ≡ present book.now snap.now.problem.at }
+    ensures { OnOk result ((body : List ℕ) × (reply.new ≡ reply.old ++ body) × IsPlanOf book.now snap.now.problem.at body) }
+{
     let cells = book.kept_cells(snap.version(), snap.at()).unwrap();
     let (plan, prices) = plan(alloc, cells)?;
     push_planned_reply(alloc, reply, snap, cells, &plan, &prices)
@@ -129,11 +156,22 @@ fn push_planned_reply(
     cells: &Cells,
     plan: &Plan,
     prices: &Prices,
-) -> Result<(), AllocError> {
+) -> Result<(), AllocError>
+    requires fits { FitsProblem snap.now.problem cells.now }
+    requires optimal { IsOptimal cells.now plan.now }
+    requires certificate { IsCertificate cells.now plan.now prices.now.u.items prices.now.v.items }
+    ensures { OnOk result ((body : List ℕ) × (reply.new ≡ reply.old ++ body) × IsPlanned snap.now cells.now body) }
+{
     let problem = snap.problem();
     let wagons = problem.wagons().len();
     let orders = problem.orders().len();
-    push_planned(reply, snap.version(), wagons, orders, cost(cells, plan.pairs()))?;
+    push_planned(
+        reply,
+        snap.version(),
+        wagons,
+        orders,
+        cost(cells, plan.pairs()),
+    )?;
     reply.push_str(&plan_text(alloc, snap, cells, plan)?)?;
     reply.push_str(&certificate_line(alloc, snap, plan, prices)?)?;
     reply.push_bytes(b"\n")
@@ -153,7 +191,7 @@ pub fn run<R: Source, W: Sink>(
 ) -> Result<RunCount, RunFault>
     requires reader { R.has_failed reader.old ≡ false }
     requires writer { W.has_failed writer.old ≡ false }
-    ensures ok { IfOk result (λ count. Ends RepliesToLine LeavesOutOfMemory (record {
+    ensures ok { IfOk result (λ count. Ends RepliesToLine RunsOutOfMemory (record {
       from = R.remaining reader.old;
       to = R.remaining reader.new;
       held = W.contents writer.old;
@@ -161,7 +199,7 @@ pub fn run<R: Source, W: Sink>(
       old = book.old;
       new = book.new;
     }) count) }
-    ensures err { IfErr result (λ fault. Stops RepliesToLine LeavesOutOfMemory (record {
+    ensures err { IfErr result (λ fault. Stops RepliesToLine RunsOutOfMemory (record {
       from = R.remaining reader.old;
       to = R.remaining reader.new;
       held = W.contents writer.old;
@@ -170,6 +208,7 @@ pub fn run<R: Source, W: Sink>(
       new = book.new;
     })
         (record { reader = R.has_failed reader.new; writer = W.has_failed writer.new }) fault) }
+    ensures calls { IsLedTo book.old book.new }
     ensures proved { IsProved book.new.setting book.new.state.history }
 {
     let count = run_lines(alloc, reader, writer, &CommandLines, book);

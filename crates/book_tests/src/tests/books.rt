@@ -1,50 +1,10 @@
-//! Books of the sample, and calls by command lines.
+//! Calls by command lines.
 
-use commit_book::{Answer, Book, Call, Limits, Refusal, Reply};
-use distance_tables::{Networks, tables};
-use line_network::read_lines;
+use commit_book::{Answer, Book, Call, Refusal, Reply};
 use move_messages::{Command, read_line};
 use named_pairs::NamedFault;
 use std::alloc::Global;
-use std::sync::Arc;
 use std::test::Fail;
-use test_samples::{NETWORK, ROSTER};
-use wagon_roster::Roster;
-
-/// A book's roster and networks, and how many entries and problems it may have.
-#[derive(Clone, Copy)]
-pub(crate) struct Start<'a> {
-    pub(crate) roster: &'a str,
-    pub(crate) networks: &'a [&'a str],
-    pub(crate) entries: u64,
-    pub(crate) kept: u32,
-}
-
-/// The sample.
-pub(crate) const SAMPLE: Start<'static> = Start {
-    roster: ROSTER,
-    networks: &[NETWORK],
-    entries: 100_000,
-    kept: 8,
-};
-
-/// The networks of these texts.
-fn networks(alloc: Global, texts: &[&str]) -> Result<Networks, Fail> {
-    let mut all = Vec::new(alloc);
-    for text in texts {
-        let network = read_lines(alloc, text.as_bytes())?;
-        all.push(tables(alloc, &network)?)?;
-    }
-    Ok(Networks::new(all)?)
-}
-
-/// A book that starts so.
-pub(crate) fn book_of(alloc: Global, start: Start<'_>) -> Result<Book, Fail> {
-    let limits = Limits::new(start.entries, start.kept).ok_or("limits")?;
-    let roster = Roster::read_rows(alloc, start.roster.as_bytes())?;
-    let networks = Arc::new(alloc, networks(alloc, start.networks)?)?;
-    Ok(Book::new(alloc, roster, networks, limits)?)
-}
 
 /// The call that a line asks for.
 pub(crate) fn call(alloc: Global, line: &str) -> Result<Call, Fail> {

@@ -1,9 +1,9 @@
 //! Commits that are accepted, and each reason why one is refused.
 
-use super::books::{SAMPLE, Start};
-use super::lines::{BEGIN, COMMIT, DEPARTURE};
+
 use super::steps::Step::{Accepted, Begun, Entries, Problem, Refused};
 use super::steps::{Case, first_other};
+use book_samples::{BEGIN, COMMIT, DEPARTURE, SAMPLE, Start};
 use std::test::Fail;
 use test_samples::ORDER;
 

@@ -1,9 +1,9 @@
 //! Entries of a book, and a run of calls.
 
-use super::books::{SAMPLE, Start, book_of, run};
-use super::lines::{BEGIN, COMMIT, DEPARTURE, OTHER_PLACE};
+use super::books::run;
 use super::steps::Step::{Accepted, Begun, Entries, Entry, Event, Refused};
 use super::steps::{Case, first_other};
+use book_samples::{BEGIN, COMMIT, DEPARTURE, OTHER_PLACE, SAMPLE, Start, book_of};
 use commit_book::{Answer, Refusal, Reply};
 use std::alloc::Global;
 use std::test::Fail;

@@ -1,9 +1,9 @@
 //! Messages, their ids and what is full.
 
-use super::books::{SAMPLE, Start};
-use super::lines::{DEPARTURE, OTHER_PLACE};
+
 use super::steps::Step::{Accepted, Entries, Refused, Repeated};
 use super::steps::{Case, first_other};
+use book_samples::{DEPARTURE, OTHER_PLACE, SAMPLE, Start};
 use std::test::Fail;
 use test_samples::ORDER;
 

@@ -1,9 +1,9 @@
 //! Books of several networks.
 
-use super::books::{SAMPLE, Start};
-use super::lines::{BEGIN, COMMIT};
+
 use super::steps::Step::{Accepted, Begun, Problem, Refused};
 use super::steps::{Case, first_other};
+use book_samples::{BEGIN, COMMIT, SAMPLE, Start};
 use std::test::Fail;
 use test_samples::{NETWORK, ORDER};
 

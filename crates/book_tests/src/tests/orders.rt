@@ -1,9 +1,9 @@
 //! Orders that are placed and withdrawn, and orders for several wagons.
 
-use super::books::{SAMPLE, Start, reply_to};
-use super::lines::WITHDRAWAL;
+use super::books::reply_to;
 use super::steps::Step::{Accepted, PlacedAll, Problem, Refused};
 use super::steps::{Case, first_other};
+use book_samples::{SAMPLE, WITHDRAWAL, Start};
 use commit_book::{Book, Reply};
 use std::alloc::Global;
 use std::test::Fail;

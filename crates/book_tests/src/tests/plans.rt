@@ -2,11 +2,11 @@
 ghost use Rattle.std.specs.Prelude.{All, IsTrue};
 ghost use Rattle.commit_book.specs.Snap.{IsInRange};
 
-use super::books::{SAMPLE, Start, Told, call, told_of};
-use super::lines::COMMIT;
+use super::books::{Told, call, told_of};
 use super::states::ONE;
 use super::steps::Step::{Accepted, Entries, Planned, Refused};
 use super::steps::{Case, first_other};
+use book_samples::{COMMIT, SAMPLE, Start};
 use assignment::certified_plan;
 use commit_book::{Book, Call, Reply, Snap};
 use cost_table::{Plan, Problem, cells};

@@ -1,11 +1,11 @@
 //! Promises that end: by a hold, by a delivery at another place, and by the delivery that fills the order.
 
-use super::books::SAMPLE;
-use super::lines::{BEGIN, COMMIT};
+
 use super::steps::Step::{
     Accepted, Begun, Entries, Loading, Problem, Promised, Ready, Refused, State,
 };
 use super::steps::{Case, first_other};
+use book_samples::{BEGIN, COMMIT, SAMPLE};
 use load_orders::OrderState;
 use std::test::Fail;
 use test_samples::{FAR, NEAR, ORDER};

@@ -1,9 +1,10 @@
 //! Steps of a book: calls with their answers, and what the book holds between them.
 
-use super::books::{Start, Told, book_of, reply_to, version_begun, what_is_told};
+use super::books::{Told, reply_to, version_begun, what_is_told};
 use super::orders::are_placed;
 use super::plans::is_planned;
 use super::states::{has_entry, has_problem, has_state, is_loading, is_promised, is_ready};
+use book_samples::{Start, book_of};
 use commit_book::{Book, Reply};
 use load_orders::OrderState;
 use std::alloc::Global;
