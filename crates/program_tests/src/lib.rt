@@ -2,6 +2,10 @@
 #![tactic(auto)]
 
 #[cfg(test)]
+mod faults;
+#[cfg(test)]
+mod help;
+#[cfg(test)]
 mod stops;
 #[cfg(test)]
 mod words;

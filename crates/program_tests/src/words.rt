@@ -1,95 +1,66 @@
 //! What the program's words ask for, and the texts of help, of the version and of faults of the arguments.
 
+use crate::{faults, help};
 use clap::Error;
 use std::alloc::{AllocError, Global};
 use std::test::Fail;
-use wagons_program::{Word, not_utf8, read_words};
-
-const HELP: &str = r"The fleet office: plans for empty freight wagons, with prices that prove
-them least. Without a word it does `check`.
-
-Usage: wagons [COMMAND]
-
-Commands:
-  check  Checks plans and their prices, one JSON object a line
-  help   Print this message or the help of the given subcommand(s)
-
-Options:
-  -h, --help     Print help
-  -V, --version  Print version
-";
-
-const CHECK_HELP: &str =
-    r"Reads table lines from standard input, one JSON object a line: wagons, orders,
-the cost of each allowed pair in kilometres, penalties, a plan and its prices.
-Replies `N optimal COST` where the prices prove the plan of line N least, else
-`N refused CODE` and details. Exits with 0, with 1 where a line was refused,
-with 2 where it could not run or stopped.
-
-Usage: wagons check
-
-Options:
-  -h, --help
-          Print help (see a summary with '-h')
-";
-
-const CHECK_SUMMARY: &str = r"Checks plans and their prices, one JSON object a line
-
-Usage: wagons check
-
-Options:
-  -h, --help  Print help (see more with '--help')
-";
-
-const FLY: &str = r"error: unrecognized subcommand 'fly'
-
-Usage: wagons [COMMAND]
-
-For more information, try '--help'.
-";
-
-const EXTRA: &str = r"error: unexpected argument 'extra' found
-
-Usage: wagons check
-
-For more information, try '--help'.
-";
-
-const BAD: &str = r"error: unexpected argument '--bad' found
-
-Usage: wagons [COMMAND]
-
-For more information, try '--help'.
-";
-
-const CHECK_BAD: &str = r"error: unexpected argument '--bad' found
-
-Usage: wagons check
-
-For more information, try '--help'.
-";
-
-const NOT_UTF8: &str = r"error: invalid UTF-8 was detected in one or more arguments
-
-Usage: wagons [COMMAND]
-
-For more information, try '--help'.
-";
+use wagons_program::{OfficeOptions, Word, not_utf8, read_words};
 
 /// Words, what is printed, and the exit status.
 const PRINTED: &[(&[&str], &str, i32)] = &[
-    (&["wagons", "--help"], HELP, 0),
-    (&["wagons", "-h"], HELP, 0),
-    (&["wagons", "help"], HELP, 0),
-    (&["wagons", "check", "--help"], CHECK_HELP, 0),
-    (&["wagons", "help", "check"], CHECK_HELP, 0),
-    (&["wagons", "check", "-h"], CHECK_SUMMARY, 0),
+    (&["wagons", "--help"], help::HELP, 0),
+    (&["wagons", "-h"], help::HELP, 0),
+    (&["wagons", "help"], help::HELP, 0),
+    (&["wagons", "check", "--help"], help::CHECK_HELP, 0),
+    (&["wagons", "help", "check"], help::CHECK_HELP, 0),
+    (&["wagons", "check", "-h"], help::CHECK_SUMMARY, 0),
+    (&["wagons", "run", "--help"], help::RUN_HELP, 0),
+    (&["wagons", "help", "run"], help::RUN_HELP, 0),
+    (&["wagons", "run", "-h"], help::RUN_SUMMARY, 0),
     (&["wagons", "--version"], "wagons 0.1.0\n", 0),
     (&["wagons", "-V"], "wagons 0.1.0\n", 0),
-    (&["wagons", "fly"], FLY, 2),
-    (&["wagons", "check", "extra"], EXTRA, 2),
-    (&["wagons", "--bad"], BAD, 2),
-    (&["wagons", "check", "--bad"], CHECK_BAD, 2),
+    (&["wagons", "fly"], faults::FLY, 2),
+    (&["wagons", "--bad"], faults::BAD, 2),
+    (&["wagons", "check", "extra"], faults::CHECK_EXTRA, 2),
+    (&["wagons", "check", "--bad"], faults::CHECK_BAD, 2),
+    (&["wagons", "run", "extra"], faults::RUN_EXTRA, 2),
+    (&["wagons", "run", "--bad"], faults::RUN_BAD, 2),
+    (&["wagons", "run"], faults::NO_FILES, 2),
+    (
+        &["wagons", "run", "--network", "n.csv"],
+        faults::NO_ROSTER,
+        2,
+    ),
+    (
+        &["wagons", "run", "--roster", "r.csv"],
+        faults::NO_NETWORK,
+        2,
+    ),
+    (&["wagons", "run", "--roster"], faults::NO_FILE_NAME, 2),
+    (
+        &["wagons", "run", "--roster", "r.csv", "--roster", "r.csv"],
+        faults::TWO_ROSTERS,
+        2,
+    ),
+    (&["wagons", "run", "--entries", "0"], faults::NO_ENTRIES, 2),
+    (
+        &["wagons", "run", "--entries", "1000001"],
+        faults::MANY_ENTRIES,
+        2,
+    ),
+    (
+        &["wagons", "run", "--entries", "many"],
+        faults::WORD_ENTRIES,
+        2,
+    ),
+    (&["wagons", "run", "--kept", "0"], faults::NONE_KEPT, 2),
+    (&["wagons", "run", "--kept", "65"], faults::MANY_KEPT, 2),
+    (&["wagons", "run", "--workers", "0"], faults::NO_WORKERS, 2),
+    (
+        &["wagons", "run", "--workers", "65"],
+        faults::MANY_WORKERS,
+        2,
+    ),
 ];
 
 /// Whether an error prints this text and stands for this exit status.
@@ -101,7 +72,7 @@ fn is_printed(alloc: Global, error: &Error, text: &str, status: i32) -> Result<b
 /// Whether these words are answered by this text and this exit status.
 fn is_answered(alloc: Global, words: &[&str], text: &str, status: i32) -> Result<bool, AllocError> {
     match read_words(alloc, words) {
-        Ok(Word::Check) => Ok(false),
+        Ok(_) => Ok(false),
         Err(error) => is_printed(alloc, &error, text, status),
     }
 }
@@ -117,7 +88,7 @@ fn printed_texts(rt: HostRuntime) -> Result<(), Fail> {
 #[test]
 fn arguments_that_are_no_text(rt: HostRuntime) -> Result<(), Fail> {
     let error = not_utf8(rt.alloc())?;
-    assert!(rt; is_printed(rt.alloc(), &error, NOT_UTF8, 2)?);
+    assert!(rt; is_printed(rt.alloc(), &error, faults::NOT_UTF8, 2)?);
     Ok(())
 }
 
@@ -125,7 +96,7 @@ fn arguments_that_are_no_text(rt: HostRuntime) -> Result<(), Fail> {
 fn is_check(alloc: Global, words: &[&str]) -> bool {
     match read_words(alloc, words) {
         Ok(Word::Check) => true,
-        Err(_) => false,
+        _ => false,
     }
 }
 
@@ -133,4 +104,75 @@ fn is_check(alloc: Global, words: &[&str]) -> bool {
 fn words_that_check(rt: HostRuntime) {
     assert!(rt; is_check(rt.alloc(), &["wagons"]));
     assert!(rt; is_check(rt.alloc(), &["wagons", "check"]));
+}
+
+/// Words that ask for a run with these files and the numbers of entries, of kept problems and of workers.
+const RUNS: &[(&[&str], (&str, &[&str], u64, u32, usize))] = &[
+    (
+        &["wagons", "run", "--roster", "r.csv", "--network", "n.csv"],
+        ("r.csv", &["n.csv"], 100_000, 8, 4),
+    ),
+    (
+        &[
+            "wagons",
+            "run",
+            "--network",
+            "a",
+            "--roster=r",
+            "--network",
+            "b",
+        ],
+        ("r", &["a", "b"], 100_000, 8, 4),
+    ),
+    (
+        &[
+            "wagons",
+            "run",
+            "--roster",
+            "r",
+            "--network",
+            "n",
+            "--entries",
+            "1",
+            "--kept",
+            "64",
+            "--workers",
+            "64",
+        ],
+        ("r", &["n"], 1, 64, 64),
+    ),
+    (
+        &[
+            "wagons",
+            "run",
+            "--workers=1",
+            "--kept=1",
+            "--entries=1000000",
+            "--roster=r",
+            "--network=n",
+        ],
+        ("r", &["n"], 1_000_000, 1, 1),
+    ),
+];
+
+/// Whether options are these.
+fn are_options(
+    options: &OfficeOptions<'_>,
+    (roster, networks, entries, kept, workers): (&str, &[&str], u64, u32, usize),
+) -> bool {
+    options.roster == roster
+        && options.networks.as_slice() == networks
+        && options.limits.entries() == entries
+        && options.limits.kept() == kept
+        && options.workers == workers
+}
+
+#[test]
+fn words_that_run(rt: HostRuntime) {
+    for (k, (words, wanted)) in RUNS.iter().enumerate() {
+        match read_words(rt.alloc(), words) {
+            Ok(Word::Run(options)) => assert!(rt; are_options(&options, *wanted), "{k}"),
+            _ => assert!(rt; false, "{k}"),
+        }
+    }
 }

@@ -1,5 +1,7 @@
-//! The command line: its words, their help, and the faults of arguments.
+//! The command line: its words, and the faults of arguments.
 
+use crate::help;
+use crate::office_options::{OfficeOptions, with_office_options};
 use clap::error::ErrorKind;
 use clap::{Command, Error};
 use std::alloc::{AllocError, Global};
@@ -8,30 +10,23 @@ use std::convert::AsStr;
 /// The program's version.
 const VERSION: &str = "0.1.0";
 
-/// What the program is.
-const ABOUT: &str = "The fleet office: plans for empty freight wagons, with prices that prove\n\
-     them least. Without a word it does `check`.";
-
-/// What `check` does.
-const CHECK_HELP: &str =
-    "Reads table lines from standard input, one JSON object a line: wagons, orders,\n\
-     the cost of each allowed pair in kilometres, penalties, a plan and its prices.\n\
-     Replies `N optimal COST` where the prices prove the plan of line N least, else\n\
-     `N refused CODE` and details. Exits with 0, with 1 where a line was refused,\n\
-     with 2 where it could not run or stopped.";
-
 /// What the program is asked to do.
-#[derive(Clone, Copy, Debug, PartialEq, Eq)]
-pub enum Word {
+#[derive(Debug, Drop)]
+pub enum Word<'a> {
     /// Check the table lines of standard input.
     Check,
+    /// Bring the command lines of standard input to an office.
+    Run(OfficeOptions<'a>),
 }
 
 /// What the words ask for, the program's name first; without a word it is `Check`. Else the error is a request for help
 /// or the version, a fault of the arguments in clap's own text, or out of memory.
-pub fn read_words<S: AsStr>(alloc: Global, words: &[S]) -> Result<Word, Error> {
-    let _matches = command_line(alloc)?.try_get_matches_from(words)?;
-    Ok(Word::Check)
+pub fn read_words<'a, S: AsStr>(alloc: Global, words: &'a [S]) -> Result<Word<'a>, Error> {
+    let matches = command_line(alloc)?.try_get_matches_from(words)?;
+    match matches.subcommand_matches("run") {
+        Some(options) => Ok(Word::Run(OfficeOptions::read(alloc, options)?)),
+        None => Ok(Word::Check),
+    }
 }
 
 /// The fault that an argument is not UTF-8.
@@ -43,13 +38,29 @@ pub fn not_utf8(alloc: Global) -> Result<Error, AllocError> {
     )
 }
 
-/// The words that the program knows.
+/// The words that the program knows. Usage lines name it `wagons`, whatever its file is called.
 fn command_line<'a>(alloc: Global) -> Result<Command<'a>, AllocError> {
-    let check = Command::new(alloc, "check")
-        .about("Checks plans and their prices, one JSON object a line")
-        .long_about(CHECK_HELP);
     Command::new(alloc, "wagons")
+        .bin_name("wagons")?
         .version(VERSION)
-        .about(ABOUT)
-        .subcommand(check)
+        .about(help::ABOUT)
+        .after_help(help::EXAMPLES)
+        .subcommand(check_command(alloc))?
+        .subcommand(run_command(alloc)?)
+}
+
+/// The word `check`.
+fn check_command<'a>(alloc: Global) -> Command<'a> {
+    Command::new(alloc, "check")
+        .about(help::CHECK_ABOUT)
+        .long_about(help::CHECK_LONG_ABOUT)
+}
+
+/// The word `run`.
+fn run_command<'a>(alloc: Global) -> Result<Command<'a>, AllocError> {
+    let run = Command::new(alloc, "run")
+        .about(help::RUN_ABOUT)
+        .long_about(help::RUN_LONG_ABOUT)
+        .after_help(help::RUN_EXAMPLE);
+    with_office_options(alloc, run)
 }

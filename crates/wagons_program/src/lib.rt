@@ -3,9 +3,15 @@
 
 mod check;
 mod command_line;
+mod help;
+mod new_book;
+mod office_options;
 mod program;
+mod run;
+mod status;
 mod stop;
 
 pub use command_line::{Word, not_utf8, read_words};
+pub use office_options::OfficeOptions;
 pub use program::run_program;
 pub use stop::Stop;

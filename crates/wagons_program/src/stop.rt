@@ -1,19 +1,42 @@
 //! Why the program could not run or stopped, as it says it on standard error.
 
+use distance_tables::{NetworksFault, WorkFault};
+use line_network::NetworkFault;
 use office::RunFault;
-use std::alloc::AllocError;
+use rail_codes::WagonNumber;
+use std::alloc::{AllocError, AllocFailed};
 use std::fmt;
 use std::fmt::{Display, Formatter};
+use wagon_roster::RosterFault;
 
-/// Why the program could not run or stopped. It prints as `wagons: CODE` and the number of the line, if there is one.
+/// Why the program could not run or stopped. It prints as `wagons: CODE` and what the code's details are: the number of
+/// the line at which the run stopped, of a file's record, or a wagon.
 #[derive(Clone, Copy, Debug, PartialEq, Eq)]
 pub enum Stop {
     /// Memory was refused before the run (1).
     OutOfMemory,
+    /// More than 8 networks were given (47).
+    Networks(NetworksFault),
+    /// A file could not be opened (93).
+    OpenFailed,
+    /// The roster could not be read (1, 51, 53, 78 or 93).
+    Roster(RosterFault),
+    /// A network could not be read (1, 41 to 43 or 93).
+    Network(NetworkFault),
+    /// The distances could not be worked out (1 or 46).
+    Tables(WorkFault),
     /// Help or the version could not be written (94).
     WriteFailed,
     /// The run over the lines stopped (1, 91 to 94).
     Run(RunFault),
+}
+
+/// What stands behind a code.
+#[derive(Clone, Copy, Debug)]
+enum Detail {
+    Nothing,
+    Number(u64),
+    Wagon(WagonNumber),
 }
 
 impl Stop {
@@ -21,16 +44,27 @@ impl Stop {
     pub fn number(self) -> u32 {
         match self {
             Stop::OutOfMemory => 1,
+            Stop::Networks(fault) => fault.number(),
+            Stop::OpenFailed => 93,
+            Stop::Roster(fault) => fault.number(),
+            Stop::Network(fault) => fault.number(),
+            Stop::Tables(fault) => fault.number(),
             Stop::WriteFailed => 94,
             Stop::Run(fault) => fault.number(),
         }
     }
 
-    /// The number of the line at which the run stopped, counted from 1.
-    pub fn line(self) -> Option<u64> {
+    /// What stands behind the number.
+    fn detail(self) -> Detail {
         match self {
-            Stop::OutOfMemory | Stop::WriteFailed => None,
-            Stop::Run(fault) => fault.line(),
+            Stop::Roster(RosterFault::DuplicateWagon(wagon)) => Detail::Wagon(wagon),
+            Stop::Roster(RosterFault::BadRosterRow(record)) => Detail::Number(u64::from(record)),
+            Stop::Network(NetworkFault::BadRow(record)) => Detail::Number(u64::from(record)),
+            Stop::Run(fault) => match fault.line() {
+                Some(line) => Detail::Number(line),
+                None => Detail::Nothing,
+            },
+            _ => Detail::Nothing,
         }
     }
 }
@@ -38,15 +72,22 @@ impl Stop {
 impl Display for Stop {
     fn fmt<W: fmt::Write>(&self, f: &mut Formatter<W>) -> fmt::Result {
         write!(f, "wagons: {}", self.number())?;
-        match self.line() {
-            Some(line) => write!(f, " {line}"),
-            None => Ok(()),
+        match self.detail() {
+            Detail::Nothing => Ok(()),
+            Detail::Number(number) => write!(f, " {number}"),
+            Detail::Wagon(wagon) => write!(f, " {}", str::from_utf8(wagon.digits()).unwrap()),
         }
     }
 }
 
 impl From<AllocError> for Stop {
     fn from(_error: AllocError) -> Stop {
+        Stop::OutOfMemory
+    }
+}
+
+impl<T: Drop> From<AllocFailed<T>> for Stop {
+    fn from(_error: AllocFailed<T>) -> Stop {
         Stop::OutOfMemory
     }
 }

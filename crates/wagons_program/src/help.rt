@@ -1,0 +1,71 @@
+//! The texts of help. No line is longer than 80 characters where help prints it.
+
+/// What the program is.
+pub(crate) const ABOUT: &str =
+    "The fleet office: keeps where freight wagons are, and plans which empty wagon\n\
+     goes to which order, with prices that prove that no other plan costs less.\n\
+     Without a word it does `check`.";
+
+/// How the program is called.
+pub(crate) const EXAMPLES: &str = "Examples:\n  \
+     wagons check < tables.jsonl\n  \
+     wagons run --roster roster.csv --network network.csv < day.jsonl";
+
+/// What `check` does, on a line.
+pub(crate) const CHECK_ABOUT: &str = "Checks plans and their prices, one JSON object a line";
+
+/// What `check` does.
+pub(crate) const CHECK_LONG_ABOUT: &str =
+    "Reads table lines from standard input, one JSON object a line: wagons, orders,\n\
+     the cost of each allowed pair in kilometres, penalties, a plan and its prices.\n\
+     Replies `N optimal COST` where the prices prove the plan of line N least, else\n\
+     `N refused CODE` and details. Exits with 0, with 1 where a line was refused,\n\
+     with 2 where it could not run or stopped.";
+
+/// What `run` does, on a line.
+pub(crate) const RUN_ABOUT: &str = "Keeps a fleet: messages and orders in, replies and plans out";
+
+/// What `run` does.
+pub(crate) const RUN_LONG_ABOUT: &str =
+    "Reads the fleet and the network from files, then commands from standard input,\n\
+     one JSON object a line: movement messages of the wagons, orders for wagons and\n\
+     their withdrawals, `begin`, `plan`, `commit`, `network` and `sheet`. Answers\n\
+     each line at once; a reply begins with the number of its line. Exits with 0,\n\
+     with 1 where a line was refused, with 2 where it could not run or stopped.";
+
+/// How `run` is called.
+pub(crate) const RUN_EXAMPLE: &str = "Example:\n  \
+     wagons run --roster roster.csv --network network.csv < day.jsonl";
+
+/// What each option is, on a line.
+pub(crate) const ROSTER: &str = "The wagons and where they are at the start, a CSV file";
+
+pub(crate) const NETWORK: &str = "The lines between places, a CSV file; up to 8 times";
+
+pub(crate) const ENTRIES: &str = "Most events accepted, 1 to 1000000";
+
+pub(crate) const KEPT: &str = "Most problems kept for commits, 1 to 64";
+
+pub(crate) const WORKERS: &str = "Threads that work out distances, 1 to 64";
+
+/// What each option is.
+pub(crate) const ROSTER_LONG: &str =
+    "The wagons and where they are at the start: a CSV file with the header\n\
+     `wagon,class,load,status,place,moment`";
+
+pub(crate) const NETWORK_LONG: &str = "The lines between places: a CSV file with the header\n\
+     `from,to,km,minutes,way`. May stand up to 8 times: the networks are\n\
+     numbered from 1 in this order, and network 1 is the first in force";
+
+pub(crate) const ENTRIES_LONG: &str =
+    "The most events that are accepted, 1 to 1000000: messages, orders,\n\
+     withdrawals, commits and changes of the network. Later ones are\n\
+     refused";
+
+pub(crate) const KEPT_LONG: &str =
+    "The most problems that are kept for commits, 1 to 64: those of the\n\
+     latest `begin` and `plan` lines. A commit of an older one is refused";
+
+pub(crate) const WORKERS_LONG: &str =
+    "How many threads work out the distances before the first line is\n\
+     read, 1 to 64. The replies are the same for any number";

@@ -1,0 +1,71 @@
+//! A new book from the files that the options name.
+
+use crate::office_options::OfficeOptions;
+use crate::stop::Stop;
+use commit_book::Book;
+use distance_tables::{MAX_NETWORKS, Networks, NetworksFault, OpenGate, Tables, tables_by_workers};
+use line_network::{Network, read_lines};
+use std::fs;
+use std::rt::Files;
+use std::sync::{Arc, Wait};
+use std::thread::Threads;
+use wagon_roster::Roster;
+
+/// A book without entries. What is wrong is found in this order: too many networks, the roster, the networks in their
+/// order, and their distances.
+pub(crate) fn new_book<R: Files + Threads + Wait + AllocGlobal>(
+    rt: &R,
+    options: &OfficeOptions<'_>,
+) -> Result<Book, Stop> {
+    if options.networks.len() > MAX_NETWORKS as usize {
+        return Err(Stop::Networks(NetworksFault::BadNetworkCount));
+    }
+    let roster = read_roster(rt, options.roster)?;
+    let networks = read_networks(rt, &options.networks)?;
+    let tables = make_tables(rt, &networks, options.workers)?;
+    let networks = match Networks::new(tables) {
+        Ok(networks) => Arc::new(rt.alloc(), networks)?,
+        Err(fault) => return Err(Stop::Networks(fault)),
+    };
+    Ok(Book::new(rt.alloc(), roster, networks, options.limits)?)
+}
+
+/// The roster that a file says.
+fn read_roster<R: Files + AllocGlobal>(rt: &R, path: &str) -> Result<Roster, Stop> {
+    Roster::read_rows(rt.alloc(), open(rt, path)?).map_err(Stop::Roster)
+}
+
+/// The networks that files say, in their order.
+fn read_networks<R: Files + AllocGlobal>(rt: &R, paths: &[&str]) -> Result<Vec<Network>, Stop> {
+    let mut networks = Vec::with_capacity(rt.alloc(), paths.len())?;
+    for path in paths {
+        networks.push(read_network(rt, path)?)?;
+    }
+    Ok(networks)
+}
+
+/// The network that a file says.
+fn read_network<R: Files + AllocGlobal>(rt: &R, path: &str) -> Result<Network, Stop> {
+    read_lines(rt.alloc(), open(rt, path)?).map_err(Stop::Network)
+}
+
+/// A file that is open for reading.
+fn open<R: Files>(rt: &R, path: &str) -> Result<R::File, Stop> {
+    fs::open(rt, path).map_err(|_| Stop::OpenFailed)
+}
+
+/// The distances in each network.
+fn make_tables<R: Threads + Wait + AllocGlobal>(
+    rt: &R,
+    networks: &[Network],
+    workers: usize,
+) -> Result<Vec<Tables>, Stop> {
+    let mut tables = Vec::with_capacity(rt.alloc(), networks.len())?;
+    for network in networks {
+        match tables_by_workers(rt, rt.alloc(), network, workers, &OpenGate) {
+            Ok(made) => tables.push(made)?,
+            Err(fault) => return Err(Stop::Tables(fault)),
+        }
+    }
+    Ok(tables)
+}
