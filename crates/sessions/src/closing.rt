@@ -7,10 +7,10 @@ ghost use Rattle.sessions.specs.CloseFault.{IsHandedBack, IsMissing};
 ghost use Rattle.sessions.specs.Seat.{count_of};
 ghost use Rattle.sessions.specs.inner.Others.{IsOther};
 
+use crate::same_events::is_same_event;
 use crate::shared_book::SharedBook;
 use crate::{CloseFault, Office, Receipt, Seat};
 use commit_book::Book;
-use operating_db::Event;
 use std::sync::ledger;
 use std::sync::ledger::{Ledger, Share};
 
@@ -73,7 +73,7 @@ fn has_entry(book: &Book, receipt: &Receipt) -> bool
     ensures { IsTrue result ↔ HasEntry book.now.state.history receipt.now }
 {
     match book.entry(receipt.entry) {
-        Some(event) => *event == receipt.event,
+        Some(event) => is_same_event(event, &receipt.event),
         None => false,
     }
 }

@@ -11,6 +11,7 @@ mod opening;
 mod plan_fault;
 mod planning;
 mod receipt;
+mod same_events;
 mod seat;
 mod shared_book;
 
