@@ -13,7 +13,7 @@ use Rattle.assignment.proofs.Placing.{sum_below-limit}
 use Rattle.operating_db.specs.declared.event.Event.{Event}
 use Rattle.commit_book.specs.History.{entry_at}
 use Rattle.sessions.specs.Closing.{HasEntry}
-use Rattle.sessions.specs.OnlyReceipts.{IsReceived, ReceiptsAreTheHistory, times_of_entry}
+use Rattle.sessions.specs.OnlyReceipts.{IsReceived, ReceiptsAgree, ReceiptsAreTheHistory, times_of_entry}
 use Rattle.sessions.specs.declared.receipt.Receipt.{Receipt}
 
 -- the number of an entry is one more than its place
@@ -86,3 +86,6 @@ receipts_are_the_history history receipts count all distinct n event entry =
     let number : here.0 + 1 ≡ n = omega (arith, here.1) in
     let there : 1 ≤ times_of_entry n receipts = omega (arith, one, ap (λ (k : ℕ). times_of_entry k receipts) number) in
     received history receipts n event entry all there
+
+pub receipts_agree : ReceiptsAgree
+receipts_agree history one other has its same = received_here history one other.entry other.event same has its

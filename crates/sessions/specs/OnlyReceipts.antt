@@ -17,6 +17,10 @@ pub record IsReceived (receipts : List Receipt) (n : ℕ) (event : Event) : Type
   pub its_entry : receipt.entry ≡ n
   pub its_event : receipt.event ≡ event
 
+-- Two receipts of one number have one event.
+abbrev pub ReceiptsAgree : Type 0
+ReceiptsAgree = (history : List Event) (one other : Receipt) → HasEntry history one → HasEntry history other → one.entry ≡ other.entry → one.event ≡ other.event
+
 -- As many entries as receipts, each receipt's event the entry of its number, no number twice: then each entry is that of a
 -- receipt of its number.
 abbrev pub ReceiptsAreTheHistory : Type 0

@@ -20,10 +20,7 @@ use std::sync::ledger::{Ledger, Share};
 /// The first of these is answered: `SeatsMissing` (95), exactly where fewer seats come than the office was opened with;
 /// office and seats are handed back. `ReceiptLost` (96), only where the entry of a receipt is not its event; book and seats
 /// are handed back. Takes no memory, and waits for nobody.
-pub fn close<L: Ledger>(
-    office: Office<L>,
-    seats: Vec<Seat<L>>,
-) -> Result<Book, CloseFault<L>>
+pub fn close<L: Ledger>(office: Office<L>, seats: Vec<Seat<L>>) -> Result<Book, CloseFault<L>>
     requires { office.seats ≡ L.parts }
     ensures counts { IfOk result (λ book. length book.state.history ≡ sum_by count_of seats.items) }
     ensures receipts { IfOk result (λ book. All (HasEntries book.state.history) seats.items) }

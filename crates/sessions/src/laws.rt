@@ -1,6 +1,6 @@
 //! What holds of every book that seats share, and of every planner.
 ghost use Rattle.sessions.specs.PlannersCommit.{CertificatesAreAccepted, PlansAreAccepted};
-ghost use Rattle.sessions.specs.OnlyReceipts.{ReceiptsAreTheHistory};
+ghost use Rattle.sessions.specs.OnlyReceipts.{ReceiptsAgree, ReceiptsAreTheHistory};
 
 /// States two laws of a planner's commit; it does nothing.
 ///
@@ -12,11 +12,12 @@ pub fn a_plan_for_the_present_is_accepted()
     ensures plans { PlansAreAccepted }
 {}
 
-/// States a law of receipts; it does nothing.
+/// States two laws of receipts; it does nothing.
 ///
-/// Where a history has as many entries as there are receipts, each receipt's event is the entry of its number, and no two
+/// Receipts that have the entries of one history have one event where they have one number. Where a history has as many entries as there are receipts, each receipt's event is the entry of its number, and no two
 /// receipts have one number, the history is the receipts and nothing else: each entry is the event of a receipt of its
 /// number.
 pub fn receipts_are_the_history()
-    ensures { ReceiptsAreTheHistory }
+    ensures agree { ReceiptsAgree }
+    ensures history { ReceiptsAreTheHistory }
 {}

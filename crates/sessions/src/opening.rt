@@ -39,12 +39,7 @@ pub fn open<L: Ledger>(
 }
 
 /// Makes the seats, each with a part of a share.
-fn seat_all<L: Ledger>(
-    alloc: Global,
-    seats: &mut Vec<Seat<L>>,
-    rest: &mut Share<L>,
-    count: u32,
-)
+fn seat_all<L: Ledger>(alloc: Global, seats: &mut Vec<Seat<L>>, rest: &mut Share<L>, count: u32)
     requires none { seats.old.items ≡ [] }
     requires room { count ≤ vec_capacity seats.old }
     requires parts { rest.old.parts ≡ count }
