@@ -20,7 +20,10 @@ fn event(alloc: Global, line: &str) -> Result<Event, Fail> {
     match read_line(alloc, line.as_bytes())? {
         Command::Message(message) => Ok(Event::Message(message)),
         Command::Place(text) => Ok(Event::Place(text)),
-        _ => Err(Fail::new("another event")),
+        Command::Withdraw(id) => Ok(Event::Withdraw(id)),
+        Command::Commit(commit) => Ok(Event::Commit(commit)),
+        Command::Revise(network) => Ok(Event::Revise(network)),
+        Command::Begin(_) | Command::Plan(_) | Command::Sheet => Err(Fail::new("no event")),
     }
 }
 
@@ -51,15 +54,22 @@ fn handed_back<L: Ledger>(
     }
 }
 
-/// Whether the first of two seats is told this on two lines' calls, of which the first is accepted; and whether the office
-/// is closed with both seats alone, and its book has that one entry then.
+/// Two lines that a seat calls, of which the first is accepted, and what it is told on the second.
+#[derive(Clone, Copy)]
+struct Calls {
+    first: &'static str,
+    second: &'static str,
+    told: &'static str,
+}
+
+/// Whether the first of two seats is told so; and whether the office is closed with both seats alone, and its book has that
+/// one entry then.
 fn closes<L: Ledger, R: Wait>(
     rt: &R,
     alloc: Global,
     blank: Blank,
     book: Book,
-    lines: [&str; 2],
-    second_told: &str,
+    calls: &Calls,
 ) -> Result<bool, Fail>
     requires ledger { blank.name ≡ L.name }
     requires parts { blank.parts ≡ L.parts }
@@ -71,10 +81,10 @@ fn closes<L: Ledger, R: Wait>(
     };
     let second = seats.pop().ok_or("no second seat")?;
     let mut first = seats.pop().ok_or("no first seat")?;
-    let accepted = told(rt, alloc, &office, &mut first, lines[0])?;
-    let other = told(rt, alloc, &office, &mut first, lines[1])?;
-    let has_receipt = has_receipt(alloc, &first, lines[0])? && second.count() == 0;
-    let is_told = accepted.as_str() == "accepted 1" && other.as_str() == second_told;
+    let accepted = told(rt, alloc, &office, &mut first, calls.first)?;
+    let other = told(rt, alloc, &office, &mut first, calls.second)?;
+    let has_receipt = has_receipt(alloc, &first, calls.first)? && second.count() == 0;
+    let is_told = accepted.as_str() == "accepted 1" && other.as_str() == calls.told;
     let (office, mut seats) = handed_back(office, Vec::new(alloc)).ok_or("closed with no seat")?;
     if seats.push(first).is_err() {
         return Err(Fail::new("no memory"));
@@ -84,24 +94,31 @@ fn closes<L: Ledger, R: Wait>(
         return Err(Fail::new("no memory"));
     }
     match close(office, seats) {
-        Ok(book) => Ok(is_told && has_receipt && has_one(alloc, &book, lines[0])?),
+        Ok(book) => Ok(is_told && has_receipt && has_one(alloc, &book, calls.first)?),
         Err(_) => Ok(false),
     }
 }
 
-fn closes_sample<R: Wait>(
-    rt: &R,
-    alloc: Global,
-    lines: [&str; 2],
-    second_told: &str,
-) -> Result<bool, Fail> {
+fn closes_sample<R: Wait>(rt: &R, alloc: Global, calls: &Calls) -> Result<bool, Fail> {
     let book = book_of(alloc, SAMPLE)?;
-    closes::<Brand, R>(rt, alloc, Blank::new(2), book, lines, second_told)
+    closes::<Brand, R>(rt, alloc, Blank::new(2), book, calls)
 }
+
+const PLACES: Calls = Calls {
+    first: ORDER,
+    second: BEGIN,
+    told: "begun 1 network 1",
+};
+
+const REPEATS: Calls = Calls {
+    first: DEPARTURE,
+    second: DEPARTURE,
+    told: "repeated 1",
+};
 
 #[test]
 fn with_all_seats(rt: HostRuntime) -> Result<(), Fail> {
-    assert!(rt; closes_sample(&rt, rt.alloc(), [ORDER, BEGIN], "begun 1 network 1")?);
-    assert!(rt; closes_sample(&rt, rt.alloc(), [DEPARTURE, DEPARTURE], "repeated 1")?);
+    assert!(rt; closes_sample(&rt, rt.alloc(), &PLACES)?);
+    assert!(rt; closes_sample(&rt, rt.alloc(), &REPEATS)?);
     Ok(())
 }

@@ -46,10 +46,10 @@ fn commits<L: Ledger, R: Wait>(
 
 /// The commit of a line.
 fn commit_of(alloc: Global, line: &str) -> Result<CommitText, Fail> {
-    match read_line(alloc, line.as_bytes())? {
-        Command::Commit(commit) => Ok(commit),
-        _ => Err(Fail::new("no commit")),
-    }
+    let Command::Commit(commit) = read_line(alloc, line.as_bytes())? else {
+        return Err(Fail::new("no commit"));
+    };
+    Ok(commit)
 }
 
 /// Whether one of two commits is accepted as entry 2, and the other refused for its wagon.

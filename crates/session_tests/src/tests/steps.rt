@@ -68,10 +68,13 @@ fn first_other_of<L: Ledger, R: Wait>(
             return Ok(Some(k));
         }
     }
-    match close(office, seats) {
-        Ok(book) if book.len() == case.entries => Ok(None),
-        _ => Ok(Some(case.steps.len())),
+    let Ok(book) = close(office, seats) else {
+        return Ok(Some(case.steps.len()));
+    };
+    if book.len() != case.entries {
+        return Ok(Some(case.steps.len()));
     }
+    Ok(None)
 }
 
 /// The first step of a case that goes otherwise, counted from 0; the number of steps, where the office closes otherwise.
