@@ -13,7 +13,7 @@ use Rattle.operating_db.specs.Steps.{IsPromised}
 use Rattle.operating_db.specs.declared.apply_fault.ApplyFault.{ApplyFault}
 use Rattle.operating_db.specs.declared.event.Event.{Event}
 use Rattle.operating_db.proofs.Events.{step_kept}
-use Rattle.commit_book.specs.History.{IsLegal, after, replay, version}
+use Rattle.commit_book.specs.History.{IsLegal, replay, version}
 use Rattle.commit_book.specs.Setting.{Setting}
 use Rattle.commit_book.proofs.BookParts.{last_version}
 use Rattle.commit_book.proofs.Replays.{after_push}

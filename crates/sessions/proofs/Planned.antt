@@ -1,10 +1,9 @@
 -- A commit of a certificate of the version and the moment just begun is accepted, unless the book is full or memory is out.
-use Rattle.std.proofs.Common.{◌≡◌, ◌∙◌, ◌+◌, ◌||◌, ℕ, Bool, true, false, cond, List, [], ◌∷◌, ◌++◌, length, drop, map, refl, sym, ap, subst, arith, inl, inr}
-use Rattle.std.specs.Prelude.{◌==◌, ◌&&◌, ◌⊎◌, nat_lt, Option, None, Some, Result, Ok, Err}
+use Rattle.std.proofs.Common.{◌≡◌, ◌∙◌, ◌+◌, ◌||◌, ℕ, Bool, true, false, cond, List, [], ◌∷◌, ◌++◌, length, drop, refl, sym, ap, subst, arith, inl, inr}
+use Rattle.std.specs.Prelude.{◌⊎◌, nat_lt, Option, None, Some, Ok}
 use Rattle.std.specs.List.{list_any}
 use Rattle.std.proofs.lemmas.Bool.Decides.{nat_tests}
 use Rattle.move_messages.specs.declared.commit_text.CommitText.{CommitText}
-use Rattle.wagon_roster.specs.Roster.{IsRoster}
 use Rattle.line_network.specs.Network.{NetworkValue}
 use Rattle.distance_tables.specs.Networks.{network_at}
 use Rattle.cost_table.specs.Allowed.{IsTableOf}
@@ -16,15 +15,13 @@ use Rattle.price_checker.specs.declared.check_fault.CheckFault.{CheckFault}
 use Rattle.price_checker.proofs.FaultFree.{fault_free}
 use Rattle.price_checker.proofs.FirstBelow.{none_both}
 use Rattle.named_pairs.specs.NamedPairs.{checked, checked_at, cost_unless, positions_of}
-use Rattle.named_pairs.specs.declared.named_fault.NamedFault.{NamedFault}
 use Rattle.operating_db.specs.Office.{Office}
 use Rattle.operating_db.specs.Problem.{problem_of}
 use Rattle.operating_db.specs.declared.event.Event.{Event}
-use Rattle.commit_book.specs.BookStep.{BookState, IsCall, IsCommitAnswer, accepted_unless, is_full, is_kept, is_this, kept_after, refusal_by, refusal_in}
+use Rattle.commit_book.specs.BookStep.{BookState, IsCall, IsCommitAnswer, accepted_unless, is_full, is_kept, is_this, refusal_by, refusal_in}
 use Rattle.commit_book.specs.Commits.{order_changed, wagon_changed}
 use Rattle.commit_book.specs.History.{IsLegal, IsTableAt, problem_at, replay, version}
 use Rattle.commit_book.specs.Setting.{Setting}
-use Rattle.commit_book.specs.Snap.{snap_of}
 use Rattle.commit_book.specs.declared.answer.Answer.{Answer}
 use Rattle.commit_book.specs.declared.answer.Answer.TheVariants.{Begun, Done, Refused}
 use Rattle.commit_book.specs.declared.call.Call.TheVariants as call
@@ -33,8 +30,7 @@ use Rattle.commit_book.specs.declared.refusal.Refusal.TheVariants.{BookFull, Out
 use Rattle.commit_book.specs.declared.reply.Reply.TheVariants.{Accepted}
 use Rattle.commit_book.proofs.BookParts.{last_version}
 use Rattle.commit_book.proofs.Placed.{positions_placed}
-use Rattle.sessions.specs.PlannersCommit.{CertificatesAreAccepted, IsBegun, IsCertificateAt, IsCommitOf, PlansAreAccepted}
-use Rattle.sessions.specs.Planning.{IsPlanned}
+use Rattle.sessions.specs.PlannersCommit.{CertificatesAreAccepted, IsCertificateAt, PlansAreAccepted}
 use Rattle.sessions.proofs.Found.{free_distinct, wanted_distinct}
 use Rattle.sessions.proofs.Offices.{IsNamedOnce, named_once}
 use Rattle.sessions.proofs.Positions.{once, positions_named}

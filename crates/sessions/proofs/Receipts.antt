@@ -1,7 +1,7 @@
 -- Where there are as many entries as receipts, each receipt's event is the entry of its number, and no number stands on two
 -- receipts, each entry has a receipt.
 use Rattle.std.proofs.Common.{◌≡◌, ◌∙◌, ◌+◌, ◌*◌, ◌<◌, ◌≤◌, ℕ, zero, suc, Bool, true, false, cond, List, [], ◌∷◌, length, refl, sym, ap, arith, inl, inr}
-use Rattle.std.specs.Prelude.{◌==◌, None, Option, Some, All, slice_get}
+use Rattle.std.specs.Prelude.{◌==◌, Option, Some, All}
 use Rattle.std.proofs.Math.Nat.{eq-or-lt_of_le}
 use Rattle.std.proofs.lemmas.Bool.Decides.{nat_tests}
 use Rattle.std.proofs.lemmas.List.Elements.{All-head, All-tail}

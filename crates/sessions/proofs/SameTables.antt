@@ -1,13 +1,13 @@
 -- The tables of one problem over one network have the same certificates.
-use Rattle.std.proofs.Common.{◌≡◌, ◌∙◌, ◌+◌, ◌*◌, ◌-◌, ◌<◌, ◌≤◌, ℕ, List, [], ◌∷◌, length, map, refl, sym, ap, arith}
-use Rattle.std.specs.Prelude.{Option, None, Some, slice_get, slice_index, sum, unwrap_or}
+use Rattle.std.proofs.Common.{◌≡◌, ◌∙◌, ◌+◌, ◌*◌, ◌-◌, ◌<◌, ℕ, List, [], ◌∷◌, length, refl, sym, ap, arith}
+use Rattle.std.specs.Prelude.{Option, None, Some, slice_index, sum, unwrap_or}
 use Rattle.std.specs.List.{sum_by}
 use Rattle.std.proofs.lemmas.List.{length-map}
 use Rattle.std.proofs.lemmas.List.Sums.{sum_by-cons}
 use Rattle.load_orders.specs.Wanted.{WantedOrder}
 use Rattle.line_network.specs.Network.{NetworkValue}
 use Rattle.cost_table.specs.Allowed.{IsTableOf}
-use Rattle.cost_table.specs.Plan.{AllAllowed, IsPlan, cost_of, pair_cost, serves, sum_below}
+use Rattle.cost_table.specs.Plan.{AllAllowed, pair_cost, serves, sum_below}
 use Rattle.cost_table.specs.Problem.{ProblemValue}
 use Rattle.cost_table.specs.Table.{Table, cost_at, lack_at, order_count, penalty_at, wagon_count}
 use Rattle.cost_table.proofs.AllowedLemmas.{some_at}

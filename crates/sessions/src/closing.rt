@@ -1,7 +1,6 @@
 //! How an office is closed.
-ghost use Rattle.std.specs.Prelude.{◌≡◌, ◌≤◌, ◌↔◌, All, IfErr, IfNone, IfOk, IfSome, IsTrue, Some, length};
+ghost use Rattle.std.specs.Prelude.{◌≡◌, ◌≤◌, ◌↔◌, All, IfErr, IfNone, IfOk, IfSome, IsTrue, length};
 ghost use Rattle.std.specs.List.{sum_by};
-ghost use Rattle.commit_book.specs.History.{entry_at};
 ghost use Rattle.sessions.specs.Closing.{HasEntries, HasEntry, IsLost};
 ghost use Rattle.sessions.specs.CloseFault.{IsHandedBack, IsMissing};
 ghost use Rattle.sessions.specs.Seat.{count_of};

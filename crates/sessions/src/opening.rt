@@ -1,5 +1,5 @@
 //! How an office is opened.
-ghost use Rattle.std.specs.Prelude.{◌≡◌, ◌≤◌, ◌<◌, [], IfErr, IfOk, vec_len, vec_capacity};
+ghost use Rattle.std.specs.Prelude.{◌≡◌, ◌≤◌, [], IfErr, IfOk, vec_capacity};
 ghost use Rattle.sessions.specs.Seat.{IsSeatCount, new_seats};
 
 use crate::shared_book::SharedBook;
