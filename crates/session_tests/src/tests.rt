@@ -1,0 +1,13 @@
+//! Offices, and what their seats call.
+
+mod answers;
+mod books;
+mod calls;
+mod closing;
+mod crowds;
+mod faults;
+mod lines;
+mod opening;
+mod planning;
+mod races;
+mod steps;
