@@ -3,11 +3,10 @@
 
 mod lines;
 
-pub use lines::{BEGIN, COMMIT, DEPARTURE, OTHER_PLACE, WITHDRAWAL};
-
 use commit_book::{Book, Limits};
 use distance_tables::{Networks, tables};
 use line_network::read_lines;
+pub use lines::{BEGIN, COMMIT, DEPARTURE, OTHER_PLACE, WITHDRAWAL};
 use std::alloc::Global;
 use std::sync::Arc;
 use std::test::Fail;

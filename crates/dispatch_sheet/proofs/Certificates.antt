@@ -1,5 +1,5 @@
 -- The line of a commit: what its JSON is, and that it reads as the commit.
-use Rattle.std.proofs.Common.{◌≡◌, ℕ, ◌+◌, ◌-◌, ◌^◌, ◌<◌, ◌≤◌, max, Bool, true, false, cond, leb, List, [], ◌∷◌, ◌++◌, length, get_or, map, take, Some, Result, Ok, Err, refl, sym, ap, ap₂, ◌∙◌, subst, Vec, Global, arith}
+use Rattle.std.proofs.Common.{◌≡◌, ℕ, ◌+◌, ◌-◌, ◌^◌, ◌<◌, ◌≤◌, false, List, [], ◌∷◌, ◌++◌, length, get_or, map, take, Some, Result, Ok, refl, sym, ap, ap₂, ◌∙◌, subst, Vec, Global, arith}
 use Rattle.std.specs.Str.{IsUtf8}
 use Rattle.std.proofs.lemmas.Bool.{le-leb}
 use Rattle.std.proofs.lemmas.List.{map-append, take_all}
@@ -14,11 +14,8 @@ use Rattle.rail_codes.specs.WagonNumber.{wagon_number_of}
 use Rattle.rail_codes.specs.OrderId.{order_id_of}
 use Rattle.json_fields.specs.Values.{◌>>=◌, each, list_of, list_of_each, number_within, text_of, wagon_number_from, order_id_from, moment_from, pair_of}
 use Rattle.json_fields.specs.Field.{field_name}
-use Rattle.json_fields.specs.Fields.{member, field_of, list_at}
-use Rattle.json_fields.specs.Line.{object_of}
-use Rattle.json_fields.specs.declared.field.Field.TheVariants as field
+use Rattle.json_fields.specs.Fields.{member, field_of}
 use Rattle.json_fields.specs.declared.fault.FieldFault.{FieldFault}
-use Rattle.json_fields.specs.declared.fault.FieldFault.TheVariants.{OutOfRange}
 use Rattle.json_fields.proofs.Bounds.{bind_ok}
 use Rattle.json_fields.proofs.Lines.{object_of-ok}
 use Rattle.move_messages.specs.declared.commit_text.CommitText.{CommitText}

@@ -1,5 +1,6 @@
-//! The texts of a dispatcher's desk: a plan's lines, the sheet of an office, and the line of a plan's certificate.
-//! They are made of values that are there; nothing is looked up and nothing is changed.
+//! What a dispatcher reads: the lines of a plan, the line of its certificate, and the sheet of an office.
+//!
+//! Each text is made of what is handed in, and nothing is changed. `Err` only when out of memory.
 #![tactic(auto)]
 
 mod certificate;

@@ -1,5 +1,5 @@
 //! The lines of an office's orders.
-ghost use Rattle.std.specs.Prelude.{◌≡◌, ◌++◌, [], ◌∷◌, Bool, false, true, codes, if◌then◌else◌, map, IsTrue, not, OnOk, string_bytes};
+ghost use Rattle.std.specs.Prelude.{◌≡◌, ◌++◌, ◌∷◌, if◌then◌else◌, map, OnOk, string_bytes};
 ghost use Rattle.dispatch_sheet.specs.Sheet.{list_word, listed_wagons, order_text, state_word, AreLines, IsOrderLine};
 ghost use Rattle.dispatch_sheet.specs.Words.{next_word};
 ghost use Rattle.dispatch_sheet.specs.inner.Pushed.{listed, Adds};
@@ -47,6 +47,7 @@ fn push_order_text(text: &mut String, row: &OrderRow, latest: &str) -> Result<()
     text.push_str("\n")
 }
 
+/// The word of a state.
 fn state_word(state: OrderState) -> &'static str
     ensures { result.now ≡ state_word state }
 {
@@ -74,13 +75,12 @@ fn push_wagon_list(text: &mut String, row: &OrderRow) -> Result<(), AllocError>
 /// Adds wagons to a list, each with this mark. `earlier` says that some stand in it already.
 fn push_wagons(
     text: &mut String,
-    earlier: bool,
+    mut earlier: bool,
     wagons: &[WagonNumber],
     mark: &str,
 ) -> Result<(), AllocError>
     ensures { OnOk result (string_bytes text.new ≡ string_bytes text.old ++ listed earlier (map (λ number. number ++ mark.now) wagons.now)) }
 {
-    let mut earlier = earlier;
     for number in wagons {
         push_wagon(text, earlier, number, mark)?;
         earlier = true;
@@ -88,7 +88,7 @@ fn push_wagons(
     Ok(())
 }
 
-/// Adds a wagon to a list.
+/// Adds a wagon to a list: behind a comma, or behind a space where none stands in it yet.
 fn push_wagon(
     text: &mut String,
     earlier: bool,

@@ -10,9 +10,9 @@ use cost_table::{Cells, Plan, Problem};
 use named_pairs::{order_name, wagon_name};
 use std::alloc::{AllocError, Global};
 
-/// The lines of a plan: order by order as placed, `assign WAGON ORDER KM` for each wagon that the plan gives it,
-/// ascending by number, and `refuse ORDER PENALTY` for each wagon that it misses; kilometres. The table must be of
-/// the snapshot's problem.
+/// The lines of a plan: order by order as placed, `assign WAGON ORDER KM` for each wagon that the plan gives it, in
+/// the plan's order, then `refuse ORDER PENALTY` for each wagon that it misses. `KM` and `PENALTY` are kilometres. The
+/// table must be one of the snapshot's problem.
 pub fn plan_text(
     alloc: Global,
     snap: &Snap,

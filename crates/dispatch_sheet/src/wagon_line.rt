@@ -5,6 +5,7 @@ ghost use Rattle.wagon_state.specs.declared.load.Load.TheVariants.{Loaded, Unlad
 ghost use Rattle.dispatch_sheet.specs.Sheet.{hold_word, promise_word, status_word, wagon_text, AreLines, IsWagonLine};
 ghost use Rattle.dispatch_sheet.specs.Words.{next_word};
 ghost use Rattle.dispatch_sheet.specs.inner.Pushed.{Adds};
+ghost use Rattle.dispatch_sheet.specs.inner.RosterWords.{IsRosterWord};
 
 use crate::words::{push_code, push_number, push_word};
 use rail_codes::{OrderId, Place};
@@ -56,8 +57,10 @@ fn push_status(text: &mut String, status: Status) -> Result<(), AllocError>
     push_code(text, place_of(&status).as_bytes())
 }
 
+/// The word of a status, which a roster has for it too.
 fn status_word(status: &Status) -> &'static str
-    ensures { result.now ≡ status_word status.now }
+    ensures word { result.now ≡ status_word status.now }
+    ensures roster { IsRosterWord result.now status.now }
 {
     match *status {
         Status::Empty(_, _) => "empty",
@@ -96,7 +99,7 @@ fn place_of(status: &Status) -> Place
     }
 }
 
-/// Whether a wagon is held.
+/// The word for whether a wagon is held.
 fn hold_word(held: bool) -> &'static str
     ensures { result.now ≡ hold_word held }
 {
