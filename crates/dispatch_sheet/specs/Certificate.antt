@@ -32,7 +32,7 @@ commit_data commit at =
     (member (codes "v") (prices_data commit.v)
     (member (codes "version") (number (unsigned commit.version)) no_members))))))
 
--- the line without its line feed, with no space in it
+-- the JSON of a commit with no space in it, where `at` is the text of its moment; the line feed is not part of it
 pub record IsCertificateLine (commit : CommitText) (line : List ℕ) : Type 0 where
   pub at : List ℕ
   pub moment : IsMomentText commit.at at

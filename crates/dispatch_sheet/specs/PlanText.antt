@@ -1,4 +1,5 @@
--- The lines of a plan: which wagons go to each order, and which it misses.
+-- The lines of a plan: which wagons go to each order, and how many it misses. Each line ends with a line feed, and its
+-- words are parted by one space.
 use Rattle.std.specs.Prelude.{◌≡◌, ◌-◌, ◌==◌, ℕ, List, [], ◌∷◌, ◌++◌, length, filter, replicate, codes, decimal}
 use Rattle.std.specs.List.{concat, flat_map, range_with_len}
 use Rattle.cost_table.specs.Plan.{pair_cost, serves}
@@ -32,9 +33,10 @@ assign_lines problem t pairs j = flat_map (assign_line problem t) (filter (λ (p
 abbrev pub refuse_lines : ProblemValue → Table → List (ℕ × ℕ) → ℕ → List ℕ
 refuse_lines problem t pairs j = concat (replicate (lack_at t j - serves j pairs) (refuse_line problem t j))
 
+-- the lines of order j
 abbrev pub order_lines : ProblemValue → Table → List (ℕ × ℕ) → ℕ → List ℕ
 order_lines problem t pairs j = assign_lines problem t pairs j ++ refuse_lines problem t pairs j
 
--- the orders as placed
+-- the lines of each order, as placed
 abbrev pub plan_text_of : ProblemValue → Table → List (ℕ × ℕ) → List ℕ
 plan_text_of problem t pairs = flat_map (order_lines problem t pairs) (range_with_len 0 (length problem.orders))

@@ -1,4 +1,5 @@
--- The text of an office's state: a line for its version, for each wagon and for each order.
+-- The sheet of an office: lines for its version, for each wagon, for each order and, among several, for its network.
+-- Each line ends with a line feed, and its words are parted by one space.
 use Rattle.std.specs.Prelude.{◌≡◌, ℕ, Bool, true, false, List, [], ◌∷◌, ◌++◌, map, Option, Some, None, nat_lt, if◌then◌else◌, codes, decimal}
 use Rattle.std.specs.List.{AllZip, concat, join_with_byte}
 use Rattle.rail_codes.specs.Moment.{IsMomentText}
@@ -16,6 +17,7 @@ use Rattle.dispatch_sheet.specs.Words.{next_word}
 
 -- ---- wagons
 
+-- what a wagon is doing
 abbrev pub status_word : Status → List ℕ
 status_word (Empty place ready) = codes "empty"
 status_word (Loading place) = codes "loading"
@@ -53,6 +55,7 @@ pub record IsWagonLine (row : WagonRow) (line : List ℕ) : Type 0 where
 
 -- ---- orders
 
+-- the state of an order
 abbrev pub state_word : OrderState → List ℕ
 state_word Waiting = codes "waiting"
 state_word Promised = codes "promised"
@@ -89,6 +92,7 @@ pub record AreLines {A : Type 0} (IsLine : A → List ℕ → Type 0) (rows : Li
   pub each : AllZip IsLine rows lines
   pub whole : text ≡ concat lines
 
+-- the version that the sheet is of
 abbrev pub version_line : ℕ → List ℕ
 version_line version = codes "sheet" ++ next_word (decimal version) ++ 10 ∷ []
 

@@ -10,7 +10,7 @@ use rail_codes::WagonNumber;
 use std::alloc::{AllocError, Global};
 
 /// Adds a line for each order.
-pub(crate) fn push_order_rows(
+pub(crate) fn push_order_lines(
     alloc: Global,
     text: &mut String,
     rows: &[OrderRow],
@@ -18,13 +18,13 @@ pub(crate) fn push_order_rows(
     ensures { OnOk result (Adds (AreLines IsOrderLine rows.now) (string_bytes text.old) (string_bytes text.new)) }
 {
     for row in rows {
-        push_order_row(alloc, text, row)?;
+        push_order_line(alloc, text, row)?;
     }
     Ok(())
 }
 
 /// Adds the line of an order.
-fn push_order_row(alloc: Global, text: &mut String, row: &OrderRow) -> Result<(), AllocError>
+fn push_order_line(alloc: Global, text: &mut String, row: &OrderRow) -> Result<(), AllocError>
     ensures { OnOk result (Adds (IsOrderLine row.now) (string_bytes text.old) (string_bytes text.new)) }
 {
     let latest = row.text().latest().text(alloc)?;

@@ -27,13 +27,13 @@ pub fn plan_text(
     let pairs = plan.pairs();
     let mut text = String::new(alloc);
     for j in 0..problem.orders().len() {
-        push_order_lines(&mut text, problem, cells, pairs, j)?;
+        push_lines_of_order(&mut text, problem, cells, pairs, j)?;
     }
     Ok(text)
 }
 
 /// Adds the lines of order `j`.
-fn push_order_lines(
+fn push_lines_of_order(
     text: &mut String,
     problem: &Problem,
     cells: &Cells,

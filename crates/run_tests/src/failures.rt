@@ -1,11 +1,10 @@
 //! Readers and writers that fail in the script of departures: the book is as after the lines before.
 
-use crate::runs::stops;
+use crate::runs::{Failing, SOUND, Stop, stops};
 use crate::scripts::{DEPARTURES, DEPARTURES_REPLIES};
 use office::RunFault;
 use std::alloc::Global;
 use std::test::Fail;
-use test_samples::{MemorySink, MemorySource};
 
 /// The first bytes of the replies.
 fn replies(count: usize) -> &'static [u8] {
@@ -21,17 +20,16 @@ fn stops_reading(
     written: usize,
     entries: u64,
 ) -> Result<bool, Fail> {
-    let mut reader = MemorySource::failing(DEPARTURES.as_bytes(), 7, given, false);
-    let mut writer = MemorySink::new(alloc, usize::MAX);
-    let fault = RunFault::ReadFailed(line);
-    stops(
-        alloc,
-        &mut reader,
-        &mut writer,
-        fault,
-        replies(written),
+    let reading = Failing {
+        step: 7,
+        room: given,
+    };
+    let stop = Stop {
+        fault: RunFault::ReadFailed(line),
+        output: replies(written),
         entries,
-    )
+    };
+    stops(alloc, DEPARTURES.as_bytes(), reading, SOUND, stop)
 }
 
 /// Of each line of the script: its number, and before it the bytes of the replies and the entries.
@@ -62,17 +60,13 @@ fn stops_writing(
     line: u64,
     entries: u64,
 ) -> Result<bool, Fail> {
-    let mut reader = MemorySource::new(DEPARTURES.as_bytes(), usize::MAX);
-    let mut writer = MemorySink::failing(alloc, step, room, false);
-    let fault = RunFault::WriteFailed(line);
-    stops(
-        alloc,
-        &mut reader,
-        &mut writer,
-        fault,
-        replies(room),
+    let writing = Failing { step, room };
+    let stop = Stop {
+        fault: RunFault::WriteFailed(line),
+        output: replies(room),
         entries,
-    )
+    };
+    stops(alloc, DEPARTURES.as_bytes(), SOUND, writing, stop)
 }
 
 /// The writer fails at each of its writes; the line is done then.

@@ -1,6 +1,6 @@
 //! Runs in memory.
 
-use book_samples::{Start, book_of};
+use book_samples::{SAMPLE, Start, book_of};
 use office::{RunCount, RunFault, run};
 use std::alloc::Global;
 use std::test::Fail;
@@ -38,16 +38,39 @@ pub(crate) fn end_of(
     Ok((end, book.len()))
 }
 
-/// Whether a run stops so, with this output and so many entries.
+/// Where a device fails: how many bytes it moves at once, and how many in all before it fails.
+#[derive(Clone, Copy)]
+pub(crate) struct Failing {
+    pub(crate) step: usize,
+    pub(crate) room: usize,
+}
+
+/// A device that moves all bytes, at once.
+pub(crate) const SOUND: Failing = Failing {
+    step: usize::MAX,
+    room: usize::MAX,
+};
+
+/// How a run over these bytes, from the sample's book, stops where its devices fail so.
+#[derive(Clone, Copy)]
+pub(crate) struct Stop<'a> {
+    pub(crate) fault: RunFault,
+    pub(crate) output: &'a [u8],
+    pub(crate) entries: u64,
+}
+
+/// Whether a run over these bytes, from the sample's book, stops so.
 pub(crate) fn stops(
     alloc: Global,
-    reader: &mut MemorySource<'_>,
-    writer: &mut MemorySink,
-    fault: RunFault,
-    output: &[u8],
-    entries: u64,
+    input: &[u8],
+    reading: Failing,
+    writing: Failing,
+    stop: Stop<'_>,
 ) -> Result<bool, Fail> {
-    let mut book = book_of(alloc, book_samples::SAMPLE)?;
-    let end = run(alloc, reader, writer, &mut book);
-    Ok(end == Err(fault) && writer.bytes() == output && book.len() == entries)
+    let mut book = book_of(alloc, SAMPLE)?;
+    let mut reader = MemorySource::failing(input, reading.step, reading.room, false);
+    let mut writer = MemorySink::failing(alloc, writing.step, writing.room, false);
+    let end = run(alloc, &mut reader, &mut writer, &mut book);
+    let is_stopped = end == Err(stop.fault);
+    Ok(is_stopped && writer.bytes() == stop.output && book.len() == stop.entries)
 }

@@ -1,6 +1,5 @@
 //! Commits that are accepted, and each reason why one is refused.
 
-
 use super::steps::Step::{Accepted, Begun, Entries, Problem, Refused};
 use super::steps::{Case, first_other};
 use book_samples::{BEGIN, COMMIT, DEPARTURE, SAMPLE, Start};

@@ -1,6 +1,5 @@
 //! Messages, their ids and what is full.
 
-
 use super::steps::Step::{Accepted, Entries, Refused, Repeated};
 use super::steps::{Case, first_other};
 use book_samples::{DEPARTURE, OTHER_PLACE, SAMPLE, Start};

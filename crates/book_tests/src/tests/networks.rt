@@ -1,6 +1,5 @@
 //! Books of several networks.
 
-
 use super::steps::Step::{Accepted, Begun, Problem, Refused};
 use super::steps::{Case, first_other};
 use book_samples::{BEGIN, COMMIT, SAMPLE, Start};

@@ -3,7 +3,7 @@
 use super::books::reply_to;
 use super::steps::Step::{Accepted, PlacedAll, Problem, Refused};
 use super::steps::{Case, first_other};
-use book_samples::{SAMPLE, WITHDRAWAL, Start};
+use book_samples::{SAMPLE, Start, WITHDRAWAL};
 use commit_book::{Book, Reply};
 use std::alloc::Global;
 use std::test::Fail;

@@ -1,6 +1,5 @@
 //! Promises that end: by a hold, by a delivery at another place, and by the delivery that fills the order.
 
-
 use super::steps::Step::{
     Accepted, Begun, Entries, Loading, Problem, Promised, Ready, Refused, State,
 };

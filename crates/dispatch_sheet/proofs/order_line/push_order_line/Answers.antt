@@ -3,7 +3,7 @@ use Rattle.std.proofs.lemmas.Result.{on_ok_weaker}
 use Rattle.rail_codes.specs.Moment.{IsMomentText}
 use Rattle.move_messages.specs.Order.{Order}
 use Rattle.dispatch_sheet.specs.Sheet.{order_text}
-use Rattle.dispatch_sheet.proofs.order_line.push_order_row.Goals as goal
+use Rattle.dispatch_sheet.proofs.order_line.push_order_line.Goals as goal
 
 pub returns : goal.returns
 returns c =
