@@ -21,9 +21,11 @@ test:
 	@echo "== rt ci: every proof from nothing (see docs/GATE.md for its time)"
 	@rt ci
 
-# Builds what it times, says what it installs, and times the program, the distances and the planner beside their peers.
+# Builds what it times, says what it installs, and times the program's two words, the distances and the planner beside
+# their peers.
 bench:
 	@bench/check/run
+	@bench/run/run
 	@bench/distances/run
 	@bench/plan/run
 

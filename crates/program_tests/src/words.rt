@@ -106,59 +106,12 @@ fn words_that_check(rt: HostRuntime) {
     assert!(rt; is_check(rt.alloc(), &["wagons", "check"]));
 }
 
-/// Words that ask for a run with these files and the numbers of entries, of kept problems and of workers.
-const RUNS: &[(&[&str], (&str, &[&str], u64, u32, usize))] = &[
-    (
-        &["wagons", "run", "--roster", "r.csv", "--network", "n.csv"],
-        ("r.csv", &["n.csv"], 100_000, 8, 4),
-    ),
-    (
-        &[
-            "wagons",
-            "run",
-            "--network",
-            "a",
-            "--roster=r",
-            "--network",
-            "b",
-        ],
-        ("r", &["a", "b"], 100_000, 8, 4),
-    ),
-    (
-        &[
-            "wagons",
-            "run",
-            "--roster",
-            "r",
-            "--network",
-            "n",
-            "--entries",
-            "1",
-            "--kept",
-            "64",
-            "--workers",
-            "64",
-        ],
-        ("r", &["n"], 1, 64, 64),
-    ),
-    (
-        &[
-            "wagons",
-            "run",
-            "--workers=1",
-            "--kept=1",
-            "--entries=1000000",
-            "--roster=r",
-            "--network=n",
-        ],
-        ("r", &["n"], 1_000_000, 1, 1),
-    ),
-];
-
-/// Whether options are these.
+/// Whether options are these: the files, and the numbers of entries, of kept problems and of workers.
 fn are_options(
     options: &OfficeOptions<'_>,
-    (roster, networks, entries, kept, workers): (&str, &[&str], u64, u32, usize),
+    roster: &str,
+    networks: &[&str],
+    (entries, kept, workers): (u64, u32, usize),
 ) -> bool {
     options.roster == roster
         && options.networks.as_slice() == networks
@@ -167,12 +120,55 @@ fn are_options(
         && options.workers == workers
 }
 
+/// Whether these words ask for a run with these options.
+fn is_run(
+    alloc: Global,
+    words: &[&str],
+    roster: &str,
+    networks: &[&str],
+    numbers: (u64, u32, usize),
+) -> bool {
+    match read_words(alloc, words) {
+        Ok(Word::Run(options)) => are_options(&options, roster, networks, numbers),
+        _ => false,
+    }
+}
+
 #[test]
 fn words_that_run(rt: HostRuntime) {
-    for (k, (words, wanted)) in RUNS.iter().enumerate() {
-        match read_words(rt.alloc(), words) {
-            Ok(Word::Run(options)) => assert!(rt; are_options(&options, *wanted), "{k}"),
-            _ => assert!(rt; false, "{k}"),
-        }
-    }
+    let plain = &["wagons", "run", "--roster", "r.csv", "--network", "n.csv"];
+    assert!(rt; is_run(rt.alloc(), plain, "r.csv", &["n.csv"], (100_000, 8, 4)));
+    let two = &[
+        "wagons",
+        "run",
+        "--network",
+        "a",
+        "--roster=r",
+        "--network",
+        "b",
+    ];
+    assert!(rt; is_run(rt.alloc(), two, "r", &["a", "b"], (100_000, 8, 4)));
+    let least = &[
+        "wagons",
+        "run",
+        "--roster=r",
+        "--network=n",
+        "--entries=1",
+        "--kept=1",
+        "--workers=1",
+    ];
+    assert!(rt; is_run(rt.alloc(), least, "r", &["n"], (1, 1, 1)));
+    let most = &[
+        "wagons",
+        "run",
+        "--roster=r",
+        "--network=n",
+        "--entries",
+        "1000000",
+        "--kept",
+        "64",
+        "--workers",
+        "64",
+    ];
+    assert!(rt; is_run(rt.alloc(), most, "r", &["n"], (1_000_000, 64, 64)));
 }

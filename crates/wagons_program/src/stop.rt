@@ -1,9 +1,9 @@
 //! Why the program could not run or stopped, as it says it on standard error.
+ghost use Rattle.std.specs.Str.{IsAscii};
 
 use distance_tables::{NetworksFault, WorkFault};
 use line_network::NetworkFault;
 use office::RunFault;
-use rail_codes::WagonNumber;
 use std::alloc::{AllocError, AllocFailed};
 use std::fmt;
 use std::fmt::{Display, Formatter};
@@ -31,14 +31,6 @@ pub enum Stop {
     Run(RunFault),
 }
 
-/// What stands behind a code.
-#[derive(Clone, Copy, Debug)]
-enum Detail {
-    Nothing,
-    Number(u64),
-    Wagon(WagonNumber),
-}
-
 impl Stop {
     /// The number that stands for the fault.
     pub fn number(self) -> u32 {
@@ -54,17 +46,13 @@ impl Stop {
         }
     }
 
-    /// What stands behind the number.
-    fn detail(self) -> Detail {
+    /// The number of the file's record or of the line at which it stopped, counted from 1.
+    fn place(self) -> Option<u64> {
         match self {
-            Stop::Roster(RosterFault::DuplicateWagon(wagon)) => Detail::Wagon(wagon),
-            Stop::Roster(RosterFault::BadRosterRow(record)) => Detail::Number(u64::from(record)),
-            Stop::Network(NetworkFault::BadRow(record)) => Detail::Number(u64::from(record)),
-            Stop::Run(fault) => match fault.line() {
-                Some(line) => Detail::Number(line),
-                None => Detail::Nothing,
-            },
-            _ => Detail::Nothing,
+            Stop::Roster(RosterFault::BadRosterRow(record)) => Some(u64::from(record)),
+            Stop::Network(NetworkFault::BadRow(record)) => Some(u64::from(record)),
+            Stop::Run(fault) => fault.line(),
+            _ => None,
         }
     }
 }
@@ -72,12 +60,22 @@ impl Stop {
 impl Display for Stop {
     fn fmt<W: fmt::Write>(&self, f: &mut Formatter<W>) -> fmt::Result {
         write!(f, "wagons: {}", self.number())?;
-        match self.detail() {
-            Detail::Nothing => Ok(()),
-            Detail::Number(number) => write!(f, " {number}"),
-            Detail::Wagon(wagon) => write!(f, " {}", str::from_utf8(wagon.digits()).unwrap()),
+        if let Stop::Roster(RosterFault::DuplicateWagon(wagon)) = self {
+            return write_ascii(f, wagon.digits());
+        }
+        match self.place() {
+            Some(place) => write!(f, " {place}"),
+            None => Ok(()),
         }
     }
+}
+
+/// Writes ASCII characters behind a space.
+fn write_ascii<W: fmt::Write>(f: &mut Formatter<W>, characters: &[u8]) -> fmt::Result
+    requires { IsAscii characters.now }
+{
+    f.write_str(" ")?;
+    f.write_str(str::from_utf8(characters).unwrap())
 }
 
 impl From<AllocError> for Stop {
