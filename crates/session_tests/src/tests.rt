@@ -6,7 +6,6 @@ mod calls;
 mod closing;
 mod crowds;
 mod faults;
-mod lines;
 mod opening;
 mod planning;
 mod races;

@@ -1,8 +1,8 @@
 //! What seats call, and each reason why a call is refused.
 
-use super::books::{BOTH, SAMPLE, Start};
-use super::lines::{BEGIN, COMMIT, DEPARTURE, OTHER_PLACE, REVISION, WITHDRAWAL};
+use super::books::BOTH;
 use super::steps::{Case, Step, first_other};
+use book_samples::{BEGIN, COMMIT, DEPARTURE, OTHER_PLACE, REVISION, SAMPLE, Start, WITHDRAWAL};
 use std::test::Fail;
 use test_samples::ORDER;
 

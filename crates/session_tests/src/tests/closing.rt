@@ -2,8 +2,7 @@
 ghost use Rattle.std.specs.Prelude.{◌≡◌, [], IfSome};
 
 use super::answers::told;
-use super::books::{SAMPLE, book_of};
-use super::lines::{BEGIN, DEPARTURE};
+use book_samples::{BEGIN, DEPARTURE, SAMPLE, book_of};
 use commit_book::Book;
 use move_messages::{Command, read_line};
 use operating_db::Event;

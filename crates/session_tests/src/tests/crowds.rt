@@ -1,7 +1,7 @@
 //! 64 seats on 8 threads, which make 50 calls each.
 ghost use Rattle.std.specs.Prelude.{◌≡◌, []};
 
-use super::books::{SAMPLE, book_of};
+use book_samples::{SAMPLE, book_of};
 use commit_book::{Book, Reply};
 use move_messages::{Message, MessageKind};
 use rail_codes::{Company, MessageId, Moment, Place, WagonNumber};

@@ -2,8 +2,7 @@
 ghost use Rattle.std.specs.Prelude.{◌≡◌, []};
 
 use super::answers::{told, told_of};
-use super::books::{SAMPLE, book_of};
-use super::lines::WITHDRAWAL;
+use book_samples::{SAMPLE, WITHDRAWAL, book_of};
 use commit_book::Book;
 use sessions::{Office, Seat, open};
 use std::alloc::Global;

@@ -2,8 +2,8 @@
 ghost use Rattle.std.specs.Prelude.{◌≡◌, []};
 
 use super::answers::{told, told_of};
-use super::books::{BOTH, SAMPLE, book_of, networks_of};
-use super::lines::REVISION;
+use super::books::BOTH;
+use book_samples::{REVISION, SAMPLE, book_of, networks_of};
 use commit_book::{Book, Snap};
 use cost_table::{Plan, cells};
 use distance_tables::Networks;

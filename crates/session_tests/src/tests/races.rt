@@ -2,8 +2,7 @@
 ghost use Rattle.std.specs.Prelude.{◌≡◌, []};
 
 use super::answers::{told, told_of};
-use super::books::{SAMPLE, book_of};
-use super::lines::COMMIT;
+use book_samples::{COMMIT, SAMPLE, book_of};
 use commit_book::{Book, Refusal, Reply};
 use move_messages::{Command, CommitText, read_line};
 use rail_codes::Moment;

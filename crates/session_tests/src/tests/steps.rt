@@ -3,7 +3,7 @@ ghost use Rattle.std.specs.Prelude.{◌≡◌, []};
 ghost use Rattle.sessions.specs.Seat.{IsSeatCount};
 
 use super::answers::told;
-use super::books::{Start, book_of};
+use book_samples::{Start, book_of};
 use commit_book::Book;
 use sessions::{MAX_SEATS, Office, Seat, close, open};
 use std::alloc::Global;
