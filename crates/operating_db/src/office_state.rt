@@ -121,7 +121,7 @@ impl OfficeState {
     {
         let wagons = free_wagons(alloc, self.wagons.as_slice())?;
         let orders = waiting_orders(alloc, self.orders.as_slice())?;
-        Ok(Problem::new(at, wagons, orders).unwrap())
+        Ok(Problem::of_distinct(at, wagons, orders))
     }
 
     /// How many free wagons of a class stand at a place. Takes no memory.
