@@ -119,8 +119,9 @@ impl OfficeState {
     pub fn problem(&self, alloc: Global, at: Moment) -> Result<Problem, AllocError>
         ensures { IfOk result (λ problem. problem ≡ problem_of self.now.office at) }
     {
+        let _rows = self.orders.as_slice();
         let wagons = free_wagons(alloc, self.wagons.as_slice())?;
-        let orders = waiting_orders(alloc, self.orders.as_slice())?;
+        let orders = waiting_orders(alloc, &self.orders)?;
         Ok(Problem::of_distinct(at, wagons, orders))
     }
 
