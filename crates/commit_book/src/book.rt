@@ -13,6 +13,7 @@ ghost use Rattle.commit_book.specs.Snap.{IsVersionNumber, snap_of};
 ghost use Rattle.commit_book.specs.declared.call.Call.TheVariants as call;
 
 use crate::commits::judge;
+use crate::indexed_problem::IndexedProblem;
 use crate::kept_problems::{KeptProblem, find_kept, keep};
 use crate::ledger::Ledger;
 use crate::same_messages::is_same;
@@ -259,10 +260,12 @@ impl Book {
         ensures kept { IfOk result (λ one. IsKeptAt self.now.setting self.now.state.history one) }
         ensures which { IfOk result (λ one. which_of one ≡ (length self.now.state.history, problem.now.at)) }
     {
+        let _rows = self.state().wagon_rows();
         let cells = cells(alloc, problem, self.tables())?;
+        let problem = IndexedProblem::of(alloc, problem.copy(alloc)?)?;
         Ok(KeptProblem {
             version: self.len(),
-            problem: problem.copy(alloc)?,
+            problem,
             cells,
         })
     }

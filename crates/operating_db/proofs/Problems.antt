@@ -83,7 +83,7 @@ free_number row (Yard load place) held promise wagon h = cc
 free_number row (Arrived load place) held promise wagon h = cc
 free_number row (Unloading place) held promise wagon h = cc
 
-free_keeps : (row : WagonRow) (wagon : FreeWagon) → free_of row ≡ Some wagon → wagon.number ≡ row.number
+pub free_keeps : (row : WagonRow) (wagon : FreeWagon) → free_of row ≡ Some wagon → wagon.number ≡ row.number
 unfolding free_of
 free_keeps row wagon h = free_number row row.status row.held row.promise wagon h
 
