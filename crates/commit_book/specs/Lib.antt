@@ -4,6 +4,7 @@ pub mod Headline
 pub mod History
 pub mod Limits
 pub mod Refusal
+pub mod Requests
 pub mod Setting
 pub mod Snap
 pub mod inner

@@ -1,10 +1,12 @@
-//! Runs of calls.
+//! Calls as values: one event, and runs of calls.
 ghost use Rattle.std.specs.Prelude.{◌≡◌, IfOk, OnErr};
-ghost use Rattle.commit_book.specs.BookStep.{IsCall, IsRun};
+ghost use Rattle.commit_book.specs.BookStep.{IsCall, IsRun, answer_of};
+ghost use Rattle.commit_book.specs.Requests.{call_of};
 ghost use Rattle.commit_book.specs.inner.Entered.{answer_or};
 ghost use Rattle.commit_book.specs.declared.call.Call.TheVariants as call;
 
-use crate::{Answer, Book, Call, Refusal};
+use crate::{Answer, Book, Call, Refusal, Reply};
+use operating_db::Event;
 use rail_codes::Moment;
 use std::alloc::{AllocError, Global};
 
@@ -25,6 +27,21 @@ impl Book {
             answers.push_reserved(answer);
         }
         Ok(answers)
+    }
+
+    /// Makes the call for an event, whose answer and refusals are those of the call of its kind: `message`, `place`,
+    /// `withdraw`, `commit` or `revise`.
+    pub fn submit(&mut self, alloc: Global, event: &Event) -> Result<Reply, Refusal>
+        ensures call { IsCall self.old.setting self.old.state (call_of event.now) (answer_of result) self.new.state }
+        ensures setting { self.new.setting ≡ self.old.setting }
+    {
+        match event {
+            Event::Message(message) => self.message(alloc, message),
+            Event::Place(text) => self.place(alloc, text),
+            Event::Withdraw(id) => self.withdraw(alloc, *id),
+            Event::Commit(commit) => self.commit(alloc, commit),
+            Event::Revise(network) => self.revise(alloc, *network),
+        }
     }
 
     /// Makes a call: its answer, or why it is refused.

@@ -14,6 +14,7 @@ mod ledger;
 mod limits;
 mod refusal;
 mod reply;
+mod request;
 mod same_messages;
 mod snap;
 
@@ -24,4 +25,5 @@ pub use laws::every_commit_is_proved_least;
 pub use limits::{Limits, MAX_ENTRIES, MAX_KEPT_PROBLEMS};
 pub use refusal::Refusal;
 pub use reply::Reply;
+pub use request::Request;
 pub use snap::Snap;

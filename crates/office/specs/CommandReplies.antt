@@ -10,6 +10,9 @@ use Rattle.price_checker.specs.Certificate.{IsCertificate}
 use Rattle.operating_db.specs.Office.{StateValue}
 use Rattle.commit_book.specs.BookStep.{BookValue, IsRun, IsStep}
 use Rattle.commit_book.specs.History.{IsTableAt, replay}
+use Rattle.commit_book.specs.Requests.{call_of, request_of}
+use Rattle.commit_book.specs.declared.request.Request.{Request}
+use Rattle.commit_book.specs.declared.request.Request.TheVariants as request
 use Rattle.commit_book.specs.Snap.{SnapValue, snap_of}
 use Rattle.commit_book.specs.declared.answer.Answer.{Answer}
 use Rattle.commit_book.specs.declared.answer.Answer.TheVariants.{Done, Begun, Refused}
@@ -83,30 +86,36 @@ IsPlanOf old at body = (table : Table) × IsTableAt old.setting old.state.histor
 
 -- ---- lines
 
+-- the reply to what a command asks for
+abbrev pub RepliesToRequest : BookValue → Request → List ℕ → Bool → BookValue → Type 0
+RepliesToRequest old (request.Event event) body refused new = RepliesToCall old (call_of event) body refused new
+RepliesToRequest old (request.Begin at) body refused new = (body ≡ begun_reply (present old at)) × (refused ≡ false) × IsBegun old at new
+RepliesToRequest old (request.Plan at) body refused new = IsPlanOf old at body × (refused ≡ false) × IsBegun old at new
+RepliesToRequest old request.Sheet body refused new = IsSheetText (length old.state.history) (present_office old) body × (refused ≡ false) × (new ≡ old)
+
 -- the reply to a command, or to a line that is none
 abbrev pub RepliesToCommand : BookValue → Result Command LineFault → List ℕ → Bool → BookValue → Type 0
 RepliesToCommand old (Err fault) body refused new = (body ≡ line_refused_text fault) × (refused ≡ true) × (new ≡ old)
-RepliesToCommand old (Ok (command.Message message)) body refused new = RepliesToCall old (call.Message message) body refused new
-RepliesToCommand old (Ok (command.Place text)) body refused new = RepliesToCall old (call.Place text) body refused new
-RepliesToCommand old (Ok (command.Withdraw id)) body refused new = RepliesToCall old (call.Withdraw id) body refused new
-RepliesToCommand old (Ok (command.Revise network)) body refused new = RepliesToCall old (call.Revise network) body refused new
-RepliesToCommand old (Ok (command.Commit commit)) body refused new = RepliesToCall old (call.Commit commit) body refused new
-RepliesToCommand old (Ok (command.Begin at)) body refused new = (body ≡ begun_reply (present old at)) × (refused ≡ false) × IsBegun old at new
-RepliesToCommand old (Ok (command.Plan at)) body refused new = IsPlanOf old at body × (refused ≡ false) × IsBegun old at new
-RepliesToCommand old (Ok command.Sheet) body refused new = IsSheetText (length old.state.history) (present_office old) body × (refused ≡ false) × (new ≡ old)
+RepliesToCommand old (Ok asked) body refused new = RepliesToRequest old (request_of asked) body refused new
 
 -- the reply to a line's bytes
 abbrev pub RepliesToLine : BookValue → List ℕ → List ℕ → Bool → BookValue → Type 0
 RepliesToLine old line body refused new = RepliesToCommand old (command_of line) body refused new
 
--- what a command does whose reply is that memory is out: nothing; but a plan may have begun
-abbrev pub LeavesOutOfMemory : BookValue → Result Command LineFault → BookValue → Type 0
-LeavesOutOfMemory old (Ok (command.Plan at)) new = (new ≡ old) ⊎ IsBegun old at new
-LeavesOutOfMemory old command new = new ≡ old
+-- what a request does whose reply is that memory is out: nothing; but a plan may have begun
+abbrev pub LeavesOutOfMemory : BookValue → Request → BookValue → Type 0
+LeavesOutOfMemory old (request.Plan at) new = (new ≡ old) ⊎ IsBegun old at new
+LeavesOutOfMemory old (request.Event event) new = new ≡ old
+LeavesOutOfMemory old (request.Begin at) new = new ≡ old
+LeavesOutOfMemory old request.Sheet new = new ≡ old
+
+abbrev pub CommandLeaves : BookValue → Result Command LineFault → BookValue → Type 0
+CommandLeaves old (Ok asked) new = LeavesOutOfMemory old (request_of asked) new
+CommandLeaves old (Err fault) new = new ≡ old
 
 -- the same of a line's bytes
 abbrev pub RunsOutOfMemory : BookValue → List ℕ → BookValue → Type 0
-RunsOutOfMemory old line new = LeavesOutOfMemory old (command_of line) new
+RunsOutOfMemory old line new = CommandLeaves old (command_of line) new
 
 -- ---- runs
 

@@ -12,15 +12,15 @@ ghost use Rattle.commit_book.specs.Snap.{IsInRange};
 ghost use Rattle.cost_table.specs.Plan.{IsOptimal};
 ghost use Rattle.price_checker.specs.Certificate.{IsCertificate};
 ghost use Rattle.dispatch_sheet.specs.PlanText.{FitsProblem};
-ghost use Rattle.office.specs.CommandReplies.{IsLedTo, IsPlanOf, IsPlanned, LeavesOutOfMemory, RepliesToCommand, RepliesToLine, RunsOutOfMemory, answer_text, begun_reply, is_refused, present};
+ghost use Rattle.office.specs.CommandReplies.{IsLedTo, IsPlanOf, IsPlanned, LeavesOutOfMemory, RepliesToLine, RepliesToRequest, RunsOutOfMemory, answer_text, begun_reply, is_refused, present};
 
 use assignment::plan;
-use commit_book::{Book, Refusal, Reply, Snap};
+use commit_book::{Book, Refusal, Reply, Request, Snap};
 use cost_table::{Cells, Plan, cost};
 use dispatch_sheet::{certificate_line, plan_text, sheet_text};
 use json_fields::LineFault;
 use line_engine::{Handler, Outcome, ReplyText, RunCount, RunFault, Sink, Source, run_lines};
-use move_messages::{Command, read_line};
+use move_messages::read_line;
 use price_checker::Prices;
 use rail_codes::Moment;
 use reply_texts::{
@@ -47,7 +47,7 @@ impl Handler for CommandLines {
         reply: &mut ReplyText,
     ) -> Result<Outcome, AllocError> {
         match read_line(alloc, line) {
-            Ok(command) => answer_command(alloc, book, &command, reply),
+            Ok(command) => answer_request(alloc, book, Request::from(command), reply),
             Err(LineFault::OutOfMemory) => Err(AllocError),
             Err(fault) => {
                 push_line_refused(reply, &fault)?;
@@ -57,40 +57,31 @@ impl Handler for CommandLines {
     }
 }
 
-/// Does what a command asks for, and adds the reply.
-fn answer_command(
+/// Does what is asked for, and adds the reply.
+fn answer_request(
     alloc: Global,
     book: &mut Book,
-    command: &Command,
+    request: Request,
     reply: &mut ReplyText,
 ) -> Result<Outcome, AllocError>
     requires short { length reply.old ≤ max_head_bytes }
     ensures { MatchResult result
-        (λ outcome. (body : List ℕ) × (reply.new ≡ reply.old ++ body) × RepliesToCommand book.old (Ok command.now) body (is_refusal outcome) book.new)
-        (λ _. LeavesOutOfMemory book.old (Ok command.now) book.new) }
+        (λ outcome. (body : List ℕ) × (reply.new ≡ reply.old ++ body) × RepliesToRequest book.old request body (is_refusal outcome) book.new)
+        (λ _. LeavesOutOfMemory book.old request book.new) }
 {
-    match command {
-        Command::Message(message) => push_answer(reply, book.message(alloc, message)),
-        Command::Place(text) => push_answer(reply, book.place(alloc, text)),
-        Command::Withdraw(id) => push_answer(reply, book.withdraw(alloc, *id)),
-        Command::Revise(network) => push_answer(reply, book.revise(alloc, *network)),
-        Command::Commit(commit) => push_answer(reply, book.commit(alloc, commit)),
-        Command::Begin(at) => {
-            let snap = book.begin(alloc, *at)?;
+    match request {
+        Request::Event(event) => return push_answer(reply, book.submit(alloc, &event)),
+        Request::Begin(at) => {
+            let snap = book.begin(alloc, at)?;
             push_begun_reply(reply, &snap)?;
-            Ok(Outcome::Answered)
         }
-        Command::Plan(at) => {
-            let snap = book.begin(alloc, *at)?;
+        Request::Plan(at) => {
+            let snap = book.begin(alloc, at)?;
             push_plan(alloc, reply, book, &snap)?;
-            Ok(Outcome::Answered)
         }
-        Command::Sheet => {
-            let text = sheet_text(alloc, book.len(), book.state())?;
-            reply.push_str(&text)?;
-            Ok(Outcome::Answered)
-        }
+        Request::Sheet => reply.push_str(&sheet_text(alloc, book.len(), book.state())?)?,
     }
+    Ok(Outcome::Answered)
 }
 
 /// Adds the answer to an event. `Err` only where it is refused and memory is out.

@@ -46,7 +46,7 @@ impl<L: Ledger> Office<L> {
     ) -> Result<Reply, Refusal>
         ensures { IsAnswered seat.old seat.new (event.Message message.now) result }
     {
-        self.enter(rt, alloc, seat, Event::Message(*message))
+        self.submit(rt, alloc, seat, Event::Message(*message))
     }
 
     /// Places an order. One that is accepted gives the seat a receipt. Refused, with book and seat unchanged: as
@@ -60,7 +60,7 @@ impl<L: Ledger> Office<L> {
     ) -> Result<Reply, Refusal>
         ensures { IsAnswered seat.old seat.new (event.Place text.now) result }
     {
-        self.enter(rt, alloc, seat, Event::Place(*text))
+        self.submit(rt, alloc, seat, Event::Place(*text))
     }
 
     /// Withdraws an order. A withdrawal that is accepted gives the seat a receipt. Refused, with book and seat unchanged:
@@ -74,7 +74,7 @@ impl<L: Ledger> Office<L> {
     ) -> Result<Reply, Refusal>
         ensures { IsAnswered seat.old seat.new (event.Withdraw id) result }
     {
-        self.enter(rt, alloc, seat, Event::Withdraw(id))
+        self.submit(rt, alloc, seat, Event::Withdraw(id))
     }
 
     /// Puts the network of this number, counted from 1, in force. A revision that is accepted gives the seat a receipt.
@@ -89,7 +89,7 @@ impl<L: Ledger> Office<L> {
     ) -> Result<Reply, Refusal>
         ensures { IsAnswered seat.old seat.new (event.Revise network) result }
     {
-        self.enter(rt, alloc, seat, Event::Revise(network))
+        self.submit(rt, alloc, seat, Event::Revise(network))
     }
 
     /// Promises the pairs of a commit. One that is accepted gives the seat a receipt. Refused, with book and seat
@@ -104,7 +104,7 @@ impl<L: Ledger> Office<L> {
         ensures { IsAnswered seat.old seat.new (event.Commit commit.now) result }
     {
         let commit = commit.copy(alloc)?;
-        self.enter(rt, alloc, seat, Event::Commit(commit))
+        self.submit(rt, alloc, seat, Event::Commit(commit))
     }
 
     /// The problem of the book's present version at a moment, which the book keeps so that a commit may name it. The
@@ -123,8 +123,9 @@ impl<L: Ledger> Office<L> {
         self.book.lock(rt).begin(alloc, &mut seat.share, at)
     }
 
-    /// Makes a seat's call: first the receipt's memory, then the book's call while the lock is held, then the receipt.
-    fn enter(
+    /// Makes the call for an event at a seat, whose answer and refusals are those of the call of its kind: `send`, `place`,
+    /// `withdraw`, `commit` or `revise`. May wait.
+    pub fn submit(
         &self,
         rt: &impl Wait,
         alloc: Global,
@@ -133,6 +134,7 @@ impl<L: Ledger> Office<L> {
     ) -> Result<Reply, Refusal>
         ensures { IsAnswered seat.old seat.new event result }
     {
+        // First the receipt's memory, then the book's call while the lock is held, then the receipt.
         seat.receipts.reserve(1)?;
         let reply = match self.book.lock(rt).enter(alloc, &mut seat.share, &event) {
             Ok(reply) => reply,

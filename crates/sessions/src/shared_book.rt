@@ -1,9 +1,10 @@
 //! The book behind the lock.
 ghost use Rattle.std.specs.Prelude.{◌≡◌, ◌≤◌, ◌<◌, ◌+◌, IfOk, length};
 ghost use Rattle.commit_book.specs.BookStep.{IsCall, answer_of, begun_of};
+ghost use Rattle.commit_book.specs.Requests.{call_of};
 ghost use Rattle.commit_book.specs.Snap.{snap_of};
 ghost use Rattle.commit_book.specs.declared.call.Call.TheVariants as call;
-ghost use Rattle.sessions.specs.inner.Counted.{IsCounted, accepted_in, call_of};
+ghost use Rattle.sessions.specs.inner.Counted.{IsCounted, accepted_in};
 
 use commit_book::{Book, Refusal, Reply, Snap};
 use operating_db::Event;
@@ -43,7 +44,7 @@ impl<L: Ledger> SharedBook<L> {
             total,
             rest: _,
         } = self;
-        let reply = match take_in(book, alloc, event) {
+        let reply = match book.submit(alloc, event) {
             Ok(reply) => reply,
             Err(refusal) => return Err(refusal),
         };
@@ -72,20 +73,6 @@ impl<L: Ledger> SharedBook<L> {
         } = self;
         total.audit(share);
         book.begin(alloc, at)
-    }
-}
-
-/// The book's call for an event.
-fn take_in(book: &mut Book, alloc: Global, event: &Event) -> Result<Reply, Refusal>
-    ensures call { IsCall book.old.setting book.old.state (call_of event.now) (answer_of result) book.new.state }
-    ensures setting { book.new.setting ≡ book.old.setting }
-{
-    match event {
-        Event::Message(message) => book.message(alloc, message),
-        Event::Place(text) => book.place(alloc, text),
-        Event::Withdraw(id) => book.withdraw(alloc, *id),
-        Event::Commit(commit) => book.commit(alloc, commit),
-        Event::Revise(network) => book.revise(alloc, *network),
     }
 }
 

@@ -1,20 +1,8 @@
 -- What a call of a seat adds to its share.
 use Rattle.std.specs.Prelude.{◌≡◌, ◌≤◌, ◌+◌, ℕ, Result, Ok, Err}
-use Rattle.operating_db.specs.declared.event.Event.{Event}
-use Rattle.operating_db.specs.declared.event.Event.TheVariants as event
-use Rattle.commit_book.specs.declared.call.Call.{Call}
-use Rattle.commit_book.specs.declared.call.Call.TheVariants as call
 use Rattle.commit_book.specs.declared.refusal.Refusal.{Refusal}
 use Rattle.commit_book.specs.declared.reply.Reply.{Reply}
 use Rattle.commit_book.specs.declared.reply.Reply.TheVariants.{Accepted, Repeated}
-
--- the book's call for an event
-abbrev pub call_of : Event → Call
-call_of (event.Message message) = call.Message message
-call_of (event.Place text) = call.Place text
-call_of (event.Withdraw id) = call.Withdraw id
-call_of (event.Commit commit) = call.Commit commit
-call_of (event.Revise network) = call.Revise network
 
 -- how many entries an answer adds
 abbrev pub accepted_in : Reply → ℕ
