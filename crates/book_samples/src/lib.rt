@@ -1,12 +1,14 @@
 //! Books for the tests: what they start from, and command lines that are brought to them.
 #![tactic(auto)]
 
+ghost use Rattle.std.specs.Prelude.{◌≡◌, [], IfOk};
+
 mod lines;
 
 use commit_book::{Book, Limits};
 use distance_tables::{Networks, tables};
 use line_network::read_lines;
-pub use lines::{BEGIN, COMMIT, DEPARTURE, OTHER_PLACE, WITHDRAWAL};
+pub use lines::{BEGIN, COMMIT, DEPARTURE, OTHER_PLACE, REVISION, WITHDRAWAL};
 use std::alloc::Global;
 use std::sync::Arc;
 use std::test::Fail;
@@ -40,8 +42,10 @@ pub fn networks_of(alloc: Global, texts: &[&str]) -> Result<Networks, Fail> {
     Ok(Networks::new(all)?)
 }
 
-/// A book that starts so.
-pub fn book_of(alloc: Global, start: Start<'_>) -> Result<Book, Fail> {
+/// A book that starts so, without an entry.
+pub fn book_of(alloc: Global, start: Start<'_>) -> Result<Book, Fail>
+    ensures { IfOk result (λ book. book.state.history ≡ []) }
+{
     let limits = Limits::new(start.entries, start.kept).ok_or("limits")?;
     let roster = Roster::read_rows(alloc, start.roster.as_bytes())?;
     let networks = Arc::new(alloc, networks_of(alloc, start.networks)?)?;

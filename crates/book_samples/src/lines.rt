@@ -2,6 +2,8 @@
 
 pub const WITHDRAWAL: &str = r#"{"type":"withdraw","order":"O1"}"#;
 
+pub const REVISION: &str = r#"{"type":"network","revision":2}"#;
+
 pub const BEGIN: &str = r#"{"type":"begin","at":"2026-03-01T01:00:00Z"}"#;
 
 /// The nearest wagon is to serve the sample's order, as version 1 has it.

@@ -75,4 +75,3 @@ pub kept_table : (setting : Setting) (history : List Event) (kept : List KeptPro
 kept_table setting history kept version at one book found =
     let commit : CommitText = record { version = version; at = at; pairs = []; u = []; v = [] } in
     (named_problem setting history kept commit one book found).is_table
-

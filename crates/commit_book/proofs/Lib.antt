@@ -9,5 +9,6 @@ pub mod Judging
 pub mod Placed
 pub mod Replays
 pub mod Runs
+pub mod Searches
 pub mod Sound
 pub mod Versions

@@ -1,5 +1,6 @@
 -- What only the proofs and the private functions of this crate need.
 pub mod CommitTests
 pub mod Entered
+pub mod Indexed
 pub mod Kept
 pub mod Ledger

@@ -1,6 +1,7 @@
 //! The book: its history, the office after it, and the problems that commits may name.
 ghost use Rattle.std.specs.Prelude.{◌≡◌, [], IfErr, IfOk, IfSome, OnErr, OnOk, Some, is_some, length, option_map, true};
 ghost use Rattle.distance_tables.specs.Networks.{network_at};
+ghost use Rattle.operating_db.specs.Problem.{problem_of};
 ghost use Rattle.operating_db.specs.Steps.{IsPromised};
 ghost use Rattle.commit_book.specs.BookStep.{IsCall, answer_of, begun_of, is_full, is_kept, kept_after};
 ghost use Rattle.commit_book.specs.inner.Entered.{IsEntered};
@@ -12,11 +13,12 @@ ghost use Rattle.commit_book.specs.Snap.{IsVersionNumber, snap_of};
 ghost use Rattle.commit_book.specs.declared.call.Call.TheVariants as call;
 
 use crate::commits::judge;
+use crate::indexed_problem::IndexedProblem;
 use crate::kept_problems::{KeptProblem, find_kept, keep};
 use crate::ledger::Ledger;
 use crate::same_messages::is_same;
 use crate::{Limits, Refusal, Reply, Snap};
-use cost_table::{Cells, cells};
+use cost_table::{Cells, Problem, cells};
 use distance_tables::{Networks, Tables};
 use move_messages::{CommitText, Message, OrderText};
 use operating_db::{Event, OfficeState};
@@ -148,7 +150,7 @@ impl Book {
         ensures setting { self.new.setting ≡ self.old.setting }
     {
         let snap = self.snap(alloc, at)?;
-        self.keep_present(alloc, at)?;
+        self.keep_present(alloc, snap.problem())?;
         Ok(snap)
     }
 
@@ -229,16 +231,17 @@ impl Book {
         Ok(Snap::of(self.len(), state.network(), problem))
     }
 
-    /// Keeps the problem of the present version at a moment, unless it is kept.
-    fn keep_present(&mut self, alloc: Global, at: Moment) -> Result<(), AllocError>
-        ensures kept { OnOk result (self.new.state ≡ record self.old.state { kept = kept_after self.old.setting self.old.state.kept (length self.old.state.history, at) }) }
+    /// Keeps a copy of the problem of the present version at a moment, unless that problem is kept.
+    fn keep_present(&mut self, alloc: Global, problem: &Problem) -> Result<(), AllocError>
+        requires { problem.now ≡ problem_of (replay self.old.setting self.old.state.history) problem.now.at }
+        ensures kept { OnOk result (self.new.state ≡ record self.old.state { kept = kept_after self.old.setting self.old.state.kept (length self.old.state.history, problem.now.at) }) }
         ensures setting { self.new.setting ≡ self.old.setting }
         ensures unchanged { OnErr result (self.new ≡ self.old) }
     {
-        if self.is_kept(self.len(), at) {
+        if self.is_kept(self.len(), problem.at()) {
             return Ok(());
         }
-        let one = self.present_problem(alloc, at)?;
+        let one = self.with_table(alloc, problem)?;
         let most = self.limits.kept() as usize;
         keep(&mut self.kept, most, one)?;
         Ok(())
@@ -251,13 +254,15 @@ impl Book {
         self.kept_cells(version, at).is_some()
     }
 
-    /// The problem of the present version at a moment, with its table over the network in force.
-    fn present_problem(&self, alloc: Global, at: Moment) -> Result<KeptProblem, AllocError>
+    /// A copy of the problem of the present version at a moment, with its table over the network in force.
+    fn with_table(&self, alloc: Global, problem: &Problem) -> Result<KeptProblem, AllocError>
+        requires { problem.now ≡ problem_of (replay self.now.setting self.now.state.history) problem.now.at }
         ensures kept { IfOk result (λ one. IsKeptAt self.now.setting self.now.state.history one) }
-        ensures which { IfOk result (λ one. which_of one ≡ (length self.now.state.history, at)) }
+        ensures which { IfOk result (λ one. which_of one ≡ (length self.now.state.history, problem.now.at)) }
     {
-        let problem = self.state().problem(alloc, at)?;
-        let cells = cells(alloc, &problem, self.tables())?;
+        let _rows = self.state().wagon_rows();
+        let cells = cells(alloc, problem, self.tables())?;
+        let problem = IndexedProblem::of(alloc, problem.copy(alloc)?)?;
         Ok(KeptProblem {
             version: self.len(),
             problem,

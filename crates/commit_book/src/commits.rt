@@ -1,8 +1,6 @@
 //! The tests of a commit.
-ghost use Rattle.std.specs.Prelude.{◌≡◌, ◌≢◌, [], IfErr, IfOk, None, OnOk, Some, length, nat_lt, option_copied};
-ghost use Rattle.std.specs.List.{find};
+ghost use Rattle.std.specs.Prelude.{◌≡◌, ◌≢◌, [], IfErr, IfOk, None, OnOk, Some, length, nat_lt};
 ghost use Rattle.std.specs.Result.{result_err};
-ghost use Rattle.cost_table.specs.Names.{is_name};
 ghost use Rattle.cost_table.specs.Table.{order_count, wagon_count};
 ghost use Rattle.commit_book.specs.BookStep.{refusal_in};
 ghost use Rattle.commit_book.specs.Commits.{free_in, is_same_free, order_changed, wagon_changed, wagon_of as wagon_in_problem};
@@ -11,8 +9,8 @@ ghost use Rattle.operating_db.specs.Commits.{lack_in, times_of_order as times_in
 ghost use Rattle.database_rows.specs.Rows.{order_in};
 
 use crate::Refusal;
+use crate::indexed_problem::IndexedProblem;
 use crate::kept_problems::KeptProblem;
-use cost_table::Problem;
 use move_messages::CommitText;
 use named_pairs::check_named;
 use operating_db::{OfficeState, times_of_order};
@@ -53,7 +51,7 @@ fn prices_of(alloc: Global, commit: &CommitText) -> Result<Prices, AllocError>
 
 /// Each wagon of the pairs is free now as it is in the problem.
 fn wagons_unchanged(
-    problem: &Problem,
+    problem: &IndexedProblem,
     now: &OfficeState,
     pairs: &[(WagonNumber, OrderId)],
 ) -> Result<(), Refusal>
@@ -68,24 +66,17 @@ fn wagons_unchanged(
 }
 
 /// Whether a wagon is free now as it is in the problem.
-fn is_free_as_planned(problem: &Problem, now: &OfficeState, number: WagonNumber) -> bool
+fn is_free_as_planned(problem: &IndexedProblem, now: &OfficeState, number: WagonNumber) -> bool
     ensures { result ≡ is_same_free (wagon_in_problem problem.now number) (free_in now.now.office number) }
 {
     is_unchanged(wagon_of(problem, number), free_now(now, number))
 }
 
 /// The wagon of a number, where the problem has it.
-fn wagon_of(problem: &Problem, number: WagonNumber) -> Option<FreeWagon>
+fn wagon_of(problem: &IndexedProblem, number: WagonNumber) -> Option<FreeWagon>
     ensures { result ≡ wagon_in_problem problem.now number }
 {
-    wagon_among(problem.wagons(), number).copied()
-}
-
-/// The first wagon of a number.
-fn wagon_among(wagons: &[FreeWagon], number: WagonNumber) -> Option<&FreeWagon>
-    ensures { option_copied result ≡ find (λ wagon. is_name number wagon.number) wagons.now }
-{
-    wagons.iter().find(|wagon| wagon.number == number)
+    problem.wagon(number).copied()
 }
 
 /// The wagon of a number as a free one, where the office has it and it is free.

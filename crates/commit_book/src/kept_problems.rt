@@ -4,7 +4,8 @@ ghost use Rattle.std.specs.List.{find};
 ghost use Rattle.commit_book.specs.BookStep.{is_this};
 ghost use Rattle.commit_book.specs.inner.Kept.{which_of, with_kept};
 
-use cost_table::{Cells, Problem};
+use crate::indexed_problem::IndexedProblem;
+use cost_table::Cells;
 use rail_codes::Moment;
 use std::alloc::AllocError;
 
@@ -12,7 +13,7 @@ use std::alloc::AllocError;
 #[derive(Debug, Drop)]
 pub(crate) struct KeptProblem {
     pub version: u64,
-    pub problem: Problem,
+    pub problem: IndexedProblem,
     pub cells: Cells,
 }
 

@@ -7,6 +7,7 @@ mod book;
 mod call;
 mod call_runs;
 mod commits;
+mod indexed_problem;
 mod kept_problems;
 mod laws;
 mod ledger;

@@ -33,7 +33,7 @@ unrepeated_tail true rest x h = cc
 unrepeated_tail false rest x h = (refl, h)
 
 -- where no name is repeated, none stands before it
-not_before : (before names : List (List ℕ)) (i : ℕ) → repeated_after before names ≡ None → i < length names → is_among (before ++ take i names) (get_or names i []) ≡ false
+pub not_before : (before names : List (List ℕ)) (i : ℕ) → repeated_after before names ≡ None → i < length names → is_among (before ++ take i names) (get_or names i []) ≡ false
 not_before before [] i h l = absurd (omega arith)
 not_before before (x ∷ names) zero h l =
     let f = unrepeated_tail (is_among before x) (repeated_after (before ++ x ∷ []) names) x h in

@@ -1,5 +1,5 @@
 //! What is to be distributed.
-ghost use Rattle.std.specs.Prelude.{◌≡◌, ◌≤◌, ℕ, Some, IfSome, length, position, slice_get, sum};
+ghost use Rattle.std.specs.Prelude.{◌≡◌, ◌≤◌, ℕ, Some, IfOk, IfSome, length, position, slice_get, sum};
 ghost use Rattle.std.specs.List.{list_any};
 ghost use Rattle.cost_table.specs.Names.{both, is_name, first_repeated, pair_of};
 ghost use Rattle.cost_table.specs.TableLimits.{max_table_orders};
@@ -10,6 +10,7 @@ use crate::pair_names::PairNames;
 use crate::table_fault::TableFault;
 use load_orders::Wanted;
 use rail_codes::{Moment, OrderId, WagonNumber};
+use std::alloc::{AllocError, Global};
 use std::marker::Model;
 use wagon_state::FreeWagon;
 
@@ -53,6 +54,24 @@ impl Problem {
             return Err(TableFault::DuplicateOrder(id));
         }
         Ok(Problem { at, wagons, orders })
+    }
+
+    /// The problem of wagons and orders that are known to make one, as an office's rows do: no list is searched for
+    /// names that stand twice. Allocates nothing.
+    pub fn of_distinct(at: Moment, wagons: Vec<FreeWagon>, orders: Vec<Wanted>) -> Problem
+        requires { IsProblem (record { at = at; wagons = wagons.items; orders = orders.items }) }
+        ensures { result ≡ record { at = at; wagons = wagons.items; orders = orders.items } }
+    {
+        Problem { at, wagons, orders }
+    }
+
+    /// The same problem once more.
+    pub fn copy(&self, alloc: Global) -> Result<Problem, AllocError>
+        ensures { IfOk result (λ problem. problem ≡ self.now) }
+    {
+        let wagons = Vec::from_slice(alloc, &self.wagons)?;
+        let orders = Vec::from_slice(alloc, &self.orders)?;
+        Ok(Problem::of_distinct(self.at, wagons, orders))
     }
 
     /// The moment.

@@ -1,9 +1,9 @@
 -- Rows of wagons and of orders, by number and by name.
-use Rattle.std.specs.Prelude.{ℕ, Bool, true, nat_eq, if◌then◌else◌, List, [], ◌∷◌, ◌++◌, map, Option}
+use Rattle.std.specs.Prelude.{ℕ, ◌+◌, Bool, true, nat_eq, if◌then◌else◌, List, [], ◌∷◌, ◌++◌, map, Option}
 use Rattle.std.specs.Cmp.Lexicographic.{pointwise}
 use Rattle.std.specs.List.{find, sum_by}
 use Rattle.wagon_state.specs.declared.wagon_row.WagonRow.{WagonRow}
-use Rattle.load_orders.specs.Lack.{is_open}
+use Rattle.load_orders.specs.Lack.{is_open, is_waiting}
 use Rattle.load_orders.specs.Numbers.{with_number, without_number}
 use Rattle.load_orders.specs.OrderRow.{OrderRowValue}
 
@@ -55,3 +55,8 @@ freed_of number row = record row { promised = without_number number row.promised
 -- an order taken back, with all its promises
 abbrev pub taken_back : OrderRowValue → OrderRowValue
 taken_back row = record row { promised = []; withdrawn = true }
+
+-- the places of the orders that wait, ascending, where the first row stands at this place
+abbrev pub waiting_from : ℕ → List OrderRowValue → List ℕ
+waiting_from first [] = []
+waiting_from first (row ∷ rows) = if is_waiting row then first ∷ waiting_from (first + 1) rows else waiting_from (first + 1) rows

@@ -1,10 +1,12 @@
 //! The rows of the orders.
-ghost use Rattle.std.specs.Prelude.{◌≡◌, ◌+◌, ◌<◌, ◌≤◌, ◌++◌, ◌∷◌, [], IfErr, IfSome, IsSome, None, OnErr, OnOk, option_map, position};
+ghost use Rattle.std.specs.Prelude.{◌≡◌, ◌+◌, ◌<◌, ◌≤◌, ◌++◌, ◌∷◌, [], IfErr, IfSome, IsSome, None, OnErr, OnOk, count_by, length, nat_lt, option_map, position, vec_capacity};
 ghost use Rattle.std.specs.List.{Contains};
 ghost use Rattle.load_orders.specs.Lack.{lack_of};
 ghost use Rattle.load_orders.specs.OrderRow.{placed_row};
-ghost use Rattle.database_rows.specs.Rows.{at_order, filled_by, freed_of, is_order, max_open_wagons, open_wagons, order_in, promised_to, taken_back, wanted_open};
+ghost use Rattle.database_rows.specs.Rows.{at_order, filled_by, freed_of, is_order, max_open_wagons, open_wagons, order_in, promised_to, taken_back, waiting_from, wanted_open};
+ghost use Rattle.database_rows.specs.inner.Indexed.{noted, without_place};
 
+use crate::limits::MAX_OPEN_WAGONS;
 use load_orders::OrderRow;
 use move_messages::OrderText;
 use rail_codes::{OrderId, WagonNumber};
@@ -22,21 +24,25 @@ pub struct OrderRows {
     places: BTreeMap<OrderId, usize>,
     // How many wagons the open orders want in all.
     open_wagons: u32,
+    // The places of the rows that wait, ascending. Each of them wants a wagon, so they are at most as many as the
+    // open orders may want; the room for them is there before the first row, so that an order that waits again wants
+    // no memory.
+    waiting: Vec<usize>,
 }
 
 impl Model for OrderRows {
-    ghost use Rattle.std.specs.Prelude.{List};
+    ghost use Rattle.std.specs.Prelude.{List, vec_capacity};
     ghost use Rattle.load_orders.specs.OrderRow.{OrderRowValue};
     ghost use Rattle.std.specs.BTreeMap.{get};
     ghost use Rattle.std.specs.Cmp.Lexicographic.{slice_cmp};
     ghost use Rattle.std.specs.Ordering.{nat_cmp};
-    ghost use Rattle.database_rows.specs.inner.Indexed.{IsIndexed};
+    ghost use Rattle.database_rows.specs.inner.Indexed.{IsStored};
 
     ghost Value = { List OrderRowValue };
 
     ghost view = { λ orders. orders.rows.items };
 
-    ghost invariant = { λ orders. IsIndexed orders.rows.items (get (slice_cmp nat_cmp) orders.places) orders.open_wagons };
+    ghost invariant = { λ orders. IsStored orders.rows.items (get (slice_cmp nat_cmp) orders.places) orders.open_wagons orders.waiting.items (vec_capacity orders.waiting) };
 }
 
 impl OrderRows {
@@ -50,6 +56,7 @@ impl OrderRows {
             rows: Vec::new(alloc),
             places: BTreeMap::new(alloc),
             open_wagons: 0,
+            waiting: Vec::new(alloc),
         }
     }
 
@@ -59,6 +66,13 @@ impl OrderRows {
         ensures valid { IsOrderRows self.now }
     {
         &self.rows
+    }
+
+    /// The places of the orders that wait, ascending.
+    pub fn waiting(&self) -> &[usize]
+        ensures { result.now ≡ waiting_from 0 self.now }
+    {
+        &self.waiting
     }
 
     /// The row of an order, where the office has it.
@@ -93,7 +107,10 @@ impl OrderRows {
     {
         let row = OrderRow::new(alloc, text)?;
         self.rows.reserve(1)?;
-        self.places.insert(text.id(), self.rows.len())?;
+        self.waiting.reserve(MAX_OPEN_WAGONS as usize + 1)?;
+        let place = self.rows.len();
+        self.places.insert(text.id(), place)?;
+        note(&mut self.waiting, place, row.is_waiting());
         self.rows.push(row).unwrap();
         self.open_wagons += text.wagons();
         Ok(())
@@ -107,7 +124,9 @@ impl OrderRows {
         ensures { self.new ≡ at_order id (promised_to number) self.old }
     {
         let place = self.place_of(id).unwrap();
-        self.rows[place].promise(number);
+        let row = &mut self.rows[place];
+        row.promise(number);
+        note(&mut self.waiting, place, row.is_waiting());
     }
 
     /// A wagon promised to an order fills it. Takes no memory.
@@ -122,6 +141,7 @@ impl OrderRows {
         row.fill(number);
         let after = wanted_open(row);
         self.open_wagons -= before - after;
+        note(&mut self.waiting, place, row.is_waiting());
     }
 
     /// Ends the promise of a wagon to an order, where there is one. Takes no memory.
@@ -130,7 +150,9 @@ impl OrderRows {
         ensures { self.new ≡ at_order id (freed_of number) self.old }
     {
         let place = self.place_of(id).unwrap();
-        self.rows[place].end_promise(number);
+        let row = &mut self.rows[place];
+        row.end_promise(number);
+        note(&mut self.waiting, place, row.is_waiting());
     }
 
     /// Takes an order back, with all its promises. Takes no memory.
@@ -142,6 +164,7 @@ impl OrderRows {
         let row = &mut self.rows[place];
         self.open_wagons -= wanted_open(row);
         row.withdraw();
+        note(&mut self.waiting, place, row.is_waiting());
     }
 }
 
@@ -154,4 +177,33 @@ fn wanted_open(row: &OrderRow) -> u32
     } else {
         0
     }
+}
+
+/// Notes whether the row at a place waits. Takes no memory.
+fn note(waiting: &mut Vec<usize>, place: usize, waits: bool)
+    requires { length waiting.old.items < vec_capacity waiting.old }
+    ensures items { waiting.new.items ≡ noted place waits waiting.old.items }
+    ensures room { vec_capacity waiting.new ≡ vec_capacity waiting.old }
+{
+    take_off(waiting, place);
+    if waits {
+        let before = count_below(waiting, place);
+        waiting.insert(before, place).unwrap();
+    }
+}
+
+/// Takes a place off a list. Takes no memory.
+fn take_off(places: &mut Vec<usize>, place: usize)
+    ensures items { places.new.items ≡ without_place place places.old.items }
+    ensures fewer { length places.new.items ≤ length places.old.items }
+    ensures room { vec_capacity places.new ≡ vec_capacity places.old }
+{
+    places.retain(|other| *other != place);
+}
+
+/// How many of the places are below one.
+fn count_below(places: &[usize], place: usize) -> usize
+    ensures { result ≡ count_by (λ other. nat_lt other place) places.now }
+{
+    places.iter().filter(|other| **other < place).count()
 }

@@ -2,3 +2,4 @@ pub mod Lines
 pub mod PlanLines
 pub mod Lists
 pub mod Certificates
+pub mod Moments

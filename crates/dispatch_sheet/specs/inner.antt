@@ -1,3 +1,4 @@
 -- What only proofs and private functions need.
+pub mod Parts
 pub mod Pushed
 pub mod RosterWords

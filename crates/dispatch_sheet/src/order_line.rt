@@ -1,45 +1,49 @@
 //! The lines of an office's orders.
 ghost use Rattle.std.specs.Prelude.{◌≡◌, ◌++◌, ◌∷◌, if◌then◌else◌, map, OnOk, string_bytes};
-ghost use Rattle.dispatch_sheet.specs.Sheet.{list_word, listed_wagons, order_text, state_word, AreLines, IsOrderLine};
+ghost use Rattle.dispatch_sheet.specs.Sheet.{list_word, listed_wagons, state_word, AreLines, IsOrderLine};
 ghost use Rattle.dispatch_sheet.specs.Words.{next_word};
+ghost use Rattle.dispatch_sheet.specs.inner.Parts.{order_back, order_front};
 ghost use Rattle.dispatch_sheet.specs.inner.Pushed.{listed, Adds};
 
-use crate::words::{push_ascii, push_code, push_number, push_word};
+use crate::words::{push_ascii, push_code, push_moment, push_number, push_word};
 use load_orders::{OrderRow, OrderState};
 use rail_codes::WagonNumber;
-use std::alloc::{AllocError, Global};
+use std::alloc::AllocError;
 
 /// Adds a line for each order.
-pub(crate) fn push_order_lines(
-    alloc: Global,
-    text: &mut String,
-    rows: &[OrderRow],
-) -> Result<(), AllocError>
+pub(crate) fn push_order_lines(text: &mut String, rows: &[OrderRow]) -> Result<(), AllocError>
     ensures { OnOk result (Adds (AreLines IsOrderLine rows.now) (string_bytes text.old) (string_bytes text.new)) }
 {
     for row in rows {
-        push_order_line(alloc, text, row)?;
+        push_order_line(text, row)?;
     }
     Ok(())
 }
 
-/// Adds the line of an order.
-fn push_order_line(alloc: Global, text: &mut String, row: &OrderRow) -> Result<(), AllocError>
+/// Adds `order ORDER PLACE LATEST PENALTY STATE WAGONS LIST`.
+fn push_order_line(text: &mut String, row: &OrderRow) -> Result<(), AllocError>
     ensures { OnOk result (Adds (IsOrderLine row.now) (string_bytes text.old) (string_bytes text.new)) }
 {
-    let latest = row.text().latest().text(alloc)?;
-    push_order_text(text, row, latest.as_str())
+    push_order_front(text, row)?;
+    push_moment(text, row.text().latest())?;
+    push_order_back(text, row)
 }
 
-/// Adds `order ORDER PLACE LATEST PENALTY STATE WAGONS LIST`.
-fn push_order_text(text: &mut String, row: &OrderRow, latest: &str) -> Result<(), AllocError>
-    ensures { OnOk result (string_bytes text.new ≡ string_bytes text.old ++ order_text row.now latest.now) }
+/// Adds what stands before the latest moment.
+fn push_order_front(text: &mut String, row: &OrderRow) -> Result<(), AllocError>
+    ensures { OnOk result (string_bytes text.new ≡ string_bytes text.old ++ order_front row.now) }
 {
     let order = row.text();
     text.push_str("order")?;
     push_code(text, order.id().as_bytes())?;
-    push_code(text, order.place().as_bytes())?;
-    push_word(text, latest)?;
+    push_code(text, order.place().as_bytes())
+}
+
+/// Adds what stands behind the latest moment.
+fn push_order_back(text: &mut String, row: &OrderRow) -> Result<(), AllocError>
+    ensures { OnOk result (string_bytes text.new ≡ string_bytes text.old ++ order_back row.now) }
+{
+    let order = row.text();
     push_number(text, order.penalty())?;
     push_word(text, state_word(row.state()))?;
     push_number(text, u64::from(order.wagons()))?;

@@ -15,8 +15,8 @@ pub fn sheet_text(alloc: Global, version: u64, state: &OfficeState) -> Result<St
 {
     let mut text = String::new(alloc);
     push_version(&mut text, version)?;
-    push_wagon_lines(alloc, &mut text, state.wagon_rows())?;
-    push_order_lines(alloc, &mut text, state.order_rows())?;
+    push_wagon_lines(&mut text, state.wagon_rows())?;
+    push_order_lines(&mut text, state.order_rows())?;
     push_network(&mut text, state)?;
     Ok(text)
 }

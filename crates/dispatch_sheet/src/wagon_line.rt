@@ -2,48 +2,51 @@
 ghost use Rattle.std.specs.Prelude.{◌≡◌, ◌++◌, OnOk, string_bytes};
 ghost use Rattle.wagon_state.specs.StatusTable.{place_of};
 ghost use Rattle.wagon_state.specs.declared.load.Load.TheVariants.{Loaded, Unladen};
-ghost use Rattle.dispatch_sheet.specs.Sheet.{hold_word, promise_word, status_word, wagon_text, AreLines, IsWagonLine};
+ghost use Rattle.dispatch_sheet.specs.Sheet.{hold_word, promise_word, status_word, AreLines, IsWagonLine};
 ghost use Rattle.dispatch_sheet.specs.Words.{next_word};
+ghost use Rattle.dispatch_sheet.specs.inner.Parts.{wagon_back, wagon_front};
 ghost use Rattle.dispatch_sheet.specs.inner.Pushed.{Adds};
 ghost use Rattle.dispatch_sheet.specs.inner.RosterWords.{IsRosterWord};
 
-use crate::words::{push_code, push_number, push_word};
-use rail_codes::{OrderId, Place};
-use std::alloc::{AllocError, Global};
+use crate::words::{push_code, push_moment, push_number, push_word};
+use rail_codes::OrderId;
+use std::alloc::AllocError;
 use wagon_state::{Load, Status, WagonRow};
 
 /// Adds a line for each wagon.
-pub(crate) fn push_wagon_lines(
-    alloc: Global,
-    text: &mut String,
-    rows: &[WagonRow],
-) -> Result<(), AllocError>
+pub(crate) fn push_wagon_lines(text: &mut String, rows: &[WagonRow]) -> Result<(), AllocError>
     ensures { OnOk result (Adds (AreLines IsWagonLine rows.now) (string_bytes text.old) (string_bytes text.new)) }
 {
     for row in rows {
-        push_wagon_line(alloc, text, row)?;
+        push_wagon_line(text, row)?;
     }
     Ok(())
 }
 
-/// Adds the line of a wagon.
-fn push_wagon_line(alloc: Global, text: &mut String, row: &WagonRow) -> Result<(), AllocError>
+/// Adds `wagon NUMBER CLASS LOAD STATUS PLACE LAST HOLD PROMISE`.
+fn push_wagon_line(text: &mut String, row: &WagonRow) -> Result<(), AllocError>
     ensures { OnOk result (Adds (IsWagonLine row.now) (string_bytes text.old) (string_bytes text.new)) }
 {
-    let last = row.last.text(alloc)?;
-    push_wagon_text(text, row, last.as_str())
+    push_wagon_front(text, row)?;
+    push_moment(text, row.last)?;
+    push_wagon_back(text, row)
 }
 
-/// Adds `wagon NUMBER CLASS LOAD STATUS PLACE LAST HOLD PROMISE`.
-fn push_wagon_text(text: &mut String, row: &WagonRow, last: &str) -> Result<(), AllocError>
-    ensures { OnOk result (string_bytes text.new ≡ string_bytes text.old ++ wagon_text row.now last.now) }
+/// Adds what stands before the last moment.
+fn push_wagon_front(text: &mut String, row: &WagonRow) -> Result<(), AllocError>
+    ensures { OnOk result (string_bytes text.new ≡ string_bytes text.old ++ wagon_front row.now) }
 {
     text.push_str("wagon")?;
     push_code(text, row.number.digits())?;
     push_code(text, row.class.as_bytes())?;
     push_number(text, u64::from(row.load_limit))?;
-    push_status(text, row.status)?;
-    push_word(text, last)?;
+    push_status(text, row.status)
+}
+
+/// Adds what stands behind the last moment.
+fn push_wagon_back(text: &mut String, row: &WagonRow) -> Result<(), AllocError>
+    ensures { OnOk result (string_bytes text.new ≡ string_bytes text.old ++ wagon_back row.now) }
+{
     push_word(text, hold_word(row.held))?;
     push_promise(text, row.promise)?;
     text.push_str("\n")
@@ -54,7 +57,7 @@ fn push_status(text: &mut String, status: Status) -> Result<(), AllocError>
     ensures { OnOk result (string_bytes text.new ≡ string_bytes text.old ++ (next_word (status_word status) ++ next_word (place_of status))) }
 {
     push_word(text, status_word(&status))?;
-    push_code(text, place_of(&status).as_bytes())
+    push_code(text, status.place().as_bytes())
 }
 
 /// The word of a status, which a roster has for it too.
@@ -81,21 +84,6 @@ fn by_load(load: Load, loaded: &'static str, unladen: &'static str) -> &'static 
     match load {
         Load::Loaded => loaded,
         Load::Unladen => unladen,
-    }
-}
-
-/// Where a wagon is, as far as is known.
-fn place_of(status: &Status) -> Place
-    ensures { result ≡ place_of status.now }
-{
-    match *status {
-        Status::Empty(place, _)
-        | Status::Loading(place)
-        | Status::Ready(place)
-        | Status::Journey(_, place)
-        | Status::Yard(_, place)
-        | Status::Arrived(_, place)
-        | Status::Unloading(place) => place,
     }
 }
 

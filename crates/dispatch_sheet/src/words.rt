@@ -2,7 +2,10 @@
 ghost use Rattle.std.specs.Prelude.{◌≡◌, ◌++◌, decimal, OnOk, string_bytes};
 ghost use Rattle.std.specs.Str.{IsAscii};
 ghost use Rattle.dispatch_sheet.specs.Words.{next_word};
+ghost use Rattle.dispatch_sheet.specs.inner.Parts.{IsMomentWord};
+ghost use Rattle.dispatch_sheet.specs.inner.Pushed.{Adds};
 
+use rail_codes::Moment;
 use std::alloc::AllocError;
 use std::fmt::Write;
 
@@ -36,4 +39,12 @@ pub(crate) fn push_number(text: &mut String, number: u64) -> Result<(), AllocErr
     ensures { OnOk result (string_bytes text.new ≡ string_bytes text.old ++ next_word (decimal number)) }
 {
     write!(text, " {number}")
+}
+
+/// Adds a moment.
+pub(crate) fn push_moment(text: &mut String, moment: Moment) -> Result<(), AllocError>
+    ensures { OnOk result (Adds (IsMomentWord moment) (string_bytes text.old) (string_bytes text.new)) }
+{
+    text.push_str(" ")?;
+    moment.push_text(text)
 }

@@ -7,3 +7,4 @@ pub mod Lookups
 pub mod Names
 pub mod Problems
 pub mod States
+pub mod Walks

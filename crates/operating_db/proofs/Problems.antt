@@ -1,6 +1,6 @@
 -- The free wagons and the waiting orders of an office make a problem.
 use Rattle.std.proofs.Common.{◌≡◌, ◌∙◌, ℕ, ◌+◌, ◌-◌, ◌<◌, ◌≤◌, Bool, true, false, cond, not, ◌||◌, ◌&&◌, List, [], ◌∷◌, ◌++◌, length, map, refl, ap, sym, subst, arith, suc}
-use Rattle.std.specs.Prelude.{nat_lt, Option, Some, None, Ok, Err, sum}
+use Rattle.std.specs.Prelude.{nat_lt, Option, Some, None, sum}
 use Rattle.std.specs.List.{AllByRecursion, IsDistinct, cons_option, filter_map}
 use Rattle.std.proofs.lemmas.Bool.Decides.{nat_tests}
 use Rattle.std.proofs.lemmas.List.Folds.{list_any-append}
@@ -14,11 +14,9 @@ use Rattle.wagon_state.specs.Free.{free_of, free_by}
 use Rattle.load_orders.specs.Lack.{lack_of, is_waiting}
 use Rattle.load_orders.specs.OrderRow.{OrderRowValue}
 use Rattle.load_orders.specs.Wanted.{WantedOrder, wanted_of}
-use Rattle.cost_table.specs.Names.{first_repeated, is_name, repeated_after, unrepeated}
+use Rattle.cost_table.specs.Names.{first_repeated, is_name, repeated_after}
 use Rattle.cost_table.specs.Names as names
-use Rattle.cost_table.specs.Problem.{ProblemValue, wagon_names, order_names, lacks_of, is_too_much}
-use Rattle.cost_table.specs.Problem as cost
-use Rattle.cost_table.specs.declared.table_fault.TableFault.TheVariants.{TooLarge}
+use Rattle.cost_table.specs.Problem.{IsProblem, wagon_names, order_names, lacks_of}
 use Rattle.database_rows.specs.Kept.{IsOrderRows, IsWagonRows}
 use Rattle.database_rows.specs.Rows.{open_wagons, wanted_open}
 use Rattle.database_rows.proofs.Wagons.{numbers_distinct}
@@ -85,7 +83,7 @@ free_number row (Yard load place) held promise wagon h = cc
 free_number row (Arrived load place) held promise wagon h = cc
 free_number row (Unloading place) held promise wagon h = cc
 
-free_keeps : (row : WagonRow) (wagon : FreeWagon) → free_of row ≡ Some wagon → wagon.number ≡ row.number
+pub free_keeps : (row : WagonRow) (wagon : FreeWagon) → free_of row ≡ Some wagon → wagon.number ≡ row.number
 unfolding free_of
 free_keeps row wagon h = free_number row row.status row.held row.promise wagon h
 
@@ -138,23 +136,18 @@ few_lack (row ∷ rows) =
 
 -- ---- the problem
 
-not_above : (n m : ℕ) → n ≤ m → nat_lt m n ≡ false
-not_above n m h = grind (arith, nat_tests, h)
-
-fits_by : (problem : ProblemValue) (a b c : Bool) (number id : Option (List ℕ)) → a ≡ false → b ≡ false → c ≡ false → number ≡ None → id ≡ None
-    → cond (a || (b || c)) (Err TooLarge) (unrepeated problem number id) ≡ Ok problem
-fits_by problem a b c number id e f g n i = grind (arith, e, f, g, n, i)
-
-pub problem_fits : (at : ℕ) (wagons : List WagonRow) (orders : List OrderRowValue) → IsWagonRows wagons → IsOrderRows orders
-    → cost.problem_of at (free_wagons wagons) (waiting_orders orders) ≡ Ok (record { at = at; wagons = free_wagons wagons; orders = waiting_orders orders })
-problem_fits at wagons orders h g =
+pub problem_made : (at : ℕ) (wagons : List WagonRow) (orders : List OrderRowValue) → IsWagonRows wagons → IsOrderRows orders
+    → IsProblem (record { at = at; wagons = free_wagons wagons; orders = waiting_orders orders })
+problem_made at wagons orders h g =
     let short : length (free_wagons wagons) ≤ length wagons = length_picked free_of wagons in
     let few = few_lack orders in
-    fits_by (record { at = at; wagons = free_wagons wagons; orders = waiting_orders orders })
-    (nat_lt 1_000 (length (free_wagons wagons))) (nat_lt 500 (length (waiting_orders orders))) (nat_lt 500 (sum (lacks_of (waiting_orders orders))))
-    (first_repeated (wagon_names (free_wagons wagons))) (first_repeated (order_names (waiting_orders orders)))
-    (not_above _ _ (omega (arith, short, h.few))) (not_above _ _ (omega (arith, few.0, few.1, g.few_open))) (not_above _ _ (omega (arith, few.0, g.few_open)))
-    (wagons_once wagons h) (orders_once orders g)
+    record {
+      few_wagons = omega (arith, short, h.few);
+      few_orders = omega (arith, few.0, few.1, g.few_open);
+      lack_in_all = omega (arith, few.0, g.few_open);
+      each_wagon_once = wagons_once wagons h;
+      each_order_once = orders_once orders g;
+    }
 
 -- an order within its limits that lacks a wagon lacks one that may be wanted
 wanted_by : (b : Bool) (row : OrderRowValue) → nat_lt 0 (lack_of row) ≡ b → lack_of row ≤ 20 → wanted_of row.text (lack_of row) ≡ cond b (Some (record { order = row.text; lack = lack_of row })) None

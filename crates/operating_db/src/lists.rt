@@ -1,7 +1,10 @@
 //! What is to be distributed: the free wagons and the waiting orders among the rows.
 ghost use Rattle.std.specs.Prelude.{◌≡◌, IfOk};
+ghost use Rattle.std.specs.List.{filter_map};
 ghost use Rattle.operating_db.specs.Problem.{free_count, free_wagons, waiting_orders, wanted_in};
+ghost use Rattle.operating_db.specs.inner.Walks.{wanted_at};
 
+use database_rows::OrderRows;
 use load_orders::{OrderRow, Wanted};
 use rail_codes::{ClassCode, Place};
 use std::alloc::{AllocError, Global};
@@ -24,11 +27,32 @@ pub(crate) fn free_count(rows: &[WagonRow], class: ClassCode, place: Place) -> u
         .count()
 }
 
-/// The orders that lack a wagon, as placed, each with how many it lacks.
-pub(crate) fn waiting_orders(alloc: Global, rows: &[OrderRow]) -> Result<Vec<Wanted>, AllocError>
-    ensures { IfOk result (λ orders. orders.items ≡ waiting_orders rows.now) }
+/// The orders that lack a wagon, as placed, each with how many it lacks. Only those that wait are looked at.
+pub(crate) fn waiting_orders(alloc: Global, orders: &OrderRows) -> Result<Vec<Wanted>, AllocError>
+    ensures { IfOk result (λ wanted. wanted.items ≡ waiting_orders orders.now) }
 {
-    rows.iter().filter_map(|row| wanted(row)).collect(alloc)
+    wanted_among(alloc, orders.as_slice(), orders.waiting())
+}
+
+/// The orders at these places that lack a wagon.
+fn wanted_among(
+    alloc: Global,
+    rows: &[OrderRow],
+    places: &[usize],
+) -> Result<Vec<Wanted>, AllocError>
+    ensures { IfOk result (λ wanted. wanted.items ≡ filter_map (wanted_at rows.now) places.now) }
+{
+    places
+        .iter()
+        .filter_map(|place| wanted_at(rows, *place))
+        .collect(alloc)
+}
+
+/// The order at a place, with how many wagons it lacks, where one stands there and lacks one.
+fn wanted_at(rows: &[OrderRow], place: usize) -> Option<Wanted>
+    ensures { result ≡ wanted_at rows.now place }
+{
+    wanted(rows.get(place)?)
 }
 
 /// An order that lacks a wagon, with how many it lacks.

@@ -119,9 +119,10 @@ impl OfficeState {
     pub fn problem(&self, alloc: Global, at: Moment) -> Result<Problem, AllocError>
         ensures { IfOk result (λ problem. problem ≡ problem_of self.now.office at) }
     {
+        let _rows = self.orders.as_slice();
         let wagons = free_wagons(alloc, self.wagons.as_slice())?;
-        let orders = waiting_orders(alloc, self.orders.as_slice())?;
-        Ok(Problem::new(at, wagons, orders).unwrap())
+        let orders = waiting_orders(alloc, &self.orders)?;
+        Ok(Problem::of_distinct(at, wagons, orders))
     }
 
     /// How many free wagons of a class stand at a place. Takes no memory.

@@ -1,11 +1,12 @@
 //! Moments.
-ghost use Rattle.std.specs.Prelude.{◌≡◌, ◌*◌, ◌↔◌, pos, Ok, IsOk, IfOk, string_bytes};
+ghost use Rattle.std.specs.Prelude.{◌≡◌, ◌*◌, ◌↔◌, ◌++◌, List, ℕ, pos, Ok, IsOk, IfOk, OnOk, string_bytes};
 ghost use Rattle.rail_codes.specs.Moment.{IsMoment, IsMomentText, moment_of_seconds, moment_of};
 
 use crate::CodeFault;
 use jiff::Timestamp;
 use jiff::tz::Offset;
 use std::alloc::{AllocError, Global};
+use std::fmt::Write;
 use std::marker::Model;
 
 /// 2000-01-01T00:00:00Z, in seconds since 1970-01-01T00:00:00Z.
@@ -78,8 +79,17 @@ impl Moment {
         ensures printed { IfOk result (λ s. IsMomentText self (string_bytes s)) }
         ensures reads_back { IfOk result (λ s. moment_of (string_bytes s) ≡ Ok self) }
     {
+        let mut text = String::new(alloc);
+        self.push_text(&mut text)?;
+        Ok(text)
+    }
+
+    /// Adds the moment's text at the end of another.
+    pub fn push_text(self, text: &mut String) -> Result<(), AllocError>
+        ensures { OnOk result ((added : List ℕ) × (string_bytes text.new ≡ string_bytes text.old ++ added) × IsMomentText self added × (moment_of added ≡ Ok self)) }
+    {
         let shown = Offset::UTC.to_datetime(instant(self));
-        format!(in alloc; "{shown}Z")
+        write!(text, "{shown}Z")
     }
 }
 

@@ -22,17 +22,17 @@ pub by_number_total : IsTotalOrder by_number
 by_number_total = on_total (λ (row : WagonRow). row.number) nat_list_cmp_total
 
 -- what comparing two numbers says of their being the same
-same_from_equal : (a b : List ℕ) → compare_numbers a b ≡ Equal → is_same_number b a ≡ true
+pub same_from_equal : (a b : List ℕ) → compare_numbers a b ≡ Equal → is_same_number b a ≡ true
 same_from_equal a b h = texts_ties b a ∙ ap is_eq (tied_back nat_list_cmp_total a b h)
 
-other_from_less : (a b : List ℕ) → compare_numbers a b ≡ Less → is_same_number b a ≡ false
+pub other_from_less : (a b : List ℕ) → compare_numbers a b ≡ Less → is_same_number b a ≡ false
 other_from_less a b h = texts_ties b a ∙ ap is_eq (nat_list_cmp_total.antisymm b a ∙ ap ordering_reverse h)
 
-other_from_greater : (a b : List ℕ) → compare_numbers a b ≡ Greater → is_same_number b a ≡ false
+pub other_from_greater : (a b : List ℕ) → compare_numbers a b ≡ Greater → is_same_number b a ≡ false
 other_from_greater a b h = texts_ties b a ∙ ap is_eq (nat_list_cmp_total.antisymm b a ∙ ap ordering_reverse h)
 
 -- what comes later compares no lower
-rises : {K : Type 0} {R : K → K → Ordering} (o : IsTotalOrder R) (x y z : K) (later : Ordering) → R x y ≡ Less → R y z ≡ later
+pub rises : {K : Type 0} {R : K → K → Ordering} (o : IsTotalOrder R) (x y z : K) (later : Ordering) → R x y ≡ Less → R y z ≡ later
     → ordering_index (R x z) ≤ ordering_index later
 rises {R = R} o x y z Less h e = let less : R x z ≡ Less = o.trans x y z h e in rw less (omega arith)
 rises {R = R} o x y z Equal h e = let less : R x z ≡ Less = sym (alike_right o y z x e) ∙ h in rw less (omega arith)

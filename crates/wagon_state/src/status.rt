@@ -26,8 +26,8 @@ impl Status {
     ghost use Rattle.std.specs.Prelude.{◌≡◌};
     ghost use Rattle.wagon_state.specs.StatusTable.{place_of};
 
-    /// Where the wagon is, as far as is known.
-    pub(crate) fn place(&self) -> Place
+    /// Where the wagon is, as far as is known. Takes no memory.
+    pub fn place(&self) -> Place
         ensures { result ≡ place_of self.now }
     {
         match *self {

@@ -1,0 +1,31 @@
+-- The parts of the lines of a sheet, before and behind the text of their moment.
+use Rattle.std.specs.Prelude.{◌≡◌, ℕ, List, ◌∷◌, [], ◌++◌, codes, decimal}
+use Rattle.rail_codes.specs.Moment.{IsMomentText}
+use Rattle.wagon_state.specs.StatusTable.{place_of}
+use Rattle.wagon_state.specs.declared.wagon_row.WagonRow.{WagonRow}
+use Rattle.load_orders.specs.Lack.{state_of}
+use Rattle.load_orders.specs.OrderRow.{OrderRowValue}
+use Rattle.dispatch_sheet.specs.Sheet.{hold_word, list_word, listed_wagons, promise_word, state_word, status_word}
+use Rattle.dispatch_sheet.specs.Words.{next_word}
+
+-- a moment behind a space
+pub record IsMomentWord (seconds : ℕ) (word : List ℕ) : Type 0 where
+  pub text : List ℕ
+  pub moment : IsMomentText seconds text
+  pub whole : word ≡ next_word text
+
+abbrev pub wagon_front : WagonRow → List ℕ
+wagon_front row =
+    codes "wagon" ++ next_word row.number ++ next_word row.class ++ next_word (decimal row.load_limit)
+    ++ next_word (status_word row.status) ++ next_word (place_of row.status)
+
+abbrev pub wagon_back : WagonRow → List ℕ
+wagon_back row = next_word (hold_word row.held) ++ next_word (promise_word row.promise) ++ 10 ∷ []
+
+abbrev pub order_front : OrderRowValue → List ℕ
+order_front row = codes "order" ++ next_word row.text.id ++ next_word row.text.place
+
+abbrev pub order_back : OrderRowValue → List ℕ
+order_back row =
+    next_word (decimal row.text.penalty) ++ next_word (state_word (state_of row)) ++ next_word (decimal row.text.wagons)
+    ++ next_word (list_word (listed_wagons row)) ++ 10 ∷ []

@@ -1,0 +1,10 @@
+-- What a walk over the places of the waiting orders meets.
+use Rattle.std.specs.Prelude.{ℕ, List, Option, slice_get}
+use Rattle.std.specs.Option.{option_and_then}
+use Rattle.load_orders.specs.OrderRow.{OrderRowValue}
+use Rattle.load_orders.specs.Wanted.{WantedOrder}
+use Rattle.operating_db.specs.Problem.{wanted_in}
+
+-- the order at a place, where one stands there and lacks a wagon
+abbrev pub wanted_at : List OrderRowValue → ℕ → Option WantedOrder
+wanted_at rows place = option_and_then wanted_in (slice_get rows place)
