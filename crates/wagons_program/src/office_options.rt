@@ -22,7 +22,8 @@ pub struct OfficeOptions<'a> {
 }
 
 impl<'a> OfficeOptions<'a> {
-    /// The options that were given, and the defaults of the others.
+    /// The options that were given, and the defaults of the others. `clap` has refused words without a roster or a
+    /// network before.
     pub(crate) fn read(
         alloc: Global,
         matches: &ArgMatches<'a>,
