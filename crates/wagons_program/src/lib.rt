@@ -13,5 +13,5 @@ mod stop;
 
 pub use command_line::{Word, not_utf8, read_words};
 pub use office_options::OfficeOptions;
-pub use program::run_program;
+pub use program::{run_program, run_words};
 pub use stop::Stop;

@@ -3,50 +3,63 @@
 use crate::check::check;
 use crate::command_line::{Word, not_utf8, read_words};
 use crate::run::run;
+use crate::status::{DONE, STOPPED};
 use crate::stop::Stop;
 use clap::Error;
 use clap::error::ErrorKind;
+use std::convert::AsStr;
+use std::io::Read;
 use std::process::ExitCode;
 use std::rt::Runtime;
 use std::sync::Wait;
 use std::thread::Threads;
 use std::{env, io};
 
-/// The status of a run that could not start or stopped.
-const STOPPED: u8 = 2;
-
 /// Does what the program's arguments ask for. The status is 0, or 1 where a line was refused, or 2 where the program
 /// could not run or stopped; standard error says why then.
 pub fn run_program<R: Runtime + Threads + Wait + AllocGlobal>(rt: &R) -> ExitCode {
-    match status_of(rt) {
+    let status = match words_of(rt) {
+        Ok(words) => run_words(rt, words.as_slice(), rt.reader()),
+        Err(error) => told(rt, refuse_arguments(rt, error)),
+    };
+    ExitCode::from(status)
+}
+
+/// Does what these words ask for, the program's name first, with this in place of standard input, and answers the exit
+/// status: 0, or 1 where a line was refused, or 2 where the program could not run or stopped; standard error says why then.
+pub fn run_words<R: Runtime + Threads + Wait + AllocGlobal, S: AsStr, I: Read + Drop>(
+    rt: &R,
+    words: &[S],
+    input: I,
+) -> u8 {
+    let status = match read_words(rt.alloc(), words) {
+        Ok(Word::Check) => check(rt, input),
+        Ok(Word::Run(options)) => run(rt, &options, input),
+        Err(error) => print_text(rt, &error),
+    };
+    told(rt, status)
+}
+
+/// The status; where the program could not run or stopped, standard error says why.
+fn told<R: Eprint>(rt: &R, status: Result<u8, Stop>) -> u8 {
+    match status {
         Ok(status) => status,
         Err(stop) => {
             // Where standard error fails too, nobody is left to tell.
             let _ = eprintln!(rt; "{stop}");
-            ExitCode::from(STOPPED)
+            STOPPED
         }
     }
 }
 
-/// The status that the program ends with, where it isn't stopped.
-fn status_of<R: Runtime + Threads + Wait + AllocGlobal>(rt: &R) -> Result<ExitCode, Stop> {
-    let arguments = match env::args(rt) {
-        Ok(arguments) => arguments,
-        Err(error) => return refuse_arguments(rt, error),
-    };
-    let words: Vec<String> = arguments.collect(rt.alloc())?;
-    match read_words(rt.alloc(), words.as_slice()) {
-        Ok(Word::Check) => check(rt),
-        Ok(Word::Run(options)) => run(rt, &options),
-        Err(error) => print_text(rt, &error),
-    }
+/// The program's arguments, its name first.
+fn words_of<R: Runtime + AllocGlobal>(rt: &R) -> io::Result<Vec<String>> {
+    let words: Vec<String> = env::args(rt)?.collect(rt.alloc())?;
+    Ok(words)
 }
 
 /// Says why the arguments could not be read: out of memory, or one that isn't UTF-8.
-fn refuse_arguments<R: Print + Eprint + AllocGlobal>(
-    rt: &R,
-    error: io::Error,
-) -> Result<ExitCode, Stop> {
+fn refuse_arguments<R: Print + Eprint + AllocGlobal>(rt: &R, error: io::Error) -> Result<u8, Stop> {
     match error.kind() {
         io::ErrorKind::OutOfMemory => Err(Stop::OutOfMemory),
         _ => {
@@ -57,7 +70,7 @@ fn refuse_arguments<R: Print + Eprint + AllocGlobal>(
 }
 
 /// Prints help, the version, or a fault of the arguments.
-fn print_text<R: Print + Eprint>(rt: &R, error: &Error) -> Result<ExitCode, Stop> {
+fn print_text<R: Print + Eprint>(rt: &R, error: &Error) -> Result<u8, Stop> {
     if error.kind() == ErrorKind::OutOfMemory {
         return Err(Stop::OutOfMemory);
     }
@@ -65,8 +78,8 @@ fn print_text<R: Print + Eprint>(rt: &R, error: &Error) -> Result<ExitCode, Stop
         return Err(Stop::WriteFailed);
     }
     if error.use_stderr() {
-        Ok(ExitCode::from(STOPPED))
+        Ok(STOPPED)
     } else {
-        Ok(ExitCode::SUCCESS)
+        Ok(DONE)
     }
 }

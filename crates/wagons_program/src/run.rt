@@ -6,18 +6,19 @@ use crate::status::status_of_run;
 use crate::stop::Stop;
 use office::{FromRead, ToWrite};
 use std::io;
-use std::process::ExitCode;
+use std::io::Read;
 use std::rt::Files;
 use std::sync::Wait;
 use std::thread::Threads;
 
-/// Opens an office and brings the command lines of standard input to it: status 0, or 1 where one was refused.
-pub(crate) fn run<R: Input + Print + Files + Threads + Wait + AllocGlobal>(
+/// Opens an office and brings the command lines of an input to it: status 0, or 1 where one was refused.
+pub(crate) fn run<R: Print + Files + Threads + Wait + AllocGlobal, I: Read + Drop>(
     rt: &R,
     options: &OfficeOptions<'_>,
-) -> Result<ExitCode, Stop> {
+    input: I,
+) -> Result<u8, Stop> {
     let mut book = new_book(rt, options)?;
-    let mut reader = FromRead::new(rt.reader());
+    let mut reader = FromRead::new(input);
     let mut writer = ToWrite::new(io::writer(rt));
     status_of_run(office::run(rt.alloc(), &mut reader, &mut writer, &mut book))
 }

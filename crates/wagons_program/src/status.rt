@@ -2,13 +2,21 @@
 
 use crate::stop::Stop;
 use office::{RunCount, RunFault};
-use std::process::ExitCode;
+
+/// The status of a run that came to its end without a refusal.
+pub(crate) const DONE: u8 = 0;
+
+/// The status of a run that came to its end with a refusal.
+const REFUSED: u8 = 1;
+
+/// The status of a run that could not start or stopped.
+pub(crate) const STOPPED: u8 = 2;
 
 /// 0 where the run came to its end and no line was refused, 1 where one was; else why it stopped.
-pub(crate) fn status_of_run(count: Result<RunCount, RunFault>) -> Result<ExitCode, Stop> {
+pub(crate) fn status_of_run(count: Result<RunCount, RunFault>) -> Result<u8, Stop> {
     match count {
-        Ok(count) if count.refused == 0 => Ok(ExitCode::SUCCESS),
-        Ok(_) => Ok(ExitCode::from(1)),
+        Ok(count) if count.refused == 0 => Ok(DONE),
+        Ok(_) => Ok(REFUSED),
         Err(fault) => Err(Stop::Run(fault)),
     }
 }

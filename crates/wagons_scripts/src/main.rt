@@ -1,0 +1,19 @@
+//! Scripts through the program's command line, with their files: each command as it is typed, what it prints, and its
+//! exit status.
+#![tactic(auto)]
+
+use anyhow::{Context, Result};
+use std::fs;
+use wagons_program::run_words;
+
+fn main(rt: HostRuntime) -> Result<()> {
+    let commands = fs::read_to_string(&rt, "commands.txt")?;
+    for command in commands.lines() {
+        let (call, script) = command.split_once(" < ").context("no script")?;
+        println!(rt; "$ {command}")?;
+        let words: Vec<&str> = call.split_whitespace().collect(rt.alloc())?;
+        let status = run_words(&rt, words.as_slice(), fs::open(&rt, script)?);
+        println!(rt; "status {status}")?;
+    }
+    Ok(())
+}
