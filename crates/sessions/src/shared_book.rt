@@ -1,6 +1,7 @@
 //! The book behind the lock.
 ghost use Rattle.std.specs.Prelude.{◌≡◌, ◌≤◌, ◌<◌, ◌+◌, IfOk, length};
 ghost use Rattle.commit_book.specs.BookStep.{IsCall, answer_of, begun_of};
+ghost use Rattle.commit_book.specs.History.{IsLegal};
 ghost use Rattle.commit_book.specs.Snap.{snap_of};
 ghost use Rattle.commit_book.specs.declared.call.Call.TheVariants as call;
 ghost use Rattle.sessions.specs.inner.Counted.{IsCounted, accepted_in, call_of};
@@ -35,6 +36,8 @@ impl<L: Ledger> SharedBook<L> {
     ) -> Result<Reply, Refusal>
         requires { 0 < share.old.parts }
         ensures call { IsCall self.old.book.setting self.old.book.state (call_of event.now) (answer_of result) self.new.book.state }
+        ensures legal { IsLegal self.old.book.setting self.old.book.state.history }
+        ensures within { share.old.amount ≤ length self.old.book.state.history }
         ensures counted { IsCounted share.old.amount share.new.amount result }
         ensures parts { share.new.parts ≡ share.old.parts }
     {
@@ -43,6 +46,8 @@ impl<L: Ledger> SharedBook<L> {
             total,
             rest: _,
         } = self;
+        let _proved = book.state();
+        total.audit(share);
         let reply = match take_in(book, alloc, event) {
             Ok(reply) => reply,
             Err(refusal) => return Err(refusal),
@@ -60,6 +65,8 @@ impl<L: Ledger> SharedBook<L> {
         at: Moment,
     ) -> Result<Snap, AllocError>
         ensures call { IsCall self.old.book.setting self.old.book.state (call.Begin at) (begun_of result) self.new.book.state }
+        ensures legal { IsLegal self.old.book.setting self.old.book.state.history }
+        ensures within { share.old.amount ≤ length self.old.book.state.history }
         ensures snap { IfOk result (λ snap. snap ≡ snap_of self.old.book.setting self.old.book.state.history at) }
         ensures version { IfOk result (λ snap. share.old.amount ≤ snap.version) }
         ensures amount { share.new.amount ≡ share.old.amount }
@@ -70,6 +77,7 @@ impl<L: Ledger> SharedBook<L> {
             total,
             rest: _,
         } = self;
+        let _proved = book.state();
         total.audit(share);
         book.begin(alloc, at)
     }
