@@ -41,13 +41,12 @@ impl<L: Ledger> SharedBook<L> {
         ensures counted { IsCounted share.old.amount share.new.amount result }
         ensures parts { share.new.parts ≡ share.old.parts }
     {
+        self.audit(share);
         let SharedBook {
             book,
             total,
             rest: _,
         } = self;
-        let _proved = book.state();
-        total.audit(share);
         let reply = match take_in(book, alloc, event) {
             Ok(reply) => reply,
             Err(refusal) => return Err(refusal),
@@ -72,14 +71,21 @@ impl<L: Ledger> SharedBook<L> {
         ensures amount { share.new.amount ≡ share.old.amount }
         ensures parts { share.new.parts ≡ share.old.parts }
     {
-        let SharedBook {
-            book,
-            total,
-            rest: _,
-        } = self;
-        let _proved = book.state();
-        total.audit(share);
-        book.begin(alloc, at)
+        self.audit(share);
+        self.book.begin(alloc, at)
+    }
+
+    /// Holds a seat's share against the total, which changes nothing: the book's history is legal, and has at least as many
+    /// entries as the seat has receipts.
+    fn audit(&mut self, share: &mut Share<L>)
+        ensures legal { IsLegal self.old.book.setting self.old.book.state.history }
+        ensures within { share.old.amount ≤ length self.old.book.state.history }
+        ensures book { self.new.book ≡ self.old.book }
+        ensures amount { share.new.amount ≡ share.old.amount }
+        ensures parts { share.new.parts ≡ share.old.parts }
+    {
+        let _proved = self.book.state();
+        self.total.audit(share);
     }
 }
 
