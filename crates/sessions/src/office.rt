@@ -20,8 +20,9 @@ use std::sync::{Mutex, Wait};
 /// A book that several seats share. A contract sees how many seats it was opened with.
 ///
 /// Each call of a seat takes the lock, makes one call of the book, and lets go; so each call may wait for others. What a
-/// call does to the book is what the book's own call of that name does. (This is no `OfficeState`, which is the office that
-/// a book's entries lead to.)
+/// call does to the book is what the book's own call of that name does. No contract can name the book behind the lock: it
+/// says that the answer is one that some book gives to this call, whose history is legal and has at least as many entries
+/// as the seat has receipts. (This is no `OfficeState`, which is the office that a book's entries lead to.)
 #[derive(Drop)]
 pub struct Office<L: Ledger> {
     pub(crate) book: Mutex<SharedBook<L>>,
