@@ -1,3 +1,4 @@
+pub mod AnyBook
 pub mod CloseFault
 pub mod Closing
 pub mod OnlyReceipts

@@ -1,7 +1,10 @@
 //! The office: one lock round the book that several seats share.
 ghost use Rattle.std.specs.Prelude.{◌≡◌, ◌≤◌, ◌<◌, IfOk, vec_len, vec_capacity};
 ghost use Rattle.operating_db.specs.declared.event.Event.TheVariants as event;
+ghost use Rattle.commit_book.specs.declared.call.Call.TheVariants as call;
+ghost use Rattle.sessions.specs.AnyBook.{IsBooksAnswer, IsSnapAt};
 ghost use Rattle.sessions.specs.Seat.{IsAnswered, count_of, noted};
+ghost use Rattle.sessions.specs.inner.Counted.{call_of};
 
 use crate::shared_book::SharedBook;
 use crate::{Receipt, Seat};
@@ -17,8 +20,9 @@ use std::sync::{Mutex, Wait};
 /// A book that several seats share. A contract sees how many seats it was opened with.
 ///
 /// Each call of a seat takes the lock, makes one call of the book, and lets go; so each call may wait for others. What a
-/// call does to the book is what the book's own call of that name does. (This is no `OfficeState`, which is the office that
-/// a book's entries lead to.)
+/// call does to the book is what the book's own call of that name does. No contract can name the book behind the lock: it
+/// says that the answer is one that some book gives to this call, whose history is legal and has at least as many entries
+/// as the seat has receipts. (This is no `OfficeState`, which is the office that a book's entries lead to.)
 #[derive(Drop)]
 pub struct Office<L: Ledger> {
     pub(crate) book: Mutex<SharedBook<L>>,
@@ -44,7 +48,8 @@ impl<L: Ledger> Office<L> {
         seat: &mut Seat<L>,
         message: &Message,
     ) -> Result<Reply, Refusal>
-        ensures { IsAnswered seat.old seat.new (event.Message message.now) result }
+        ensures seat { IsAnswered seat.old seat.new (event.Message message.now) result }
+        ensures book { IsBooksAnswer (count_of seat.old) (call.Message message.now) result }
     {
         self.submit(rt, alloc, seat, Event::Message(*message))
     }
@@ -58,7 +63,8 @@ impl<L: Ledger> Office<L> {
         seat: &mut Seat<L>,
         text: &OrderText,
     ) -> Result<Reply, Refusal>
-        ensures { IsAnswered seat.old seat.new (event.Place text.now) result }
+        ensures seat { IsAnswered seat.old seat.new (event.Place text.now) result }
+        ensures book { IsBooksAnswer (count_of seat.old) (call.Place text.now) result }
     {
         self.submit(rt, alloc, seat, Event::Place(*text))
     }
@@ -72,7 +78,8 @@ impl<L: Ledger> Office<L> {
         seat: &mut Seat<L>,
         id: OrderId,
     ) -> Result<Reply, Refusal>
-        ensures { IsAnswered seat.old seat.new (event.Withdraw id) result }
+        ensures seat { IsAnswered seat.old seat.new (event.Withdraw id) result }
+        ensures book { IsBooksAnswer (count_of seat.old) (call.Withdraw id) result }
     {
         self.submit(rt, alloc, seat, Event::Withdraw(id))
     }
@@ -87,7 +94,8 @@ impl<L: Ledger> Office<L> {
         seat: &mut Seat<L>,
         network: u32,
     ) -> Result<Reply, Refusal>
-        ensures { IsAnswered seat.old seat.new (event.Revise network) result }
+        ensures seat { IsAnswered seat.old seat.new (event.Revise network) result }
+        ensures book { IsBooksAnswer (count_of seat.old) (call.Revise network) result }
     {
         self.submit(rt, alloc, seat, Event::Revise(network))
     }
@@ -101,7 +109,8 @@ impl<L: Ledger> Office<L> {
         seat: &mut Seat<L>,
         commit: &CommitText,
     ) -> Result<Reply, Refusal>
-        ensures { IsAnswered seat.old seat.new (event.Commit commit.now) result }
+        ensures seat { IsAnswered seat.old seat.new (event.Commit commit.now) result }
+        ensures book { IsBooksAnswer (count_of seat.old) (call.Commit commit.now) result }
     {
         let commit = commit.copy(alloc)?;
         self.submit(rt, alloc, seat, Event::Commit(commit))
@@ -118,6 +127,7 @@ impl<L: Ledger> Office<L> {
     ) -> Result<Snap, AllocError>
         ensures version { IfOk result (λ snap. count_of seat.old ≤ snap.version) }
         ensures moment { IfOk result (λ snap. snap.problem.at ≡ at) }
+        ensures book { IfOk result (IsSnapAt (count_of seat.old) at) }
         ensures seat { seat.new ≡ seat.old }
     {
         self.book.lock(rt).begin(alloc, &mut seat.share, at)
@@ -132,7 +142,8 @@ impl<L: Ledger> Office<L> {
         seat: &mut Seat<L>,
         event: Event,
     ) -> Result<Reply, Refusal>
-        ensures { IsAnswered seat.old seat.new event result }
+        ensures seat { IsAnswered seat.old seat.new event result }
+        ensures book { IsBooksAnswer (count_of seat.old) (call_of event) result }
     {
         // First the receipt's memory, then the book's call while the lock is held, then the receipt.
         seat.receipts.reserve(1)?;

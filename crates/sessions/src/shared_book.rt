@@ -1,6 +1,7 @@
 //! The book behind the lock.
 ghost use Rattle.std.specs.Prelude.{◌≡◌, ◌≤◌, ◌<◌, ◌+◌, IfOk, length};
 ghost use Rattle.commit_book.specs.BookStep.{IsCall, answer_of, begun_of};
+ghost use Rattle.commit_book.specs.History.{IsLegal};
 ghost use Rattle.commit_book.specs.Requests.{call_of};
 ghost use Rattle.commit_book.specs.Snap.{snap_of};
 ghost use Rattle.commit_book.specs.declared.call.Call.TheVariants as call;
@@ -36,9 +37,12 @@ impl<L: Ledger> SharedBook<L> {
     ) -> Result<Reply, Refusal>
         requires { 0 < share.old.parts }
         ensures call { IsCall self.old.book.setting self.old.book.state (call_of event.now) (answer_of result) self.new.book.state }
+        ensures legal { IsLegal self.old.book.setting self.old.book.state.history }
+        ensures within { share.old.amount ≤ length self.old.book.state.history }
         ensures counted { IsCounted share.old.amount share.new.amount result }
         ensures parts { share.new.parts ≡ share.old.parts }
     {
+        self.audit(share);
         let SharedBook {
             book,
             total,
@@ -61,18 +65,28 @@ impl<L: Ledger> SharedBook<L> {
         at: Moment,
     ) -> Result<Snap, AllocError>
         ensures call { IsCall self.old.book.setting self.old.book.state (call.Begin at) (begun_of result) self.new.book.state }
+        ensures legal { IsLegal self.old.book.setting self.old.book.state.history }
+        ensures within { share.old.amount ≤ length self.old.book.state.history }
         ensures snap { IfOk result (λ snap. snap ≡ snap_of self.old.book.setting self.old.book.state.history at) }
         ensures version { IfOk result (λ snap. share.old.amount ≤ snap.version) }
         ensures amount { share.new.amount ≡ share.old.amount }
         ensures parts { share.new.parts ≡ share.old.parts }
     {
-        let SharedBook {
-            book,
-            total,
-            rest: _,
-        } = self;
-        total.audit(share);
-        book.begin(alloc, at)
+        self.audit(share);
+        self.book.begin(alloc, at)
+    }
+
+    /// Holds a seat's share against the total, which changes nothing: the book's history is legal, and has at least as many
+    /// entries as the seat has receipts.
+    fn audit(&mut self, share: &mut Share<L>)
+        ensures legal { IsLegal self.old.book.setting self.old.book.state.history }
+        ensures within { share.old.amount ≤ length self.old.book.state.history }
+        ensures book { self.new.book ≡ self.old.book }
+        ensures amount { share.new.amount ≡ share.old.amount }
+        ensures parts { share.new.parts ≡ share.old.parts }
+    {
+        let _proved = self.book.state();
+        self.total.audit(share);
     }
 }
 
