@@ -17,11 +17,13 @@ test:
 	@echo "== rt ci: every proof from nothing (see docs/GATE.md for its time)"
 	@rt ci
 
-# Builds what it times, says what it installs, and times the program, the distances and the planner beside their peers.
+# Builds what it times, says what it installs, and times the program, the distances and the planner beside their peers,
+# and a book beside itself.
 bench:
 	@bench/check/run
 	@bench/distances/run
 	@bench/plan/run
+	@bench/book/run
 
 install: build
 	install -D crates/wagons/out/wagons $(DESTDIR)/usr/local/bin/wagons
