@@ -22,12 +22,13 @@ test:
 	@rt ci
 
 # Builds what it times, says what it installs, and times the program's two words, the distances and the planner beside
-# their peers.
+# their peers, and a book beside itself.
 bench:
 	@bench/check/run
 	@bench/run/run
 	@bench/distances/run
 	@bench/plan/run
+	@bench/book/run
 
 install: build
 	install -D crates/wagons/out/wagons $(DESTDIR)/usr/local/bin/wagons
