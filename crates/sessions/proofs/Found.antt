@@ -1,0 +1,141 @@
+-- What is picked out of rows of which no two have one name, found again by its name.
+use Rattle.std.proofs.Common.{◌≡◌, ◌∙◌, ℕ, zero, suc, Bool, true, false, cond, List, [], ◌∷◌, map, refl, sym, ap, subst}
+use Rattle.std.specs.Prelude.{◌==◌, ◌&&◌, nat_eq, Option, Some, None, option_and_then, slice_get}
+use Rattle.std.specs.Cmp.Lexicographic.{pointwise}
+use Rattle.std.specs.List.{AllByRecursion, IsDistinct, cons_option, filter_map, find}
+use Rattle.std.proofs.lemmas.Bool.Decides.{nat_tests}
+use Rattle.std.proofs.lemmas.Map.Keys.{IsDistinct-cons, IsDistinct-head, IsDistinct-tail}
+use Rattle.std.proofs.Common.{arith}
+use Rattle.wagon_state.specs.declared.status.Status.{Status}
+use Rattle.wagon_state.specs.declared.status.Status.TheVariants.{Empty, Loading, Ready, Journey, Yard, Arrived, Unloading}
+use Rattle.wagon_state.specs.declared.free_wagon.FreeWagon.{FreeWagon}
+use Rattle.wagon_state.specs.declared.wagon_row.WagonRow.{WagonRow}
+use Rattle.wagon_state.specs.Free.{free_by, free_of}
+use Rattle.load_orders.specs.Lack.{is_waiting, lack_of}
+use Rattle.load_orders.specs.OrderRow.{OrderRowValue}
+use Rattle.load_orders.specs.Wanted.{WantedOrder}
+use Rattle.database_rows.specs.Rows.{order_in, wagon_in}
+use Rattle.database_rows.proofs.Named.{found_by_name}
+use Rattle.operating_db.specs.Commits.{lack_in}
+use Rattle.operating_db.specs.Office.{Office}
+use Rattle.operating_db.specs.Problem.{free_wagons, problem_of, waiting_orders, wanted_in}
+use Rattle.operating_db.proofs.Names.{same_self, same_sym}
+use Rattle.commit_book.specs.Commits.{free_in, is_same_free, is_same_wagon, wagon_of}
+use Rattle.sessions.proofs.Offices.{IsNamedOnce, same}
+
+-- ---- rows and what is picked of them
+
+-- the row of which something was picked
+pub record IsPicked {X Y : Type 0} (pick : X → Option Y) (xs : List X) (y : Y) : Type 0 where
+  pub place : ℕ
+  pub row : X
+  pub is_row : slice_get xs place ≡ Some row
+  pub picked : pick row ≡ Some y
+
+one_later : {X Y : Type 0} (pick : X → Option Y) (x : X) (xs : List X) (y : Y) → IsPicked pick xs y → IsPicked pick (x ∷ xs) y
+one_later pick x xs y h = record { place = suc h.place; row = h.row; is_row = h.is_row; picked = h.picked }
+
+some_same : {Y : Type 0} (a b : Y) → let o : Option Y = Some a in o ≡ Some b → a ≡ b
+some_same a b h = cc
+
+picked_by : {X Y : Type 0} (pick : X → Option Y) (x : X) (xs : List X) (o : Option Y) → pick x ≡ o → ((k : ℕ) (y : Y) → slice_get (filter_map pick xs) k ≡ Some y → IsPicked pick xs y) → (k : ℕ) (y : Y) → slice_get (cons_option o (filter_map pick xs)) k ≡ Some y → IsPicked pick (x ∷ xs) y
+picked_by pick x xs None is rest k y h = one_later pick x xs y (rest k y h)
+picked_by pick x xs (Some first) is rest zero y h = record { place = zero; row = x; is_row = refl; picked = is ∙ ap (λ z. Some z) (some_same first y h) }
+picked_by pick x xs (Some first) is rest (suc k) y h = one_later pick x xs y (rest k y h)
+
+pub picked_from : {X Y : Type 0} (pick : X → Option Y) (xs : List X) (k : ℕ) (y : Y) → slice_get (filter_map pick xs) k ≡ Some y → IsPicked pick xs y
+picked_from pick [] k y h = absurd cc
+picked_from pick (x ∷ xs) k y h = picked_by pick x xs (pick x) refl (λ n z g. picked_from pick xs n z g) k y h
+
+picked_step : {Y : Type 0} (P : List ℕ → Type 0) (name : Y → List ℕ) (o : Option Y) (rest : List Y) (k : List ℕ) → ((y : Y) → o ≡ Some y → name y ≡ k) → P k → AllByRecursion P (map name rest) → AllByRecursion P (map name (cons_option o rest))
+picked_step P name None rest k is h others = others
+picked_step P name (Some y) rest k is h others = (subst P (sym (is y refl)) h, others)
+
+picked_all : {X Y : Type 0} (P : List ℕ → Type 0) (key : X → List ℕ) (name : Y → List ℕ) (pick : X → Option Y) → ((x : X) (y : Y) → pick x ≡ Some y → name y ≡ key x) → (xs : List X) → AllByRecursion P (map key xs) → AllByRecursion P (map name (filter_map pick xs))
+picked_all P key name pick keeps [] all = tt
+picked_all P key name pick keeps (x ∷ xs) all = picked_step P name (pick x) (filter_map pick xs) (key x) (keeps x) all.0 (picked_all P key name pick keeps xs all.1)
+
+distinct_step : {Y : Type 0} (name : Y → List ℕ) (o : Option Y) (rest : List Y) (k : List ℕ) → ((y : Y) → o ≡ Some y → name y ≡ k) → AllByRecursion (λ m. same k m ≡ false) (map name rest) → IsDistinct same (map name rest) → IsDistinct same (map name (cons_option o rest))
+distinct_step name None rest k is others h = h
+distinct_step name (Some y) rest k is others h =
+    IsDistinct-cons same (name y) (map name rest) (subst (λ (n : List ℕ). AllByRecursion (λ m. same n m ≡ false) (map name rest)) (sym (is y refl)) others) h
+
+-- what is picked keeps its row's name, so no two have one
+pub picked_distinct : {X Y : Type 0} (key : X → List ℕ) (name : Y → List ℕ) (pick : X → Option Y) → ((x : X) (y : Y) → pick x ≡ Some y → name y ≡ key x) → (xs : List X) → IsDistinct same (map key xs) → IsDistinct same (map name (filter_map pick xs))
+unfolding IsDistinct
+picked_distinct key name pick keeps [] h = tt
+picked_distinct key name pick keeps (x ∷ xs) h =
+    distinct_step name (pick x) (filter_map pick xs) (key x) (keeps x)
+    (picked_all (λ m. same (key x) m ≡ false) key name pick keeps xs (IsDistinct-head same (key x) (map key xs) h))
+    (picked_distinct key name pick keeps xs (IsDistinct-tail same (key x) (map key xs) h))
+
+-- ---- free wagons
+
+free_number : (row : WagonRow) (status : Status) (held : Bool) (promise : Option (List ℕ)) (wagon : FreeWagon) → free_by row status held promise ≡ Some wagon → wagon.number ≡ row.number
+free_number row (Empty place ready) true promise wagon h = cc
+free_number row (Empty place ready) false None wagon h =
+    let same_wagon : record { number = row.number; class = row.class; load_limit = row.load_limit; place = place; ready = ready } ≡ wagon = cc in ap (λ (w : FreeWagon). w.number) (sym same_wagon)
+free_number row (Empty place ready) false (Some id) wagon h = cc
+free_number row (Loading place) held promise wagon h = cc
+free_number row (Ready place) held promise wagon h = cc
+free_number row (Journey load place) held promise wagon h = cc
+free_number row (Yard load place) held promise wagon h = cc
+free_number row (Arrived load place) held promise wagon h = cc
+free_number row (Unloading place) held promise wagon h = cc
+
+pub free_keeps : (row : WagonRow) (wagon : FreeWagon) → free_of row ≡ Some wagon → wagon.number ≡ row.number
+unfolding free_of
+free_keeps row wagon h = free_number row row.status row.held row.promise wagon h
+
+pub free_distinct : (office : Office) → IsNamedOnce office → IsDistinct same (map (λ (w : FreeWagon). w.number) (free_wagons office.wagons))
+free_distinct office once = picked_distinct (λ (r : WagonRow). r.number) (λ (w : FreeWagon). w.number) free_of free_keeps office.wagons once.wagons
+
+same_number : (n : ℕ) → (n == n) ≡ true
+same_number n = grind (arith, nat_tests)
+
+both_are : (a b : Bool) → a ≡ true → b ≡ true → (a && b) ≡ true
+both_are a b h k = rw h k
+
+itself : (w : FreeWagon) → is_same_wagon w w ≡ true
+itself w = both_are _ _ (same_self w.number) (both_are _ _ (same_self w.class) (both_are _ _ (same_number w.load_limit) (both_are _ _ (same_self w.place) (same_number w.ready))))
+
+same_both : (a b : Option FreeWagon) (w : FreeWagon) → a ≡ Some w → b ≡ Some w → is_same_free a b ≡ true
+same_both a b w h k = rw (h, k) (itself w)
+
+-- a wagon of the problem of an office is free in it as it is in the problem
+pub wagon_same : (office : Office) (at : ℕ) → IsNamedOnce office → (number : List ℕ) (i : ℕ) (w : FreeWagon) → slice_get (free_wagons office.wagons) i ≡ Some w → w.number ≡ number → is_same_free (wagon_of (problem_of office at) number) (free_in office number) ≡ true
+wagon_same office at once number i w is named =
+    let picked = picked_from free_of office.wagons i w is in
+    let key : picked.row.number ≡ number = sym (free_keeps picked.row w picked.picked) ∙ named in
+    let row = found_by_name (λ (r : WagonRow). r.number) office.wagons picked.place picked.row once.wagons picked.is_row in
+    let in_office : wagon_in office.wagons number ≡ Some picked.row = subst (λ (n : List ℕ). wagon_in office.wagons n ≡ Some picked.row) key row in
+    let free : free_in office number ≡ Some w = ap (option_and_then free_of) in_office ∙ picked.picked in
+    let found = found_by_name (λ (x : FreeWagon). x.number) (free_wagons office.wagons) i w (free_distinct office once) is in
+    let turned : find (λ (x : FreeWagon). same x.number w.number) (free_wagons office.wagons) ≡ find (λ (x : FreeWagon). same w.number x.number) (free_wagons office.wagons) =
+    λ k. find (λ (x : FreeWagon). same_sym x.number w.number k) (free_wagons office.wagons) in
+    let in_problem : wagon_of (problem_of office at) number ≡ Some w = subst (λ (n : List ℕ). wagon_of (problem_of office at) n ≡ Some w) named (turned ∙ found) in
+    same_both (wagon_of (problem_of office at) number) (free_in office number) w in_problem free
+
+-- ---- waiting orders
+
+wanted_row : (b : Bool) (row : OrderRowValue) (wanted : WantedOrder) → cond b (Some (record { order = row.text; lack = lack_of row })) None ≡ Some wanted → (wanted.order.id ≡ row.text.id) × (wanted.lack ≡ lack_of row)
+wanted_row true row wanted h =
+    let is : record { order = row.text; lack = lack_of row } ≡ wanted = cc in
+    (ap (λ (w : WantedOrder). w.order.id) (sym is), ap (λ (w : WantedOrder). w.lack) (sym is))
+wanted_row false row wanted h = absurd cc
+
+pub wanted_keeps : (row : OrderRowValue) (wanted : WantedOrder) → wanted_in row ≡ Some wanted → (wanted.order.id ≡ row.text.id) × (wanted.lack ≡ lack_of row)
+wanted_keeps row wanted h = wanted_row (is_waiting row) row wanted h
+
+pub wanted_distinct : (office : Office) → IsNamedOnce office → IsDistinct same (map (λ (o : WantedOrder). o.order.id) (waiting_orders office.orders))
+wanted_distinct office once = picked_distinct (λ (r : OrderRowValue). r.text.id) (λ (o : WantedOrder). o.order.id) wanted_in (λ row wanted h. (wanted_keeps row wanted h).0) office.orders once.orders
+
+-- an order of the problem of an office lacks as many wagons in it as in the problem
+pub order_same : (office : Office) → IsNamedOnce office → (id : List ℕ) (j : ℕ) (wanted : WantedOrder) → slice_get (waiting_orders office.orders) j ≡ Some wanted → wanted.order.id ≡ id → lack_in (order_in office.orders id) ≡ wanted.lack
+order_same office once id j wanted is named =
+    let picked = picked_from wanted_in office.orders j wanted is in
+    let keeps = wanted_keeps picked.row wanted picked.picked in
+    let key : picked.row.text.id ≡ id = sym keeps.0 ∙ named in
+    let row = found_by_name (λ (r : OrderRowValue). r.text.id) office.orders picked.place picked.row once.orders picked.is_row in
+    let in_office : order_in office.orders id ≡ Some picked.row = subst (λ (n : List ℕ). order_in office.orders n ≡ Some picked.row) key row in
+    ap lack_in in_office ∙ sym keeps.1

@@ -1,0 +1,90 @@
+-- A certificate of the problem of an office has no wagon and no order that has changed in that office.
+use Rattle.std.proofs.Common.{◌≡◌, ◌∙◌, ◌+◌, ◌<◌, ◌≤◌, ℕ, zero, suc, Bool, true, cond, List, [], ◌∷◌, ◌++◌, length, map, refl, sym, ap, subst, arith, append_assoc}
+use Rattle.std.specs.Prelude.{nat_lt, Option, None, Some, All, slice_get, slice_index}
+use Rattle.std.proofs.lemmas.Bool.Decides.{nat_tests}
+use Rattle.std.proofs.lemmas.List.Elements.{All-cons, All-head, All-nil, All-tail}
+use Rattle.std.proofs.lemmas.List.Sums.{sum_by-append, sum_by-cons}
+use Rattle.std.proofs.lemmas.Option.{slice_get_within}
+use Rattle.load_orders.specs.Wanted.{WantedOrder}
+use Rattle.line_network.specs.Network.{NetworkValue}
+use Rattle.cost_table.specs.Allowed.{IsTableOf}
+use Rattle.cost_table.specs.Plan.{serves}
+use Rattle.cost_table.specs.Table.{Table, lack_at, order_count}
+use Rattle.database_rows.specs.Rows.{order_in}
+use Rattle.operating_db.specs.Commits.{Pair, lack_in, times_of_order}
+use Rattle.operating_db.specs.Office.{Office}
+use Rattle.operating_db.specs.Problem.{problem_of}
+use Rattle.operating_db.proofs.Names.{same_self}
+use Rattle.commit_book.specs.Commits.{free_in, is_same_free, order_changed, wagon_changed, wagon_of}
+use Rattle.commit_book.specs.declared.refusal.Refusal.{Refusal}
+use Rattle.commit_book.specs.declared.refusal.Refusal.TheVariants.{OrderChanged, WagonChanged}
+use Rattle.commit_book.proofs.Placed.{ArePlaced, order_there, order_times, wagon_there}
+use Rattle.sessions.proofs.Found.{order_same, wagon_same}
+use Rattle.sessions.proofs.Offices.{IsNamedOnce, same}
+use Rattle.sessions.proofs.SameTables.{columns}
+
+none_where_true : (b : Bool) (rest : Option Refusal) (refusal : Refusal) → b ≡ true → rest ≡ None → cond b rest (Some refusal) ≡ None
+none_where_true b rest refusal h k = rw h k
+
+pub no_wagon_changed : (office : Office) (at : ℕ) → IsNamedOnce office → (pairs : List Pair) (places : List (ℕ × ℕ)) → ArePlaced (problem_of office at) pairs places → wagon_changed (problem_of office at) office pairs ≡ None
+no_wagon_changed office at once [] [] placed = refl
+no_wagon_changed office at once (pair ∷ pairs) (place ∷ places) placed =
+    let problem = problem_of office at in
+    let wagon = wagon_there problem pair.0 place.0 placed.0.wagon in
+    let test = wagon_same office at once pair.0 place.0 wagon.0 wagon.1 wagon.2 in
+    none_where_true (is_same_free (wagon_of problem pair.0) (free_in office pair.0)) (wagon_changed problem office pairs) (WagonChanged pair.0) test (no_wagon_changed office at once pairs places placed.1)
+no_wagon_changed office at once [] (place ∷ places) placed = absurd placed
+no_wagon_changed office at once (pair ∷ pairs) [] placed = absurd placed
+
+-- ---- orders
+
+-- an order lacks as many wagons as all the pairs give it
+abbrev IsWithin : Office → List Pair → Pair → Type 0
+IsWithin office all pair = times_of_order pair.1 all ≤ lack_in (order_in office.orders pair.1)
+
+index-map : {A : Type 0} (f : A → ℕ) (xs : List A) (i : ℕ) (x : A) → slice_get xs i ≡ Some x → slice_index (map f xs) i ≡ f x
+index-map f [] i x h = cc
+index-map f (y ∷ xs) zero x h = let is : y ≡ x = cc in ap f is
+index-map f (y ∷ xs) (suc i) x h = index-map f xs i x h
+
+within_by : (net : NetworkValue) (office : Office) (at : ℕ) (t : Table) → IsNamedOnce office → IsTableOf net (problem_of office at) t → (all : List Pair) (all_places : List (ℕ × ℕ)) → ArePlaced (problem_of office at) all all_places
+    → ((j : ℕ) → j < order_count t → serves j all_places ≤ lack_at t j) → (pairs : List Pair) (places : List (ℕ × ℕ)) → ArePlaced (problem_of office at) pairs places → All (IsWithin office all) pairs
+within_by net office at t once is all all_places are_all lacks [] [] placed = All-nil (IsWithin office all)
+within_by net office at t once is all all_places are_all lacks (pair ∷ pairs) (place ∷ places) placed =
+    let problem = problem_of office at in
+    let order = order_there problem pair.1 place.1 placed.0.order in
+    let count = order_times problem all all_places are_all pair.1 place.1 placed.0.order in
+    let in_problem = slice_get_within problem.orders place.1 order.0 order.1 in
+    let j : place.1 < order_count t = omega (arith, in_problem, columns net problem t is) in
+    let bound = lacks place.1 j in
+    let column : lack_at t place.1 ≡ order.0.lack = ap (λ ls. slice_index ls place.1) is.lacks ∙ index-map (λ (o : WantedOrder). o.lack) problem.orders place.1 order.0 order.1 in
+    let lack = order_same office once pair.1 place.1 order.0 order.1 order.2 in
+    All-cons (IsWithin office all) pair pairs (omega (arith, count, bound, column, lack))
+    (within_by net office at t once is all all_places are_all lacks pairs places placed.1)
+within_by net office at t once is all all_places are_all lacks [] (place ∷ places) placed = absurd placed
+within_by net office at t once is all all_places are_all lacks (pair ∷ pairs) [] placed = absurd placed
+
+-- a pair counts among all of them beside those before it
+counts : (before pairs : List Pair) (pair : Pair) → times_of_order pair.1 before < times_of_order pair.1 (before ++ pair ∷ pairs)
+counts before pairs pair =
+    let f = λ (p : Pair). cond (same pair.1 p.1) 1 0 in
+    let whole = sum_by-append f before (pair ∷ pairs) in
+    let one = sum_by-cons f pair pairs in
+    let here : ◌≡◌ {A = ℕ} (cond (same pair.1 pair.1) 1 0) 1 = ap (λ b. cond b 1 0) (same_self pair.1) in
+    omega (arith, whole, one, here)
+
+less_test : (a b : ℕ) → a < b → nat_lt a b ≡ true
+less_test a b h = grind (arith, nat_tests, h)
+
+no_order_in : (office : Office) (before pairs : List Pair) → All (IsWithin office (before ++ pairs)) pairs → order_changed office before pairs ≡ None
+no_order_in office before [] all = refl
+no_order_in office before (pair ∷ pairs) all =
+    let bound = All-head (IsWithin office (before ++ pair ∷ pairs)) pair pairs all in
+    let less : times_of_order pair.1 before < lack_in (order_in office.orders pair.1) = omega (arith, bound, counts before pairs pair) in
+    let rest = subst (λ (whole : List Pair). All (IsWithin office whole) pairs) (sym (append_assoc before (pair ∷ []) pairs)) (All-tail (IsWithin office (before ++ pair ∷ pairs)) pair pairs all) in
+    none_where_true (nat_lt (times_of_order pair.1 before) (lack_in (order_in office.orders pair.1))) (order_changed office (before ++ pair ∷ []) pairs) (OrderChanged pair.1) (less_test _ _ less)
+    (no_order_in office (before ++ pair ∷ []) pairs rest)
+
+pub no_order_changed : (net : NetworkValue) (office : Office) (at : ℕ) (t : Table) → IsNamedOnce office → IsTableOf net (problem_of office at) t → (pairs : List Pair) (places : List (ℕ × ℕ)) → ArePlaced (problem_of office at) pairs places
+    → ((j : ℕ) → j < order_count t → serves j places ≤ lack_at t j) → order_changed office [] pairs ≡ None
+no_order_changed net office at t once is pairs places placed lacks = no_order_in office [] pairs (within_by net office at t once is pairs places placed lacks pairs places placed)

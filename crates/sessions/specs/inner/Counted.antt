@@ -1,0 +1,28 @@
+-- What a call of a seat adds to its share.
+use Rattle.std.specs.Prelude.{◌≡◌, ◌≤◌, ◌+◌, ℕ, Result, Ok, Err}
+use Rattle.operating_db.specs.declared.event.Event.{Event}
+use Rattle.operating_db.specs.declared.event.Event.TheVariants as event
+use Rattle.commit_book.specs.declared.call.Call.{Call}
+use Rattle.commit_book.specs.declared.call.Call.TheVariants as call
+use Rattle.commit_book.specs.declared.refusal.Refusal.{Refusal}
+use Rattle.commit_book.specs.declared.reply.Reply.{Reply}
+use Rattle.commit_book.specs.declared.reply.Reply.TheVariants.{Accepted, Repeated}
+
+-- the book's call for an event
+abbrev pub call_of : Event → Call
+call_of (event.Message message) = call.Message message
+call_of (event.Place text) = call.Place text
+call_of (event.Withdraw id) = call.Withdraw id
+call_of (event.Commit commit) = call.Commit commit
+call_of (event.Revise network) = call.Revise network
+
+-- how many entries an answer adds
+abbrev pub accepted_in : Reply → ℕ
+accepted_in (Accepted n) = 1
+accepted_in (Repeated n) = 0
+
+-- a share counts one accepted call more, and no more than the number of its entry; any other answer leaves it
+abbrev pub IsCounted : (old new : ℕ) → Result Reply Refusal → Type 0
+IsCounted old new (Ok (Accepted n)) = (new ≡ old + 1) × (new ≤ n)
+IsCounted old new (Ok (Repeated n)) = new ≡ old
+IsCounted old new (Err refusal) = new ≡ old

@@ -1,0 +1,30 @@
+//! Why no office was closed.
+ghost use Rattle.std.specs.Prelude.{◌≡◌};
+
+use crate::{Office, Seat};
+use commit_book::Book;
+use std::sync::ledger::Ledger;
+
+/// Why an office was not closed, or a book is not what its receipts say.
+#[derive(Drop)]
+pub enum CloseFault<L: Ledger> {
+    /// Fewer seats came than the office was opened with (95). Office and seats are handed back.
+    SeatsMissing(Office<L>, Vec<Seat<L>>),
+    /// An entry of the book is not the event of a receipt (96): the seat's number and the entry's. Book and seats are
+    /// handed back.
+    ReceiptLost(u32, u64, Book, Vec<Seat<L>>),
+}
+
+impl<L: Ledger> CloseFault<L> {
+    ghost use Rattle.sessions.specs.CloseFault.{fault_number};
+
+    /// The number that stands for the fault in a reply: 95 or 96.
+    pub fn number(&self) -> u32
+        ensures { result ≡ fault_number self.now }
+    {
+        match self {
+            CloseFault::SeatsMissing(_, _) => 95,
+            CloseFault::ReceiptLost(_, _, _, _) => 96,
+        }
+    }
+}

@@ -1,0 +1,94 @@
+//! How an office is closed.
+ghost use Rattle.std.specs.Prelude.{◌≡◌, ◌≤◌, ◌↔◌, All, IfErr, IfNone, IfOk, IfSome, IsTrue, Some, length};
+ghost use Rattle.std.specs.List.{sum_by};
+ghost use Rattle.commit_book.specs.History.{entry_at};
+ghost use Rattle.sessions.specs.Closing.{HasEntries, HasEntry, IsLost};
+ghost use Rattle.sessions.specs.CloseFault.{IsHandedBack, IsMissing};
+ghost use Rattle.sessions.specs.Seat.{count_of};
+ghost use Rattle.sessions.specs.inner.Others.{IsOther};
+
+use crate::same_events::is_same_event;
+use crate::shared_book::SharedBook;
+use crate::{CloseFault, Office, Receipt, Seat};
+use commit_book::Book;
+use std::sync::ledger;
+use std::sync::ledger::{Ledger, Share};
+
+/// Closes an office, and answers its book: as many entries as all seats have receipts, and each receipt's event is the
+/// entry of its number. An office has as many seats as its ledger has parts.
+///
+/// The first of these is answered: `SeatsMissing` (95), exactly where fewer seats come than the office was opened with;
+/// office and seats are handed back. `ReceiptLost` (96), only where the entry of a receipt is not its event; book and seats
+/// are handed back. Takes no memory, and waits for nobody.
+pub fn close<L: Ledger>(
+    office: Office<L>,
+    seats: Vec<Seat<L>>,
+) -> Result<Book, CloseFault<L>>
+    requires { office.seats ≡ L.parts }
+    ensures counts { IfOk result (λ book. length book.state.history ≡ sum_by count_of seats.items) }
+    ensures receipts { IfOk result (λ book. All (HasEntries book.state.history) seats.items) }
+    ensures fault { IfErr result (IsHandedBack office seats) }
+    ensures missing { IsMissing result office seats.items }
+{
+    if seats.len() < office.seats as usize {
+        return Err(CloseFault::SeatsMissing(office, seats));
+    }
+    let Office { book, seats: _ } = office;
+    let SharedBook { book, total, rest } = book.into_inner();
+    if let Some((number, entry)) = first_lost(&book, &seats) {
+        return Err(CloseFault::ReceiptLost(number, entry, book, seats));
+    }
+    audit_all(total, rest, seats);
+    Ok(book)
+}
+
+/// The first receipt whose event is not the entry of its number: its seat's number, and the entry's.
+fn first_lost<L: Ledger>(book: &Book, seats: &[Seat<L>]) -> Option<(u32, u64)>
+    ensures none { IfNone result (All (HasEntries book.now.state.history) seats.now) }
+    ensures some { IfSome result (λ lost. IsLost book.now.state.history seats.now lost.0 lost.1) }
+{
+    for seat in seats {
+        if let Some(entry) = first_other(book, seat.receipts()) {
+            return Some((seat.number(), entry));
+        }
+    }
+    None
+}
+
+/// The number of the first receipt whose event is not the entry of that number.
+fn first_other(book: &Book, receipts: &[Receipt]) -> Option<u64>
+    ensures none { IfNone result (All (HasEntry book.now.state.history) receipts.now) }
+    ensures some { IfSome result (IsOther book.now.state.history receipts.now) }
+{
+    for receipt in receipts {
+        if !has_entry(book, receipt) {
+            return Some(receipt.entry);
+        }
+    }
+    None
+}
+
+/// Whether the event of a receipt is the entry of its number.
+fn has_entry(book: &Book, receipt: &Receipt) -> bool
+    ensures { IsTrue result ↔ HasEntry book.now.state.history receipt.now }
+{
+    match book.entry(receipt.entry) {
+        Some(event) => is_same_event(event, &receipt.event),
+        None => false,
+    }
+}
+
+/// Merges the shares of all seats, and holds them against the total.
+fn audit_all<L: Ledger>(total: ledger::Book<L>, rest: Share<L>, seats: Vec<Seat<L>>)
+    requires none { rest.parts ≡ 0 }
+    requires all { L.parts ≤ length seats.items }
+    ensures { total.total ≡ sum_by count_of seats.items }
+{
+    let mut total = total;
+    let mut all = rest;
+    total.audit(&mut all);
+    for seat in seats {
+        all.merge(seat.into_share());
+    }
+    total.audit(&mut all);
+}

@@ -1,0 +1,27 @@
+//! Sessions: several callers, each with a seat of its own, at one book behind one lock; and the work of a planner, which
+//! takes no lock.
+#![tactic(auto)]
+
+mod close_fault;
+mod closing;
+mod laws;
+mod office;
+mod open_fault;
+mod opening;
+mod plan_fault;
+mod planning;
+mod receipt;
+mod same_events;
+mod seat;
+mod shared_book;
+
+pub use close_fault::CloseFault;
+pub use closing::close;
+pub use laws::{a_plan_for_the_present_is_accepted, receipts_are_the_history};
+pub use office::Office;
+pub use open_fault::OpenFault;
+pub use opening::{MAX_SEATS, open};
+pub use plan_fault::PlanFault;
+pub use planning::work;
+pub use receipt::Receipt;
+pub use seat::Seat;

@@ -1,0 +1,154 @@
+//! The office: one lock round the book that several seats share.
+ghost use Rattle.std.specs.Prelude.{◌≡◌, ◌≤◌, ◌<◌, IfOk, vec_len, vec_capacity};
+ghost use Rattle.operating_db.specs.declared.event.Event.TheVariants as event;
+ghost use Rattle.sessions.specs.Seat.{IsAnswered, count_of, noted};
+
+use crate::shared_book::SharedBook;
+use crate::{Receipt, Seat};
+use commit_book::{Refusal, Reply, Snap};
+use move_messages::{CommitText, Message, OrderText};
+use operating_db::Event;
+use rail_codes::{Moment, OrderId};
+use std::alloc::{AllocError, Global};
+use std::marker::Model;
+use std::sync::ledger::Ledger;
+use std::sync::{Mutex, Wait};
+
+/// A book that several seats share. A contract sees how many seats it was opened with.
+///
+/// Each call of a seat takes the lock, makes one call of the book, and lets go; so each call may wait for others. What a
+/// call does to the book is what the book's own call of that name does. (This is no `OfficeState`, which is the office that
+/// a book's entries lead to.)
+#[derive(Drop)]
+pub struct Office<L: Ledger> {
+    pub(crate) book: Mutex<SharedBook<L>>,
+    pub(crate) seats: u32,
+}
+
+impl<L: Ledger> Model for Office<L> {
+    ghost use Rattle.sessions.specs.Seat.{OfficeValue};
+
+    ghost Value = { OfficeValue };
+
+    ghost view = { λ office. record { seats = office.seats } };
+}
+
+impl<L: Ledger> Office<L> {
+    /// Sends a movement message. One that is accepted gives the seat a receipt; one that is an entry already is answered
+    /// with `Repeated` and gives none. Refused, with book and seat unchanged: as `Book::message` refuses it; `OutOfMemory`
+    /// (1), which may come in place of any answer. May wait.
+    pub fn send(
+        &self,
+        rt: &impl Wait,
+        alloc: Global,
+        seat: &mut Seat<L>,
+        message: &Message,
+    ) -> Result<Reply, Refusal>
+        ensures { IsAnswered seat.old seat.new (event.Message message.now) result }
+    {
+        self.enter(rt, alloc, seat, Event::Message(*message))
+    }
+
+    /// Places an order. One that is accepted gives the seat a receipt. Refused, with book and seat unchanged: as
+    /// `Book::place` refuses it; `OutOfMemory` (1), which may come in place of any answer. May wait.
+    pub fn place(
+        &self,
+        rt: &impl Wait,
+        alloc: Global,
+        seat: &mut Seat<L>,
+        text: &OrderText,
+    ) -> Result<Reply, Refusal>
+        ensures { IsAnswered seat.old seat.new (event.Place text.now) result }
+    {
+        self.enter(rt, alloc, seat, Event::Place(*text))
+    }
+
+    /// Withdraws an order. A withdrawal that is accepted gives the seat a receipt. Refused, with book and seat unchanged:
+    /// as `Book::withdraw` refuses it; `OutOfMemory` (1), which may come in place of any answer. May wait.
+    pub fn withdraw(
+        &self,
+        rt: &impl Wait,
+        alloc: Global,
+        seat: &mut Seat<L>,
+        id: OrderId,
+    ) -> Result<Reply, Refusal>
+        ensures { IsAnswered seat.old seat.new (event.Withdraw id) result }
+    {
+        self.enter(rt, alloc, seat, Event::Withdraw(id))
+    }
+
+    /// Puts the network of this number, counted from 1, in force. A revision that is accepted gives the seat a receipt.
+    /// Refused, with book and seat unchanged: as `Book::revise` refuses it; `OutOfMemory` (1), which may come in place of
+    /// any answer. May wait.
+    pub fn revise(
+        &self,
+        rt: &impl Wait,
+        alloc: Global,
+        seat: &mut Seat<L>,
+        network: u32,
+    ) -> Result<Reply, Refusal>
+        ensures { IsAnswered seat.old seat.new (event.Revise network) result }
+    {
+        self.enter(rt, alloc, seat, Event::Revise(network))
+    }
+
+    /// Promises the pairs of a commit. One that is accepted gives the seat a receipt. Refused, with book and seat
+    /// unchanged: as `Book::commit` refuses it; `OutOfMemory` (1), which may come in place of any answer. May wait.
+    pub fn commit(
+        &self,
+        rt: &impl Wait,
+        alloc: Global,
+        seat: &mut Seat<L>,
+        commit: &CommitText,
+    ) -> Result<Reply, Refusal>
+        ensures { IsAnswered seat.old seat.new (event.Commit commit.now) result }
+    {
+        let commit = commit.copy(alloc)?;
+        self.enter(rt, alloc, seat, Event::Commit(commit))
+    }
+
+    /// The problem of the book's present version at a moment, which the book keeps so that a commit may name it. The
+    /// version is at least the seat's count. The seat stays as it was. `Err` only when out of memory. May wait.
+    pub fn begin(
+        &self,
+        rt: &impl Wait,
+        alloc: Global,
+        seat: &mut Seat<L>,
+        at: Moment,
+    ) -> Result<Snap, AllocError>
+        ensures version { IfOk result (λ snap. count_of seat.old ≤ snap.version) }
+        ensures moment { IfOk result (λ snap. snap.problem.at ≡ at) }
+        ensures seat { seat.new ≡ seat.old }
+    {
+        self.book.lock(rt).begin(alloc, &mut seat.share, at)
+    }
+
+    /// Makes a seat's call: first the receipt's memory, then the book's call while the lock is held, then the receipt.
+    fn enter(
+        &self,
+        rt: &impl Wait,
+        alloc: Global,
+        seat: &mut Seat<L>,
+        event: Event,
+    ) -> Result<Reply, Refusal>
+        ensures { IsAnswered seat.old seat.new event result }
+    {
+        seat.receipts.reserve(1)?;
+        let reply = match self.book.lock(rt).enter(alloc, &mut seat.share, &event) {
+            Ok(reply) => reply,
+            Err(refusal) => return Err(refusal),
+        };
+        note(&mut seat.receipts, reply, event);
+        Ok(reply)
+    }
+}
+
+/// Puts the receipt of an accepted event behind the others; any other answer gives none.
+fn note(receipts: &mut Vec<Receipt>, reply: Reply, event: Event)
+    requires { vec_len receipts.old < vec_capacity receipts.old }
+    ensures { receipts.new.items ≡ noted receipts.old.items event reply }
+{
+    if let Reply::Accepted(entry) = reply {
+        receipts.push_reserved(Receipt { entry, event });
+    }
+}

@@ -1,0 +1,59 @@
+//! How an office is opened.
+ghost use Rattle.std.specs.Prelude.{◌≡◌, ◌≤◌, ◌<◌, [], IfErr, IfOk, vec_len, vec_capacity};
+ghost use Rattle.sessions.specs.Seat.{IsSeatCount, new_seats};
+
+use crate::shared_book::SharedBook;
+use crate::{Office, OpenFault, Seat};
+use commit_book::Book;
+use std::alloc::Global;
+use std::sync::Mutex;
+use std::sync::ledger::{Blank, Ledger, Share};
+
+/// The most seats.
+pub const MAX_SEATS: u32 = 64;
+
+/// Opens an office over a book without entries, with so many seats, 1 to 64, numbered from 1. The blank is that of the
+/// ledger `L`, made with one part for each seat. Where memory is refused, blank and book are handed back.
+pub fn open<L: Ledger>(
+    alloc: Global,
+    blank: Blank,
+    book: Book,
+    count: u32,
+) -> Result<(Office<L>, Vec<Seat<L>>), OpenFault>
+    requires ledger { blank.name ≡ L.name }
+    requires parts { blank.parts ≡ L.parts }
+    requires one_each { blank.parts ≡ count }
+    requires count { IsSeatCount count }
+    requires no_entry { book.state.history ≡ [] }
+    ensures office { IfOk result (λ opened. opened.0.seats ≡ count) }
+    ensures seats { IfOk result (λ opened. opened.1.items ≡ new_seats count) }
+    ensures handed_back { IfErr result (λ fault. (fault.blank ≡ blank) × (fault.book ≡ book)) }
+{
+    let Ok(mut seats) = Vec::with_capacity(alloc, count as usize) else {
+        return Err(OpenFault { blank, book });
+    };
+    let (total, mut rest) = blank.open::<L>();
+    seat_all(alloc, &mut seats, &mut rest, count);
+    let book = Mutex::new(SharedBook { book, total, rest });
+    Ok((Office { book, seats: count }, seats))
+}
+
+/// Makes the seats, each with a part of a share.
+fn seat_all<L: Ledger>(
+    alloc: Global,
+    seats: &mut Vec<Seat<L>>,
+    rest: &mut Share<L>,
+    count: u32,
+)
+    requires none { seats.old.items ≡ [] }
+    requires room { count ≤ vec_capacity seats.old }
+    requires parts { rest.old.parts ≡ count }
+    requires amount { rest.old.amount ≡ 0 }
+    ensures seats { seats.new.items ≡ new_seats count }
+    ensures parts { rest.new.parts ≡ 0 }
+{
+    for number in 0..count {
+        let share = rest.split_off(1, 0);
+        seats.push_reserved(Seat::new(alloc, number + 1, share));
+    }
+}

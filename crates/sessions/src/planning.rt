@@ -1,0 +1,31 @@
+//! A planner's work: from a snapshot to a plan and its prices.
+ghost use Rattle.std.specs.Prelude.{◌↔◌, IfOk, IsErrOf};
+ghost use Rattle.sessions.specs.Planning.{IsPlanned, IsUnknownNetwork};
+
+use crate::PlanFault;
+use assignment::plan;
+use commit_book::Snap;
+use cost_table::{Plan, cells};
+use distance_tables::Networks;
+use price_checker::Prices;
+use std::alloc::Global;
+
+/// A plan of the snapshot's problem at the lowest total cost over the network of its version, and prices in kilometres that
+/// are a certificate of it. It takes no lock and waits for nobody.
+///
+/// The first of these is answered: `UnknownNetwork` (79), exactly where the snapshot's network is none of these;
+/// `OutOfMemory` (1).
+pub fn work(
+    alloc: Global,
+    snap: &Snap,
+    networks: &Networks,
+) -> Result<(Plan, Prices), PlanFault>
+    ensures planned { IfOk result (λ r. IsPlanned networks.now snap.now r.0 r.1.u.items r.1.v.items) }
+    ensures network { IsErrOf result PlanFault.UnknownNetwork ↔ IsUnknownNetwork networks.now snap.now.network }
+{
+    let Some(tables) = networks.get(snap.network()) else {
+        return Err(PlanFault::UnknownNetwork);
+    };
+    let cells = cells(alloc, snap.problem(), tables)?;
+    Ok(plan(alloc, &cells)?)
+}

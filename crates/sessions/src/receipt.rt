@@ -1,0 +1,12 @@
+//! Receipts.
+
+use operating_db::Event;
+
+/// That a call of a seat was accepted: the number of its entry, counted from 1, and the event.
+#[derive(Debug, Drop, PartialEq, Eq)]
+pub struct Receipt {
+    /// The number of the entry.
+    pub entry: u64,
+    /// The event.
+    pub event: Event,
+}

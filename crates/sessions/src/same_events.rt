@@ -1,0 +1,102 @@
+//! Events compared.
+ghost use Rattle.std.specs.Prelude.{◌≡◌, ◌↔◌, IsTrue};
+
+use move_messages::{Classes, CommitText, Message, MessageKind, OrderText, Pairs, PriceList};
+use operating_db::Event;
+use rail_codes::{MessageId, OrderId};
+
+/// Whether two events are one.
+pub(crate) fn is_same_event(one: &Event, other: &Event) -> bool
+    ensures { IsTrue result ↔ (one.now ≡ other.now) }
+{
+    match one {
+        Event::Message(message) => match other {
+            Event::Message(its_message) => is_same_message(message, its_message),
+            _ => false,
+        },
+        Event::Place(text) => match other {
+            Event::Place(its_text) => is_same_order(text, its_text),
+            _ => false,
+        },
+        Event::Withdraw(id) => match other {
+            Event::Withdraw(its_id) => is_same_id(*id, *its_id),
+            _ => false,
+        },
+        Event::Commit(commit) => match other {
+            Event::Commit(its_commit) => is_same_commit(commit, its_commit),
+            _ => false,
+        },
+        Event::Revise(network) => match other {
+            Event::Revise(its_network) => network == its_network,
+            _ => false,
+        },
+    }
+}
+
+fn is_same_message(one: &Message, other: &Message) -> bool
+    ensures { IsTrue result ↔ (one.now ≡ other.now) }
+{
+    is_same_message_id(one.id, other.id)
+        && is_same_kind(one.kind, other.kind)
+        && one.wagon == other.wagon
+        && one.place == other.place
+        && one.moment == other.moment
+}
+
+fn is_same_message_id(one: MessageId, other: MessageId) -> bool
+    ensures { IsTrue result ↔ (one ≡ other) }
+{
+    one == other
+}
+
+fn is_same_kind(one: MessageKind, other: MessageKind) -> bool
+    ensures { IsTrue result ↔ (one ≡ other) }
+{
+    one == other
+}
+
+fn is_same_order(one: &OrderText, other: &OrderText) -> bool
+    ensures { IsTrue result ↔ (one.now ≡ other.now) }
+{
+    one.id() == other.id()
+        && one.place() == other.place()
+        && are_same_classes(one.classes(), other.classes())
+        && one.load() == other.load()
+        && one.latest() == other.latest()
+        && one.penalty() == other.penalty()
+        && one.wagons() == other.wagons()
+}
+
+fn are_same_classes(one: &Classes, other: &Classes) -> bool
+    ensures { IsTrue result ↔ (one.now ≡ other.now) }
+{
+    *one == *other
+}
+
+fn is_same_id(one: OrderId, other: OrderId) -> bool
+    ensures { IsTrue result ↔ (one ≡ other) }
+{
+    one == other
+}
+
+fn is_same_commit(one: &CommitText, other: &CommitText) -> bool
+    ensures { IsTrue result ↔ (one.now ≡ other.now) }
+{
+    one.version == other.version
+        && one.at == other.at
+        && are_same_pairs(&one.pairs, &other.pairs)
+        && are_same_prices(&one.u, &other.u)
+        && are_same_prices(&one.v, &other.v)
+}
+
+fn are_same_pairs(one: &Pairs, other: &Pairs) -> bool
+    ensures { IsTrue result ↔ (one.now ≡ other.now) }
+{
+    *one == *other
+}
+
+fn are_same_prices(one: &PriceList, other: &PriceList) -> bool
+    ensures { IsTrue result ↔ (one.now ≡ other.now) }
+{
+    *one == *other
+}

@@ -1,0 +1,104 @@
+//! The book behind the lock.
+ghost use Rattle.std.specs.Prelude.{◌≡◌, ◌≤◌, ◌<◌, ◌+◌, IfOk, length};
+ghost use Rattle.commit_book.specs.BookStep.{IsCall, answer_of, begun_of};
+ghost use Rattle.commit_book.specs.Snap.{snap_of};
+ghost use Rattle.commit_book.specs.declared.call.Call.TheVariants as call;
+ghost use Rattle.sessions.specs.inner.Counted.{IsCounted, accepted_in, call_of};
+
+use commit_book::{Book, Refusal, Reply, Snap};
+use operating_db::Event;
+use rail_codes::Moment;
+use std::alloc::{AllocError, Global};
+use std::sync::ledger;
+use std::sync::ledger::{Ledger, Share};
+
+/// What stands behind the lock: a book, and the total of the ledger whose shares the seats have. The total is the number of
+/// the book's entries, so the counts of all seats add up to it whenever the lock is taken. (This is no `OfficeState`, which
+/// is the office that a book's entries lead to.)
+#[derive(Drop)]
+pub(crate) struct SharedBook<L: Ledger> {
+    pub(crate) book: Book,
+    pub(crate) total: ledger::Book<L>,
+    /// A share that has no part, into which those of the seats are merged when the office closes.
+    pub(crate) rest: Share<L>,
+    ghost counted: { length book.state.history ≡ total.total },
+    ghost no_part: { rest.parts ≡ 0 },
+}
+
+impl<L: Ledger> SharedBook<L> {
+    /// Lets an event of a seat be taken in by the book, and counts it on the seat's share if it was accepted.
+    pub(crate) fn enter(
+        &mut self,
+        alloc: Global,
+        share: &mut Share<L>,
+        event: &Event,
+    ) -> Result<Reply, Refusal>
+        requires { 0 < share.old.parts }
+        ensures call { IsCall self.old.book.setting self.old.book.state (call_of event.now) (answer_of result) self.new.book.state }
+        ensures counted { IsCounted share.old.amount share.new.amount result }
+        ensures parts { share.new.parts ≡ share.old.parts }
+    {
+        let SharedBook {
+            book,
+            total,
+            rest: _,
+        } = self;
+        let reply = match take_in(book, alloc, event) {
+            Ok(reply) => reply,
+            Err(refusal) => return Err(refusal),
+        };
+        count(total, share, reply);
+        Ok(reply)
+    }
+
+    /// The problem of the book's present version at a moment, which the book keeps. The seat's count is at most the
+    /// version.
+    pub(crate) fn begin(
+        &mut self,
+        alloc: Global,
+        share: &mut Share<L>,
+        at: Moment,
+    ) -> Result<Snap, AllocError>
+        ensures call { IsCall self.old.book.setting self.old.book.state (call.Begin at) (begun_of result) self.new.book.state }
+        ensures snap { IfOk result (λ snap. snap ≡ snap_of self.old.book.setting self.old.book.state.history at) }
+        ensures version { IfOk result (λ snap. share.old.amount ≤ snap.version) }
+        ensures amount { share.new.amount ≡ share.old.amount }
+        ensures parts { share.new.parts ≡ share.old.parts }
+    {
+        let SharedBook {
+            book,
+            total,
+            rest: _,
+        } = self;
+        total.audit(share);
+        book.begin(alloc, at)
+    }
+}
+
+/// The book's call for an event.
+fn take_in(book: &mut Book, alloc: Global, event: &Event) -> Result<Reply, Refusal>
+    ensures call { IsCall book.old.setting book.old.state (call_of event.now) (answer_of result) book.new.state }
+    ensures setting { book.new.setting ≡ book.old.setting }
+{
+    match event {
+        Event::Message(message) => book.message(alloc, message),
+        Event::Place(text) => book.place(alloc, text),
+        Event::Withdraw(id) => book.withdraw(alloc, *id),
+        Event::Commit(commit) => book.commit(alloc, commit),
+        Event::Revise(network) => book.revise(alloc, *network),
+    }
+}
+
+/// Counts an accepted call on a share.
+fn count<L: Ledger>(total: &mut ledger::Book<L>, share: &mut Share<L>, reply: Reply)
+    requires { 0 < share.old.parts }
+    ensures total { total.new.total ≡ total.old.total + accepted_in reply }
+    ensures amount { share.new.amount ≡ share.old.amount + accepted_in reply }
+    ensures parts { share.new.parts ≡ share.old.parts }
+    ensures bound { share.new.amount ≤ total.new.total }
+{
+    if let Reply::Accepted(_) = reply {
+        total.add(share, 1);
+    }
+    total.audit(share);
+}
