@@ -62,6 +62,16 @@ pub(crate) struct FeedLines<'a, W: Wait, L: Ledger> {
     pub(crate) networks: &'a Networks,
 }
 
+impl<'a, W: Wait, L: Ledger> Drop for FeedLines<'a, W, L> {
+    fn drop(self) {
+        let FeedLines {
+            rt: _,
+            office: _,
+            networks: _,
+        } = self;
+    }
+}
+
 impl<'a, W: Wait, L: Ledger> FeedLines<'a, W, L> {
     /// Does at a seat what a command asks for.
     fn take_in(&self, alloc: Global, seat: &mut Seat<L>, command: &Command) -> Counted

@@ -2,14 +2,17 @@
 #![tactic(auto)]
 
 mod command_lines;
+mod fed_file;
 mod feed_fault;
 mod feed_lines;
 mod feed_report;
+mod feeding;
 mod table_checker;
 
 pub use command_lines::{CommandLines, run};
 pub use feed_fault::FeedFault;
 pub use feed_report::{FeedReport, FileCount, report_text};
+pub use feeding::{MAX_FILES, feed};
 pub use line_engine::{
     DeviceFailed, FromRead, MAX_INPUT_LINES, MAX_LINE_BYTES, RunCount, RunFault, Sink, Source,
     ToWrite,
