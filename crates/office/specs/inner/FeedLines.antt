@@ -1,8 +1,6 @@
 -- How a file's lines change what is counted of the file.
-use Rattle.std.specs.Prelude.{◌≡◌, ◌+◌, ◌<◌, ◌≤◌, ◌^◌, ℕ, Bool, true, false, List, Result, Ok, Err}
-use Rattle.json_fields.specs.declared.fault.LineFault.{LineFault}
+use Rattle.std.specs.Prelude.{◌≡◌, ◌+◌, ◌<◌, ◌≤◌, ◌^◌, ℕ, true, List, Result, Ok, Err}
 use Rattle.move_messages.specs.Commands.{command_of}
-use Rattle.move_messages.specs.declared.command.Command.{Command}
 use Rattle.commit_book.specs.declared.refusal.Refusal.{Refusal}
 use Rattle.commit_book.specs.declared.reply.Reply.{Reply}
 use Rattle.commit_book.specs.declared.reply.Reply.TheVariants as reply
