@@ -1,2 +1,5 @@
+pub mod FeedTallies
+pub mod Handles
 pub mod Histories
+pub mod NewSeats
 pub mod Plans

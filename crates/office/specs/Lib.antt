@@ -1,2 +1,6 @@
 pub mod CommandReplies
+pub mod FeedCounts
+pub mod FeedFault
 pub mod Replies
+pub mod ReportText
+pub mod inner

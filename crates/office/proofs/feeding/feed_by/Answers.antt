@@ -1,0 +1,11 @@
+use Rattle.std.proofs.Common.{ap, arith, length}
+use Rattle.office.proofs.NewSeats.{length-new_seats, without_receipt}
+use Rattle.office.proofs.feeding.feed_by.Goals as goal
+
+pub fed_in_threads-requires-clause-new : goal.fed_in_threads-requires-clause-new
+fed_in_threads-requires-clause-new g c κs within = rw c.in-Ok-open.ensures.seats (without_receipt c.len-count.result)
+
+pub fed_in_threads-requires-clause-one_each : goal.fed_in_threads-requires-clause-one_each
+fed_in_threads-requires-clause-one_each g c κs within =
+    let seats = c.in-Ok-open.seats in
+    omega (arith, ap length c.in-Ok-open.ensures.seats, length-new_seats c.len-count.result, seats.ok.0, c.len-count.ensures)

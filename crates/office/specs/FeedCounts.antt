@@ -1,0 +1,53 @@
+-- What is counted of a file that was fed to a book.
+use Rattle.std.specs.Prelude.{◌≡◌, ◌+◌, ◌<◌, ◌≤◌, ◌&&◌, ◌⊎◌, not, ℕ, Bool, true, false, List, Any, Option, Some, None, Result, Ok, Err, IfSome, length}
+use Rattle.std.specs.List.{count_by}
+use Rattle.json_fields.specs.declared.fault.LineFault.{LineFault}
+use Rattle.line_engine.specs.Lines.{is_blank, lines_of, max_input_lines, max_line_bytes}
+use Rattle.move_messages.specs.Commands.{command_of}
+use Rattle.move_messages.specs.declared.command.Command.{Command}
+use Rattle.move_messages.specs.declared.command.Command.TheVariants as command
+use Rattle.office.specs.declared.feed_report.FileCount.{FileCount}
+
+-- the most files
+abbrev pub max_files : ℕ
+max_files = 16
+
+-- whether a line that is read so must be counted: any but a begin and a sheet
+abbrev pub is_counted : Result Command LineFault → Bool
+is_counted (Ok (command.Begin at)) = false
+is_counted (Ok command.Sheet) = false
+is_counted (Ok (command.Message message)) = true
+is_counted (Ok (command.Place text)) = true
+is_counted (Ok (command.Withdraw id)) = true
+is_counted (Ok (command.Plan at)) = true
+is_counted (Ok (command.Commit commit)) = true
+is_counted (Ok (command.Revise network)) = true
+is_counted (Err fault) = true
+
+-- a line that is neither blank nor a begin nor a sheet
+abbrev pub must_count : List ℕ → Bool
+must_count line = not (is_blank line) && is_counted (command_of line)
+
+-- a line that isn't blank
+abbrev pub may_count : List ℕ → Bool
+may_count line = not (is_blank line)
+
+-- the numbers that stop a file: its memory, too many lines, a line too long, its reader
+abbrev pub IsStopNumber : ℕ → Type 0
+IsStopNumber code = (code ≡ 1) ⊎ ((code ≡ 91) ⊎ ((code ≡ 92) ⊎ (code ≡ 93)))
+
+-- What holds of a file's run over the bytes that its reader tells, if it does: how many lines were counted, what stopped
+-- it, and whether the reader has failed by then.
+pub record IsFileRun (told : Option (List ℕ)) (tally : ℕ) (failed : Option ℕ) (has_failed : Bool) : Type 0 where
+  -- a file that was read to its end: each line counts that must, and none but those that may
+  pub all : (bytes : List ℕ) → told ≡ Some bytes → failed ≡ None → count_by must_count (lines_of bytes) ≤ tally
+  pub only : (bytes : List ℕ) → told ≡ Some bytes → failed ≡ None → tally ≤ count_by may_count (lines_of bytes)
+  pub number : IfSome failed IsStopNumber
+  pub too_many : (bytes : List ℕ) → told ≡ Some bytes → failed ≡ Some 91 → max_input_lines < length (lines_of bytes)
+  pub too_long : (bytes : List ℕ) → told ≡ Some bytes → failed ≡ Some 92 → Any (λ line. max_line_bytes < length line) (lines_of bytes)
+  pub unread : failed ≡ Some 93 → has_failed ≡ true
+
+-- the run of a file over this reader, where readers tell their bytes and their failures so
+abbrev pub IsFed : {R : Type 0} → (R → Option (List ℕ)) → (R → Bool) → R → FileCount R → Type 0
+IsFed remaining has_failed reader file =
+    IsFileRun (remaining reader) (file.accepted + file.repeated + file.refused) file.failed (has_failed file.reader)

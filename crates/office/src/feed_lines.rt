@@ -1,0 +1,160 @@
+//! What a file's lines do at the file's seat.
+ghost use Rattle.std.specs.Prelude.{◌≡◌, ◌≢◌, None, Ok, Some, false};
+ghost use Rattle.sessions.specs.Seat.{count_of};
+ghost use Rattle.office.specs.FeedCounts.{is_counted};
+ghost use Rattle.office.specs.inner.FeedLines.{AddsCounted, CountsLine, IsAnsweredAs, counted_by, tally};
+
+use commit_book::{Refusal, Reply, Snap};
+use distance_tables::Networks;
+use line_engine::{DeviceFailed, Handler, Outcome, ReplyText, Sink};
+use move_messages::{Command, CommitText, read_line};
+use rail_codes::Moment;
+use sessions::{Office, Seat, work};
+use std::alloc::{AllocError, Global};
+use std::sync::Wait;
+use std::sync::ledger::Ledger;
+
+/// A file's seat, and how many of its lines were answered without an entry.
+#[derive(Drop)]
+pub(crate) struct FileSeat<L: Ledger> {
+    pub(crate) seat: Seat<L>,
+    pub(crate) repeated: u64,
+    pub(crate) refused: u64,
+}
+
+/// What a line counts as.
+#[derive(Clone, Copy, Debug, PartialEq, Eq)]
+pub(crate) enum Counted {
+    Accepted,
+    Repeated,
+    Refused,
+    Nowhere,
+}
+
+impl<L: Ledger> FileSeat<L> {
+    /// Counts a line. One that is accepted is on the seat's own count.
+    fn count(&mut self, counted: Counted)
+        ensures { AddsCounted counted (tally self.old) (tally self.new) }
+    {
+        match counted {
+            Counted::Repeated => self.repeated = self.repeated.saturating_add(1),
+            Counted::Refused => self.refused = self.refused.saturating_add(1),
+            Counted::Accepted | Counted::Nowhere => {}
+        }
+    }
+}
+
+/// What an answer to an event counts as.
+fn counted_as(answer: Result<Reply, Refusal>) -> Counted
+    ensures { result ≡ counted_by answer }
+{
+    match answer {
+        Ok(Reply::Accepted(_)) => Counted::Accepted,
+        Ok(Reply::Repeated(_)) => Counted::Repeated,
+        Err(_) => Counted::Refused,
+    }
+}
+
+/// Brings the lines of a file to an office that several files share. It gives no replies.
+pub(crate) struct FeedLines<'a, W: Wait, L: Ledger> {
+    pub(crate) rt: &'a W,
+    pub(crate) office: &'a Office<L>,
+    pub(crate) networks: &'a Networks,
+}
+
+impl<'a, W: Wait, L: Ledger> Drop for FeedLines<'a, W, L> {
+    fn drop(self) {
+        let FeedLines {
+            rt: _,
+            office: _,
+            networks: _,
+        } = self;
+    }
+}
+
+impl<'a, W: Wait, L: Ledger> FeedLines<'a, W, L> {
+    /// Does at a seat what a command asks for.
+    fn take_in(&self, alloc: Global, seat: &mut Seat<L>, command: &Command) -> Counted
+        ensures seat { IsAnsweredAs (count_of seat.old) (count_of seat.new) result }
+        ensures nowhere { result ≡ Counted.Nowhere → is_counted (Ok command.now) ≡ false }
+    {
+        let (rt, office) = (self.rt, self.office);
+        match command {
+            Command::Message(message) => counted_as(office.send(rt, alloc, seat, message)),
+            Command::Place(text) => counted_as(office.place(rt, alloc, seat, text)),
+            Command::Withdraw(id) => counted_as(office.withdraw(rt, alloc, seat, *id)),
+            Command::Revise(network) => counted_as(office.revise(rt, alloc, seat, *network)),
+            Command::Commit(commit) => counted_as(office.commit(rt, alloc, seat, commit)),
+            Command::Begin(at) => match office.begin(rt, alloc, seat, *at) {
+                Ok(_) => Counted::Nowhere,
+                Err(_) => Counted::Refused,
+            },
+            Command::Plan(at) => self.plan(alloc, seat, *at),
+            Command::Sheet => Counted::Nowhere,
+        }
+    }
+
+    /// Begins at a moment, plans with no lock held, and commits what was planned. It counts as the commit's answer, or as
+    /// refused where the begin or the planning was.
+    fn plan(&self, alloc: Global, seat: &mut Seat<L>, at: Moment) -> Counted
+        ensures seat { IsAnsweredAs (count_of seat.old) (count_of seat.new) result }
+        ensures somewhere { result ≢ Counted.Nowhere }
+    {
+        let Ok(snap) = self.office.begin(self.rt, alloc, seat, at) else {
+            return Counted::Refused;
+        };
+        match planned_commit(alloc, &snap, self.networks) {
+            Some(commit) => counted_as(self.office.commit(self.rt, alloc, seat, &commit)),
+            None => Counted::Refused,
+        }
+    }
+}
+
+/// The commit of what is planned for a snapshot; none where planning is refused.
+fn planned_commit(alloc: Global, snap: &Snap, networks: &Networks) -> Option<CommitText> {
+    match work(alloc, snap, networks) {
+        Ok((plan, prices)) => snap.commit_text(alloc, &plan, &prices).ok(),
+        Err(_) => None,
+    }
+}
+
+impl<'a, W: Wait, L: Ledger> Handler for FeedLines<'a, W, L> {
+    type State = FileSeat<L>;
+
+    ghost answers = { λ old line _ _ new. CountsLine (tally old) line (tally new) };
+
+    ghost runs_out = { λ _ _ _. ⊥ };
+
+    fn answer(
+        &self,
+        alloc: Global,
+        file: &mut FileSeat<L>,
+        line: &[u8],
+        _reply: &mut ReplyText,
+    ) -> Result<Outcome, AllocError> {
+        let counted = match read_line(alloc, line) {
+            Ok(command) => self.take_in(alloc, &mut file.seat, &command),
+            Err(_) => Counted::Refused,
+        };
+        file.count(counted);
+        Ok(Outcome::Answered)
+    }
+}
+
+/// Where replies go that nobody reads.
+#[derive(Drop)]
+pub(crate) struct NoReplies;
+
+impl Sink for NoReplies {
+    ghost contents = { λ _. None };
+
+    ghost has_failed = { λ _. false };
+
+    fn write(&mut self, piece: &[u8]) -> Result<usize, DeviceFailed> {
+        Ok(piece.len())
+    }
+
+    fn failed(&self) -> bool {
+        false
+    }
+}
