@@ -1,7 +1,7 @@
 //! The command line: its words, and the faults of arguments.
 
 use crate::help;
-use crate::office_options::{OfficeOptions, with_office_options};
+use crate::office_options::{FeedOptions, OfficeOptions, with_files, with_office_options};
 use clap::error::ErrorKind;
 use clap::{Command, Error};
 use std::alloc::{AllocError, Global};
@@ -17,16 +17,21 @@ pub enum Word<'a> {
     Check,
     /// Bring the command lines of standard input to an office.
     Run(OfficeOptions<'a>),
+    /// Bring the command lines of files to an office, all at once.
+    Feed(FeedOptions<'a>),
 }
 
 /// What the words ask for, the program's name first; without a word it is `Check`. Else the error is a request for help
 /// or the version, a fault of the arguments in clap's own text, or out of memory.
 pub fn read_words<'a, S: AsStr>(alloc: Global, words: &'a [S]) -> Result<Word<'a>, Error> {
     let matches = command_line(alloc)?.try_get_matches_from(words)?;
-    match matches.subcommand_matches("run") {
-        Some(options) => Ok(Word::Run(OfficeOptions::read(alloc, options)?)),
-        None => Ok(Word::Check),
+    if let Some(options) = matches.subcommand_matches("run") {
+        return Ok(Word::Run(OfficeOptions::read(alloc, options)?));
     }
+    if let Some(options) = matches.subcommand_matches("feed") {
+        return Ok(Word::Feed(FeedOptions::read(alloc, options)?));
+    }
+    Ok(Word::Check)
 }
 
 /// The fault that an argument is not UTF-8.
@@ -46,7 +51,8 @@ fn command_line<'a>(alloc: Global) -> Result<Command<'a>, AllocError> {
         .about(help::ABOUT)
         .after_help(help::EXAMPLES)
         .subcommand(check_command(alloc))?
-        .subcommand(run_command(alloc)?)
+        .subcommand(run_command(alloc)?)?
+        .subcommand(feed_command(alloc)?)
 }
 
 /// The word `check`.
@@ -63,4 +69,13 @@ fn run_command<'a>(alloc: Global) -> Result<Command<'a>, AllocError> {
         .long_about(help::RUN_LONG_ABOUT)
         .after_help(help::RUN_EXAMPLE);
     with_office_options(alloc, run)
+}
+
+/// The word `feed`.
+fn feed_command<'a>(alloc: Global) -> Result<Command<'a>, AllocError> {
+    let feed = Command::new(alloc, "feed")
+        .about(help::FEED_ABOUT)
+        .long_about(help::FEED_LONG_ABOUT)
+        .after_help(help::FEED_EXAMPLE);
+    with_files(alloc, with_office_options(alloc, feed)?)
 }

@@ -37,6 +37,30 @@ pub(crate) const RUN_LONG_ABOUT: &str =
 pub(crate) const RUN_EXAMPLE: &str = "Example:\n  \
      wagons run --roster roster.csv --network network.csv < day.jsonl";
 
+/// What `feed` does, on a line.
+pub(crate) const FEED_ABOUT: &str = "Keeps a fleet: several files of commands in at once";
+
+/// What `feed` does.
+pub(crate) const FEED_LONG_ABOUT: &str =
+    "Reads the fleet and the network from files, then commands from 1 to 16 files at\n\
+     once, each by a thread of its own; named pipes are files too. A `plan` line is\n\
+     planned and committed, a `sheet` line is skipped. At the end prints for each\n\
+     file how many lines were accepted, repeated and refused, or why it failed, and\n\
+     then the sheet. Exits with 0, with 1 where a line was refused, with 2 where a\n\
+     file failed or it could not run.";
+
+/// How `feed` is called.
+pub(crate) const FEED_EXAMPLE: &str = "Example:\n  \
+     wagons feed --roster roster.csv --network network.csv north.jsonl south.jsonl";
+
+/// What the files of `feed` are.
+pub(crate) const FILES: &str = "Files of commands, one JSON object a line; 1 to 16";
+
+pub(crate) const FILES_LONG: &str =
+    "Files of commands, one JSON object a line; 1 to 16. A file that can't be\n\
+     opened stops the program before it begins; one that fails while it is\n\
+     read doesn't stop the others";
+
 /// What each option is, on a line.
 pub(crate) const ROSTER: &str = "The wagons and where they are at the start, a CSV file";
 

@@ -3,6 +3,7 @@
 
 mod check;
 mod command_line;
+mod feed;
 mod help;
 mod new_book;
 mod office_options;
@@ -12,6 +13,6 @@ mod status;
 mod stop;
 
 pub use command_line::{Word, not_utf8, read_words};
-pub use office_options::OfficeOptions;
+pub use office_options::{FeedOptions, OfficeOptions};
 pub use program::{run_program, run_words};
 pub use stop::Stop;

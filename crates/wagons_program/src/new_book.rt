@@ -1,4 +1,5 @@
 //! A new book from the files that the options name.
+ghost use Rattle.std.specs.Prelude.{◌≡◌, [], IfOk};
 
 use crate::office_options::OfficeOptions;
 use crate::stop::Stop;
@@ -11,23 +12,50 @@ use std::sync::{Arc, Wait};
 use std::thread::Threads;
 use wagon_roster::Roster;
 
-/// A book without entries. What is wrong is found in this order: too many networks, the roster, the networks in their
-/// order, and their distances.
-pub(crate) fn new_book<R: Files + Threads + Wait + AllocGlobal>(
+/// A roster and networks, as files say them.
+#[derive(Drop)]
+pub(crate) struct OfficeFiles {
+    roster: Roster,
+    networks: Vec<Network>,
+}
+
+/// A book, and its networks.
+#[derive(Drop)]
+pub(crate) struct NewBook {
+    pub(crate) book: Book,
+    pub(crate) networks: Arc<Networks>,
+}
+
+/// The roster and the networks that the options name. What is wrong is found in this order: too many networks, the roster,
+/// the networks in their order.
+pub(crate) fn read_files<R: Files + AllocGlobal>(
     rt: &R,
     options: &OfficeOptions<'_>,
-) -> Result<Book, Stop> {
+) -> Result<OfficeFiles, Stop> {
     if options.networks.len() > MAX_NETWORKS as usize {
         return Err(Stop::Networks(NetworksFault::BadNetworkCount));
     }
     let roster = read_roster(rt, options.roster)?;
     let networks = read_networks(rt, &options.networks)?;
+    Ok(OfficeFiles { roster, networks })
+}
+
+/// A book without entries over these files, whose distances are worked out here.
+pub(crate) fn new_book<R: Threads + Wait + AllocGlobal>(
+    rt: &R,
+    options: &OfficeOptions<'_>,
+    files: OfficeFiles,
+) -> Result<NewBook, Stop>
+    ensures { IfOk result (λ new. new.book.state.history ≡ []) }
+{
+    let OfficeFiles { roster, networks } = files;
     let tables = make_tables(rt, &networks, options.workers)?;
     let networks = match Networks::new(tables) {
         Ok(networks) => Arc::new(rt.alloc(), networks)?,
         Err(fault) => return Err(Stop::Networks(fault)),
     };
-    Ok(Book::new(rt.alloc(), roster, networks, options.limits)?)
+    let book = Book::new(rt.alloc(), roster, networks.clone()?, options.limits)?;
+    Ok(NewBook { book, networks })
 }
 
 /// The roster that a file says.
@@ -50,7 +78,7 @@ fn read_network<R: Files + AllocGlobal>(rt: &R, path: &str) -> Result<Network, S
 }
 
 /// A file that is open for reading.
-fn open<R: Files>(rt: &R, path: &str) -> Result<R::File, Stop> {
+pub(crate) fn open<R: Files>(rt: &R, path: &str) -> Result<R::File, Stop> {
     fs::open(rt, path).map_err(|_| Stop::OpenFailed)
 }
 

@@ -6,6 +6,7 @@ use clap::builder::ValueParser;
 use clap::{Arg, ArgAction, ArgMatches, Command};
 use commit_book::{Limits, MAX_ENTRIES, MAX_KEPT_PROBLEMS};
 use distance_tables::MAX_WORKERS;
+use office::MAX_FILES;
 use std::alloc::{AllocError, Global};
 
 /// What an office is opened with.
@@ -38,6 +39,41 @@ impl<'a> OfficeOptions<'a> {
             workers: number_of(matches, "workers", MAX_WORKERS as u64) as usize,
         })
     }
+}
+
+/// What `feed` is asked to do.
+#[derive(Debug, Drop)]
+pub struct FeedOptions<'a> {
+    /// What the office is opened with.
+    pub office: OfficeOptions<'a>,
+    /// The files of commands, in their order.
+    pub files: Vec<&'a str>,
+}
+
+impl<'a> FeedOptions<'a> {
+    /// The options and files that were given.
+    pub(crate) fn read(
+        alloc: Global,
+        matches: &ArgMatches<'a>,
+    ) -> Result<FeedOptions<'a>, AllocError> {
+        let files = matches.get_strs("file").unwrap_or(&[]);
+        Ok(FeedOptions {
+            office: OfficeOptions::read(alloc, matches)?,
+            files: Vec::from_slice(alloc, files)?,
+        })
+    }
+}
+
+/// A word with 1 to 16 files.
+pub(crate) fn with_files<'a>(alloc: Global, word: Command<'a>) -> Result<Command<'a>, AllocError> {
+    word.arg(
+        Arg::new(alloc, "file")
+            .value_name("FILE")
+            .required(true)
+            .num_args(1..=MAX_FILES)
+            .help(help::FILES)
+            .long_help(help::FILES_LONG),
+    )
 }
 
 /// The number of an option, from 1 to `most`. `clap` has filled in its default and refused a number out of this range

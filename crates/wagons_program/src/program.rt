@@ -2,6 +2,7 @@
 
 use crate::check::check;
 use crate::command_line::{Word, not_utf8, read_words};
+use crate::feed::feed;
 use crate::run::run;
 use crate::status::{DONE, STOPPED};
 use crate::stop::Stop;
@@ -17,7 +18,10 @@ use std::{env, io};
 
 /// Does what the program's arguments ask for. The status is 0, or 1 where a line was refused, or 2 where the program
 /// could not run or stopped; standard error says why then.
-pub fn run_program<R: Runtime + Threads + Wait + AllocGlobal>(rt: &R) -> ExitCode {
+pub fn run_program<R: Runtime + Threads + Wait + AllocGlobal + Sync>(rt: &R) -> ExitCode
+where
+    R::File: Send,
+{
     let status = match words_of(rt) {
         Ok(words) => run_words(rt, words.as_slice(), rt.reader()),
         Err(error) => told(rt, refuse_arguments(rt, error)),
@@ -27,14 +31,18 @@ pub fn run_program<R: Runtime + Threads + Wait + AllocGlobal>(rt: &R) -> ExitCod
 
 /// Does what these words ask for, the program's name first, with this in place of standard input, and answers the exit
 /// status: 0, or 1 where a line was refused, or 2 where the program could not run or stopped; standard error says why then.
-pub fn run_words<R: Runtime + Threads + Wait + AllocGlobal, S: AsStr, I: Read + Drop>(
+pub fn run_words<R: Runtime + Threads + Wait + AllocGlobal + Sync, S: AsStr, I: Read + Drop>(
     rt: &R,
     words: &[S],
     input: I,
-) -> u8 {
+) -> u8
+where
+    R::File: Send,
+{
     let status = match read_words(rt.alloc(), words) {
         Ok(Word::Check) => check(rt, input),
         Ok(Word::Run(options)) => run(rt, &options, input),
+        Ok(Word::Feed(options)) => feed(rt, &options),
         Err(error) => print_text(rt, &error),
     };
     told(rt, status)

@@ -7,7 +7,7 @@ use office::{RunCount, RunFault};
 pub(crate) const DONE: u8 = 0;
 
 /// The status of a run that came to its end with a refusal.
-const REFUSED: u8 = 1;
+pub(crate) const REFUSED: u8 = 1;
 
 /// The status of a run that could not start or stopped.
 pub(crate) const STOPPED: u8 = 2;

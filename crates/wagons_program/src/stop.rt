@@ -3,14 +3,14 @@ ghost use Rattle.std.specs.Str.{IsAscii};
 
 use distance_tables::{NetworksFault, WorkFault};
 use line_network::NetworkFault;
-use office::RunFault;
+use office::{FeedFault, RunFault};
 use std::alloc::{AllocError, AllocFailed};
 use std::fmt;
 use std::fmt::{Display, Formatter};
 use wagon_roster::RosterFault;
 
 /// Why the program could not run or stopped. It prints as `wagons: CODE` and what the code's details are: the number of
-/// the line at which the run stopped, of a file's record, or a wagon.
+/// the line at which the run stopped, of a file's record, a wagon, or a seat and an entry.
 #[derive(Clone, Copy, Debug, PartialEq, Eq)]
 pub enum Stop {
     /// Memory was refused before the run (1).
@@ -29,6 +29,8 @@ pub enum Stop {
     WriteFailed,
     /// The run over the lines stopped (1, 91 to 94).
     Run(RunFault),
+    /// The files could not be fed (1, 46 or 96).
+    Feed(FeedFault),
 }
 
 impl Stop {
@@ -43,6 +45,7 @@ impl Stop {
             Stop::Tables(fault) => fault.number(),
             Stop::WriteFailed => 94,
             Stop::Run(fault) => fault.number(),
+            Stop::Feed(fault) => fault.number(),
         }
     }
 
@@ -62,6 +65,9 @@ impl Display for Stop {
         write!(f, "wagons: {}", self.number())?;
         if let Stop::Roster(RosterFault::DuplicateWagon(wagon)) = self {
             return write_ascii(f, wagon.digits());
+        }
+        if let Stop::Feed(FeedFault::ReceiptLost(seat, entry)) = self {
+            return write!(f, " {seat} {entry}");
         }
         match self.place() {
             Some(place) => write!(f, " {place}"),

@@ -1,0 +1,68 @@
+//! The word `feed`.
+ghost use Rattle.std.specs.Prelude.{◌≡◌, All, IfOk, false};
+
+use crate::new_book::{NewBook, new_book, open, read_files};
+use crate::office_options::FeedOptions;
+use crate::status::{DONE, REFUSED, STOPPED};
+use crate::stop::Stop;
+use office::{FeedReport, FromRead, MAX_FILES, Source, report_text};
+use std::rt::Files;
+use std::sync::Wait;
+use std::thread::Threads;
+
+/// Opens an office, brings the command lines of all files to it at once, and prints what became of each file and the sheet:
+/// status 0, 1 where a line was refused, 2 where a file failed. What is wrong is found in this order: the roster, the
+/// networks, the files as each is opened, the distances.
+pub(crate) fn feed<R: Print + Files + Threads + Wait + AllocGlobal + Sync>(
+    rt: &R,
+    options: &FeedOptions<'_>,
+) -> Result<u8, Stop>
+where
+    R::File: Send,
+{
+    let files = read_files(rt, &options.office)?;
+    let readers = open_files(rt, &options.files)?;
+    let NewBook { book, networks } = new_book(rt, &options.office, files)?;
+    // The command line lets 1 to 16 files through.
+    if readers.is_empty() || readers.len() > MAX_FILES {
+        return Err(Stop::OpenFailed);
+    }
+    match office::feed(rt, rt.alloc(), readers, book, &networks) {
+        Ok(report) => print_report(rt, &report),
+        Err(fault) => Err(Stop::Feed(fault)),
+    }
+}
+
+/// Readers of the files, opened in their order.
+fn open_files<R: Files + AllocGlobal>(
+    rt: &R,
+    paths: &[&str],
+) -> Result<Vec<FromRead<R::File>>, Stop>
+    ensures { IfOk result (λ readers. All (λ reader. ⟦<FromRead<R::File> as Source>⟧.has_failed reader ≡ false) readers.items) }
+{
+    let mut readers = Vec::with_capacity(rt.alloc(), paths.len())?;
+    for path in paths {
+        readers.push(FromRead::new(open(rt, path)?))?;
+    }
+    Ok(readers)
+}
+
+/// Prints what became of each file, and the sheet.
+fn print_report<R: Print + AllocGlobal, F>(rt: &R, report: &FeedReport<F>) -> Result<u8, Stop> {
+    let text = report_text(rt.alloc(), report)?;
+    if print!(rt; "{text}").is_err() {
+        return Err(Stop::WriteFailed);
+    }
+    Ok(status_of_files(report))
+}
+
+/// 2 where a file failed, else 1 where a line was refused, else 0.
+fn status_of_files<F>(report: &FeedReport<F>) -> u8 {
+    if report.files.iter().any(|file| file.failed.is_some()) {
+        STOPPED
+    } else if report.files.iter().any(|file| file.refused > 0) {
+        REFUSED
+    } else {
+        DONE
+    }
+}
