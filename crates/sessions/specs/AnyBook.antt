@@ -1,5 +1,5 @@
 -- What is known of the book behind the lock: some book with a legal history answers the call.
-use Rattle.std.specs.Prelude.{◌≡◌, ◌≤◌, ◌⊎◌, ℕ, List, length, Result, Ok, Err}
+use Rattle.std.specs.Prelude.{◌≡◌, ◌≤◌, ◌⊎◌, ℕ, List, length, Result, Err}
 use Rattle.operating_db.specs.declared.event.Event.{Event}
 use Rattle.commit_book.specs.BookStep.{BookState, IsCall, answer_of}
 use Rattle.commit_book.specs.History.{IsLegal}

@@ -4,7 +4,7 @@ ghost use Rattle.operating_db.specs.declared.event.Event.TheVariants as event;
 ghost use Rattle.commit_book.specs.declared.call.Call.TheVariants as call;
 ghost use Rattle.sessions.specs.AnyBook.{IsBooksAnswer, IsSnapAt};
 ghost use Rattle.sessions.specs.Seat.{IsAnswered, count_of, noted};
-ghost use Rattle.sessions.specs.inner.Counted.{call_of};
+ghost use Rattle.commit_book.specs.Requests.{call_of};
 
 use crate::shared_book::SharedBook;
 use crate::{Receipt, Seat};
