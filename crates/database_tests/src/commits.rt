@@ -52,6 +52,8 @@ const CASES: &[Case<'static>] = &[
             Tell(NEAR, Arrival, "DE00001", "03:00", 0),
             Tell(NEAR, Delivery, "DE00001", "03:30", 0),
             Empty(NEAR, "DE00001", "03:30"),
+            Free("Eanos", "DE00001", 2),
+            Free("Eanos", "DE00002", 0),
             State("O1", OrderState::Waiting),
             Problem(2, 1),
         ],
