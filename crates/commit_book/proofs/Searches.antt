@@ -1,12 +1,12 @@
 -- Wagons and orders that are found by name without a walk.
-use Rattle.std.proofs.Common.{◌≡◌, ◌∙◌, ℕ, zero, suc, ◌+◌, ◌<◌, Bool, true, false, cond, ◌||◌, List, [], ◌∷◌, ◌++◌, length, map, take, drop, get_or, Result, Ok, Err, length-take-le, refl, ap, sym, subst, inl, inr, arith}
-use Rattle.std.specs.Prelude.{Option, Some, None, position, slice_get, nat_eq}
-use Rattle.std.specs.Cmp.Lexicographic.{pointwise, bytes_decides, slice_cmp, texts_ties}
-use Rattle.std.specs.List.{AllByRecursion, cons_option, filter_map, find, list_any, position_or_len}
+use Rattle.std.proofs.Common.{◌≡◌, ◌∙◌, ℕ, ◌+◌, ◌<◌, Bool, false, cond, List, [], ◌∷◌, ◌++◌, length, take, get_or, Result, Ok, Err, length-take-le, refl, ap, sym, subst, inl, inr, arith}
+use Rattle.std.specs.Prelude.{Option, Some, None, position, slice_get}
+use Rattle.std.specs.Cmp.Lexicographic.{bytes_decides, slice_cmp, texts_ties}
+use Rattle.std.specs.List.{AllByRecursion, cons_option, find, list_any}
 use Rattle.std.specs.List.Sorted.{IsBinarySearchResult, IsNonDecreasingBy, IsSearchInRange, IsStrictlySortedBy}
 use Rattle.std.specs.Ordering.{is_eq, nat_cmp, ordering_index}
 use Rattle.std.specs.Result.{result_ok}
-use Rattle.std.specs.declared.cmp.Ordering.TheVariants.{Less, Equal}
+use Rattle.std.specs.declared.cmp.Ordering.TheVariants.{Less}
 use Rattle.std.proofs.lemmas.Bool.{cases_Bool, cases_lt}
 use Rattle.std.proofs.lemmas.Cmp.{nat_list_cmp_total}
 use Rattle.std.proofs.lemmas.List.{length-map, get_or-map, take_more}

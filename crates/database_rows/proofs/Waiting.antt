@@ -1,13 +1,13 @@
 -- The places of the rows that wait.
-use Rattle.std.proofs.Common.{◌≡◌, ◌∙◌, ℕ, zero, suc, ◌+◌, ◌-◌, ◌<◌, ◌≤◌, Bool, true, false, cond, not, ◌&&◌, nat_eq, nat_lt, List, [], ◌∷◌, ◌++◌, length, count_by, take, drop, refl, ap, sym, subst, arith}
-use Rattle.std.specs.Prelude.{Option, Some, None, position}
+use Rattle.std.proofs.Common.{◌≡◌, ◌∙◌, ℕ, zero, suc, ◌+◌, ◌-◌, ◌<◌, ◌≤◌, Bool, true, false, cond, not, ◌&&◌, nat_eq, nat_lt, List, [], ◌∷◌, ◌++◌, length, count_by, refl, ap, sym, subst, arith}
+use Rattle.std.specs.Prelude.{Option, Some, position}
 use Rattle.std.specs.BTreeMap.{BTreeMap, get}
 use Rattle.std.specs.Cmp.Lexicographic.{slice_cmp}
-use Rattle.std.specs.List.{AllByRecursion, filter, insert, slice_set}
+use Rattle.std.specs.List.{AllByRecursion, insert, slice_set}
 use Rattle.std.specs.Ordering.{nat_cmp}
 use Rattle.std.proofs.lemmas.Bool.Decides.{nat_tests}
 use Rattle.std.proofs.lemmas.List.Sums.{sum_by-cons}
-use Rattle.load_orders.specs.Lack.{is_waiting, lack_of}
+use Rattle.load_orders.specs.Lack.{is_waiting}
 use Rattle.load_orders.specs.OrderRow.{OrderRowValue}
 use Rattle.database_rows.specs.Kept.{IsOrderRows}
 use Rattle.database_rows.specs.Rows.{is_order, max_open_wagons, open_wagons, waiting_from, wanted_open}

@@ -1,4 +1,4 @@
-use Rattle.std.proofs.Common.{rules, ◌∙◌}
+use Rattle.std.proofs.Common.{rules}
 use Rattle.std.proofs.lemmas.List.Sorted.{answers_always}
 use Rattle.commit_book.proofs.Searches.{searched}
 use Rattle.commit_book.proofs.indexed_problem.place_of.Goals as goal

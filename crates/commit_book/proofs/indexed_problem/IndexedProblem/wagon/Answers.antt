@@ -1,10 +1,7 @@
-use Rattle.std.proofs.Common.{◌≡◌, ◌∙◌, ap, sym}
-use Rattle.std.specs.Prelude.{Option, position}
+use Rattle.std.proofs.Common.{◌∙◌, sym}
 use Rattle.wagon_state.specs.declared.free_wagon.FreeWagon.{FreeWagon}
 use Rattle.cost_table.specs.Names.{is_name}
-use Rattle.cost_table.specs.Problem.{ProblemValue}
 use Rattle.database_rows.proofs.Named.{found_at_place, not_found, read_at}
-use Rattle.commit_book.specs.Commits.{wagon_of}
 use Rattle.commit_book.proofs.Searches.{place_in}
 use Rattle.commit_book.proofs.indexed_problem.IndexedProblem.wagon.Goals as goal
 

@@ -1,13 +1,12 @@
-use Rattle.std.proofs.Common.{rules, ◌≡◌, ◌∙◌, ◌++◌, ◌∷◌, [], ◌<◌, ap, length, arith}
+use Rattle.std.proofs.Common.{rules, ◌≡◌, ◌∙◌, ◌++◌, ◌∷◌, [], ap, length, arith}
 use Rattle.std.specs.BTreeMap.{get}
 use Rattle.std.specs.Cmp.Lexicographic.{slice_cmp}
 use Rattle.std.specs.Ordering.{nat_cmp}
 use Rattle.load_orders.specs.Lack.{is_waiting}
 use Rattle.load_orders.specs.OrderRow.{placed_row}
-use Rattle.database_rows.specs.Rows.{max_open_wagons}
 use Rattle.database_rows.specs.inner.Indexed.{noted}
 use Rattle.database_rows.proofs.Orders.{indexed_push}
-use Rattle.database_rows.proofs.Waiting.{stored_push, stored_room}
+use Rattle.database_rows.proofs.Waiting.{stored_push}
 use Rattle.database_rows.proofs.order_rows.OrderRows.push.Goals as goal
 
 pub invariant_of-self-2 : goal.invariant_of-self-2
