@@ -127,3 +127,20 @@ pub(crate) const MANY_WORKERS: &str =
 
 For more information, try '--help'.
 ";
+
+pub(crate) const NO_COMMAND_FILE: &str =
+    r"error: the following required arguments were not provided:
+  <FILE>...
+
+Usage: wagons feed --roster <FILE> --network <FILE> <FILE>...
+
+For more information, try '--help'.
+";
+
+pub(crate) const MANY_COMMAND_FILES: &str =
+    r"error: unexpected value 'q' for '<FILE>...' found; no more were expected
+
+Usage: wagons feed [OPTIONS] --roster <FILE> --network <FILE> <FILE>...
+
+For more information, try '--help'.
+";

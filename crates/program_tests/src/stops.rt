@@ -2,7 +2,7 @@
 
 use distance_tables::{NetworksFault, WorkFault};
 use line_network::NetworkFault;
-use office::RunFault;
+use office::{FeedFault, RunFault};
 use rail_codes::WagonNumber;
 use std::alloc::{AllocError, Global};
 use std::test::Fail;
@@ -153,6 +153,18 @@ fn a_wagon_that_a_roster_has_twice(rt: HostRuntime) -> Result<(), Fail> {
             assert!(rt; says(rt.alloc(), stop, "wagons: 51 338447961008")?);
         }
         Err(_) => assert!(rt; false),
+    }
+    Ok(())
+}
+
+#[test]
+fn stops_of_a_feed(rt: HostRuntime) -> Result<(), Fail> {
+    for (fault, text) in [
+        (FeedFault::OutOfMemory, "wagons: 1"),
+        (FeedFault::NoThread, "wagons: 46"),
+        (FeedFault::ReceiptLost(2, 17), "wagons: 96 2 17"),
+    ] {
+        assert!(rt; says(rt.alloc(), Stop::Feed(fault), text)?, "{text}");
     }
     Ok(())
 }

@@ -17,6 +17,8 @@ const PRINTED: &[(&[&str], &str, i32)] = &[
     (&["wagons", "run", "--help"], help::RUN_HELP, 0),
     (&["wagons", "help", "run"], help::RUN_HELP, 0),
     (&["wagons", "run", "-h"], help::RUN_SUMMARY, 0),
+    (&["wagons", "feed", "--help"], help::FEED_HELP, 0),
+    (&["wagons", "feed", "-h"], help::FEED_SUMMARY, 0),
     (&["wagons", "--version"], "wagons 0.1.0\n", 0),
     (&["wagons", "-V"], "wagons 0.1.0\n", 0),
     (&["wagons", "fly"], faults::FLY, 2),
@@ -55,6 +57,40 @@ const PRINTED: &[(&[&str], &str, i32)] = &[
     ),
     (&["wagons", "run", "--kept", "0"], faults::NONE_KEPT, 2),
     (&["wagons", "run", "--kept", "65"], faults::MANY_KEPT, 2),
+    (
+        &["wagons", "feed", "--roster", "r.csv", "--network", "n.csv"],
+        faults::NO_COMMAND_FILE,
+        2,
+    ),
+    (
+        &[
+            "wagons",
+            "feed",
+            "--roster",
+            "r.csv",
+            "--network",
+            "n.csv",
+            "a",
+            "b",
+            "c",
+            "d",
+            "e",
+            "f",
+            "g",
+            "h",
+            "i",
+            "j",
+            "k",
+            "l",
+            "m",
+            "n",
+            "o",
+            "p",
+            "q",
+        ],
+        faults::MANY_COMMAND_FILES,
+        2,
+    ),
     (&["wagons", "run", "--workers", "0"], faults::NO_WORKERS, 2),
     (
         &["wagons", "run", "--workers", "65"],
@@ -171,4 +207,30 @@ fn words_that_run(rt: HostRuntime) {
         "64",
     ];
     assert!(rt; is_run(rt.alloc(), most, "r", &["n"], (1_000_000, 64, 64)));
+}
+
+/// Whether these words ask for a feed of these files, with the options that aren't said.
+fn is_feed(alloc: Global, words: &[&str], files: &[&str]) -> bool {
+    match read_words(alloc, words) {
+        Ok(Word::Feed(options)) => {
+            options.files.as_slice() == files
+                && are_options(&options.office, "r.csv", &["n.csv"], (100_000, 8, 4))
+        }
+        _ => false,
+    }
+}
+
+#[test]
+fn words_that_feed(rt: HostRuntime) {
+    let words = &[
+        "wagons",
+        "feed",
+        "--roster",
+        "r.csv",
+        "--network",
+        "n.csv",
+        "north.jsonl",
+        "south.jsonl",
+    ];
+    assert!(rt; is_feed(rt.alloc(), words, &["north.jsonl", "south.jsonl"]));
 }
