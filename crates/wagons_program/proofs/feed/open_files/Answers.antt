@@ -1,4 +1,4 @@
-use Rattle.std.proofs.Common.{◌≡◌, All, false}
+use Rattle.std.proofs.Common.{◌≡◌, false}
 use Rattle.std.proofs.lemmas.List.Elements.{All-nil}
 use Rattle.wagons_program.proofs.feed.open_files.Goals as goal
 
