@@ -18,7 +18,8 @@ use Rattle.operating_db.specs.After.{after_order, message_to, moved, order_place
 use Rattle.operating_db.specs.Commits.{Pair, with_promise}
 use Rattle.operating_db.specs.Office.{Office, StateValue, first_office}
 use Rattle.operating_db.specs.Promises.{is_among, promised_of, PromisesAgree}
-use Rattle.operating_db.specs.State.{IsState, max_networks}
+use Rattle.distance_tables.specs.Networks.{max_networks}
+use Rattle.operating_db.specs.State.{IsState}
 use Rattle.operating_db.proofs.Changes.{among_known, order_known, withdrawn_wagons}
 use Rattle.operating_db.proofs.Events.{change_kept, not_there, placed_kept, rosters_agree, step_keeps, withdrawn_kept}
 use Rattle.operating_db.proofs.KeptOrders.{next_keeps}

@@ -2,10 +2,7 @@
 use Rattle.std.specs.Prelude.{ℕ, ◌≤◌}
 use Rattle.operating_db.specs.Office.{StateValue}
 use Rattle.operating_db.specs.Promises.{PromisesAgree}
-
--- the most networks of an office; the fewest is 1
-abbrev pub max_networks : ℕ
-max_networks = 8
+use Rattle.distance_tables.specs.Networks.{max_networks}
 
 -- the promises agree, and one of the networks, 8 at most, is in force
 pub record IsState (state : StateValue) : Type 0 where

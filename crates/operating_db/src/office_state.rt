@@ -10,7 +10,8 @@ ghost use Rattle.operating_db.specs.Commits.{CanPromise, is_free_row, lack_in, p
 ghost use Rattle.operating_db.specs.Office.{first_office};
 ghost use Rattle.operating_db.specs.Problem.{free_count, problem_of};
 ghost use Rattle.operating_db.specs.Promises.{PromisesAgree};
-ghost use Rattle.operating_db.specs.State.{IsState, max_networks};
+ghost use Rattle.distance_tables.specs.Networks.{max_networks};
+ghost use Rattle.operating_db.specs.State.{IsState};
 ghost use Rattle.operating_db.specs.Steps.{IsPromised};
 
 use crate::lists::{free_count, free_wagons, waiting_orders};
