@@ -21,7 +21,7 @@ enum statement { BEGIN, COMMIT, ROLLBACK, FIND_MESSAGE, ADD_MESSAGE, ADD_ORDER_E
     SET_WAGON, PROMISE_WAGON, FIND_ORDER, ADD_ORDER, PROMISE_ORDER, FILL_ORDER, UNPROMISE_ORDER, STATEMENTS };
 
 static const char *const TEXTS[STATEMENTS] = {
-    [BEGIN] = "BEGIN",
+    [BEGIN] = "BEGIN IMMEDIATE",
     [COMMIT] = "COMMIT",
     [ROLLBACK] = "ROLLBACK",
     [FIND_MESSAGE] = "SELECT n, kind, wagon, place, moment, hold FROM entry WHERE company = ? AND number = ?",
@@ -46,8 +46,11 @@ static const char SCHEMA[] =
     " moment INTEGER, hold INTEGER, body TEXT);"
     "CREATE UNIQUE INDEX message_id ON entry (company, number) WHERE company IS NOT NULL;";
 
-static sqlite3 *db;
-static sqlite3_stmt *made[STATEMENTS];
+/* The connection of this thread (bench/feed has several), and its statements. */
+static _Thread_local sqlite3 *db;
+static _Thread_local sqlite3_stmt *made[STATEMENTS];
+
+/* How many entries there are; it is read and changed within a transaction alone. */
 static long long entries = 0;
 
 /* A piece of the line. */
@@ -141,8 +144,9 @@ static void refuse(long long n, int code) {
 }
 
 static void accept(long long n) {
+    long long entry = ++entries;
     run(COMMIT);
-    printf("%lld accepted %lld\n", n, ++entries);
+    printf("%lld accepted %lld\n", n, entry);
 }
 
 /* A wagon's row after a message, and what it does to the order that the wagon is promised to. */

@@ -4,14 +4,14 @@ use Rattle.std.specs.List.{sum_by}
 use Rattle.std.proofs.lemmas.Bool.{cases_eq, cases_lt}
 use Rattle.std.proofs.lemmas.List.Sums.{sum_by-cons, sum_by-append}
 use Rattle.std.proofs.lemmas.Bool.Decides.{nat_tests}
-use Rattle.cost_table.specs.Table.{Table, penalty_at, lack_at, wagon_count, order_count}
+use Rattle.cost_table.specs.Table.{penalty_at, lack_at, wagon_count, order_count}
 use Rattle.cost_table.specs.Plan.{sum_below, uses, serves, AllAllowed, pair_cost, missed_cost, IsAscending, IsAscendingFrom, Precedes, IsPlanList}
 use Rattle.cost_table.proofs.Sums.{sum_below-same, sum_below-add, sum_below-at, double_count, distributes}
 use Rattle.cost_table.proofs.CostLemmas.{wagons_below, orders_below}
 use Rattle.price_checker.specs.Certificate.{IsCertificate}
 use Rattle.price_checker.proofs.Duality.{sum_below-items}
 use Rattle.std.proofs.Math.Seq.{take-length}
-use Rattle.assignment.specs.inner.State.{is_order, served, order_at, IsState, AreCounted, taken_at}
+use Rattle.assignment.specs.inner.State.{Kept, is_order, served, order_at, IsKept, AreCounted}
 use Rattle.assignment.specs.inner.Path.{one_if}
 use Rattle.assignment.specs.inner.Pairs.{pairs_of, pairs_below}
 use Rattle.assignment.proofs.Limits.{cell_wagon, cell_order}
@@ -236,38 +236,38 @@ uses_once n h x = let u = uses_below n x h in let one = one_below n (order_at h 
 pub plan_list : (n : ℕ) (h : List (Option ℕ)) → IsPlanList (pairs_below n h)
 plan_list n h = record { ascending = ascending_below n h; once = uses_once n h }
 
-allowed_held : (t : Table) (by_order : List (List (ℕ × ℕ))) (u v : List ℕ) (h : List (Option ℕ)) (ps : List (ℕ × ℕ)) → IsState t by_order u v h → EachHeld h ps → AllAllowed t ps
-allowed_held t by_order u v h [] state e = tt
-allowed_held t by_order u v h (p ∷ ps) state e =
+allowed_held : (s : Kept) (ps : List (ℕ × ℕ)) → IsKept s → EachHeld s.order_of ps → AllAllowed s.table ps
+allowed_held s [] state e = tt
+allowed_held s (p ∷ ps) state e =
     let tight = state.held.tight p.0 p.1 e.0 in
-    ((cell_wagon t p.0 p.1 tight.cost state.table tight.allowed, cell_order t p.0 p.1 tight.cost state.table tight.allowed, (tight.cost, tight.allowed)), allowed_held t by_order u v h ps state e.1)
+    ((cell_wagon s.table p.0 p.1 tight.cost state.table tight.allowed, cell_order s.table p.0 p.1 tight.cost state.table tight.allowed, (tight.cost, tight.allowed)), allowed_held s ps state e.1)
 
 -- pair by pair, the orders' prices are the costs and the wagons' prices
-pairs_exact : (t : Table) (by_order : List (List (ℕ × ℕ))) (u v : List ℕ) (h : List (Option ℕ)) (ps : List (ℕ × ℕ)) → IsState t by_order u v h → EachHeld h ps → sum_by (λ (p : ℕ × ℕ). slice_index v p.1) ps ≡ sum_by (pair_cost t) ps + sum_by (λ (p : ℕ × ℕ). slice_index u p.0) ps
-pairs_exact t by_order u v h [] state e = refl
-pairs_exact t by_order u v h (p ∷ ps) state e =
-    let rest = pairs_exact t by_order u v h ps state e.1 in
+pairs_exact : (s : Kept) (ps : List (ℕ × ℕ)) → IsKept s → EachHeld s.order_of ps → sum_by (λ (p : ℕ × ℕ). slice_index s.v p.1) ps ≡ sum_by (pair_cost s.table) ps + sum_by (λ (p : ℕ × ℕ). slice_index s.u p.0) ps
+pairs_exact s [] state e = refl
+pairs_exact s (p ∷ ps) state e =
+    let rest = pairs_exact s ps state e.1 in
     let tight = state.held.tight p.0 p.1 e.0 in
     let is = tight.tight in
-    let cost : pair_cost t p ≡ tight.cost = ap (λ o. unwrap_or o 0) tight.allowed in
-    let a = sum_by-cons (λ (q : ℕ × ℕ). slice_index v q.1) p ps in
-    let b = sum_by-cons (pair_cost t) p ps in
-    let c = sum_by-cons (λ (q : ℕ × ℕ). slice_index u q.0) p ps in
+    let cost : pair_cost s.table p ≡ tight.cost = ap (λ o. unwrap_or o 0) tight.allowed in
+    let a = sum_by-cons (λ (q : ℕ × ℕ). slice_index s.v q.1) p ps in
+    let b = sum_by-cons (pair_cost s.table) p ps in
+    let c = sum_by-cons (λ (q : ℕ × ℕ). slice_index s.u q.0) p ps in
     omega (arith, rest, is, cost, a, b, c)
 
 -- a wagon is used once, or its price is 0
-used_or_free : (t : Table) (by_order : List (List (ℕ × ℕ))) (u v : List ℕ) (h : List (Option ℕ)) (i : ℕ) (o : Option ℕ) → IsState t by_order u v h → order_at h i ≡ o → uses i (pairs_below (order_count t) h) * slice_index u i ≡ slice_index u i
-used_or_free t by_order u v h i None state e =
+used_or_free : (s : Kept) (i : ℕ) (o : Option ℕ) → IsKept s → order_at s.order_of i ≡ o → uses i (pairs_below (order_count s.table) s.order_of) * slice_index s.u i ≡ slice_index s.u i
+used_or_free s i None state e =
     let z = state.held.idle i e in
-    times_zero (uses i (pairs_below (order_count t) h)) (slice_index u i) z
-used_or_free t by_order u v h i (Some k) state e =
+    times_zero (uses i (pairs_below (order_count s.table) s.order_of)) (slice_index s.u i) z
+used_or_free s i (Some k) state e =
     let tight = state.held.tight i k e in
-    let lk = cell_order t i k tight.cost state.table tight.allowed in
-    let n = order_count t in
-    let count : uses i (pairs_below n h) ≡ sum_below n (λ j. one_if j (Some k)) = uses_below n i h ∙ ap (λ o. sum_below n (λ j. one_if j o)) e in
+    let lk = cell_order s.table i k tight.cost state.table tight.allowed in
+    let n = order_count s.table in
+    let count : uses i (pairs_below n s.order_of) ≡ sum_below n (λ j. one_if j (Some k)) = uses_below n i s.order_of ∙ ap (λ o. sum_below n (λ j. one_if j o)) e in
     let same = sum_below-same n (λ j. one_if j (Some k)) (λ j. cond (k == j) 1 0 * 1) (λ j l. by_one (cond (k == j) 1 0)) in
     let at = sum_below-at n k (λ j. 1) lk in
-    times_once (uses i (pairs_below n h)) (slice_index u i) (omega (arith, count, same, at))
+    times_once (uses i (pairs_below n s.order_of)) (slice_index s.u i) (omega (arith, count, same, at))
 
 paid : (l s v p : ℕ) → s ≤ l → (s < l → v ≡ p) → l * v ≡ s * v + p * (l - s)
 paid l s v p le full = elim (cases_lt s l) [
@@ -287,37 +287,36 @@ paid l s v p le full = elim (cases_lt s l) [
 ]
 
 -- with all units taken in, the pairs and prices are a certificate
-pub certificate : (t : Table) (by_order : List (List (ℕ × ℕ))) (u v : List ℕ) (h : List (Option ℕ)) → IsState t by_order u v h → ((k : ℕ) → k < order_count t → served k h ≤ lack_at t k) → ((k : ℕ) → k < order_count t → served k h < lack_at t k → slice_index v k ≡ penalty_at t k) → IsCertificate t (pairs_below (order_count t) h) u v
-certificate t by_order u v h state within refused =
-    let n = order_count t in
-    let w = wagon_count t in
-    let ps = pairs_below n h in
-    let held = held_below n h in
-    let allowed = allowed_held t by_order u v h ps state held in
-    let exact = pairs_exact t by_order u v h ps state held in
-    let count_orders = double_count (λ p. p.1) (slice_index v) n ps (orders_below t ps allowed) in
-    let count_wagons = double_count (λ p. p.0) (slice_index u) w ps (wagons_below t ps allowed) in
-    let each_wagon = sum_below-same w (λ i. uses i ps * slice_index u i) (slice_index u) (λ i l. used_or_free t by_order u v h i (order_at h i) state refl) in
-    let all : sum_below w (slice_index u) ≡ sum u = subst (λ k. sum_below k (slice_index u) ≡ sum u) state.priced.wagons (sum_below-items u (length u) (omega arith) ∙ ap sum (take-length u)) in
-    let each_order = sum_below-same n (λ j. lack_at t j * slice_index v j) (λ j. serves j ps * slice_index v j + missed_cost t ps j) (λ j l.
-    let s = serves_all n j h l in
+pub certificate : (s : Kept) → IsKept s → ((k : ℕ) → k < order_count s.table → served k s.order_of ≤ lack_at s.table k) → ((k : ℕ) → k < order_count s.table → served k s.order_of < lack_at s.table k → slice_index s.v k ≡ penalty_at s.table k) → IsCertificate s.table (pairs_below (order_count s.table) s.order_of) s.u s.v
+certificate s state within refused =
+    let n = order_count s.table in
+    let w = wagon_count s.table in
+    let ps = pairs_below n s.order_of in
+    let held = held_below n s.order_of in
+    let allowed = allowed_held s ps state held in
+    let exact = pairs_exact s ps state held in
+    let count_orders = double_count (λ p. p.1) (slice_index s.v) n ps (orders_below s.table ps allowed) in
+    let count_wagons = double_count (λ p. p.0) (slice_index s.u) w ps (wagons_below s.table ps allowed) in
+    let each_wagon = sum_below-same w (λ i. uses i ps * slice_index s.u i) (slice_index s.u) (λ i l. used_or_free s i (order_at s.order_of i) state refl) in
+    let all : sum_below w (slice_index s.u) ≡ sum s.u = subst (λ k. sum_below k (slice_index s.u) ≡ sum s.u) state.priced.wagons (sum_below-items s.u (length s.u) (omega arith) ∙ ap sum (take-length s.u)) in
+    let each_order = sum_below-same n (λ j. lack_at s.table j * slice_index s.v j) (λ j. serves j ps * slice_index s.v j + missed_cost s.table ps j) (λ j l.
+    let count = serves_all n j s.order_of l in
     let a = within j l in
-    paid (lack_at t j) (serves j ps) (slice_index v j) (penalty_at t j) (omega arith) (λ less. refused j l (omega arith))) in
-    let parts = sum_below-add n (λ j. serves j ps * slice_index v j) (missed_cost t ps) in
+    paid (lack_at s.table j) (serves j ps) (slice_index s.v j) (penalty_at s.table j) (omega arith) (λ less. refused j l (omega arith))) in
+    let parts = sum_below-add n (λ j. serves j ps * slice_index s.v j) (missed_cost s.table ps) in
     record {
       wagons = state.priced.wagons;
       orders = state.priced.orders;
       plan = record {
         allowed = allowed;
-        once = uses_once n h;
-        within = λ j l. let s = serves_all n j h l in let a = within j l in omega arith;
+        once = uses_once n s.order_of;
+        within = λ j l. let count = serves_all n j s.order_of l in let a = within j l in omega arith;
       };
       no_gap = λ i j c li lj is. state.priced.no_gap i j c is;
       below_penalty = state.priced.below_penalty;
       balance = omega (arith, exact, count_orders, count_wagons, each_wagon, all, each_order, parts);
     }
 
-pub certificate_counted : (t : Table) (by_order : List (List (ℕ × ℕ))) (u v : List ℕ) (h : List (Option ℕ)) (n : ℕ) → IsState t by_order u v h → AreCounted t v h (taken_at t n 0) → n ≡ order_count t → IsCertificate t (pairs_below n h) u v
-certificate_counted t by_order u v h n state c e =
-    let full : (k : ℕ) → k < order_count t → taken_at t n 0 k ≡ lack_at t k = λ k l. let m : k < n = omega arith in grind (arith, nat_tests, m) in
-    subst (λ m. IsCertificate t (pairs_below m h) u v) (sym e) (certificate t by_order u v h state (λ k l. let f = full k l in let w = c.within k l in omega arith) (λ k l less. let f = full k l in c.refused k l (omega arith)))
+-- with all units taken in, however they are counted
+pub certificate_counted : (s : Kept) (taken : ℕ → ℕ) → IsKept s → AreCounted s taken → ((k : ℕ) → k < order_count s.table → taken k ≡ lack_at s.table k) → IsCertificate s.table (pairs_below (order_count s.table) s.order_of) s.u s.v
+certificate_counted s taken state c full = certificate s state (λ k l. let f = full k l in let w = c.within k l in omega (arith, f, w)) (λ k l less. let f = full k l in c.refused k l (omega (arith, f, less)))

@@ -1,147 +1,184 @@
-use Rattle.std.proofs.Common.{◌≡◌, ◌+◌, ◌-◌, ◌<◌, ◌≤◌, ℕ, List, Option, Some, length, get_or, sym, ◌∙◌, ap, arith, inl, inr, subst}
+use Rattle.std.proofs.Common.{◌≡◌, ◌+◌, ◌-◌, ◌<◌, ◌≤◌, ℕ, List, Option, Some, None, length, get_or, sym, ◌∙◌, ap, arith, inl, inr, subst, refl}
 use Rattle.std.proofs.lemmas.Bool.{cases_lt}
 use Rattle.std.proofs.lemmas.List.{get_or_past}
-use Rattle.cost_table.specs.Table.{Table, cost_at, penalty_at, wagon_count, order_count}
+use Rattle.cost_table.specs.Table.{cost_at, penalty_at, wagon_count, order_count}
 use Rattle.assignment.specs.declared.search.Search.{Search}
-use Rattle.assignment.specs.declared.search.Best.{Best}
+use Rattle.assignment.specs.declared.search.Path.{Path}
 use Rattle.assignment.specs.declared.search.End.{End}
 use Rattle.assignment.specs.declared.search.End.TheVariants.{Wagon, Refusal}
-use Rattle.assignment.specs.inner.State.{IsState, IsPriced, IsTight, AreHeld, order_at}
-use Rattle.assignment.specs.inner.Search.{IsSearch, IsRelaxed, IsEnd}
+use Rattle.assignment.specs.inner.Costs.{cell_cost}
+use Rattle.assignment.specs.inner.State.{Kept, IsKept, IsPriced, IsTight, AreHeld, order_at}
+use Rattle.assignment.specs.inner.Search.{IsPath, IsEnd, IsRelaxed, label_at, from_at, settled_at, distance_at}
 use Rattle.assignment.specs.inner.Path.{AreHandedOn, IsOnPath}
-use Rattle.assignment.proofs.Limits.{cell_wagon, cell_order}
+use Rattle.assignment.proofs.Limits.{cell_wagon, cell_order, penalty_limit}
 
 -- Each price was raised by how much nearer than the path's end its wagon or order is.
-pub record AreRaised (t : Table) (u v u' v' order_far wagon_far : List ℕ) (end : ℕ) : Type 0 where
-  pub wagons_count : length u' ≡ length u
-  pub orders_count : length v' ≡ length v
-  pub wagons : (i : ℕ) → i < wagon_count t → get_or u' i 0 ≡ get_or u i 0 + (end - get_or wagon_far i 0)
-  pub orders : (k : ℕ) → k < order_count t → get_or v' k 0 ≡ get_or v k 0 + (end - get_or order_far k 0)
+pub record AreRaised (s : Kept) (f : Search) (end : ℕ) (u v : List ℕ) : Type 0 where
+  pub wagons_count : length u ≡ length s.u
+  pub orders_count : length v ≡ length s.v
+  pub wagons : (i : ℕ) → i < length s.u → get_or u i 0 ≡ get_or s.u i 0 + (end - label_at f i)
+  pub orders : (k : ℕ) → k < length s.v → get_or v k 0 ≡ get_or s.v k 0 + (end - distance_at f k)
+
+-- what is kept once the prices are raised and the orders handed on
+abbrev pub raised : Kept → List ℕ → List ℕ → List (Option ℕ) → Kept
+raised s u v order_of = record { table = s.table; u = u; v = v; order_of = order_of }
 
 -- what is known of an order after the search
-data Reach (t : Table) (u v : List ℕ) (order_of : List (Option ℕ)) (s : Search) (best : Best) (k : ℕ) : Type 0 where
-  far : 18446744073709551615 ≤ get_or s.order_distance.items k 0 → Reach t u v order_of s best k
-  near : get_or s.order_distance.items k 0 ≤ best.distance → IsRelaxed t u v s.order_distance.items s.wagon_distance.items best.distance k → Reach t u v order_of s best k
+data Reach (s : Kept) (f : Search) (path : Path) (k : ℕ) : Type 0 where
+  far : 4294967295 ≤ distance_at f k → Reach s f path k
+  near : distance_at f k ≤ f.front → distance_at f k ≤ path.distance → IsRelaxed s f k → path.distance + get_or s.v k 0 ≤ distance_at f k + penalty_at s.table k → Reach s f path k
 
-reach_at : (t : Table) (u v : List ℕ) (order_of : List (Option ℕ)) (s : Search) (best : Best) (k : ℕ) → IsSearch t u v order_of s best.distance (length s.orders.items) best → k < order_count t → Reach t u v order_of s best k
-reach_at t u v order_of s best k h lk =
-    elim (cases_lt (get_or s.order_distance.items k 0) 18446744073709551615) [
+reach_at : (s : Kept) (f : Search) (path : Path) (k : ℕ) → IsPath s f path → k < order_count s.table → Reach s f path k
+reach_at s f path k h l =
+    elim (cases_lt (distance_at f k) 4294967295) [
       | inl n ↦
-          let at = h.settled.listed k lk n in
-          let le = h.settled.near at.place at.within in
-          let e : get_or s.order_distance.items (get_or s.orders.items at.place 0) 0 ≡ get_or s.order_distance.items k 0 = ap (λ y. get_or s.order_distance.items y 0) at.is in
-          near (omega arith) (subst (λ (y : ℕ). IsRelaxed t u v s.order_distance.items s.wagon_distance.items best.distance y) at.is (h.relaxed at.place at.within))
-      | inr f ↦ far f
+          let at = h.search.settled.listed k l n in
+          let below = h.search.settled.near at.place at.within in
+          let front = h.front in
+          let least = h.search.refusal.least at.place at.within in
+          let refusal = h.refusal in
+          let is = at.is in
+          let e : distance_at f (settled_at f at.place) ≡ distance_at f k = ap (distance_at f) is in
+          let v : get_or s.v (settled_at f at.place) 0 ≡ get_or s.v k 0 = ap (λ y. get_or s.v y 0) is in
+          let p : penalty_at s.table (settled_at f at.place) ≡ penalty_at s.table k = ap (penalty_at s.table) is in
+          near (omega (arith, below, e)) (omega (arith, below, front, e)) (subst (IsRelaxed s f) is (h.search.relaxed at.place at.within)) (omega (arith, least, refusal, e, v, p))
+      | inr n ↦ far n
     ]
 
-gap_raised : (t : Table) (u v u' v' : List ℕ) (order_of : List (Option ℕ)) (s : Search) (best : Best) (i j c : ℕ) → IsPriced t u v → AreRaised t u v u' v' s.order_distance.items s.wagon_distance.items best.distance → best.distance ≤ 1000000000 → cost_at t i j ≡ Some c → i < wagon_count t → j < order_count t → Reach t u v order_of s best j → get_or v' j 0 ≤ c + get_or u' i 0
-gap_raised t u v u' v' order_of s best i j c priced r limit is li lj (far f) =
+gap_raised : (s : Kept) (f : Search) (path : Path) (u v : List ℕ) (i j c : ℕ) → IsKept s → AreRaised s f path.distance u v → path.distance ≤ 1000000000 → cost_at s.table i j ≡ Some c → i < length s.u → j < length s.v → Reach s f path j → get_or v j 0 ≤ c + get_or u i 0
+gap_raised s f path u v i j c k r limit is li lj (far n) =
     let a = r.wagons i li in
     let b = r.orders j lj in
-    let g = priced.no_gap i j c is in
-    omega arith
-gap_raised t u v u' v' order_of s best i j c priced r limit is li lj (near le relaxed) =
+    let g = k.priced.no_gap i j c is in
+    omega (arith, a, b, g, n, limit)
+gap_raised s f path u v i j c k r limit is li lj (near least le relaxed refusal) =
     let a = r.wagons i li in
     let b = r.orders j lj in
-    let g = relaxed.cells i c is in
-    omega arith
+    let w = k.priced.wagons in
+    let e : cell_cost (cost_at s.table i j) ≡ c = ap cell_cost is in
+    let g = relaxed i (omega (arith, li, w)) in
+    omega (arith, a, b, g, e, le)
 
-penalty_raised : (t : Table) (u v u' v' : List ℕ) (order_of : List (Option ℕ)) (s : Search) (best : Best) (j : ℕ) → IsPriced t u v → AreRaised t u v u' v' s.order_distance.items s.wagon_distance.items best.distance → best.distance ≤ 1000000000 → j < order_count t → Reach t u v order_of s best j → get_or v' j 0 ≤ penalty_at t j
-penalty_raised t u v u' v' order_of s best j priced r limit lj (far f) = let b = r.orders j lj in let p = priced.below_penalty j lj in omega arith
-penalty_raised t u v u' v' order_of s best j priced r limit lj (near le relaxed) = let b = r.orders j lj in let p = relaxed.refusal in omega arith
+penalty_raised : (s : Kept) (f : Search) (path : Path) (u v : List ℕ) (j : ℕ) → IsKept s → AreRaised s f path.distance u v → path.distance ≤ 1000000000 → j < length s.v → j < order_count s.table → Reach s f path j → get_or v j 0 ≤ penalty_at s.table j
+penalty_raised s f path u v j k r limit lj l (far n) = let b = r.orders j lj in let p = k.priced.below_penalty j l in omega (arith, b, p, n, limit)
+penalty_raised s f path u v j k r limit lj l (near least le relaxed refusal) = let b = r.orders j lj in omega (arith, b, le, refusal)
 
-pub priced_raised : (t : Table) (by_order : List (List (ℕ × ℕ))) (u v u' v' : List ℕ) (order_of : List (Option ℕ)) (s : Search) (best : Best) → IsState t by_order u v order_of → IsSearch t u v order_of s best.distance (length s.orders.items) best → AreRaised t u v u' v' s.order_distance.items s.wagon_distance.items best.distance → IsPriced t u' v'
-priced_raised t by_order u v u' v' order_of s best state h r = record {
-  wagons = r.wagons_count ∙ state.priced.wagons;
-  orders = r.orders_count ∙ state.priced.orders;
-  no_gap = λ i j c is.
-      let li = cell_wagon t i j c state.table is in
-      let lj = cell_order t i j c state.table is in
-      gap_raised t u v u' v' order_of s best i j c state.priced r h.kept.limit is li lj (reach_at t u v order_of s best j h lj);
-  below_penalty = λ j lj. penalty_raised t u v u' v' order_of s best j state.priced r h.kept.limit lj (reach_at t u v order_of s best j h lj);
-}
+pub priced_raised : (s : Kept) (f : Search) (path : Path) (u v : List ℕ) (order_of : List (Option ℕ)) → IsKept s → IsPath s f path → AreRaised s f path.distance u v → IsPriced (raised s u v order_of)
+priced_raised s f path u v order_of k h r =
+    let w = k.priced.wagons in
+    let o = k.priced.orders in
+    record {
+      wagons = r.wagons_count ∙ w;
+      orders = r.orders_count ∙ o;
+      no_gap = λ i j c is.
+          let li = cell_wagon s.table i j c k.table is in
+          let lj = cell_order s.table i j c k.table is in
+          gap_raised s f path u v i j c k r h.limit is (omega (arith, li, w)) (omega (arith, lj, o)) (reach_at s f path j h lj);
+      below_penalty = λ j lj. penalty_raised s f path u v j k r h.limit (omega (arith, lj, o)) lj (reach_at s f path j h lj);
+    }
 
 -- a wagon that keeps its order keeps it at a tight cell
-tight_raised : (t : Table) (u v u' v' : List ℕ) (order_of : List (Option ℕ)) (s : Search) (best : Best) (i k : ℕ) → IsSearch t u v order_of s best.distance (length s.orders.items) best → AreRaised t u v u' v' s.order_distance.items s.wagon_distance.items best.distance → order_at order_of i ≡ Some k → IsTight t u v i k → i < wagon_count t → k < order_count t → Reach t u v order_of s best k → IsTight t u' v' i k
-tight_raised t u v u' v' order_of s best i k h r held tight li lk (far f) =
-    let a = r.wagons i li in
-    let b = r.orders k lk in
+tight_raised : (s : Kept) (f : Search) (path : Path) (u v : List ℕ) (order_of : List (Option ℕ)) (i q : ℕ) → IsKept s → IsPath s f path → AreRaised s f path.distance u v → order_at s.order_of i ≡ Some q → IsTight s i q → i < wagon_count s.table → q < order_count s.table → Reach s f path q → IsTight (raised s u v order_of) i q
+tight_raised s f path u v order_of i q k h r held tight li lq (far n) =
+    let w = k.priced.wagons in
+    let o = k.priced.orders in
+    let a = r.wagons i (omega (arith, li, w)) in
+    let b = r.orders q (omega (arith, lq, o)) in
     let e = tight.tight in
-    let beyond = h.beyond.held i k li held in
-    let limit = h.kept.limit in
-    record { cost = tight.cost; allowed = tight.allowed; tight = omega arith }
-tight_raised t u v u' v' order_of s best i k h r held tight li lk (near le relaxed) =
-    let a = r.wagons i li in
-    let b = r.orders k lk in
+    let beyond = (h.beyond i li).held q held n in
+    let limit = h.limit in
+    record { cost = tight.cost; allowed = tight.allowed; tight = omega (arith, a, b, e, beyond, limit, n) }
+tight_raised s f path u v order_of i q k h r held tight li lq (near least le relaxed refusal) =
+    let w = k.priced.wagons in
+    let o = k.priced.orders in
+    let a = r.wagons i (omega (arith, li, w)) in
+    let b = r.orders q (omega (arith, lq, o)) in
     let e = tight.tight in
-    let beyond = h.beyond.held i k li held in
-    let g = relaxed.cells i tight.cost tight.allowed in
-    record { cost = tight.cost; allowed = tight.allowed; tight = omega arith }
+    let at = (h.search.beyond i li).held q held in
+    let c : cell_cost (cost_at s.table i q) ≡ tight.cost = ap cell_cost tight.allowed in
+    let g = relaxed i li in
+    record { cost = tight.cost; allowed = tight.allowed; tight = omega (arith, a, b, e, at, g, c, least, le) }
 
 -- a wagon on the path is no farther than its end
-record IsPathWagon (t : Table) (s : Search) (best : Best) (i : ℕ) : Type 0 where
-  pub wagon : i < wagon_count t
-  pub near : get_or s.wagon_distance.items i 0 ≤ best.distance
+record IsPathWagon (s : Kept) (f : Search) (path : Path) (i : ℕ) : Type 0 where
+  wagon : i < wagon_count s.table
+  near : label_at f i ≤ path.distance
 
-via_near : (t : Table) (u v : List ℕ) (order_of : List (Option ℕ)) (s : Search) (best : Best) (i x : ℕ) → IsSearch t u v order_of s best.distance (length s.orders.items) best → 0 < x → x < length s.orders.items → get_or s.via.items x 0 ≡ i → IsPathWagon t s best i
-via_near t u v order_of s best i x h pos lx is =
-    let led = h.settled.led x pos lx in
-    let near = h.settled.near x lx in
+via_near : (s : Kept) (f : Search) (path : Path) (i x : ℕ) → IsPath s f path → 0 < x → x < length f.orders.items → get_or f.via.items x 0 ≡ i → IsPathWagon s f path i
+via_near s f path i x h pos lx is =
+    let led = h.search.settled.led x pos lx in
+    let near = h.search.settled.near x lx in
+    let front = h.front in
     let w = led.wagon in
     let far = led.as_far in
-    let e : get_or s.wagon_distance.items (get_or s.via.items x 0) 0 ≡ get_or s.wagon_distance.items i 0 = ap (λ y. get_or s.wagon_distance.items y 0) is in
-    record { wagon = omega arith; near = omega arith }
+    let e : label_at f (get_or f.via.items x 0) ≡ label_at f i = ap (label_at f) is in
+    record { wagon = omega (arith, w, is); near = omega (arith, near, front, far, e) }
 
-path_near : (t : Table) (u v : List ℕ) (order_of : List (Option ℕ)) (s : Search) (best : Best) (end : End) (i : ℕ) → IsSearch t u v order_of s best.distance (length s.orders.items) best → IsEnd t v order_of s.order_distance.items s.wagon_distance.items s.orders.items best.distance end → IsOnPath s.orders.items s.via.items end i → IsPathWagon t s best i
-path_near t u v order_of s best (Wagon w) i h end (inl same) =
+path_near : (s : Kept) (f : Search) (path : Path) (end : End) (i : ℕ) → IsPath s f path → IsEnd s f path.distance end → IsOnPath f end i → IsPathWagon s f path i
+path_near s f path (Wagon w) i h end (inl same) =
     let l = end.0 in
     let far = end.2 in
-    let e : get_or s.wagon_distance.items i 0 ≡ get_or s.wagon_distance.items w 0 = ap (λ y. get_or s.wagon_distance.items y 0) same in
-    record { wagon = omega arith; near = omega arith }
-path_near t u v order_of s best (Wagon w) i h end (inr p) = via_near t u v order_of s best i p.0 h p.1 p.2 p.3
-path_near t u v order_of s best (Refusal q) i h end p = via_near t u v order_of s best i p.0 h p.1 p.2 p.3
+    let e : label_at f i ≡ label_at f w = ap (label_at f) same in
+    record { wagon = omega (arith, l, same); near = omega (arith, far, e) }
+path_near s f path (Wagon w) i h end (inr p) = via_near s f path i p.0 h p.1 p.2 p.3
+path_near s f path (Refusal q) i h end p = via_near s f path i p.0 h p.1 p.2 p.3
+
+-- a number that isn't that of a missing cell is a cell's cost
+data Cell (o : Option ℕ) : Type 0 where
+  cell : (c : ℕ) → o ≡ Some c → Cell o
+
+cheap : (o : Option ℕ) → cell_cost o ≤ 1000000000 → Cell o
+cheap None l = absurd (omega (arith, l))
+cheap (Some c) l = cell c refl
+
+tight_cell : (s : Kept) (i q : ℕ) → Cell (cost_at s.table i q) → get_or s.v q 0 ≡ cell_cost (cost_at s.table i q) + get_or s.u i 0 → IsTight s i q
+tight_cell s i q (cell c is) tight = record { cost = c; allowed = is; tight = tight ∙ ap (λ o. cell_cost o + get_or s.u i 0) is }
 
 -- a wagon that gets the order that it was reached from gets it at a tight cell
-tight_new : (t : Table) (u v u' v' : List ℕ) (order_of : List (Option ℕ)) (s : Search) (best : Best) (i k : ℕ) → IsSearch t u v order_of s best.distance (length s.orders.items) best → AreRaised t u v u' v' s.order_distance.items s.wagon_distance.items best.distance → IsPathWagon t s best i → k ≡ get_or s.orders.items (get_or s.wagon_from.items i 0) 0 → IsTight t u' v' i k
-tight_new t u v u' v' order_of s best i k h r p is =
+tight_new : (s : Kept) (f : Search) (path : Path) (u v : List ℕ) (order_of : List (Option ℕ)) (i k : ℕ) → IsKept s → IsPath s f path → AreRaised s f path.distance u v → IsPathWagon s f path i → k ≡ settled_at f (from_at f i) → IsTight (raised s u v order_of) i k
+tight_new s f path u v order_of i k keeps h r p is =
     let li = p.wagon in
     let near = p.near in
-    let limit = h.kept.limit in
-    let label = h.labels.label i li (omega arith) in
-    let q = get_or s.orders.items (get_or s.wagon_from.items i 0) 0 in
-    let lq : q < order_count t = h.settled.order (get_or s.wagon_from.items i 0) label.within in
-    let le = h.settled.near (get_or s.wagon_from.items i 0) label.within in
-    let a = r.wagons i li in
-    let b = r.orders q lq in
+    let limit = h.limit in
+    let label = h.search.labels i li (omega (arith, near, limit)) in
+    let x = from_at f i in
+    let q = settled_at f x in
+    let lq : q < order_count s.table = h.search.settled.order x label.within in
+    let below = h.search.settled.near x label.within in
+    let front = h.front in
+    let least = h.search.refusal.least x label.within in
+    let refusal = h.refusal in
+    let penalty = penalty_limit s.table q keeps.table in
+    let w = keeps.priced.wagons in
+    let o = keeps.priced.orders in
+    let a = r.wagons i (omega (arith, li, w)) in
+    let b = r.orders q (omega (arith, lq, o)) in
     let exact = label.exact in
-    subst (λ (y : ℕ). IsTight t u' v' i y) (sym is) (record { cost = label.cost; allowed = label.allowed; tight = omega arith })
+    let number : cell_cost (cost_at s.table i q) ≤ 1000000000 = omega (arith, exact, near, least, refusal, penalty) in
+    subst (λ (y : ℕ). IsTight (raised s u v order_of) i y) (sym is) (tight_cell (raised s u v order_of) i q (cheap (cost_at s.table i q) number) (omega (arith, a, b, exact, near, below, front)))
 
 some_inner : (a b : ℕ) (o : Option ℕ) → o ≡ Some a → o ≡ Some b → a ≡ b
 some_inner a b o p q = cc
 
-held_cases : (t : Table) (u v u' v' : List ℕ) (order_of order_of' : List (Option ℕ)) (s : Search) (best : Best) (i k : ℕ) → ((i k : ℕ) → order_at order_of i ≡ Some k → IsTight t u' v' i k) → ((i k : ℕ) → IsOnPath s.orders.items s.via.items best.end i → k ≡ get_or s.orders.items (get_or s.wagon_from.items i 0) 0 → IsTight t u' v' i k) → AreHandedOn s.wagon_from.items s.orders.items s.via.items best.end order_of order_of' → order_at order_of' i ≡ Some k → IsTight t u' v' i k
-held_cases t u v u' v' order_of order_of' s best i k old new handed is = elim (handed i) [
-  | inl same ↦ old i k (sym same ∙ is)
-  | inr moved ↦ new i k moved.0 (some_inner _ _ (order_at order_of' i) is moved.1)
-]
-
-pub held_raised : (t : Table) (by_order : List (List (ℕ × ℕ))) (u v u' v' : List ℕ) (order_of order_of' : List (Option ℕ)) (s : Search) (best : Best) → IsState t by_order u v order_of → IsSearch t u v order_of s best.distance (length s.orders.items) best → AreRaised t u v u' v' s.order_distance.items s.wagon_distance.items best.distance → length order_of' ≡ length order_of → AreHandedOn s.wagon_from.items s.orders.items s.via.items best.end order_of order_of' → AreHeld t u' v' order_of'
-held_raised t by_order u v u' v' order_of order_of' s best state h r len handed = record {
-  wagons = len ∙ state.held.wagons;
-  tight = λ i k is. held_cases t u v u' v' order_of order_of' s best i k
-      (λ i k was.
-      let tight = state.held.tight i k was in
-      let li = cell_wagon t i k tight.cost state.table tight.allowed in
-      let lk = cell_order t i k tight.cost state.table tight.allowed in
-      tight_raised t u v u' v' order_of s best i k h r was tight li lk (reach_at t u v order_of s best k h lk))
-      (λ i k on e. tight_new t u v u' v' order_of s best i k h r (path_near t u v order_of s best best.end i h h.kept.end on) e)
-      handed is;
+pub held_raised : (s : Kept) (f : Search) (path : Path) (u v : List ℕ) (order_of : List (Option ℕ)) → IsKept s → IsPath s f path → AreRaised s f path.distance u v → length order_of ≡ length s.order_of → AreHandedOn f path.end s.order_of order_of → AreHeld (raised s u v order_of)
+held_raised s f path u v order_of k h r len handed = record {
+  wagons = len ∙ k.held.wagons;
+  tight = λ i q is. elim (handed i) [
+    | inl same ↦
+        let was = sym same ∙ is in
+        let tight = k.held.tight i q was in
+        let li = cell_wagon s.table i q tight.cost k.table tight.allowed in
+        let lq = cell_order s.table i q tight.cost k.table tight.allowed in
+        tight_raised s f path u v order_of i q k h r was tight li lq (reach_at s f path q h lq)
+    | inr moved ↦ tight_new s f path u v order_of i q k h r (path_near s f path path.end i h h.end moved.0) (some_inner _ _ (order_at order_of i) is moved.1)
+  ];
   idle = λ i none. elim (handed i) [
     | inl same ↦
-        let was = state.held.idle i (sym same ∙ none) in
-        elim (cases_lt i (wagon_count t)) [
-          | inl li ↦ let a = r.wagons i li in let b = h.beyond.free i li (sym same ∙ none) in omega arith
-          | inr past ↦ get_or_past u' i 0 (let a = r.wagons_count in let b = state.priced.wagons in omega arith)
+        let was = k.held.idle i (sym same ∙ none) in
+        let w = k.priced.wagons in
+        elim (cases_lt i (wagon_count s.table)) [
+          | inl li ↦ let a = r.wagons i (omega (arith, li, w)) in let b = (h.beyond i li).idle (sym same ∙ none) in omega (arith, was, a, b)
+          | inr past ↦ get_or_past u i 0 (let a = r.wagons_count in omega (arith, a, w, past))
         ]
     | inr moved ↦ absurd (let e = sym none ∙ moved.1 in cc)
   ];

@@ -1,214 +1,125 @@
-use Rattle.std.proofs.Common.{◌≡◌, ◌≢◌, ◌+◌, ◌<◌, ◌≤◌, ℕ, Bool, true, false, cond, List, [], ◌∷◌, ◌++◌, Option, Some, None, length, get_or, set, refl, sym, ◌∙◌, ap, arith, inl, inr, subst}
-use Rattle.std.specs.List.{count_by}
-use Rattle.std.proofs.lemmas.Bool.{cases_eq}
-use Rattle.std.proofs.lemmas.List.{length_push, get_or_push, get_or_append_left}
-use Rattle.std.proofs.lemmas.List.Sums.{sum_by-set, count_by-le-length}
+use Rattle.std.proofs.Common.{◌≡◌, ◌+◌, ◌<◌, ◌≤◌, ℕ, cond, ltb, List, Vec, length, get_or, sym, ◌∙◌, arith, inl, inr, subst, min}
+use Rattle.std.specs.declared.alloc.Global.{Global}
+use Rattle.std.proofs.lemmas.Bool.{cases_eq, cases_lt}
 use Rattle.std.proofs.lemmas.Bool.Decides.{nat_tests}
-use Rattle.cost_table.specs.Table.{Table, cost_at, wagon_count}
-use Rattle.assignment.specs.inner.IndexList.{At}
-use Rattle.assignment.specs.inner.State.{order_at}
-use Rattle.assignment.specs.inner.Search.{is_near, IsLabel, AreLabels, AreSettled, IsRelaxed, AreBeyond, AreListed}
-use Rattle.assignment.proofs.Writes.{same_at, other_at, written_length}
+use Rattle.cost_table.specs.Table.{cost_at, wagon_count}
+use Rattle.assignment.specs.declared.passes.Front.{Front}
+use Rattle.assignment.specs.declared.search.Search.{Search}
+use Rattle.assignment.specs.inner.Costs.{cell_cost, IsColumn}
+use Rattle.assignment.specs.inner.Passes.{through}
+use Rattle.assignment.specs.inner.State.{Kept, IsKept}
+use Rattle.assignment.specs.inner.Search.{IsSearch, label_at, from_at, settled_at, distance_at}
+use Rattle.assignment.proofs.Limits.{cell_gap}
 
--- a label that stays
-label_same : (t : Table) (u v od wd wd' from from' orders : List ℕ) (i : ℕ) → get_or wd' i 0 ≡ get_or wd i 0 → get_or from' i 0 ≡ get_or from i 0 → IsLabel t u v od wd from orders i → IsLabel t u v od wd' from' orders i
-label_same t u v od wd wd' from from' orders i de fe l = record {
-  within = let h = l.within in omega (arith, h, fe);
-  cost = l.cost;
-  allowed = ap (λ x. cost_at t i (get_or orders x 0)) fe ∙ l.allowed;
-  exact = let h = l.exact in rw (de, fe) h;
-}
+pub below_is : (a b x y : ℕ) → a < b → cond (ltb a b) x y ≡ x
+below_is a b x y h = grind (arith, nat_tests, h)
 
--- the labels after wagon i gets a new one
-pub labels_more : (t : Table) (u v od wd wd' from from' orders : List ℕ) (i distance place order cost : ℕ) → AreLabels t u v od wd from orders → i < length wd → i < length from → wd' ≡ set wd i distance → from' ≡ set from i place → place < length orders → get_or orders place 0 ≡ order → cost_at t i order ≡ Some cost → distance + get_or v order 0 ≡ get_or od order 0 + cost + get_or u i 0 → AreLabels t u v od wd' from' orders
-labels_more t u v od wd wd' from from' orders i distance place order cost h li lf de fe within at allowed exact = record {
-  label = λ x lx near. elim (cases_eq x i) [
-    | inl same ↦
-        let d_here : get_or wd' i 0 ≡ distance = same_at wd wd' i distance 0 li de in
-        let f_here : get_or from' i 0 ≡ place = same_at from from' i place 0 lf fe in
-        let here : IsLabel t u v od wd' from' orders i = record {
-          within = omega (arith, f_here);
-          cost = cost;
-          allowed = ap (λ y. cost_at t i (get_or orders y 0)) f_here ∙ ap (cost_at t i) at ∙ allowed;
-          exact = rw (d_here, f_here, at) exact;
-        } in
-        subst (λ (y : ℕ). IsLabel t u v od wd' from' orders y) (sym same) here
-    | inr other ↦
-        let d_there : get_or wd' x 0 ≡ get_or wd x 0 = other_at wd wd' i distance 0 x de other in
-        let f_there : get_or from' x 0 ≡ get_or from x 0 = other_at from from' i place 0 x fe other in
-        label_same t u v od wd wd' from from' orders x d_there f_there (h.label x lx (omega arith))
-  ];
-}
+pub not_below_is : (a b x y : ℕ) → b ≤ a → cond (ltb a b) x y ≡ y
+not_below_is a b x y h = grind (arith, nat_tests, h)
 
--- the orders settled, after a wagon beyond the front comes nearer, but not below it
-pub settled_same : (t : Table) (order_of : List (Option ℕ)) (od wd wd' from from' orders via : List ℕ) (front i distance place : ℕ) → AreSettled t order_of od wd from orders via front → wd' ≡ set wd i distance → from' ≡ set from i place → front ≤ distance → distance < get_or wd i 0 → AreSettled t order_of od wd' from' orders via front
-settled_same t order_of od wd wd' from from' orders via front i distance place h de fe least nearer = record {
-  some = h.some;
-  vias = h.vias;
-  count = h.count;
-  order = h.order;
-  near = h.near;
-  listed = h.listed;
-  apart = h.apart;
-  led = λ x pos lx.
-      let l = h.led x pos lx in
-      let near = h.near x lx in
-      let far = l.as_far in
-      let other : get_or via x 0 ≢ i = λ same. let e : get_or wd (get_or via x 0) 0 ≡ get_or wd i 0 = ap (λ y. get_or wd y 0) same in omega arith in
-      let d_there : get_or wd' (get_or via x 0) 0 ≡ get_or wd (get_or via x 0) 0 = other_at wd wd' i distance 0 (get_or via x 0) de other in
-      let f_there : get_or from' (get_or via x 0) 0 ≡ get_or from (get_or via x 0) 0 = other_at from from' i place 0 (get_or via x 0) fe other in
-      let before = l.before in
-      record { wagon = l.wagon; held = l.held; as_far = d_there ∙ far; before = omega arith };
-}
+-- each wagon took the nearer of its label and its distance over the order at the front
+pub record IsRelabelled (s : Kept) (f : Search) (front : Front) (scanned : ℕ) (costs label from : List ℕ) : Type 0 where
+  pub last : scanned + 1 ≡ length f.orders.items
+  pub place : front.place ≡ scanned
+  pub distance : front.distance ≡ f.front
+  pub price : front.price ≡ get_or s.v (settled_at f scanned) 0
+  pub column : IsColumn s.table (settled_at f scanned) costs
+  pub label_count : length label ≡ wagon_count s.table
+  pub from_count : length from ≡ wagon_count s.table
+  pub labels : (i : ℕ) → i < wagon_count s.table → get_or label i 0 ≡ min (label_at f i) (through front (get_or costs i 0) (get_or s.u i 0))
+  pub places : (i : ℕ) → i < wagon_count s.table → get_or from i 0 ≡ cond (ltb (through front (get_or costs i 0) (get_or s.u i 0)) (label_at f i)) front.place (from_at f i)
 
--- what is relaxed stays so while distances fall
-pub relaxed_nearer : (t : Table) (u v od wd wd' : List ℕ) (best best' k : ℕ) → ((i : ℕ) → get_or wd' i 0 ≤ get_or wd i 0) → best' ≤ best → IsRelaxed t u v od wd best k → IsRelaxed t u v od wd' best' k
-relaxed_nearer t u v od wd wd' best best' k fall lower h = record {
-  cells = λ i c is. let was = h.cells i c is in let f = fall i in omega arith;
-  refusal = let was = h.refusal in omega arith;
-}
+-- what a wagon's new label is
+record IsNew (s : Kept) (f : Search) (order i distance label : ℕ) : Type 0 where
+  exact : distance + get_or s.v order 0 ≡ f.front + cell_cost (cost_at s.table i order) + get_or s.u i 0
+  beyond : f.front ≤ distance
+  label_is : label ≡ min (label_at f i) distance
 
-pub written_falls : (wd wd' : List ℕ) (i distance : ℕ) → i < length wd → wd' ≡ set wd i distance → distance < get_or wd i 0 → (x : ℕ) → get_or wd' x 0 ≤ get_or wd x 0
-written_falls wd wd' i distance l de nearer x =
-    elim (cases_eq x i) [
-      | inl same ↦
-          let here : get_or wd' i 0 ≡ distance = same_at wd wd' i distance 0 l de in
-          subst (λ (y : ℕ). get_or wd' y 0 ≤ get_or wd y 0) (sym same) (omega arith)
-      | inr other ↦ let there : get_or wd' x 0 ≡ get_or wd x 0 = other_at wd wd' i distance 0 x de other in omega arith
-    ]
+new_label : (s : Kept) (f : Search) (front : Front) (scanned : ℕ) (costs label from : List ℕ) (i : ℕ) → IsKept s → IsSearch s f scanned → IsRelabelled s f front scanned costs label from → i < wagon_count s.table → IsNew s f (settled_at f scanned) i (through front (get_or costs i 0) (get_or s.u i 0)) (get_or label i 0)
+new_label s f front scanned costs label from i k h r l =
+    let last = r.last in
+    let gap = cell_gap s i (settled_at f scanned) k (h.settled.order scanned (omega arith)) in
+    let cost = r.column.each i l in
+    let price = r.price in
+    let distance = r.distance in
+    record { exact = omega (arith, gap, cost, price, distance); beyond = omega (arith, gap, cost, price, distance); label_is = r.labels i l }
 
--- no wagon comes below the front; one without an order may become the best end
-pub beyond_same : (t : Table) (order_of : List (Option ℕ)) (od wd wd' : List ℕ) (front best best' i distance : ℕ) → AreBeyond t order_of od wd front best → i < length wd → wd' ≡ set wd i distance → front ≤ distance → best' ≤ best → (order_at order_of i ≡ None → best' ≤ distance) → AreBeyond t order_of od wd' front best'
-beyond_same t order_of od wd wd' front best best' i distance h l de least lower free = record {
-  held = λ x k lx is. elim (cases_eq x i) [
-    | inl same ↦
-        let here : get_or wd' x 0 ≡ distance = ap (λ y. get_or wd' y 0) same ∙ same_at wd wd' i distance 0 l de in
-        omega arith
-    | inr other ↦
-        let there : get_or wd' x 0 ≡ get_or wd x 0 = other_at wd wd' i distance 0 x de other in
-        let was = h.held x k lx is in
-        omega arith
-  ];
-  free = λ x lx none. elim (cases_eq x i) [
-    | inl same ↦
-        let here : get_or wd' x 0 ≡ distance = ap (λ y. get_or wd' y 0) same ∙ same_at wd wd' i distance 0 l de in
-        let is = free (ap (λ y. order_at order_of y) (sym same) ∙ none) in
-        omega arith
-    | inr other ↦
-        let there : get_or wd' x 0 ≡ get_or wd x 0 = other_at wd wd' i distance 0 x de other in
-        let was = h.free x lx none in
-        omega arith
-  ];
-}
-
--- 1 where a distance is near, else 0
-abbrev pub one_near : ℕ → ℕ
-one_near d = cond (is_near d) 1 0
-
-near_one : (d : ℕ) → d < 18446744073709551615 → one_near d ≡ 1
-near_one d h = grind (arith, nat_tests, h)
-
-far_none : (d : ℕ) → d ≡ 18446744073709551615 → one_near d ≡ 0
-far_none d h = grind (arith, nat_tests, h)
-
--- one more distance is near
-pub near_count_more : (ds ds' : List ℕ) (i distance : ℕ) → i < length ds → ds' ≡ set ds i distance → distance < 18446744073709551615 → get_or ds i 0 ≡ 18446744073709551615 → count_by is_near ds' ≡ count_by is_near ds + 1
-near_count_more ds ds' i distance l e near far =
-    let s = sum_by-set one_near ds i distance 0 l in
-    let a = near_one distance near in
-    let b = far_none (get_or ds i 0) far in
-    let c : count_by is_near ds' ≡ count_by is_near (set ds i distance) = ap (count_by is_near) e in
-    omega (arith, s, a, b, c)
-
-pub near_count_same : (ds ds' : List ℕ) (i distance : ℕ) → i < length ds → ds' ≡ set ds i distance → distance < 18446744073709551615 → get_or ds i 0 < 18446744073709551615 → count_by is_near ds' ≡ count_by is_near ds
-near_count_same ds ds' i distance l e near was =
-    let s = sum_by-set one_near ds i distance 0 l in
-    let a = near_one distance near in
-    let b = near_one (get_or ds i 0) was in
-    let c : count_by is_near ds' ≡ count_by is_near (set ds i distance) = ap (count_by is_near) e in
-    omega (arith, s, a, b, c)
-
--- so there is room while one is far
-pub near_count_below : (ds : List ℕ) (i : ℕ) → i < length ds → get_or ds i 0 ≡ 18446744073709551615 → count_by is_near ds < length ds
-near_count_below ds i l far =
-    let more = near_count_more ds (set ds i 0) i 0 l refl (omega arith) far in
-    let le = count_by-le-length is_near (set ds i 0) in
-    let len = written_length ds (set ds i 0) i 0 refl in
-    omega (arith, more, le, len)
-
--- where an item of a list stands after a push, and the item pushed
-pub at_before : (xs : List ℕ) (y item : ℕ) → At xs item → At (xs ++ y ∷ []) item
-at_before xs y item at =
-    let n = length_push xs y in
-    let w = at.within in
-    record { place = at.place; within = omega (arith, n); is = get_or_append_left xs (y ∷ []) 0 at.place at.within ∙ at.is }
-
-pub at_end : (xs : List ℕ) (y : ℕ) → At (xs ++ y ∷ []) y
-at_end xs y = record { place = length xs; within = omega (arith, length_push xs y); is = get_or_push xs y 0 (length xs) refl }
-
--- what holds of each item holds after a push
-pub each_more : (P : ℕ → Type 0) (xs : List ℕ) (y : ℕ) → ((x : ℕ) → x < length xs → P (get_or xs x 0)) → P y → (x : ℕ) → x < length (xs ++ y ∷ []) → P (get_or (xs ++ y ∷ []) x 0)
-each_more P xs y each p x l =
-    elim (cases_eq x (length xs)) [
-      | inl same ↦ subst P (sym (get_or_push xs y 0 x (sym same))) p
-      | inr other ↦
-          let n = length_push xs y in
-          let less : x < length xs = omega (arith, n, other) in
-          subst P (sym (get_or_append_left xs (y ∷ []) 0 x less)) (each x less)
-    ]
-
--- the lists after a wagon is labelled that was listed before
-pub listed_same : (t : Table) (order_of : List (Option ℕ)) (od wd wd' reached frontier : List ℕ) (i distance : ℕ) → AreListed t order_of od wd reached frontier → i < length wd → wd' ≡ set wd i distance → distance < get_or wd i 0 → get_or wd i 0 < 18446744073709551615 → AreListed t order_of od wd' reached frontier
-listed_same t order_of od wd wd' reached frontier i distance h l de nearer was =
-    let fall = written_falls wd wd' i distance l de nearer in
-    let near : (x : ℕ) → get_or wd' x 0 < 18446744073709551615 → get_or wd x 0 < 18446744073709551615 = λ x n. elim (cases_eq x i) [
-      | inl same ↦ subst (λ (y : ℕ). get_or wd y 0 < 18446744073709551615) (sym same) was
-      | inr other ↦ let there : get_or wd' x 0 ≡ get_or wd x 0 = other_at wd wd' i distance 0 x de other in omega arith
-    ] in
+pub search_relaxed : (s : Kept) (f : Search) (front : Front) (scanned : ℕ) (costs : List ℕ) (label from : Vec ℕ Global) → IsKept s → IsSearch s f scanned → IsRelabelled s f front scanned costs label.items from.items → IsSearch s (record f { label = label; from = from }) (scanned + 1)
+search_relaxed s f front scanned costs label from k h r =
+    let order = settled_at f scanned in
+    let last = r.last in
+    let far = h.settled.last scanned last in
+    let new = λ (i : ℕ) (l : i < wagon_count s.table). new_label s f front scanned costs label.items from.items i k h r l in
     record {
-      each_reached = λ x lx n. h.each_reached x lx (near x n);
-      reached_within = h.reached_within;
-      reached_count = h.reached_count ∙ sym (near_count_same wd wd' i distance l de (omega arith) was);
-      each_open = λ x k lx is n far. h.each_open x k lx is (near x n) far;
-      open_within = h.open_within;
-      open_count = h.open_count;
+      room = record {
+        labels = r.label_count;
+        places = r.from_count;
+        targets = h.room.targets;
+        distances = h.room.distances;
+        orders = h.room.orders;
+        vias = h.room.vias;
+      };
+      labels = λ i l near. elim (cases_lt (through front (get_or costs i 0) (get_or s.u i 0)) (label_at f i)) [
+        | inl less ↦
+            let n = new i l in
+            let exact = n.exact in
+            let is = n.label_is in
+            let place : get_or from.items i 0 ≡ scanned = r.places i l ∙ below_is (through front (get_or costs i 0) (get_or s.u i 0)) (label_at f i) front.place (from_at f i) less ∙ r.place in
+            record {
+              within = omega (arith, place);
+              exact = rw place (omega (arith, exact, is));
+            }
+        | inr more ↦
+            let is = (new i l).label_is in
+            let place : get_or from.items i 0 ≡ from_at f i = r.places i l ∙ not_below_is (through front (get_or costs i 0) (get_or s.u i 0)) (label_at f i) front.place (from_at f i) more in
+            let was = h.labels i l (omega (arith, is)) in
+            let within = was.within in
+            let exact = was.exact in
+            record { within = omega (arith, place); exact = rw place (omega (arith, exact, is)) }
+      ];
+      relaxed = λ x lx i l.
+          let n = new i l in
+          let exact = n.exact in
+          let is = n.label_is in
+          elim (cases_eq x scanned) [
+            | inl same ↦ subst (λ (y : ℕ). get_or label.items i 0 + get_or s.v (settled_at f y) 0 ≤ distance_at f (settled_at f y) + cell_cost (cost_at s.table i (settled_at f y)) + get_or s.u i 0) (sym same) (omega (arith, exact, is, far))
+            | inr other ↦ let was = h.relaxed x (omega (arith, other)) i l in omega (arith, was, is)
+          ];
+      opens = λ i l. let o = h.opens i l in record { leads = o.leads; stays = o.stays };
+      beyond = λ i l.
+          let n = new i l in
+          let least = n.beyond in
+          let is = n.label_is in
+          record {
+            held = λ q held. let was = (h.beyond i l).held q held in omega (arith, was, is, least);
+            idle = λ none. let was = (h.beyond i l).idle none in omega (arith, was, is, least);
+          };
+      settled = record {
+        vias = h.settled.vias;
+        count = h.settled.count;
+        order = h.settled.order;
+        near = h.settled.near;
+        last = h.settled.last;
+        listed = λ q l near. let at = h.settled.listed q l near in record { place = at.place; within = at.within; is = at.is };
+        apart = h.settled.apart;
+        led = λ x pos l.
+            let led = h.settled.led x pos l in
+            let w = get_or f.via.items x 0 in
+            let as_far = led.as_far in
+            let near = h.settled.near x l in
+            let n = new w led.wagon in
+            let least = n.beyond in
+            let is = n.label_is in
+            let place : get_or from.items w 0 ≡ from_at f w = r.places w led.wagon ∙ not_below_is (through front (get_or costs w 0) (get_or s.u w 0)) (label_at f w) front.place (from_at f w) (omega (arith, as_far, near, least)) in
+            let before = led.before in
+            record { wagon = led.wagon; held = led.held; as_far = omega (arith, as_far, near, least, is); before = omega (arith, place, before) };
+      };
+      refusal = record {
+        beyond = h.refusal.beyond;
+        none = h.refusal.none;
+        limit = h.refusal.limit;
+        within = h.refusal.within;
+        exact = h.refusal.exact;
+        least = h.refusal.least;
+      };
     }
-
--- the lists after a wagon is labelled for the first time
-pub listed_more : (t : Table) (order_of : List (Option ℕ)) (od wd wd' reached reached' frontier frontier' : List ℕ) (i distance : ℕ) (is_free : Bool) → AreListed t order_of od wd reached frontier → i < length wd → i < wagon_count t → wd' ≡ set wd i distance → distance < 18446744073709551615 → get_or wd i 0 ≡ 18446744073709551615 → reached' ≡ reached ++ i ∷ [] → frontier' ≡ cond is_free frontier (frontier ++ i ∷ []) → (is_free ≡ true → order_at order_of i ≡ None) → AreListed t order_of od wd' reached' frontier'
-listed_more t order_of od wd wd' reached reached' frontier frontier' i distance true h l li de near far re fe free = record {
-  each_reached = λ x lx n. elim (cases_eq x i) [
-    | inl same ↦ subst (λ (y : ℕ). At reached' y) (sym same) (rw re (at_end reached i))
-    | inr other ↦
-        let there : get_or wd' x 0 ≡ get_or wd x 0 = other_at wd wd' i distance 0 x de other in
-        rw re (at_before reached i x (h.each_reached x lx (omega arith)))
-  ];
-  reached_within = rw re (each_more (λ (y : ℕ). y < wagon_count t) reached i h.reached_within li);
-  reached_count = ap length re ∙ length_push reached i ∙ ap (λ n. n + 1) h.reached_count ∙ sym (near_count_more wd wd' i distance l de near far);
-  each_open = λ x k lx is n un. elim (cases_eq x i) [
-    | inl same ↦ absurd (let none = free refl in let some : order_at order_of i ≡ Some k = ap (λ y. order_at order_of y) (sym same) ∙ is in cc)
-    | inr other ↦
-        let there : get_or wd' x 0 ≡ get_or wd x 0 = other_at wd wd' i distance 0 x de other in
-        rw fe (h.each_open x k lx is (omega arith) un)
-  ];
-  open_within = rw fe h.open_within;
-  open_count = let c = h.open_count in let n = length_push reached i in let a = ap length re in let b = ap length fe in omega arith;
-}
-listed_more t order_of od wd wd' reached reached' frontier frontier' i distance false h l li de near far re fe free = record {
-  each_reached = λ x lx n. elim (cases_eq x i) [
-    | inl same ↦ subst (λ (y : ℕ). At reached' y) (sym same) (rw re (at_end reached i))
-    | inr other ↦
-        let there : get_or wd' x 0 ≡ get_or wd x 0 = other_at wd wd' i distance 0 x de other in
-        rw re (at_before reached i x (h.each_reached x lx (omega arith)))
-  ];
-  reached_within = rw re (each_more (λ (y : ℕ). y < wagon_count t) reached i h.reached_within li);
-  reached_count = ap length re ∙ length_push reached i ∙ ap (λ n. n + 1) h.reached_count ∙ sym (near_count_more wd wd' i distance l de near far);
-  each_open = λ x k lx is n un. elim (cases_eq x i) [
-    | inl same ↦ subst (λ (y : ℕ). At frontier' y) (sym same) (rw fe (at_end frontier i))
-    | inr other ↦
-        let there : get_or wd' x 0 ≡ get_or wd x 0 = other_at wd wd' i distance 0 x de other in
-        rw fe (at_before frontier i x (h.each_open x k lx is (omega arith) un))
-  ];
-  open_within = rw fe (each_more (λ (y : ℕ). y < wagon_count t) frontier i h.open_within li);
-  open_count = let c = h.open_count in let n = length_push reached i in let m = length_push frontier i in let a = ap length re in let b = ap length fe in omega arith;
-}

@@ -1,315 +1,329 @@
-use Rattle.std.proofs.Common.{◌≡◌, ◌≢◌, ◌+◌, ◌<◌, ◌≤◌, ℕ, List, [], ◌∷◌, ◌++◌, Option, Some, length, get_or, set, refl, sym, ◌∙◌, ap, arith, inl, inr, subst}
+use Rattle.std.proofs.Common.{◌≡◌, ◌≢◌, ◌+◌, ◌-◌, ◌<◌, ◌≤◌, ℕ, Bool, true, false, cond, ltb, List, [], ◌∷◌, ◌++◌, Some, Vec, length, get_or, set, refl, sym, ◌∙◌, ap, arith, inl, inr, subst}
+use Rattle.std.specs.Prelude.{◌==◌}
+use Rattle.std.specs.declared.alloc.Global.{Global}
+use Rattle.std.specs.Vec.{vec_capacity}
 use Rattle.std.proofs.lemmas.Bool.{cases_eq, cases_lt}
+use Rattle.std.proofs.lemmas.Bool.Decides.{nat_tests}
 use Rattle.std.proofs.lemmas.List.{length_push, get_or_push, get_or_append_left}
-use Rattle.cost_table.specs.Table.{Table, cost_at, wagon_count, order_count}
+use Rattle.cost_table.specs.Table.{penalty_at, wagon_count, order_count}
 use Rattle.assignment.specs.declared.search.Search.{Search}
-use Rattle.assignment.specs.declared.search.Best.{Best}
-use Rattle.assignment.specs.declared.search.End.{End}
-use Rattle.assignment.specs.declared.search.End.TheVariants.{Wagon, Refusal}
-use Rattle.assignment.specs.inner.IndexList.{At, without}
-use Rattle.assignment.specs.inner.State.{order_at}
-use Rattle.assignment.specs.inner.Search.{HasRoom, AreLabels, IsLed, AreSettled, IsRelaxed, AreBeyond, AreListed, IsEnd, IsSearch}
+use Rattle.assignment.specs.declared.search.Refusal.{Refusal}
+use Rattle.assignment.specs.declared.search.Next.{Next}
+use Rattle.assignment.specs.inner.State.{Kept, IsKept, order_at}
+use Rattle.assignment.specs.inner.Search.{IsSearch, IsNext, IsOpen, IsBeyond, IsLed, AreSettled, IsRefusal, label_at, from_at, settled_at, distance_at}
 use Rattle.assignment.proofs.Writes.{same_at, other_at, written_length}
-use Rattle.assignment.proofs.Relabel.{at_before, at_end, each_more, near_count_more}
-use Rattle.assignment.proofs.Without.{length-without, without-kept, each-without}
+use Rattle.assignment.proofs.Limits.{held_order, penalty_limit}
+use Rattle.assignment.proofs.Nearness.{near_count_more, near_count_below}
 
--- a search whose frontier lost the wagon at a place
-pub record IsPopped (s s' : Search) (place : ℕ) : Type 0 where
-  pub within : place < length s.frontier.items
-  pub others : s' ≡ record s { frontier = s'.frontier }
-  pub frontier : s'.frontier.items ≡ without s.frontier.items place
-  pub room : s'.frontier.room ≡ s.frontier.room
+abbrev pub next_of : ℕ → ℕ → ℕ → Next
+next_of order distance wagon = record { order = order; distance = distance; wagon = wagon }
 
-room_popped : (t : Table) (s s' : Search) (place : ℕ) → IsPopped s s' place → HasRoom t s → HasRoom t s'
-room_popped t s s' place p h = record {
-  wagon_distances = ap (λ (x : Search). length x.wagon_distance.items) p.others ∙ h.wagon_distances;
-  wagon_places = ap (λ (x : Search). length x.wagon_from.items) p.others ∙ h.wagon_places;
-  order_distances = ap (λ (x : Search). length x.order_distance.items) p.others ∙ h.order_distances;
-  orders = ap (λ (x : Search). x.orders.room) p.others ∙ h.orders;
-  via = ap (λ (x : Search). x.via.room) p.others ∙ h.via;
-  reached = ap (λ (x : Search). x.reached.room) p.others ∙ h.reached;
-  frontier = p.room ∙ h.frontier;
-}
+-- the nearest refusal once the order settled last may refuse
+abbrev pub refusal_with : Kept → Search → ℕ → ℕ → Refusal
+refusal_with s f order distance =
+    let new = distance + (penalty_at s.table order - get_or s.v order 0) in
+    cond (ltb new f.refusal.distance) (record { distance = new; place = length f.orders.items }) f.refusal
 
--- the lists without an open wagon whose order is settled
-listed_stale : (t : Table) (order_of : List (Option ℕ)) (od wd reached frontier : List ℕ) (place : ℕ) → AreListed t order_of od wd reached frontier → place < length frontier → ((k : ℕ) → order_at order_of (get_or frontier place 0) ≡ Some k → get_or od k 0 < 18446744073709551615) → AreListed t order_of od wd reached (without frontier place)
-listed_stale t order_of od wd reached frontier place h l stale = record {
-  each_reached = h.each_reached;
-  reached_within = h.reached_within;
-  reached_count = h.reached_count;
-  each_open = λ i k li is near far.
-      let at = h.each_open i k li is near far in
-      let other : get_or frontier at.place 0 ≢ get_or frontier place 0 = λ same.
-      let settled = stale k (ap (order_at order_of) (sym same ∙ at.is) ∙ is) in omega arith in
-      subst (At (without frontier place)) at.is (without-kept frontier place at.place l at.within other);
-  open_within = each-without (λ (y : ℕ). y < wagon_count t) frontier place l h.open_within;
-  open_count = let c = h.open_count in let n = length-without frontier place l in omega arith;
-}
+-- the same where its parts were read
+pub refusal_read : (s : Kept) (f : Search) (order distance penalty price count : ℕ) (r : Refusal) → penalty ≡ penalty_at s.table order → price ≡ get_or s.v order 0 → count ≡ length f.orders.items → r ≡ cond (ltb (distance + (penalty - price)) f.refusal.distance) (record { distance = distance + (penalty - price); place = count }) f.refusal → r ≡ refusal_with s f order distance
+refusal_read s f order distance penalty price count r pe ve ce e =
+    let g : ℕ → ℕ → ℕ → Refusal = λ p v n. cond (ltb (distance + (p - v)) f.refusal.distance) (record { distance = distance + (p - v); place = n }) f.refusal in
+    e ∙ ap (λ x. g x price count) pe ∙ ap (λ x. g (penalty_at s.table order) x count) ve ∙ ap (λ x. g (penalty_at s.table order) (get_or s.v order 0) x) ce
 
--- a search goes on without an open wagon whose order is settled
-pub search_popped : (t : Table) (u v : List ℕ) (order_of : List (Option ℕ)) (s s' : Search) (floor scanned : ℕ) (best : Best) (place : ℕ) → IsSearch t u v order_of s floor scanned best → IsPopped s s' place → ((k : ℕ) → order_at order_of (get_or s.frontier.items place 0) ≡ Some k → get_or s.order_distance.items k 0 < 18446744073709551615) → IsSearch t u v order_of s' floor scanned best
-search_popped t u v order_of s s' floor scanned best place h p stale =
-    let od : s'.order_distance.items ≡ s.order_distance.items = ap (λ (x : Search). x.order_distance.items) p.others in
-    let wd : s'.wagon_distance.items ≡ s.wagon_distance.items = ap (λ (x : Search). x.wagon_distance.items) p.others in
-    let wf : s'.wagon_from.items ≡ s.wagon_from.items = ap (λ (x : Search). x.wagon_from.items) p.others in
-    let os : s'.orders.items ≡ s.orders.items = ap (λ (x : Search). x.orders.items) p.others in
-    let vs : s'.via.items ≡ s.via.items = ap (λ (x : Search). x.via.items) p.others in
-    let rs : s'.reached.items ≡ s.reached.items = ap (λ (x : Search). x.reached.items) p.others in
-    let fs = p.frontier in
+-- an order settled at a distance through a wagon
+pub record IsSettled (s : Kept) (f : Search) (order distance wagon : ℕ) (distances orders via target : List ℕ) : Type 0 where
+  pub distances_are : distances ≡ set f.order_distance.items order distance
+  pub orders_are : orders ≡ f.orders.items ++ order ∷ []
+  pub via_are : via ≡ f.via.items ++ wagon ∷ []
+  pub target_count : length target ≡ wagon_count s.table
+  pub opens : (i : ℕ) → i < wagon_count s.table → get_or target i 0 ≡ cond (get_or f.target.items i 0 == order) 4294967295 (get_or f.target.items i 0)
+
+-- what was settled before stays, and the order is settled last
+record IsPushed (s : Kept) (f : Search) (order distance : ℕ) (distances orders : List ℕ) : Type 0 where
+  count : length orders ≡ length f.orders.items + 1
+  before : (x : ℕ) → x < length f.orders.items → get_or orders x 0 ≡ settled_at f x
+  at_end : get_or orders (length f.orders.items) 0 ≡ order
+  here : get_or distances order 0 ≡ distance
+  there : (k : ℕ) → k ≢ order → get_or distances k 0 ≡ distance_at f k
+  other : (x : ℕ) → x < length f.orders.items → settled_at f x ≢ order
+
+pushed : (s : Kept) (f : Search) (order distance wagon : ℕ) (distances orders via target : List ℕ) (n : ℕ) → IsSearch s f n → IsNext s f (next_of order distance wagon) → IsSettled s f order distance wagon distances orders via target → IsPushed s f order distance distances orders
+pushed s f order distance wagon distances orders via target n h next r =
+    let l = next.within in
+    let room = h.room.distances in
     record {
-      room = room_popped t s s' place p h.room;
-      labels = rw (od, wd, wf, os) h.labels;
-      settled = rw (od, wd, wf, os, vs) h.settled;
-      relaxed = λ x l. rw (od, wd, os) (h.relaxed x l);
-      beyond = rw (od, wd) h.beyond;
-      kept = rw (od, wd, os) h.kept;
-      listed = rw (od, wd, rs, fs) (listed_stale t order_of s.order_distance.items s.wagon_distance.items s.reached.items s.frontier.items place h.listed p.within stale);
+      count = ap length r.orders_are ∙ length_push f.orders.items order;
+      before = λ x lx. ap (λ y. get_or y x 0) r.orders_are ∙ get_or_append_left f.orders.items (order ∷ []) 0 x lx;
+      at_end = ap (λ y. get_or y (length f.orders.items) 0) r.orders_are ∙ get_or_push f.orders.items order 0 (length f.orders.items) refl;
+      here = same_at f.order_distance.items distances order distance 0 (omega arith) r.distances_are;
+      there = λ k apart. other_at f.order_distance.items distances order distance 0 k r.distances_are apart;
+      other = λ x lx same.
+          let near = h.settled.near x lx in
+          let front = next.front in
+          let limit = next.limit in
+          let far = next.far in
+          let e : distance_at f (settled_at f x) ≡ distance_at f order = ap (distance_at f) same in
+          omega (arith, near, front, limit, far, e);
     }
 
--- an order's distance may be told from those of all that are settled
-beyond_from : (t : Table) (order_of : List (Option ℕ)) (od wd from orders via : List ℕ) (front front' best : ℕ) → AreSettled t order_of od wd from orders via front → AreBeyond t order_of od wd front best → ((i k : ℕ) → i < wagon_count t → order_at order_of i ≡ Some k → k < order_count t) → ((i k : ℕ) → i < wagon_count t → order_at order_of i ≡ Some k → 18446744073709551615 ≤ get_or od k 0 → front' ≤ get_or wd i 0) → AreBeyond t order_of od wd front' best
-beyond_from t order_of od wd from orders via front front' best settled h orders_within least = record {
-  held = λ i k li is. elim (cases_lt (get_or od k 0) 18446744073709551615) [
-    | inl near ↦
-        let was = h.held i k li is in
-        let at = settled.listed k (orders_within i k li is) near in
-        let below = settled.near at.place at.within in
-        let e : get_or od (get_or orders at.place 0) 0 ≡ get_or od k 0 = ap (λ y. get_or od y 0) at.is in
-        omega arith
-    | inr far ↦ let l = least i k li is far in omega arith
-  ];
-  free = h.free;
-}
+-- the search after an order is settled
+abbrev pub settled_search : Search → ℕ → Refusal → Vec ℕ Global → Vec ℕ Global → Vec ℕ Global → Vec ℕ Global → Search
+settled_search f distance refusal distances orders via target =
+    record f { order_distance = distances; orders = orders; via = via; target = target; front = distance; refusal = refusal }
 
-settled_weaker : (t : Table) (order_of : List (Option ℕ)) (od wd from orders via : List ℕ) (front front' : ℕ) → front ≤ front' → AreSettled t order_of od wd from orders via front → AreSettled t order_of od wd from orders via front'
-settled_weaker t order_of od wd from orders via front front' le h = record {
-  some = h.some;
-  vias = h.vias;
-  count = h.count;
-  order = h.order;
-  near = λ x l. let n = h.near x l in omega arith;
-  listed = h.listed;
-  apart = h.apart;
-  led = h.led;
-}
+opened : (s : Kept) (f f' : Search) (order distance i : ℕ) → IsKept s → IsOpen s f i → order < order_count s.table → distance < 4294967295 → get_or f'.target.items i 0 ≡ cond (get_or f.target.items i 0 == order) 4294967295 (get_or f.target.items i 0) → distance_at f' order ≡ distance → ((k : ℕ) → k ≢ order → distance_at f' k ≡ distance_at f k) → IsOpen s f' i
+opened s f f' order distance i k h lo near is here there =
+    let was = get_or f.target.items i 0 in
+    elim (cases_eq was order) [
+      | inl same ↦
+          let none : get_or f'.target.items i 0 ≡ 4294967295 = is ∙ (grind (arith, nat_tests, same)) in
+          record {
+            leads = λ some. absurd (some none);
+            stays = λ q held far. elim (cases_eq q order) [
+              | inl e ↦ absurd (let d : distance_at f' q ≡ distance = ap (distance_at f') e ∙ here in omega (arith, d, far, near))
+              | inr other ↦ absurd (let d = there q other in let o = h.stays q held (omega (arith, d, far)) in omega (arith, o, same, other))
+            ];
+          }
+      | inr other ↦
+          let stays : get_or f'.target.items i 0 ≡ was = is ∙ (grind (arith, nat_tests, other)) in
+          let d = there was other in
+          record {
+            leads = λ some.
+                let led = h.leads (λ e. some (stays ∙ e)) in
+                let far = led.1 in
+                let e : distance_at f' (get_or f'.target.items i 0) ≡ distance_at f' was = ap (distance_at f') stays in
+                (led.0 ∙ ap (λ x. Some x) (sym stays), omega (arith, e, d, far));
+            stays = λ q held far. elim (cases_eq q order) [
+              | inl e ↦ absurd (let b : distance_at f' q ≡ distance = ap (distance_at f') e ∙ here in omega (arith, b, far, near))
+              | inr apart ↦ let b = there q apart in stays ∙ h.stays q held (omega (arith, b, far))
+            ];
+          }
+    ]
 
--- where no open wagon is nearer than the best end, the search is done
-pub search_done : (t : Table) (u v : List ℕ) (order_of : List (Option ℕ)) (s : Search) (floor scanned : ℕ) (best : Best) → IsSearch t u v order_of s floor scanned best → ((i k : ℕ) → i < wagon_count t → order_at order_of i ≡ Some k → k < order_count t) → ((x : ℕ) → x < length s.frontier.items → best.distance ≤ get_or s.wagon_distance.items (get_or s.frontier.items x 0) 0) → IsSearch t u v order_of s best.distance scanned best
-search_done t u v order_of s floor scanned best h orders_within far =
-    let b = h.kept.beyond in
-    let limit = h.kept.limit in
+beyond_settled : (s : Kept) (f f' : Search) (order distance wagon n i : ℕ) → IsKept s → IsSearch s f n → IsNext s f (next_of order distance wagon) → i < wagon_count s.table → f'.front ≡ distance → label_at f' i ≡ label_at f i → distance_at f' order ≡ distance → ((k : ℕ) → k ≢ order → distance_at f' k ≡ distance_at f k) → IsBeyond s f' i
+beyond_settled s f f' order distance wagon n i k h next l front label here there =
+    let from = next.beyond i l in
     record {
-      room = h.room;
-      labels = h.labels;
-      settled = settled_weaker t order_of s.order_distance.items s.wagon_distance.items s.wagon_from.items s.orders.items s.via.items floor best.distance b h.settled;
-      relaxed = h.relaxed;
-      beyond = beyond_from t order_of s.order_distance.items s.wagon_distance.items s.wagon_from.items s.orders.items s.via.items floor best.distance best.distance h.settled h.beyond orders_within (λ i k li is un. elim (cases_lt (get_or s.wagon_distance.items i 0) 18446744073709551615) [
-        | inl near ↦
-            let at = h.listed.each_open i k li is near un in
-            let f = far at.place at.within in
-            let e : get_or s.wagon_distance.items (get_or s.frontier.items at.place 0) 0 ≡ get_or s.wagon_distance.items i 0 = ap (λ y. get_or s.wagon_distance.items y 0) at.is in
-            omega arith
-        | inr past ↦ omega arith
-      ]);
-      kept = record { beyond = omega arith; limit = limit; end = h.kept.end };
-      listed = h.listed;
-    }
-
--- the loop that takes open wagons out: only the frontier changes
-pub record IsSeeking (t : Table) (u v : List ℕ) (order_of : List (Option ℕ)) (s0 s : Search) (floor : ℕ) (best : Best) : Type 0 where
-  pub reach : IsSearch t u v order_of s floor (length s0.orders.items) best
-  pub orders_same : s.orders ≡ s0.orders
-
--- an order settled at a distance, through a wagon
-pub record IsSettled (s s' : Search) (order distance wagon : ℕ) : Type 0 where
-  pub distances : s'.order_distance.items ≡ set s.order_distance.items order distance
-  pub orders : s'.orders.items ≡ s.orders.items ++ order ∷ []
-  pub via : s'.via.items ≡ s.via.items ++ wagon ∷ []
-  pub orders_kept : s'.orders.room ≡ s.orders.room
-  pub via_kept : s'.via.room ≡ s.via.room
-  pub others : s' ≡ record s { order_distance = s'.order_distance; orders = s'.orders; via = s'.via }
-
-pub room_settled : (t : Table) (s s' : Search) (order distance wagon : ℕ) → IsSettled s s' order distance wagon → HasRoom t s → HasRoom t s'
-room_settled t s s' order distance wagon p h = record {
-  wagon_distances = ap (λ (x : Search). length x.wagon_distance.items) p.others ∙ h.wagon_distances;
-  wagon_places = ap (λ (x : Search). length x.wagon_from.items) p.others ∙ h.wagon_places;
-  order_distances = written_length _ _ order distance p.distances ∙ h.order_distances;
-  orders = p.orders_kept ∙ h.orders;
-  via = p.via_kept ∙ h.via;
-  reached = ap (λ (x : Search). x.reached.room) p.others ∙ h.reached;
-  frontier = ap (λ (x : Search). x.frontier.room) p.others ∙ h.frontier;
-}
-
--- what is known of the wagon that leads to the next order
-pub record IsNext (t : Table) (order_of : List (Option ℕ)) (s : Search) (floor : ℕ) (best : Best) (wagon order distance : ℕ) : Type 0 where
-  pub wagon_within : wagon < wagon_count t
-  pub order_within : order < order_count t
-  pub held : order_at order_of wagon ≡ Some order
-  pub far : get_or s.order_distance.items order 0 ≡ 18446744073709551615
-  pub as_far : get_or s.wagon_distance.items wagon 0 ≡ distance
-  pub near : distance < best.distance
-  pub least : (i k : ℕ) → i < wagon_count t → order_at order_of i ≡ Some k → 18446744073709551615 ≤ get_or s.order_distance.items k 0 → distance ≤ get_or s.wagon_distance.items i 0
-
-settled_other : (t : Table) (order_of : List (Option ℕ)) (od wd from orders via : List ℕ) (front order : ℕ) → AreSettled t order_of od wd from orders via front → front < 18446744073709551615 → get_or od order 0 ≡ 18446744073709551615 → (x : ℕ) → x < length orders → get_or orders x 0 ≢ order
-settled_other t order_of od wd from orders via front order h below far x l same =
-    let near = h.near x l in
-    let e : get_or od (get_or orders x 0) 0 ≡ get_or od order 0 = ap (λ y. get_or od y 0) same in
-    omega arith
-
--- the labels, with one more order settled
-labels_settled : (t : Table) (u v od od' wd from orders : List ℕ) (order distance : ℕ) → AreLabels t u v od wd from orders → od' ≡ set od order distance → ((x : ℕ) → x < length orders → get_or orders x 0 ≢ order) → AreLabels t u v od' wd from (orders ++ order ∷ [])
-labels_settled t u v od od' wd from orders order distance h de other = record {
-  label = λ i li near.
-      let l = h.label i li near in
-      let n = length_push orders order in
-      let w = l.within in
-      let same : get_or (orders ++ order ∷ []) (get_or from i 0) 0 ≡ get_or orders (get_or from i 0) 0 = get_or_append_left orders (order ∷ []) 0 (get_or from i 0) l.within in
-      let d : get_or od' (get_or orders (get_or from i 0) 0) 0 ≡ get_or od (get_or orders (get_or from i 0) 0) 0 = other_at od od' order distance 0 (get_or orders (get_or from i 0) 0) de (other (get_or from i 0) l.within) in
-      record {
-        within = omega arith;
-        cost = l.cost;
-        allowed = ap (cost_at t i) same ∙ l.allowed;
-        exact = rw (same, d) l.exact;
-      };
-}
-
-relaxed_settled : (t : Table) (u v od od' wd : List ℕ) (best k k' order distance : ℕ) → IsRelaxed t u v od wd best k → od' ≡ set od order distance → k ≢ order → k' ≡ k → IsRelaxed t u v od' wd best k'
-relaxed_settled t u v od od' wd best k k' order distance h de other same =
-    let d : get_or od' k 0 ≡ get_or od k 0 = other_at od od' order distance 0 k de other in
-    let here : IsRelaxed t u v od' wd best k = record {
-      cells = λ i c is. let r = h.cells i c is in omega arith;
-      refusal = let r = h.refusal in omega arith;
-    } in
-    subst (IsRelaxed t u v od' wd best) (sym same) here
-
-settled_more : (t : Table) (u v : List ℕ) (order_of : List (Option ℕ)) (s : Search) (od' : List ℕ) (floor scanned : ℕ) (best : Best) (wagon order distance : ℕ) → IsSearch t u v order_of s floor scanned best → IsNext t order_of s floor best wagon order distance → floor ≤ distance → od' ≡ set s.order_distance.items order distance → AreSettled t order_of od' s.wagon_distance.items s.wagon_from.items (s.orders.items ++ order ∷ []) (s.via.items ++ wagon ∷ []) distance
-settled_more t u v order_of s od' floor scanned best wagon order distance h next least de =
-    let od = s.order_distance.items in
-    let wd = s.wagon_distance.items in
-    let from = s.wagon_from.items in
-    let orders = s.orders.items in
-    let via = s.via.items in
-    let set0 = h.settled in
-    let limit = h.kept.limit in
-    let beyond = h.kept.beyond in
-    let near = next.near in
-    let far = next.far in
-    let len = h.room.order_distances in
-    let lo : order < length od = let w = next.order_within in omega arith in
-    let other = settled_other t order_of od wd from orders via floor order set0 (omega arith) far in
-    let n = length_push orders order in
-    let m = length_push via wagon in
-    let vias = set0.vias in
-    let here : get_or od' order 0 ≡ distance = same_at od od' order distance 0 lo de in
-    let last : get_or (orders ++ order ∷ []) (length orders) 0 ≡ order = get_or_push orders order 0 (length orders) refl in
-    let last_via : get_or (via ++ wagon ∷ []) (length orders) 0 ≡ wagon = get_or_push via wagon 0 (length orders) vias in
-    let before : (x : ℕ) → x < length orders → get_or (orders ++ order ∷ []) x 0 ≡ get_or orders x 0 = λ x l. get_or_append_left orders (order ∷ []) 0 x l in
-    let there : (x : ℕ) → x < length orders → get_or od' (get_or orders x 0) 0 ≡ get_or od (get_or orders x 0) 0 = λ x l. other_at od od' order distance 0 (get_or orders x 0) de (other x l) in
-    record {
-      some = omega arith;
-      vias = omega arith;
-      count = n ∙ ap (λ k. k + 1) set0.count ∙ sym (near_count_more od od' order distance lo de (omega arith) far);
-      order = each_more (λ (k : ℕ). k < order_count t) orders order set0.order next.order_within;
-      near = each_more (λ (k : ℕ). get_or od' k 0 ≤ distance) orders order (λ x l. let e = there x l in let w = set0.near x l in omega arith) (omega arith);
-      listed = λ k lk is. elim (cases_eq k order) [
-        | inl same ↦ subst (At (orders ++ order ∷ [])) (sym same) (at_end orders order)
-        | inr apart ↦ let e : get_or od' k 0 ≡ get_or od k 0 = other_at od od' order distance 0 k de apart in at_before orders order k (set0.listed k lk (omega arith))
-      ];
-      apart = λ x y lt ly same. elim (cases_eq y (length orders)) [
-        | inl end ↦ other x (omega arith) (sym (before x (omega arith)) ∙ same ∙ ap (λ z. get_or (orders ++ order ∷ []) z 0) end ∙ last)
-        | inr inner ↦ let lz : y < length orders = omega (arith, inner) in set0.apart x y lt lz (sym (before x (omega arith)) ∙ same ∙ before y lz)
-      ];
-      led = λ x pos lx. elim (cases_eq x (length orders)) [
-        | inl end ↦
-            let label = h.labels.label wagon next.wagon_within (let d = next.as_far in omega arith) in
-            let place = label.within in
-            let d = next.as_far in
-            let at_length : IsLed t order_of od' wd from (orders ++ order ∷ []) (via ++ wagon ∷ []) (length orders) = record {
-              wagon = subst (λ (y : ℕ). y < wagon_count t) (sym last_via) next.wagon_within;
-              held = ap (order_at order_of) last_via ∙ next.held ∙ ap (λ y. Some y) (sym last);
-              as_far = ap (λ y. get_or wd y 0) last_via ∙ d ∙ sym here ∙ ap (λ y. get_or od' y 0) (sym last);
-              before = subst (λ (y : ℕ). get_or from y 0 < length orders) (sym last_via) place;
-            } in
-            subst (IsLed t order_of od' wd from (orders ++ order ∷ []) (via ++ wagon ∷ [])) (sym end) at_length
-        | inr inner ↦
-            let lz : x < length orders = omega (arith, inner) in
-            let led = set0.led x pos lz in
-            let e = before x lz in
-            let w : get_or (via ++ wagon ∷ []) x 0 ≡ get_or via x 0 = get_or_append_left via (wagon ∷ []) 0 x (omega arith) in
-            record {
-              wagon = subst (λ (y : ℕ). y < wagon_count t) (sym w) led.wagon;
-              held = ap (order_at order_of) w ∙ led.held ∙ ap (λ y. Some y) (sym e);
-              as_far = ap (λ y. get_or wd y 0) w ∙ led.as_far ∙ sym (there x lz) ∙ ap (λ y. get_or od' y 0) (sym e);
-              before = subst (λ (y : ℕ). get_or from y 0 < x) (sym w) led.before;
-            }
-      ];
-    }
-
-beyond_settled : (t : Table) (u v : List ℕ) (order_of : List (Option ℕ)) (s : Search) (od' : List ℕ) (floor scanned : ℕ) (best : Best) (wagon order distance : ℕ) → IsSearch t u v order_of s floor scanned best → IsNext t order_of s floor best wagon order distance → ((i k : ℕ) → i < wagon_count t → order_at order_of i ≡ Some k → k < order_count t) → od' ≡ set s.order_distance.items order distance → AreBeyond t order_of od' s.wagon_distance.items distance best.distance
-beyond_settled t u v order_of s od' floor scanned best wagon order distance h next orders_within de =
-    let was = beyond_from t order_of s.order_distance.items s.wagon_distance.items s.wagon_from.items s.orders.items s.via.items floor distance best.distance h.settled h.beyond orders_within next.least in
-    record {
-      held = λ i k li is. elim (cases_eq k order) [
-        | inl same ↦ let l = next.least i k li is (let e : get_or s.order_distance.items k 0 ≡ 18446744073709551615 = ap (λ y. get_or s.order_distance.items y 0) same ∙ next.far in omega arith) in omega arith
+      held = λ q held. elim (cases_eq q order) [
+        | inl same ↦ let m = from.held q held (let e : distance_at f q ≡ distance_at f order = ap (distance_at f) same in let far = next.far in omega (arith, e, far)) in omega (arith, m, front, label)
         | inr other ↦
-            let e : get_or od' k 0 ≡ get_or s.order_distance.items k 0 = other_at s.order_distance.items od' order distance 0 k de other in
-            let l = was.held i k li is in
-            omega arith
+            let d = there q other in
+            elim (cases_lt (distance_at f q) 4294967295) [
+              | inl near ↦
+                  let at = h.settled.listed q (held_order s i q k held) near in
+                  let least = h.settled.near at.place at.within in
+                  let e : distance_at f (settled_at f at.place) ≡ distance_at f q = ap (distance_at f) at.is in
+                  let was = (h.beyond i l).held q held in
+                  omega (arith, d, least, e, was, label)
+              | inr far ↦ let m = from.held q held far in omega (arith, m, front, label)
+            ]
       ];
-      free = was.free;
+      idle = λ none. let m = from.idle none in omega (arith, m, front, label);
     }
 
-end_settled : (t : Table) (v : List ℕ) (order_of : List (Option ℕ)) (od od' wd orders : List ℕ) (distance : ℕ) (end : End) (order far : ℕ) → IsEnd t v order_of od wd orders distance end → od' ≡ set od order far → ((x : ℕ) → x < length orders → get_or orders x 0 ≢ order) → IsEnd t v order_of od' wd (orders ++ order ∷ []) distance end
-end_settled t v order_of od od' wd orders distance (Wagon i) order far h de other = h
-end_settled t v order_of od od' wd orders distance (Refusal x) order far h de other =
-    let n = length_push orders order in
-    let l = h.0 in
-    let same : get_or (orders ++ order ∷ []) x 0 ≡ get_or orders x 0 = get_or_append_left orders (order ∷ []) 0 x l in
-    let d : get_or od' (get_or orders x 0) 0 ≡ get_or od (get_or orders x 0) 0 = other_at od od' order far 0 (get_or orders x 0) de (other x l) in
-    (omega arith, rw (same, d) h.1)
+-- an order that was led to before, or the one settled last
+led_settled : (s : Kept) (f f' : Search) (order distance wagon n x : ℕ) → IsSearch s f n → IsNext s f (next_of order distance wagon) → IsPushed s f order distance f'.order_distance.items f'.orders.items → f'.via.items ≡ f.via.items ++ wagon ∷ [] → f'.label.items ≡ f.label.items → f'.from.items ≡ f.from.items → 0 < x → x < length f'.orders.items → IsLed s f' x
+led_settled s f f' order distance wagon n x h next p vs ls fs pos l =
+    let count = p.count in
+    let vias = h.settled.vias in
+    elim (cases_eq x (length f.orders.items)) [
+      | inl last ↦
+          let led = next.led (omega (arith, last)) in
+          let w : get_or f'.via.items x 0 ≡ wagon = ap (λ y. get_or y x 0) vs ∙ get_or_push f.via.items wagon 0 x (vias ∙ sym last) in
+          let q : settled_at f' x ≡ order = ap (λ y. settled_at f' y) last ∙ p.at_end in
+          let label : label_at f' (get_or f'.via.items x 0) ≡ label_at f wagon = ap (λ y. get_or y (get_or f'.via.items x 0) 0) ls ∙ ap (label_at f) w in
+          let from : from_at f' (get_or f'.via.items x 0) ≡ from_at f wagon = ap (λ y. get_or y (get_or f'.via.items x 0) 0) fs ∙ ap (from_at f) w in
+          let limit = next.limit in
+          let at = led.2 in
+          let is_label = h.labels wagon led.0 (omega (arith, at, limit)) in
+          let within = is_label.within in
+          record {
+            wagon = subst (λ (y : ℕ). y < wagon_count s.table) (sym w) led.0;
+            held = ap (order_at s.order_of) w ∙ led.1 ∙ ap (λ y. Some y) (sym q);
+            as_far = label ∙ at ∙ sym (ap (distance_at f') q ∙ p.here);
+            before = omega (arith, from, within, last);
+          }
+      | inr other ↦
+          let lx : x < length f.orders.items = omega (arith, other, count) in
+          let led = h.settled.led x pos lx in
+          let w : get_or f'.via.items x 0 ≡ get_or f.via.items x 0 = ap (λ y. get_or y x 0) vs ∙ get_or_append_left f.via.items (wagon ∷ []) 0 x (omega (arith, lx, vias)) in
+          let q : settled_at f' x ≡ settled_at f x = p.before x lx in
+          let label : label_at f' (get_or f'.via.items x 0) ≡ label_at f (get_or f.via.items x 0) = ap (λ y. get_or y (get_or f'.via.items x 0) 0) ls ∙ ap (label_at f) w in
+          let from : from_at f' (get_or f'.via.items x 0) ≡ from_at f (get_or f.via.items x 0) = ap (λ y. get_or y (get_or f'.via.items x 0) 0) fs ∙ ap (from_at f) w in
+          let before = led.before in
+          record {
+            wagon = subst (λ (y : ℕ). y < wagon_count s.table) (sym w) led.wagon;
+            held = ap (order_at s.order_of) w ∙ led.held ∙ ap (λ y. Some y) (sym q);
+            as_far = label ∙ led.as_far ∙ sym (ap (distance_at f') q ∙ p.there (settled_at f x) (p.other x lx));
+            before = omega (arith, from, before);
+          }
+    ]
 
-listed_settled : (t : Table) (order_of : List (Option ℕ)) (od od' wd reached frontier : List ℕ) (place order distance : ℕ) → AreListed t order_of od wd reached frontier → place < length frontier → order_at order_of (get_or frontier place 0) ≡ Some order → order < length od → od' ≡ set od order distance → distance < 18446744073709551615 → AreListed t order_of od' wd reached (without frontier place)
-listed_settled t order_of od od' wd reached frontier place order distance h l held lo de near = record {
-  each_reached = h.each_reached;
-  reached_within = h.reached_within;
-  reached_count = h.reached_count;
-  each_open = λ i k li is ni far. elim (cases_eq k order) [
-    | inl same ↦ absurd (let e : get_or od' k 0 ≡ distance = ap (λ y. get_or od' y 0) same ∙ same_at od od' order distance 0 lo de in omega arith)
-    | inr apart ↦
-        let e : get_or od' k 0 ≡ get_or od k 0 = other_at od od' order distance 0 k de apart in
-        let at = h.each_open i k li is ni (omega arith) in
-        let other : get_or frontier at.place 0 ≢ get_or frontier place 0 = λ same.
-        let some : order_at order_of i ≡ Some order = ap (order_at order_of) (sym at.is ∙ same) ∙ held in
-        apart (let a = is in cc) in
-        subst (At (without frontier place)) at.is (without-kept frontier place at.place l at.within other)
-  ];
-  open_within = each-without (λ (y : ℕ). y < wagon_count t) frontier place l h.open_within;
-  open_count = let c = h.open_count in let n = length-without frontier place l in omega arith;
-}
+-- a place among those settled is that of one settled before, or the last
+at_place : (P : ℕ → ℕ → Type 0) (s : Kept) (f : Search) (order distance : ℕ) (distances orders : List ℕ) → IsPushed s f order distance distances orders → ((x : ℕ) → x < length f.orders.items → P x (settled_at f x)) → P (length f.orders.items) order → (x : ℕ) → x < length orders → P x (get_or orders x 0)
+at_place P s f order distance distances orders p before last x l =
+    let count = p.count in
+    elim (cases_eq x (length f.orders.items)) [
+      | inl same ↦ subst (λ (y : ℕ). P y (get_or orders y 0)) (sym same) (subst (P (length f.orders.items)) (sym p.at_end) last)
+      | inr other ↦ let lx : x < length f.orders.items = omega (arith, other, count) in subst (P x) (sym (p.before x lx)) (before x lx)
+    ]
 
--- the next order is settled through the nearest open wagon, which leaves the frontier
-pub search_settled : (t : Table) (u v : List ℕ) (order_of : List (Option ℕ)) (s p s' : Search) (floor : ℕ) (best : Best) (place order distance : ℕ) → IsSearch t u v order_of s floor (length s.orders.items) best → IsPopped s p place → IsNext t order_of s floor best (get_or s.frontier.items place 0) order distance → ((i k : ℕ) → i < wagon_count t → order_at order_of i ≡ Some k → k < order_count t) → floor ≤ distance → IsSettled p s' order distance (get_or s.frontier.items place 0) → IsSearch t u v order_of s' distance (length s.orders.items) best
-search_settled t u v order_of s p s' floor best place order distance h popped next orders_within least r =
-    let wagon = get_or s.frontier.items place 0 in
-    let limit = h.kept.limit in
-    let beyond = h.kept.beyond in
-    let near = next.near in
-    let len = h.room.order_distances in
-    let lo : order < length s.order_distance.items = let w = next.order_within in omega arith in
-    let od : s'.order_distance.items ≡ set s.order_distance.items order distance = r.distances ∙ ap (λ (x : Search). set x.order_distance.items order distance) popped.others in
-    let os : s'.orders.items ≡ s.orders.items ++ order ∷ [] = r.orders ∙ ap (λ (x : Search). x.orders.items ++ order ∷ []) popped.others in
-    let vs : s'.via.items ≡ s.via.items ++ wagon ∷ [] = r.via ∙ ap (λ (x : Search). x.via.items ++ wagon ∷ []) popped.others in
-    let wd : s'.wagon_distance.items ≡ s.wagon_distance.items = ap (λ (x : Search). x.wagon_distance.items) r.others ∙ ap (λ (x : Search). x.wagon_distance.items) popped.others in
-    let wf : s'.wagon_from.items ≡ s.wagon_from.items = ap (λ (x : Search). x.wagon_from.items) r.others ∙ ap (λ (x : Search). x.wagon_from.items) popped.others in
-    let rs : s'.reached.items ≡ s.reached.items = ap (λ (x : Search). x.reached.items) r.others ∙ ap (λ (x : Search). x.reached.items) popped.others in
-    let fs : s'.frontier.items ≡ without s.frontier.items place = ap (λ (x : Search). x.frontier.items) r.others ∙ popped.frontier in
-    let other = settled_other t order_of s.order_distance.items s.wagon_distance.items s.wagon_from.items s.orders.items s.via.items floor order h.settled (omega arith) next.far in
+settled_more : (s : Kept) (f f' : Search) (order distance wagon n : ℕ) → IsSearch s f n → IsNext s f (next_of order distance wagon) → IsPushed s f order distance f'.order_distance.items f'.orders.items → f'.order_distance.items ≡ set f.order_distance.items order distance → f'.via.items ≡ f.via.items ++ wagon ∷ [] → f'.label.items ≡ f.label.items → f'.from.items ≡ f.from.items → f'.front ≡ distance → AreSettled s f'
+settled_more s f f' order distance wagon n h next p ds vs ls fs front =
+    let count = p.count in
+    let vias = h.settled.vias in
+    let room = h.room.distances in
+    let lo = next.within in
+    let limit = next.limit in
     record {
-      room = room_settled t p s' order distance wagon r (room_popped t s p place popped h.room);
-      labels = rw (wd, wf, os) (labels_settled t u v s.order_distance.items s'.order_distance.items s.wagon_distance.items s.wagon_from.items s.orders.items order distance h.labels od other);
-      settled = rw (wd, wf, os, vs) (settled_more t u v order_of s s'.order_distance.items floor (length s.orders.items) best wagon order distance h next least od);
-      relaxed = λ x l. rw wd (relaxed_settled t u v s.order_distance.items s'.order_distance.items s.wagon_distance.items best.distance (get_or s.orders.items x 0) (get_or s'.orders.items x 0) order distance (h.relaxed x l) od (other x l) (ap (λ y. get_or y x 0) os ∙ get_or_append_left s.orders.items (order ∷ []) 0 x l));
-      beyond = rw wd (beyond_settled t u v order_of s s'.order_distance.items floor (length s.orders.items) best wagon order distance h next orders_within od);
-      kept = record { beyond = omega arith; limit = limit; end = rw (wd, os) (end_settled t v order_of s.order_distance.items s'.order_distance.items s.wagon_distance.items s.orders.items best.distance best.end order distance h.kept.end od other) };
-      listed = rw (wd, rs, fs) (listed_settled t order_of s.order_distance.items s'.order_distance.items s.wagon_distance.items s.reached.items s.frontier.items place order distance h.listed popped.within next.held lo od (omega arith));
+      vias = ap length vs ∙ length_push f.via.items wagon ∙ ap (λ y. y + 1) vias ∙ sym count;
+      count = count ∙ ap (λ y. y + 1) h.settled.count ∙ sym (near_count_more f.order_distance.items f'.order_distance.items order distance (omega arith) ds (omega (arith, limit)) next.far);
+      order = at_place (λ x q. q < order_count s.table) s f order distance _ f'.orders.items p h.settled.order lo;
+      near = at_place (λ x q. distance_at f' q ≤ f'.front) s f order distance _ f'.orders.items p
+          (λ x lx. let d = p.there (settled_at f x) (p.other x lx) in let was = h.settled.near x lx in let f0 = next.front in omega (arith, d, was, f0, front))
+          (let d = p.here in omega (arith, d, front));
+      last = λ x lx.
+          let same : x ≡ length f.orders.items = omega (arith, lx, count) in
+          ap (distance_at f') (ap (settled_at f') same ∙ p.at_end) ∙ p.here ∙ sym front;
+      listed = λ q lq near. elim (cases_eq q order) [
+        | inl same ↦ record { place = length f.orders.items; within = omega (arith, count); is = p.at_end ∙ sym same }
+        | inr other ↦
+            let d = p.there q other in
+            let at = h.settled.listed q lq (omega (arith, d, near)) in
+            let within = at.within in
+            record { place = at.place; within = omega (arith, within, count); is = p.before at.place within ∙ at.is }
+      ];
+      apart = λ x y lt ly same.
+          let lx : x < length f.orders.items = omega (arith, lt, ly, count) in
+          elim (cases_eq y (length f.orders.items)) [
+            | inl last ↦ p.other x lx (sym (p.before x lx) ∙ same ∙ ap (settled_at f') last ∙ p.at_end)
+            | inr other ↦ let my : y < length f.orders.items = omega (arith, other, ly, count) in h.settled.apart x y lt my (sym (p.before x lx) ∙ same ∙ p.before y my)
+          ];
+      led = λ x pos lx. led_settled s f f' order distance wagon n x h next p vs ls fs pos lx;
     }
+
+-- the nearest of the refusals before and that of the order settled last
+data Chosen (s : Kept) (f : Search) (order distance : ℕ) (r : Refusal) : Type 0 where
+  chosen : r.place ≡ length f.orders.items → r.distance + get_or s.v order 0 ≡ distance + penalty_at s.table order → r.distance < f.refusal.distance → Chosen s f order distance r
+  stays : r ≡ f.refusal → f.refusal.distance + get_or s.v order 0 ≤ distance + penalty_at s.table order → Chosen s f order distance r
+
+choose_true : (s : Kept) (f : Search) (order distance : ℕ) → distance + (penalty_at s.table order - get_or s.v order 0) < f.refusal.distance → get_or s.v order 0 ≤ penalty_at s.table order → Chosen s f order distance (record { distance = distance + (penalty_at s.table order - get_or s.v order 0); place = length f.orders.items })
+choose_true s f order distance less price = chosen refl (omega arith) less
+
+choose_false : (s : Kept) (f : Search) (order distance : ℕ) → f.refusal.distance ≤ distance + (penalty_at s.table order - get_or s.v order 0) → get_or s.v order 0 ≤ penalty_at s.table order → Chosen s f order distance f.refusal
+choose_false s f order distance more price = stays refl (omega arith)
+
+cond_true : (b : Bool) (x y : Refusal) → b ≡ true → cond b x y ≡ x
+cond_true true x y e = refl
+cond_true false x y e = cc
+
+cond_false : (b : Bool) (x y : Refusal) → b ≡ false → cond b x y ≡ y
+cond_false true x y e = cc
+cond_false false x y e = refl
+
+below_true : (a b : ℕ) → a < b → ltb a b ≡ true
+below_true a b l = grind (arith, nat_tests, l)
+
+below_false : (a b : ℕ) → b ≤ a → ltb a b ≡ false
+below_false a b l = grind (arith, nat_tests, l)
+
+chosen_refusal : (s : Kept) (f : Search) (order distance : ℕ) → IsKept s → order < order_count s.table → Chosen s f order distance (refusal_with s f order distance)
+chosen_refusal s f order distance k l =
+    let new = distance + (penalty_at s.table order - get_or s.v order 0) in
+    let price = k.priced.below_penalty order l in
+    elim (cases_lt new f.refusal.distance) [
+      | inl less ↦ subst (Chosen s f order distance) (sym (cond_true (ltb new f.refusal.distance) (record { distance = new; place = length f.orders.items }) f.refusal (below_true new f.refusal.distance less))) (choose_true s f order distance less price)
+      | inr more ↦ subst (Chosen s f order distance) (sym (cond_false (ltb new f.refusal.distance) (record { distance = new; place = length f.orders.items }) f.refusal (below_false new f.refusal.distance more))) (choose_false s f order distance more price)
+    ]
+
+refusal_settled : (s : Kept) (f f' : Search) (order distance wagon n : ℕ) → IsKept s → IsSearch s f n → IsNext s f (next_of order distance wagon) → IsPushed s f order distance f'.order_distance.items f'.orders.items → f'.front ≡ distance → Chosen s f order distance f'.refusal → IsRefusal s f'
+refusal_settled s f f' order distance wagon n k h next p front (chosen place exact less) =
+    let count = p.count in
+    let here = p.here in
+    let at_end = p.at_end in
+    let penalty = penalty_limit s.table order k.table in
+    let price = k.priced.below_penalty order next.within in
+    record {
+      beyond = omega (arith, front, exact, price);
+      none = λ e. absurd (omega (arith, e, count));
+      limit = λ some. elim (cases_eq (length f.orders.items) 0) [
+        | inl none ↦ let z = next.first none in omega (arith, z, exact, penalty)
+        | inr other ↦ let below = h.refusal.limit (omega (arith, other)) in omega (arith, less, below)
+      ];
+      within = λ some. omega (arith, place, count);
+      exact = λ some.
+          let q : settled_at f' f'.refusal.place ≡ order = ap (settled_at f') place ∙ at_end in
+          rw (q, here) exact;
+      least = at_place (λ x q. f'.refusal.distance + get_or s.v q 0 ≤ distance_at f' q + penalty_at s.table q) s f order distance _ f'.orders.items p
+          (λ x lx. let d = p.there (settled_at f x) (p.other x lx) in let was = h.refusal.least x lx in omega (arith, d, was, less))
+          (omega (arith, here, exact));
+    }
+refusal_settled s f f' order distance wagon n k h next p front (stays same more) =
+    let count = p.count in
+    let here = p.here in
+    let far : f'.refusal.distance ≡ f.refusal.distance = ap (λ (r : Refusal). r.distance) same in
+    let at : f'.refusal.place ≡ f.refusal.place = ap (λ (r : Refusal). r.place) same in
+    let nearer = next.refusal in
+    let penalty = penalty_limit s.table order k.table in
+    let price = k.priced.below_penalty order next.within in
+    let some : 0 < length f.orders.items = elim (cases_eq (length f.orders.items) 0) [
+      | inl none ↦ absurd (let z = next.first none in let top = h.refusal.none none in omega (arith, z, top, more, penalty))
+      | inr other ↦ omega (arith, other)
+    ] in
+    let within = h.refusal.within some in
+    record {
+      beyond = omega (arith, front, far, nearer);
+      none = λ e. absurd (omega (arith, e, count));
+      limit = λ _. let below = h.refusal.limit some in omega (arith, far, below);
+      within = λ _. omega (arith, at, within, count);
+      exact = λ _.
+          let q : settled_at f' f'.refusal.place ≡ settled_at f f.refusal.place = ap (settled_at f') at ∙ p.before f.refusal.place within in
+          let d : distance_at f' (settled_at f f.refusal.place) ≡ distance_at f (settled_at f f.refusal.place) = p.there (settled_at f f.refusal.place) (p.other f.refusal.place within) in
+          rw (q, d, far) (h.refusal.exact some);
+      least = at_place (λ x q. f'.refusal.distance + get_or s.v q 0 ≤ distance_at f' q + penalty_at s.table q) s f order distance _ f'.orders.items p
+          (λ x lx. let d = p.there (settled_at f x) (p.other x lx) in let was = h.refusal.least x lx in omega (arith, d, was, far))
+          (omega (arith, here, more, far));
+    }
+
+-- an order is settled: the search goes on with it
+pub search_settled : (s : Kept) (f : Search) (order distance wagon n : ℕ) (refusal : Refusal) (distances orders via target : Vec ℕ Global) → IsKept s → IsSearch s f n → n ≤ length f.orders.items → IsNext s f (next_of order distance wagon) → IsSettled s f order distance wagon distances.items orders.items via.items target.items → vec_capacity orders ≡ vec_capacity f.orders → vec_capacity via ≡ vec_capacity f.via → refusal ≡ refusal_with s f order distance → IsSearch s (settled_search f distance refusal distances orders via target) n
+search_settled s f order distance wagon n refusal distances orders via target k h below next r co cv re =
+    let f' = settled_search f distance refusal distances orders via target in
+    let p = pushed s f order distance wagon distances.items orders.items via.items target.items n h next r in
+    let count = p.count in
+    let limit = next.limit in
+    let choice : Chosen s f order distance refusal = subst (Chosen s f order distance) (sym re) (chosen_refusal s f order distance k next.within) in
+    record {
+      room = record {
+        labels = h.room.labels;
+        places = h.room.places;
+        targets = r.target_count;
+        distances = written_length f.order_distance.items distances.items order distance r.distances_are ∙ h.room.distances;
+        orders = co ∙ h.room.orders;
+        vias = cv ∙ h.room.vias;
+      };
+      labels = λ i l near.
+          let was = h.labels i l near in
+          let x = from_at f i in
+          let within = was.within in
+          let q : get_or orders.items x 0 ≡ settled_at f x = p.before x within in
+          let d : get_or distances.items (settled_at f x) 0 ≡ distance_at f (settled_at f x) = p.there (settled_at f x) (p.other x within) in
+          record { within = omega (arith, within, count); exact = rw (q, d) was.exact };
+      relaxed = λ x lx i l.
+          let within : x < length f.orders.items = omega (arith, lx, below) in
+          let q : get_or orders.items x 0 ≡ settled_at f x = p.before x within in
+          let d : get_or distances.items (settled_at f x) 0 ≡ distance_at f (settled_at f x) = p.there (settled_at f x) (p.other x within) in
+          rw (q, d) (h.relaxed x lx i l);
+      opens = λ i l. opened s f f' order distance i k (h.opens i l) next.within (omega (arith, limit)) (r.opens i l) p.here p.there;
+      beyond = λ i l. beyond_settled s f f' order distance wagon n i k h next l refl refl p.here p.there;
+      settled = settled_more s f f' order distance wagon n h next p r.distances_are r.via_are refl refl refl;
+      refusal = refusal_settled s f f' order distance wagon n k h next p refl choice;
+    }
+
+-- there is room for one more order
+pub settled_room : (s : Kept) (f : Search) (order distance wagon n : ℕ) → IsSearch s f n → IsNext s f (next_of order distance wagon) → length f.orders.items < order_count s.table
+settled_room s f order distance wagon n h next =
+    let below = near_count_below f.order_distance.items order (let room = h.room.distances in let l = next.within in omega (arith, room, l)) next.far in
+    let count = h.settled.count in
+    let room = h.room.distances in
+    omega (arith, below, count, room)

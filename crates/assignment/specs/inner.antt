@@ -1,9 +1,10 @@
 -- What only proofs and private functions need: no public clause cites any of it.
-pub mod IndexList
-pub mod Columns
+pub mod Costs
 pub mod Placing
 pub mod State
+pub mod Passes
 pub mod Search
 pub mod Path
 pub mod Pairs
+pub mod Sequence
 pub mod Planner

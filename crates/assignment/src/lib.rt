@@ -1,13 +1,13 @@
 //! The planner: a plan at the lowest total cost, and dual prices that show it, by shortest augmenting paths.
 #![tactic(auto)]
 
-mod columns;
-mod index_list;
+mod costs;
 mod pair_list;
+mod passes;
 mod path;
 mod planner;
-mod prices;
 mod search;
+mod sequence;
 mod starts;
 mod state;
 

@@ -1,17 +1,16 @@
 //! The planner and what it answers.
-ghost use Rattle.std.specs.Prelude.{◌≡◌, ◌<◌, ◌≤◌, ◌+◌, ◌++◌, ℕ, [], length, take, zero, IfOk, OnOk, Some, None, slice_index, slice_index_or, min};
-ghost use Rattle.cost_table.specs.Table.{IsTable, order_count};
+ghost use Rattle.std.specs.Prelude.{◌≡◌, ◌<◌, ℕ, IfOk};
+ghost use Rattle.cost_table.specs.Table.{order_count, lack_at};
 ghost use Rattle.cost_table.specs.Plan.{IsOptimal, cost_of};
 ghost use Rattle.price_checker.specs.Certificate.{IsCertificate};
-ghost use Rattle.assignment.specs.inner.Columns.{AreColumns, cost_in};
-ghost use Rattle.assignment.specs.inner.State.{IsState, AreCounted, IsFirstPrice, taken_at, one_more, served};
-ghost use Rattle.assignment.specs.inner.Search.{IsAtRest};
+ghost use Rattle.assignment.specs.inner.State.{IsState, AreCounted, kept, more};
+ghost use Rattle.assignment.specs.inner.Search.{HasRoom};
 
-use crate::columns::Columns;
 use crate::pair_list::write_pairs;
+use crate::passes::{raise, widen};
 use crate::path::walk_back;
-use crate::prices::raise;
 use crate::search::Search;
+use crate::sequence::dearest_first;
 use crate::state::State;
 use cost_table::{Cells, Plan};
 use price_checker::{Certified, Prices, check};
@@ -23,19 +22,22 @@ use std::marker::Model;
 pub struct Planner<'a> {
     state: State<'a>,
     search: Search,
+    sequence: Vec<(u32, usize)>,
+    prices: Prices,
     pairs: Vec<(usize, usize)>,
     ends: Vec<usize>,
 }
 
 impl<'a> Model for Planner<'a> {
     ghost use Rattle.cost_table.specs.Table.{Table};
-    ghost use Rattle.assignment.specs.inner.Planner.{IsReady};
 
     ghost Value = { Table };
 
+    ghost use Rattle.assignment.specs.inner.Planner.{IsReady};
+
     ghost view = { λ p. p.state.cells.now };
 
-    ghost invariant = { λ p. IsReady p.state.cells.now p.state.columns p.state.u.items p.state.v.items p.state.order_of.items p.search p.pairs.items p.ends.items };
+    ghost invariant = { IsReady };
 }
 
 impl<'a> Planner<'a> {
@@ -43,19 +45,20 @@ impl<'a> Planner<'a> {
     pub fn new(alloc: Global, cells: &'a Cells) -> Result<Planner<'a>, AllocError>
         ensures { IfOk result (λ planner. planner ≡ cells.now) }
     {
-        let state = State {
-            cells,
-            columns: Columns::of(alloc, cells)?,
+        let state = State::new(alloc, cells)?;
+        let search = Search::new(alloc, cells.wagons(), cells.orders())?;
+        let sequence = dearest_first(alloc, &state.v)?;
+        let prices = Prices {
             u: Vec::from_elem(alloc, 0, cells.wagons())?,
             v: Vec::from_elem(alloc, 0, cells.orders())?,
-            order_of: Vec::from_elem(alloc, None, cells.wagons())?,
         };
-        let search = Search::new(alloc, cells.wagons(), cells.orders())?;
         let pairs = Vec::from_elem(alloc, (0, 0), cells.wagons())?;
         let ends = Vec::from_elem(alloc, 0, cells.orders())?;
         Ok(Planner {
             state,
             search,
+            sequence,
+            prices,
             pairs,
             ends,
         })
@@ -70,19 +73,18 @@ impl<'a> Planner<'a> {
         let Planner {
             mut state,
             mut search,
+            sequence,
+            mut prices,
             mut pairs,
             mut ends,
         } = self;
-        first_prices(&mut state);
-        'orders: for j in 0..state.cells.orders() {
-            serve_order(&mut state, &mut search, j);
+        'orders: for entry in &sequence {
+            serve_order(&mut state, &mut search, entry.1);
         }
         let count = write_pairs(&mut pairs, &mut ends, &state.order_of);
         pairs.truncate(count);
-        let prices = Prices {
-            u: state.u,
-            v: state.v,
-        };
+        widen(&mut prices.u, &state.u);
+        widen(&mut prices.v, &state.v);
         (Plan::new(pairs), prices)
     }
 }
@@ -96,41 +98,14 @@ pub fn plan(alloc: Global, cells: &Cells) -> Result<(Plan, Prices), AllocError>
     Ok(Planner::new(alloc, cells)?.plan())
 }
 
-/// The first price of an order: its penalty, or its cheapest wagon's cost.
-fn first_price(column: &[(u32, u32)], penalty: u64) -> u64
-    ensures below_penalty { result ≤ penalty }
-    ensures below_cells { (x : ℕ) → x < length column.now → result ≤ cost_in column.now x }
-{
-    let mut price = penalty;
-    for cell in column {
-        price = price.min(u64::from(cell.1));
-    }
-    price
-}
-
-/// Sets the first price of each order.
-fn first_prices(state: &mut State)
-    requires columns { AreColumns state.old.cells.now state.old.columns }
-    requires table { IsTable state.old.cells.now }
-    requires orders { length state.old.v.items ≡ order_count state.old.cells.now }
-    ensures prices { (j : ℕ) → j < order_count state.old.cells.now → IsFirstPrice state.old.cells.now j (slice_index state.new.v.items j) }
-    ensures orders { length state.new.v.items ≡ order_count state.old.cells.now }
-    ensures others { state.new ≡ record state.old { v = state.new.v } }
-{
-    'prices: for j in 0..state.v.len() {
-        state.v[j] = first_price(state.columns.column(j), state.cells.penalty(j));
-    }
-}
-
 /// Takes in the units of order `j` one at a time.
 fn serve_order(state: &mut State, search: &mut Search, j: usize)
-    requires state { IsState state.old.cells.now state.old.columns state.old.u.items state.old.v.items state.old.order_of.items }
-    requires rest { IsAtRest state.old.cells.now search.old }
+    requires state { IsState state.old }
+    requires room { HasRoom state.old.cells.now search.old }
     requires order { j < order_count state.old.cells.now }
-    requires counted { AreCounted state.old.cells.now state.old.v.items state.old.order_of.items (taken_at state.old.cells.now j 0) }
-    ensures state { IsState state.new.cells.now state.new.columns state.new.u.items state.new.v.items state.new.order_of.items }
-    ensures rest { IsAtRest state.new.cells.now search.new }
-    ensures counted { AreCounted state.new.cells.now state.new.v.items state.new.order_of.items (taken_at state.new.cells.now (j + 1) 0) }
+    ensures state { IsState state.new }
+    ensures room { HasRoom state.new.cells.now search.new }
+    ensures counted { (taken : ℕ → ℕ) → AreCounted (kept state.old) taken → AreCounted (kept state.new) (more j (lack_at state.old.cells.now j) taken) }
     ensures table { state.new.cells.now ≡ state.old.cells.now }
 {
     'units: for _unit in 0..state.cells.lack(j) {
@@ -140,28 +115,18 @@ fn serve_order(state: &mut State, search: &mut Search, j: usize)
 
 /// Takes in one more unit of order `j`: a wagon more serves it, or a unit is refused.
 fn serve_unit(state: &mut State, search: &mut Search, j: usize)
-    requires state { IsState state.old.cells.now state.old.columns state.old.u.items state.old.v.items state.old.order_of.items }
-    requires rest { IsAtRest state.old.cells.now search.old }
+    requires state { IsState state.old }
+    requires room { HasRoom state.old.cells.now search.old }
     requires order { j < order_count state.old.cells.now }
-    ensures state { IsState state.new.cells.now state.new.columns state.new.u.items state.new.v.items state.new.order_of.items }
-    ensures rest { IsAtRest state.new.cells.now search.new }
-    ensures counted { (taken : ℕ → ℕ) → AreCounted state.old.cells.now state.old.v.items state.old.order_of.items taken → AreCounted state.new.cells.now state.new.v.items state.new.order_of.items (one_more j taken) }
+    ensures state { IsState state.new }
+    ensures room { HasRoom state.new.cells.now search.new }
+    ensures counted { (taken : ℕ → ℕ) → AreCounted (kept state.old) taken → AreCounted (kept state.new) (more j 1 taken) }
     ensures table { state.new.cells.now ≡ state.old.cells.now }
 {
-    let best = search.run(state, j);
-    raise(
-        &mut state.v,
-        &mut search.order_distance,
-        search.orders.as_slice(),
-        best.distance,
-    );
-    raise(
-        &mut state.u,
-        &mut search.wagon_distance,
-        search.reached.as_slice(),
-        best.distance,
-    );
-    walk_back(&mut state.order_of, search, best.end);
+    let path = search.run(state, j);
+    raise(&mut state.v, &search.order_distance, path.distance);
+    raise(&mut state.u, &search.label, path.distance);
+    walk_back(&mut state.order_of, search, path.end);
 }
 
 /// A plan of a table at the lowest total cost, prices in kilometres that are a certificate of it, and what the checker

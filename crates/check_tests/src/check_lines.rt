@@ -179,7 +179,7 @@ fn deep_lines(rt: HostRuntime) -> Result<(), Fail> {
 }
 
 /// Orders that lack 20 wagons each, with 0 for each price.
-fn lacking(alloc: Global, orders: usize) -> Result<Vec<u8>, Fail> {
+pub(crate) fn lacking(alloc: Global, orders: usize) -> Result<Vec<u8>, Fail> {
     let mut line = String::from_str(
         alloc,
         r#"{"wagons":[],"cells":[],"pairs":[],"u":[],"orders":["#,
@@ -209,7 +209,7 @@ fn lacks_in_all(rt: HostRuntime) -> Result<(), Fail> {
 }
 
 /// So many times the same, parted by commas.
-fn repeated(alloc: Global, item: &str, count: u32) -> Result<String, AllocError> {
+pub(crate) fn repeated(alloc: Global, item: &str, count: u32) -> Result<String, AllocError> {
     let mut text = String::new(alloc);
     for k in 0..count {
         text.push_str(if k == 0 { "" } else { "," })?;

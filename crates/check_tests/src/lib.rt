@@ -8,4 +8,6 @@ mod failures;
 #[cfg(test)]
 mod runs;
 #[cfg(test)]
+mod solved_lines;
+#[cfg(test)]
 mod tables;

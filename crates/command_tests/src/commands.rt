@@ -63,6 +63,23 @@ fn messages(rt: HostRuntime) -> Result<(), Fail> {
     Ok(())
 }
 
+/// The same message with spaces, in another order, with an escape (U+0044 is D), with a member that isn't known, and
+/// with a place twice, the last of which counts.
+#[test]
+fn messages_in_other_forms(rt: HostRuntime) -> Result<(), Fail> {
+    let wanted = Command::Message(message(MessageKind::Release)?);
+    for line in [
+        r#"{ "type": "release", "company": "0080", "number": 4294967295, "wagon": "338447961008", "place": "DE00001", "moment": "2026-03-01T02:00:00Z" }"#,
+        r#"{"company":"0080","type":"release","number":4294967295,"wagon":"338447961008","moment":"2026-03-01T02:00:00Z","place":"DE00001"}"#,
+        r#"{"type":"release","company":"0080","number":4294967295,"wagon":"338447961008","place":"\u0044E00001","moment":"2026-03-01T02:00:00Z"}"#,
+        r#"{"type":"release","company":"0080","number":4294967295,"wagon":"338447961008","place":"DE00001","moment":"2026-03-01T02:00:00Z","track":7}"#,
+        r#"{"type":"release","company":"0080","number":4294967295,"wagon":"338447961008","place":"FR00001","moment":"2026-03-01T02:00:00Z","place":"DE00001"}"#,
+    ] {
+        assert!(rt; is_read(rt.alloc(), line, &wanted)?, "{line}");
+    }
+    Ok(())
+}
+
 #[test]
 fn short_commands(rt: HostRuntime) -> Result<(), Fail> {
     for (line, wanted) in [

@@ -223,6 +223,32 @@ const LINES: &[(&str, u32, &str, u32)] = &[
         16,
     ),
     (r#"{"type":"network","revision":0}"#, 25, "revision", 20),
+    // a whole message with a zero in front of its number, with a number that is no whole number, with a brace more and
+    // with one less
+    (
+        r#"{"type":"release","company":"0080","number":01,"wagon":"338447961008","place":"DE00001","moment":"2026-03-01T02:00:00Z"}"#,
+        21,
+        "",
+        0,
+    ),
+    (
+        r#"{"type":"release","company":"0080","number":1e0,"wagon":"338447961008","place":"DE00001","moment":"2026-03-01T02:00:00Z"}"#,
+        25,
+        "number",
+        19,
+    ),
+    (
+        r#"{"type":"release","company":"0080","number":1,"wagon":"338447961008","place":"DE00001","moment":"2026-03-01T02:00:00Z"}}"#,
+        21,
+        "",
+        0,
+    ),
+    (
+        r#"{"type":"release","company":"0080","number":1,"wagon":"338447961008","place":"DE00001","moment":"2026-03-01T02:00:00Z""#,
+        21,
+        "",
+        0,
+    ),
 ];
 
 #[test]

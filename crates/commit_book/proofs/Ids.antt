@@ -1,6 +1,6 @@
 -- What the index of the messages finds.
 use Rattle.std.proofs.Common.{◌≡◌, ◌∙◌, ℕ, zero, suc, ◌+◌, Bool, true, false, cond, List, [], ◌∷◌, ◌++◌, length, Option, Some, None, refl, sym, ap, arith, position, true≢false}
-use Rattle.std.specs.Prelude.{◌&&◌, nat_eq, slice_get, IsOk, Result, Ok, Err}
+use Rattle.std.specs.Prelude.{◌&&◌, nat_eq, slice_get}
 use Rattle.std.specs.BTreeMap.{BTreeMap, get}
 use Rattle.std.specs.Cmp.Lexicographic.{pointwise, bytes_decides, slice_cmp, texts_ties}
 use Rattle.std.specs.List.{position_from}
@@ -13,9 +13,6 @@ use Rattle.std.proofs.lemmas.Iterator.Adapters.{position_from-zero}
 use Rattle.rail_codes.specs.declared.message_id.MessageId.{MessageId}
 use Rattle.move_messages.specs.declared.message.Message as movement
 use Rattle.database_rows.proofs.Named.{position-new, position-push}
-use Rattle.operating_db.specs.ApplyFault.{IsRefusalOf}
-use Rattle.operating_db.specs.Office.{Office}
-use Rattle.operating_db.specs.declared.apply_fault.ApplyFault.{ApplyFault}
 use Rattle.operating_db.specs.declared.event.Event.{Event}
 use Rattle.operating_db.specs.declared.event.Event.TheVariants.{Message, Place, Withdraw, Commit, Revise}
 use Rattle.commit_book.specs.History.{IsFresh}
@@ -164,17 +161,30 @@ index_stays events event index other h q = h q ∙ sym (position-push (is_messag
 pub index_none : (ids : BTreeMap MessageId ℕ) → ids.entries ≡ [] → IsIndexOf [] (get compare_ids ids)
 index_none ids empty id = rw empty refl
 
-possible_or : (after : Result Office ApplyFault) (fault : ApplyFault) → IsOk after → after ≡ Err fault → ⊥
-possible_or (Ok office) fault ok is = cc
-possible_or (Err other) fault ok is = cc ok
+-- an event that is no message keeps the index
+pub no_note : (event : Event) → IsNoMessage event → (m : movement.Message) → event ≡ Message m → ⊥
+no_note (Message m) none other is = none
+no_note (Place text) none other is = absurd cc
+no_note (Withdraw id) none other is = absurd cc
+no_note (Commit commit) none other is = absurd cc
+no_note (Revise network) none other is = absurd cc
 
--- where a possible event is refused, it is no message, so that the index is as it was
-pub index_refused : (events : List Event) (event : Event) (index : MessageId → Option ℕ) (after : Result Office ApplyFault) (fault : ApplyFault) → (IsNoMessage event → IsIndexOf events index) → IsOk after → IsRefusalOf event after fault → IsIndexOf events index
-index_refused events (Message m) index after fault others ok is = absurd (possible_or after fault ok is)
-index_refused events (Place text) index after fault others ok is = others tt
-index_refused events (Withdraw id) index after fault others ok is = others tt
-index_refused events (Commit commit) index after fault others ok is = others tt
-index_refused events (Revise network) index after fault others ok is = others tt
+-- ---- the last event taken back
+
+back_in : (events : List Event) (m : movement.Message) (q : MessageId) (old : Option ℕ) (b : Bool) → is_id m.id q ≡ b → IsFresh m.id events → old ≡ position (is_message_of q) (events ++ Message m ∷ [])
+    → cond b None old ≡ position (is_message_of q) events
+back_in events m q old true is fresh h =
+    let same : m.id ≡ q = id_same m.id q is in
+    sym (ap (λ (x : MessageId). position (is_message_of x) events) (sym same) ∙ unfound_by m.id events fresh)
+back_in events m q old false is fresh h = h ∙ position-push (is_message_of q) events (Message m) (is_id-sym q m.id ∙ is)
+
+pub index_back : (events : List Event) (m : movement.Message) (old new : MessageId → Option ℕ) → ((q : MessageId) → new q ≡ cond (is_eq (compare_ids m.id q)) None (old q)) → IsFresh m.id events → IsIndexOf (events ++ Message m ∷ []) old
+    → IsIndexOf events new
+index_back events m old new without fresh h q =
+    without q ∙ (ap (λ (b : Bool). cond b None (old q)) (id_ties m.id q) ∙ back_in events m q (old q) (is_id m.id q) refl fresh (h q))
+
+pub index_was : (events : List Event) (event : Event) (index : MessageId → Option ℕ) → ((m : movement.Message) → event ≡ Message m → ⊥) → IsIndexOf (events ++ event ∷ []) index → IsIndexOf events index
+index_was events event index other h q = h q ∙ position-push (is_message_of q) events event (no_message event q other)
 
 -- the message that an index finds stands at its place
 pub found_message : (id : MessageId) (events : List Event) (place : ℕ) → IsAt id events 0 place → (m : movement.Message) × (message_at events place ≡ Some m) × (slice_get events place ≡ Some (Message m)) × (m.id ≡ id)

@@ -21,7 +21,7 @@ after_agrees : (networks : ℕ) (office : Office) (event : Event) (r : Result Of
 after_agrees networks office event (Ok new) is promised agree = (step_kept networks office event new (promised, is) agree).promises
 after_agrees networks office event (Err fault) is promised agree = agree
 
-take_next : (events : List Event) (n : ℕ) (o : Option Event) → slice_get events n ≡ o → take (suc n) events ≡ take n events ++ option_to_list o
+pub take_next : (events : List Event) (n : ℕ) (o : Option Event) → slice_get events n ≡ o → take (suc n) events ≡ take n events ++ option_to_list o
 take_next [] zero None is = refl
 take_next [] (suc n) None is = refl
 take_next [] n (Some event) is = absurd cc

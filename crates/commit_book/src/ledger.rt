@@ -1,5 +1,5 @@
 //! The accepted events, and the office after them.
-ghost use Rattle.std.specs.Prelude.{◌≡◌, ◌<◌, ◌≤◌, ◌++◌, ◌∷◌, [], Some, IfErr, IfNone, IfOk, IfSome, IsOk, OnErr, OnOk, length, option_copied, option_map, slice_get};
+ghost use Rattle.std.specs.Prelude.{◌≡◌, ◌<◌, ◌≤◌, ◌++◌, ◌∷◌, [], false, List, Some, IfErr, IfNone, IfOk, IfSome, IsOk, OnErr, OnOk, length, option_copied, option_map, slice_get, vec_capacity, vec_len};
 ghost use Rattle.operating_db.specs.After.{after_call};
 ghost use Rattle.operating_db.specs.ApplyFault.{IsRefusal};
 ghost use Rattle.distance_tables.specs.Networks.{max_networks};
@@ -102,12 +102,12 @@ impl Ledger {
         ensures refused { IfErr result (λ fault. IsRefusal (after_call self.old.networks (office_of self.old) event) fault) }
         ensures unchanged { OnErr result (self.new ≡ self.old) }
     {
-        self.state.possible(&event)?;
-        self.events.reserve(1)?;
-        // A message that was possible cannot fail from here on, so its id may go in before it.
-        note(&mut self.ids, &self.events, &event)?;
-        self.state.apply(alloc, &event)?;
-        self.events.push(event).unwrap();
+        prepare(&self.state, &mut self.events, &mut self.ids, &event)?;
+        if let Err(fault) = self.state.apply(alloc, &event) {
+            forget(&mut self.ids, &event);
+            return Err(fault);
+        }
+        self.events.push_reserved(event);
         Ok(())
     }
 }
@@ -137,6 +137,41 @@ fn message_at(events: &[Event], place: usize) -> Option<&Message>
     }
 }
 
+/// Makes room for one more event behind the others, and notes its place by its id, if it is a message. Refused as the
+/// office refuses the event, or because memory is out where nothing else is wrong; nothing has changed then.
+fn prepare(
+    state: &OfficeState,
+    events: &mut Vec<Event>,
+    ids: &mut BTreeMap<MessageId, usize>,
+    event: &Event,
+) -> Result<(), ApplyFault>
+    requires promised { IsPromised state.now.office event.now }
+    requires fresh { IsFreshEvent event.now events.old.items }
+    requires indexed { IsIndexOf events.old.items (get compare_ids ids.old) }
+    ensures events { events.new.items ≡ events.old.items }
+    ensures room { OnOk result (vec_len events.new < vec_capacity events.new) }
+    ensures noted { OnOk result (IsIndexOf (events.old.items ++ event.now ∷ []) (get compare_ids ids.new)) }
+    ensures refused { IfErr result (λ fault. IsRefusal (after_call state.now.networks state.now.office event.now) fault) }
+    ensures unchanged { OnErr result (IsIndexOf events.old.items (get compare_ids ids.new)) }
+{
+    // A message wants memory for its id. Another event wants none here while there is room; it is then tested once,
+    // where it happens.
+    if !is_message(event) && events.len() < events.capacity() {
+        return Ok(());
+    }
+    state.possible(event)?;
+    events.reserve(1)?;
+    note(ids, events, event)?;
+    Ok(())
+}
+
+/// Whether an event is a message.
+fn is_message(event: &Event) -> bool
+    ensures { result ≡ false → IsNoMessage event.now }
+{
+    matches!(event, Event::Message(_))
+}
+
 /// Notes the place of an event behind others by its id, if it is a message. Where memory is refused, nothing changes.
 fn note(
     ids: &mut BTreeMap<MessageId, usize>,
@@ -147,10 +182,18 @@ fn note(
     requires fresh { IsFreshEvent event.now events.now }
     ensures noted { OnOk result (IsIndexOf (events.now ++ event.now ∷ []) (get compare_ids ids.new)) }
     ensures refused { OnErr result (IsIndexOf events.now (get compare_ids ids.new)) }
-    ensures others { IsNoMessage event.now → IsIndexOf events.now (get compare_ids ids.new) }
 {
     if let Event::Message(message) = event {
         ids.insert(message.id, events.len())?;
     }
     Ok(())
+}
+
+/// Takes the note of the last event back, if it is a message. Takes no memory.
+fn forget(ids: &mut BTreeMap<MessageId, usize>, event: &Event)
+    ensures { (events : List Event) → IsFreshEvent event.now events → IsIndexOf (events ++ event.now ∷ []) (get compare_ids ids.old) → IsIndexOf events (get compare_ids ids.new) }
+{
+    if let Event::Message(message) = event {
+        ids.remove(&message.id);
+    }
 }

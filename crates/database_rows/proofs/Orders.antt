@@ -1,5 +1,5 @@
 -- The rows of the orders.
-use Rattle.std.proofs.Common.{◌≡◌, ◌∙◌, ℕ, ◌+◌, ◌-◌, ◌<◌, ◌≤◌, Bool, true, false, not, cond, ◌&&◌, nat_lt, if◌then◌else◌, List, [], ◌∷◌, ◌++◌, length, get_or, Option, Some, None, IsSome, option_map, position, refl, ap, sym, subst, inl, inr, arith, length-append, zero-add}
+use Rattle.std.proofs.Common.{◌≡◌, ◌∙◌, ℕ, ◌+◌, ◌-◌, ◌<◌, ◌≤◌, Bool, true, false, not, cond, ◌&&◌, nat_lt, if◌then◌else◌, List, [], ◌∷◌, ◌++◌, length, get_or, Option, Some, None, IfSome, IsSome, option_map, position, refl, ap, sym, subst, inl, inr, arith, length-append, zero-add}
 use Rattle.std.specs.BTreeMap.{BTreeMap, get}
 use Rattle.std.specs.Cmp.Lexicographic.{bytes_decides, slice_cmp, texts_ties}
 use Rattle.std.specs.List.{IsDistinct, list_any, slice_get, slice_set}
@@ -79,6 +79,18 @@ row_at rows id r k row h place is read =
       valid = subst IsOrderRow (sym read) (h.each k row within);
     }
 
+-- the row that stands at a place is that of its order
+pub row_there : (rows : List OrderRowValue) (k : ℕ) (row : OrderRowValue) → IsOrderRows rows → k < length rows → row ≡ get_or rows k row → IsRowAt rows row.text.id k row
+row_there rows k row h within read =
+    let there : slice_get rows k ≡ Some row = slice_get-get_or rows k row within ∙ ap Some (sym read) in
+    record {
+      within = within;
+      there = there;
+      found = order_in-there rows k row h.distinct there;
+      named = refl;
+      valid = subst IsOrderRow (sym read) (h.each k row within);
+    }
+
 pub known_at : (rows : List OrderRowValue) (id : List ℕ) (r : Option ℕ) → r ≡ position (is_order id) rows → IsSome (order_in rows id) → IsSome r
 known_at rows id (Some k) place known = refl
 known_at rows id None place known =
@@ -91,6 +103,11 @@ pub changed_is : (rows : List OrderRowValue) (id : List ℕ) (k : ℕ) (row : Or
     → IsOrderRows rows → IsRowAt rows id k row → slice_set rows k (change row) ≡ at_order id change rows
 changed_is rows id k row change h at =
     changed_at (λ (row : OrderRowValue). row.text.id) change rows k row h.distinct at.there ∙ ap (λ name. at_order name change rows) at.named
+
+-- the same by the row that stands at the place
+pub set_at : (rows : List OrderRowValue) (k : ℕ) (row : OrderRowValue) (change : OrderRowValue → OrderRowValue)
+    → IsOrderRows rows → IsRowAt rows row.text.id k row → IfSome (slice_get rows k) (λ old. slice_set rows k (change row) ≡ at_order old.text.id change rows)
+set_at rows k row change h at = rw at.there (changed_is rows row.text.id k row change h at)
 
 pub indexed_with : (rows : List OrderRowValue) (index : List ℕ → Option ℕ) (n m : ℕ) (id : List ℕ) (k : ℕ) (row new : OrderRowValue)
     → IsIndexed rows index n → IsRowAt rows id k row → new.text.id ≡ row.text.id → IsOrderRow new → m + wanted_open row ≡ n + wanted_open new → m ≤ n

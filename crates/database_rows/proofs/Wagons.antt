@@ -1,5 +1,5 @@
 -- The rows of the wagons.
-use Rattle.std.proofs.Common.{◌≡◌, ◌∙◌, ℕ, false, if◌then◌else◌, List, [], ◌∷◌, length, map, get_or, Option, Some, None, Result, Ok, Err, IfSome, IfNone, option_map, refl, ap, sym, subst, inl, inr, arith}
+use Rattle.std.proofs.Common.{◌≡◌, ◌∙◌, ℕ, Bool, true, false, cond, if◌then◌else◌, List, [], ◌∷◌, length, map, get_or, Option, Some, None, Result, Ok, Err, IfSome, IfNone, option_map, refl, ap, sym, subst, inl, inr, arith}
 use Rattle.std.specs.Cmp.Lexicographic.{bytes_decides, slice_cmp, texts_ties}
 use Rattle.std.specs.List.{AllByRecursion, IsDistinct, slice_get, slice_set}
 use Rattle.std.specs.List.Sorted.{IsBinarySearchResult, IsSearchInRange, IsStrictlySortedBy}
@@ -136,3 +136,26 @@ rows_with rows k old new h e same =
 pub found_in : (rows : List WagonRow) (place : ℕ) (row : WagonRow) (number : List ℕ) (r : Option WagonRow) → IsStrictlySortedBy by_number rows → slice_get rows place ≡ Some row → row.number ≡ number
     → r ≡ slice_get rows place → r ≡ wagon_in rows number
 found_in rows place row number r h there named e = e ∙ there ∙ sym (wagon_in-there rows place row h there) ∙ ap (wagon_in rows) named
+
+-- where no row is that of the wagon, nothing changes
+missing_step : (number : List ℕ) (change : WagonRow → WagonRow) (row : WagonRow) (rows : List WagonRow) (b : Bool) → cond b (Some row) (wagon_in rows number) ≡ None → (wagon_in rows number ≡ None → at_wagon number change rows ≡ rows)
+    → cond b (change row) row ∷ at_wagon number change rows ≡ row ∷ rows
+missing_step number change row rows true h rest = cc h
+missing_step number change row rows false h rest = ap (λ (rs : List WagonRow). row ∷ rs) (rest h)
+
+pub missing_stays : (number : List ℕ) (change : WagonRow → WagonRow) (rows : List WagonRow) → wagon_in rows number ≡ None → at_wagon number change rows ≡ rows
+missing_stays number change [] h = refl
+missing_stays number change (row ∷ rows) h = missing_step number change row rows (is_wagon number row) h (missing_stays number change rows)
+
+-- a row changed at its place
+pub change_is : (rows : List WagonRow) (k : ℕ) (row : WagonRow) (number : List ℕ) (change : WagonRow → WagonRow) → IsStrictlySortedBy by_number rows → slice_get rows k ≡ Some row → row.number ≡ number
+    → slice_set rows k (change row) ≡ at_wagon number change rows
+change_is rows k row number change h there named =
+    changed_at (λ (row : WagonRow). row.number) change rows k row (numbers_distinct rows h) there ∙ ap (λ n. at_wagon n change rows) named
+
+-- what is read at the place of a wagon's row is that row
+pub read_row : (rows : List WagonRow) (k : ℕ) (number : List ℕ) (read : WagonRow) → ((row : WagonRow) × (slice_get rows k ≡ Some row) × (row.number ≡ number)) → read ≡ get_or rows k read → (slice_get rows k ≡ Some read) × (read.number ≡ number)
+read_row rows k number read found value =
+    let (row, there, named) = found in
+    let same : read ≡ row = value ∙ get_or_from_slice_get rows k row read there in
+    (there ∙ ap Some (sym same), ap (λ (row : WagonRow). row.number) same ∙ named)

@@ -126,6 +126,9 @@ room_left rows waiting room kept waits some =
     let open_ : open_wagons rows ≤ max_open_wagons = kept.few_open in
     omega (arith, few, most, open_)
 
+pub room_at : (rows : List OrderRowValue) (index : List ℕ → Option ℕ) (n : ℕ) (waiting : List ℕ) (room k : ℕ) → IsStored rows index n waiting room → k < length rows → length waiting < room
+room_at rows index n waiting room k h within = room_left rows waiting room h.rows_kept.kept h.waits (omega (arith, within))
+
 pub room_there : (rows : List OrderRowValue) (index : List ℕ → Option ℕ) (n : ℕ) (waiting : List ℕ) (room : ℕ) (id : List ℕ) (r : Option ℕ) (k : ℕ)
     → IsStored rows index n waiting room → r ≡ position (is_order id) rows → r ≡ Some k → length waiting < room
 room_there rows index n waiting room id r k h place is =

@@ -1,3 +1,4 @@
+pub mod EmptyWagons
 pub mod Kept
 pub mod Rows
 pub mod inner

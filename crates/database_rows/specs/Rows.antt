@@ -21,6 +21,10 @@ wagon_in rows number = find (is_wagon number) rows
 abbrev pub order_in : List OrderRowValue → List ℕ → Option OrderRowValue
 order_in rows id = find (is_order id) rows
 
+-- a wagon with another promise
+abbrev pub with_promise : Option (List ℕ) → WagonRow → WagonRow
+with_promise promise row = record row { promise = promise }
+
 -- the rows with a change at one wagon; at one order
 abbrev pub at_wagon : List ℕ → (WagonRow → WagonRow) → List WagonRow → List WagonRow
 at_wagon number change rows = map (λ row. if is_wagon number row then change row else row) rows

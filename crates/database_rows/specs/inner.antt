@@ -1,2 +1,3 @@
 -- What only the proofs and the private functions of this crate need.
 pub mod Indexed
+pub mod Standings

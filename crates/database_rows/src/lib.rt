@@ -4,6 +4,7 @@
 
 mod limits;
 mod order_rows;
+mod standing;
 mod wagon_rows;
 
 pub use limits::MAX_OPEN_WAGONS;

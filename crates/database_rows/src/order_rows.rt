@@ -1,5 +1,5 @@
 //! The rows of the orders.
-ghost use Rattle.std.specs.Prelude.{◌≡◌, ◌+◌, ◌<◌, ◌≤◌, ◌++◌, ◌∷◌, [], IfErr, IfSome, IsSome, None, OnErr, OnOk, count_by, length, nat_lt, option_map, position, vec_capacity};
+ghost use Rattle.std.specs.Prelude.{◌≡◌, ◌+◌, ◌<◌, ◌≤◌, ◌++◌, ◌∷◌, [], IfErr, IfSome, IsSome, None, OnErr, OnOk, count_by, length, nat_lt, option_map, position, slice_get, vec_capacity, Some};
 ghost use Rattle.std.specs.List.{Contains};
 ghost use Rattle.load_orders.specs.Lack.{lack_of};
 ghost use Rattle.load_orders.specs.OrderRow.{placed_row};
@@ -79,8 +79,18 @@ impl OrderRows {
     pub fn get(&self, id: OrderId) -> Option<&OrderRow>
         ensures { option_map (λ row. row.now) result ≡ order_in self.now id }
     {
+        let (_place, row) = self.find(id)?;
+        Some(row)
+    }
+
+    /// The row of an order and its place, where the office has it.
+    pub fn find(&self, id: OrderId) -> Option<(usize, &OrderRow)>
+        ensures row { option_map (λ found. found.1.now) result ≡ order_in self.now id }
+        ensures place { IfSome result (λ found. slice_get self.now found.0 ≡ Some found.1.now) }
+    {
         let place = self.place_of(id)?;
-        self.rows.get(place)
+        let row = self.rows.get(place)?;
+        Some((place, row))
     }
 
     /// Where the row of an order stands, where there is one.
@@ -155,12 +165,11 @@ impl OrderRows {
         note(&mut self.waiting, place, row.is_waiting());
     }
 
-    /// Takes an order back, with all its promises. Takes no memory.
-    pub fn withdraw(&mut self, id: OrderId)
-        requires { IsSome (order_in self.old id) }
-        ensures { self.new ≡ at_order id taken_back self.old }
+    /// Takes the order at a place back, with all its promises. Takes no memory.
+    pub fn withdraw(&mut self, place: usize)
+        requires { place < length self.old }
+        ensures { IfSome (slice_get self.old place) (λ row. self.new ≡ at_order row.text.id taken_back self.old) }
     {
-        let place = self.place_of(id).unwrap();
         let row = &mut self.rows[place];
         self.open_wagons -= wanted_open(row);
         row.withdraw();

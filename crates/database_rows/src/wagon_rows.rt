@@ -1,12 +1,16 @@
 //! The rows of the wagons.
-ghost use Rattle.std.specs.Prelude.{◌≡◌, IfNone, IfOk, IfSome, IsSome, None, Some, option_copied, slice_get};
+ghost use Rattle.std.specs.Prelude.{◌≡◌, IfNone, IfOk, IfSome, IsSome, None, OnErr, OnOk, Some, count_by, option_copied, slice_get};
 ghost use Rattle.std.specs.List.Sorted.{IsStrictlySortedBy};
-ghost use Rattle.database_rows.specs.Rows.{at_wagon, wagon_in};
+ghost use Rattle.database_rows.specs.EmptyWagons.{IsNewStand, is_free_at, stand_in, stand_of};
+ghost use Rattle.database_rows.specs.Rows.{at_wagon, wagon_in, with_promise};
+ghost use Rattle.database_rows.specs.inner.Standings.{is_unpromised};
 ghost use Rattle.wagon_roster.specs.Roster.{by_number};
 ghost use Rattle.wagon_state.specs.declared.wagon_row.WagonRow.{WagonRow};
 
-use rail_codes::WagonNumber;
+use crate::standing::{Standing, replace, standing_of, standings_of};
+use rail_codes::{ClassCode, OrderId, Place, WagonNumber};
 use std::alloc::{AllocError, Global};
+use std::collections::BTreeSet;
 use std::marker::Model;
 use wagon_roster::Roster;
 use wagon_state::WagonRow;
@@ -16,18 +20,22 @@ use wagon_state::WagonRow;
 #[derive(Debug, Drop)]
 pub struct WagonRows {
     rows: Vec<WagonRow>,
+    // Where the empty wagons stand that aren't held, by class, then by place, then by number. Whether one of them is
+    // promised is asked of its row, so that the end of a promise wants no memory.
+    empty: BTreeSet<Standing>,
 }
 
 impl Model for WagonRows {
     ghost use Rattle.std.specs.Prelude.{List};
-    ghost use Rattle.database_rows.specs.Kept.{IsWagonRows};
+    ghost use Rattle.std.specs.BTreeSet.{contains};
+    ghost use Rattle.database_rows.specs.inner.Standings.{AreStored, compare_standings};
     ghost use Rattle.wagon_state.specs.declared.wagon_row.WagonRow.{WagonRow};
 
     ghost Value = { List WagonRow };
 
     ghost view = { λ wagons. wagons.rows.items };
 
-    ghost invariant = { λ wagons. IsWagonRows wagons.rows.items };
+    ghost invariant = { λ wagons. AreStored wagons.rows.items (contains compare_standings wagons.empty) };
 }
 
 impl WagonRows {
@@ -38,7 +46,8 @@ impl WagonRows {
         ensures { IfOk result (λ wagons. wagons ≡ roster.now) }
     {
         let rows = Vec::from_slice(alloc, roster.rows())?;
-        Ok(WagonRows { rows })
+        let empty = standings_of(alloc, &rows)?;
+        Ok(WagonRows { rows, empty })
     }
 
     /// The rows, ascending by number.
@@ -57,13 +66,58 @@ impl WagonRows {
         self.rows.get(place)
     }
 
-    /// Puts a row in place of the one that its wagon has. Takes no memory.
-    pub fn put(&mut self, row: WagonRow)
+    /// How many wagons of a class stand at a place empty, not held and not promised. Only those that stand there
+    /// empty and not held are looked at.
+    pub fn free_count(&self, class: ClassCode, place: Place) -> usize
+        ensures { result ≡ count_by (is_free_at class place) self.now }
+    {
+        let first = Standing {
+            class,
+            place,
+            row: 0,
+        };
+        let end = Standing {
+            row: self.rows.len(),
+            ..first
+        };
+        self.empty
+            .range(first..end)
+            .filter(|standing| is_unpromised(&self.rows, standing.row))
+            .count()
+    }
+
+    /// Puts a row in place of the one that its wagon has. Memory is wanted only where the wagon is then empty and not
+    /// held at a place where it wasn't so before; where memory is out, nothing changes.
+    pub fn put(&mut self, row: WagonRow) -> Result<(), AllocError>
         requires { IsSome (wagon_in self.old row.number) }
-        ensures { self.new ≡ at_wagon row.number (λ _. row) self.old }
+        ensures put { OnOk result (self.new ≡ at_wagon row.number (λ _. row) self.old) }
+        ensures refused { OnErr result (self.new ≡ self.old) }
+        ensures memory { OnErr result (IsNewStand (stand_in self.old row.number) (stand_of row)) }
     {
         let place = place_of(&self.rows, row.number).unwrap();
+        let before = standing_of(&self.rows[place], place);
+        replace(&mut self.empty, before, standing_of(&row, place))?;
         self.rows[place] = row;
+        Ok(())
+    }
+
+    /// Sets the promise of a wagon, where the office has it. Takes no memory.
+    pub fn set_promise(&mut self, number: WagonNumber, promise: Option<OrderId>)
+        ensures { self.new ≡ at_wagon number (with_promise promise) self.old }
+    {
+        if let Some(place) = place_of(&self.rows, number) {
+            self.rows[place].promise = promise;
+        }
+    }
+}
+
+/// Whether there is a row at a place, and its wagon isn't promised.
+fn is_unpromised(rows: &[WagonRow], at: usize) -> bool
+    ensures { result ≡ is_unpromised (slice_get rows.now at) }
+{
+    match rows.get(at) {
+        Some(row) => row.promise.is_none(),
+        None => false,
     }
 }
 

@@ -85,9 +85,12 @@ const CASES: &[Case<'static>] = &[
             Problem(0, 0),
             Tell(FAR, Exception(true), "DE00001", "01:30", 0),
             Problem(0, 1),
+            Free("Eanos", "DE00002", 0),
             Withdraw("O1", 0),
             Problem(1, 0),
             Promised(NEAR, "O1", false),
+            Free("Eanos", "DE00002", 1),
+            Free("Eanos", "DE00001", 0),
         ],
     },
     Case {

@@ -1,6 +1,6 @@
 //! Messages of a wagon that is loaded, journeys and is emptied.
 
-use crate::days::Step::{Loading, Tell, Unloading};
+use crate::days::Step::{Free, Loading, Tell, Unloading};
 use crate::days::{Case, Step, first_other};
 use move_messages::MessageKind::{
     Arrival, Delivery, Departure, Release, YardArrival, YardDeparture,
@@ -34,8 +34,12 @@ const CASES: &[Case<'static>] = &[
             Tell(FAR, Arrival, "DE00001", "06:00", 0),
             Tell(FAR, Delivery, "DE00001", "06:00", 0),
             Unloading(FAR, "DE00001"),
+            Free("Eanos", "DE00001", 0),
             Tell(FAR, Release, "DE00001", "07:00", 0),
             Step::Empty(FAR, "DE00001", "07:00"),
+            Free("Eanos", "DE00001", 1),
+            Tell(FAR, Departure, "DE00001", "08:00", 0),
+            Free("Eanos", "DE00001", 0),
         ],
     },
 ];

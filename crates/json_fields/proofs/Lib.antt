@@ -1,3 +1,5 @@
-pub mod Lines
-pub mod Items
 pub mod Bounds
+pub mod Items
+pub mod Lines
+pub mod PlainTexts
+pub mod Writing

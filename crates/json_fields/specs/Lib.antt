@@ -3,4 +3,5 @@ pub mod Faults
 pub mod Values
 pub mod Fields
 pub mod Line
+pub mod Written
 pub mod inner

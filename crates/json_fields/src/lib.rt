@@ -10,7 +10,9 @@ mod kind;
 mod line;
 mod lists;
 mod members;
+mod plain_text;
 mod values;
+mod written;
 
 pub use fault::{FieldFault, LineFault};
 pub use field::Field;
@@ -23,4 +25,6 @@ pub use members::{
     boolean_at, company_at, count_at, in_field, member, moment_at, number_at, optional_count_at,
     order_id_at, place_at, text_at, wagon_number_at,
 };
+pub use plain_text::{number_after, quoted_after};
 pub use values::{class_from, list_of, list_within, number_within};
+pub use written::{WrittenItem, list_value};

@@ -1,5 +1,5 @@
 -- How a run goes on from line to line.
-use Rattle.std.proofs.Common.{◌≡◌, ℕ, ◌+◌, ◌<◌, ◌≤◌, ◌⊎◌, Bool, true, false, List, [], ◌∷◌, ◌++◌, length, refl, sym, ap, ◌∙◌, subst, inl, inr, arith, append_assoc}
+use Rattle.std.proofs.Common.{◌≡◌, ℕ, ◌+◌, ◌<◌, ◌≤◌, Bool, true, false, List, [], ◌∷◌, ◌++◌, length, refl, sym, ap, ◌∙◌, subst, inl, inr, arith, append_assoc}
 use Rattle.std.specs.Prelude.{Option}
 use mir.Val.{bool_byte}
 use Rattle.std.specs.List.{AllByRecursion}
@@ -10,8 +10,8 @@ use Rattle.std.specs.Io.KnownBytes.{Consumes, Appends, IsAtEnd}
 use Rattle.std.proofs.KnownBytes.{Consumes-nil, Consumes-trans, Appends-nil, Appends-trans}
 use Rattle.line_engine.specs.Lines.{line_feed, has_feed, lines_of, first_line, max_input_lines, max_line_bytes, with_feeds}
 use Rattle.line_engine.specs.inner.Cutting.{CutsLine, StopsLine}
-use Rattle.line_engine.specs.Replies.{Answering, RunningOut, AnswersLine, Replies, refusal_count}
-use Rattle.line_engine.specs.Runs.{Run, Failures, Ends, IsLineOrNext, StandsAt, Stops}
+use Rattle.line_engine.specs.Replies.{Replying, ServesLine, ServesLines, refusal_count}
+use Rattle.line_engine.specs.Runs.{Run, IsLineOrNext, RunEnds, RunStandsAt, RunStops}
 use Rattle.line_engine.specs.RunFault.{fault_at}
 use Rattle.line_engine.specs.declared.run.RunCount.{RunCount}
 use Rattle.line_engine.specs.declared.run.RunFault.TheVariants.{ReadFailed, WriteFailed}
@@ -20,7 +20,7 @@ use Rattle.line_engine.specs.declared.window.LineEnd.TheVariants.{Feed, Input}
 use Rattle.line_engine.specs.declared.window.LineStop.{LineStop}
 use Rattle.line_engine.specs.declared.window.LineStop.TheVariants as stop
 use Rattle.line_engine.proofs.Feeds.{lines_of-feed, lines_of-last}
-use Rattle.line_engine.proofs.Answering.{Replies-push}
+use Rattle.line_engine.proofs.Answering.{ServesLines-push}
 
 -- ---- lines at the front of an input
 
@@ -52,16 +52,16 @@ abbrev pub run_of : {H : Type 0} → (from to held holds : Option (List ℕ)) (o
 run_of from to held holds old new = record { from = from; to = to; held = held; holds = holds; old = old; new = new }
 
 -- The run stands before line n, and what it read behind the lines before it is in the window.
-pub record StandsHere {H : Type 0} (answers : Answering H) (runs_out : RunningOut H) (from to held holds : Option (List ℕ)) (old new : H) (n : ℕ) (window : List ℕ) (refused : ℕ) : Type 0 where
-  pub at : StandsAt answers runs_out (run_of from to held holds old new) n
+pub record StandsHere {H : Type 0} (replying : Replying H) (from to held holds : Option (List ℕ)) (old new : H) (n : ℕ) (window : List ℕ) (refused : ℕ) : Type 0 where
+  pub at : RunStandsAt replying (run_of from to held holds old new) n
   pub here : at.rest ≡ window
   pub counted : at.refusals ≡ refused
 
 is_line_or_next : (n : ℕ) (rest : List ℕ) → n ≤ max_input_lines + 1 → rest ≡ [] → IsLineOrNext n rest
 is_line_or_next n rest few none = elim (eq-or-lt_of_le few) [ inl next ↦ inr (next, none) | inr within ↦ inl (omega (arith, within)) ]
 
-module _ {H : Type 0} (answers : Answering H) (runs_out : RunningOut H) where
-  pub begins_run : (from held : Option (List ℕ)) (old : H) → StandsHere answers runs_out from from held held old old 1 [] 0
+module _ {H : Type 0} (replying : Replying H) where
+  pub begins_run : (from held : Option (List ℕ)) (old : H) → StandsHere replying from from held held old old 1 [] 0
   begins_run from held old = record {
     at = record {
       input = [];
@@ -80,8 +80,8 @@ module _ {H : Type 0} (answers : Answering H) (runs_out : RunningOut H) where
   }
 
   -- more was read
-  pub reads_more : (from to then held holds : Option (List ℕ)) (old new : H) (n : ℕ) (window more filled : List ℕ) (refused : ℕ) → StandsHere answers runs_out from to held holds old new n window refused
-      → filled ≡ window ++ more → Consumes to then more → StandsHere answers runs_out from then held holds old new n filled refused
+  pub reads_more : (from to then held holds : Option (List ℕ)) (old new : H) (n : ℕ) (window more filled : List ℕ) (refused : ℕ) → StandsHere replying from to held holds old new n window refused
+      → filled ≡ window ++ more → Consumes to then more → StandsHere replying from then held holds old new n filled refused
   reads_more from to then held holds old new n window more filled refused so is consumed =
       let at = so.at in
       record {
@@ -105,21 +105,21 @@ module _ {H : Type 0} (answers : Answering H) (runs_out : RunningOut H) where
         counted = so.counted;
       }
 
-  replied : (from to held holds : Option (List ℕ)) (old mid new : H) (n : ℕ) (window line text : List ℕ) (refused : ℕ) (flag : Bool) → (so : StandsHere answers runs_out from to held holds old mid n window refused)
-      → AnswersLine answers runs_out n mid line text flag new
-      → Replies answers runs_out 1 old (so.at.lines ++ line ∷ []) (so.at.output ++ text) (refused + refusal_count flag) new
+  replied : (from to held holds : Option (List ℕ)) (old mid new : H) (n : ℕ) (window line text : List ℕ) (refused : ℕ) (flag : Bool) → (so : StandsHere replying from to held holds old mid n window refused)
+      → ServesLine replying n mid line text flag new
+      → ServesLines replying 1 old (so.at.lines ++ line ∷ []) (so.at.output ++ text) (refused + refusal_count flag) new
   replied from to held holds old mid new n window line text refused flag so reply =
       let at = so.at in
       let number : n ≡ 1 + length at.lines = omega (arith, at.number) in
-      let one = subst (λ (k : ℕ). AnswersLine answers runs_out k mid line text flag new) number reply in
-      let all = Replies-push answers runs_out 1 old at.lines line at.output text at.refusals flag mid new at.replies one in
-      subst (λ (k : ℕ). Replies answers runs_out 1 old (at.lines ++ line ∷ []) (at.output ++ text) (k + refusal_count flag) new) so.counted all
+      let one = subst (λ (k : ℕ). ServesLine replying k mid line text flag new) number reply in
+      let all = ServesLines-push replying 1 old at.lines line at.output text at.refusals flag mid new at.replies one in
+      subst (λ (k : ℕ). ServesLines replying 1 old (at.lines ++ line ∷ []) (at.output ++ text) (k + refusal_count flag) new) so.counted all
 
   -- a line that a line feed ends was read and answered
   pub passes_line : (from to then held holds holding : Option (List ℕ)) (old mid new : H) (n : ℕ) (window taken line left text : List ℕ) (refused : ℕ) (flag : Bool)
-      → StandsHere answers runs_out from to held holds old mid n window refused → Consumes to then taken → CutsLine window taken line left Feed
-      → AnswersLine answers runs_out n mid line text flag new → Appends holds holding text
-      → StandsHere answers runs_out from then held holding old new (n + 1) left (refused + refusal_count flag)
+      → StandsHere replying from to held holds old mid n window refused → Consumes to then taken → CutsLine window taken line left Feed
+      → ServesLine replying n mid line text flag new → Appends holds holding text
+      → StandsHere replying from then held holding old new (n + 1) left (refused + refusal_count flag)
   passes_line from to then held holds holding old mid new n window taken line left text refused flag so consumed cut reply wrote =
       let more = reads_more from to then held holds old mid n window taken (window ++ taken) refused so refl consumed in
       let at = more.at in
@@ -144,8 +144,8 @@ module _ {H : Type 0} (answers : Answering H) (runs_out : RunningOut H) where
       }
 
   -- the reader was at its end behind a line feed, or before anything
-  pub ends_run : (from to held holds : Option (List ℕ)) (old new : H) (n : ℕ) (window : List ℕ) (count : RunCount) → StandsHere answers runs_out from to held holds old new n window count.refused
-      → n ≡ count.lines + 1 → count.lines ≤ max_input_lines → window ≡ [] → IsAtEnd to → Ends answers runs_out (run_of from to held holds old new) count
+  pub ends_run : (from to held holds : Option (List ℕ)) (old new : H) (n : ℕ) (window : List ℕ) (count : RunCount) → StandsHere replying from to held holds old new n window count.refused
+      → n ≡ count.lines + 1 → count.lines ≤ max_input_lines → window ≡ [] → IsAtEnd to → RunEnds replying (run_of from to held holds old new) count
   ends_run from to held holds old new n window count so number few none ended =
       let at = so.at in
       let input : at.input ≡ with_feeds at.lines ++ [] = at.begins.bytes ∙ ap (λ (xs : List ℕ). with_feeds at.lines ++ xs) (so.here ∙ none) in
@@ -155,8 +155,8 @@ module _ {H : Type 0} (answers : Answering H) (runs_out : RunningOut H) where
         output = at.output;
         consumed = at.consumed;
         ended = ended;
-        replies = subst (λ (ls : List (List ℕ)). Replies answers runs_out 1 old ls at.output count.refused new) (sym lines)
-            (subst (λ (k : ℕ). Replies answers runs_out 1 old at.lines at.output k new) so.counted at.replies);
+        replies = subst (λ (ls : List (List ℕ)). ServesLines replying 1 old ls at.output count.refused new) (sym lines)
+            (subst (λ (k : ℕ). ServesLines replying 1 old at.lines at.output k new) so.counted at.replies);
         lines = omega (arith, number, at.number, ap length lines);
         few = few;
         written = at.written;
@@ -164,9 +164,9 @@ module _ {H : Type 0} (answers : Answering H) (runs_out : RunningOut H) where
 
   -- the last line was ended by the input
   pub ends_line : (from to then held holds holding : Option (List ℕ)) (old mid new : H) (n : ℕ) (window taken line left text : List ℕ) (refused : ℕ) (flag : Bool) (count : RunCount)
-      → StandsHere answers runs_out from to held holds old mid n window refused → Consumes to then taken → CutsLine window taken line left Input
-      → AnswersLine answers runs_out n mid line text flag new → Appends holds holding text → IsAtEnd then
-      → count.lines ≡ n → n ≤ max_input_lines → count.refused ≡ refused + refusal_count flag → Ends answers runs_out (run_of from then held holding old new) count
+      → StandsHere replying from to held holds old mid n window refused → Consumes to then taken → CutsLine window taken line left Input
+      → ServesLine replying n mid line text flag new → Appends holds holding text → IsAtEnd then
+      → count.lines ≡ n → n ≤ max_input_lines → count.refused ≡ refused + refusal_count flag → RunEnds replying (run_of from then held holding old new) count
   ends_line from to then held holds holding old mid new n window taken line left text refused flag count so consumed cut reply wrote ended number few counted =
       let more = reads_more from to then held holds old mid n window taken (window ++ taken) refused so refl consumed in
       let at = more.at in
@@ -177,8 +177,8 @@ module _ {H : Type 0} (answers : Answering H) (runs_out : RunningOut H) where
         output = at.output ++ text;
         consumed = at.consumed;
         ended = ended;
-        replies = subst (λ (ls : List (List ℕ)). Replies answers runs_out 1 old ls (at.output ++ text) count.refused new) (sym lines)
-            (subst (λ (k : ℕ). Replies answers runs_out 1 old (at.lines ++ line ∷ []) (at.output ++ text) k new) (sym counted)
+        replies = subst (λ (ls : List (List ℕ)). ServesLines replying 1 old ls (at.output ++ text) count.refused new) (sym lines)
+            (subst (λ (k : ℕ). ServesLines replying 1 old (at.lines ++ line ∷ []) (at.output ++ text) k new) (sym counted)
             (replied from then held holds old mid new n (window ++ taken) line text refused flag more reply));
         lines = omega (arith, number, at.number, ap length lines, length-append at.lines (line ∷ []));
         few = omega (arith, number, few);
@@ -187,16 +187,16 @@ module _ {H : Type 0} (answers : Answering H) (runs_out : RunningOut H) where
 
   -- the reader failed before a line of which nothing was read
   pub stops_before : (from to then held holds : Option (List ℕ)) (write_failed : Bool) (old new : H) (n : ℕ) (window taken : List ℕ) (refused : ℕ)
-      → StandsHere answers runs_out from to held holds old new n window refused → Consumes to then taken → window ++ taken ≡ [] → n ≤ max_input_lines + 1
-      → Stops answers runs_out (run_of from then held holds old new) (record { reader = true; writer = write_failed }) (ReadFailed n)
+      → StandsHere replying from to held holds old new n window refused → Consumes to then taken → window ++ taken ≡ [] → n ≤ max_input_lines + 1
+      → RunStops replying (run_of from then held holds old new) (record { reader = true; writer = write_failed }) (ReadFailed n)
   stops_before from to then held holds write_failed old new n window taken refused so consumed none few =
       let more = reads_more from to then held holds old new n window taken (window ++ taken) refused so refl consumed in
       (more.at, is_line_or_next n more.at.rest few (more.here ∙ none), ap has_feed (more.here ∙ none), refl)
 
   -- a line was too long, or the reader failed in it
   pub stops_reading : (from to then held holds : Option (List ℕ)) (read_failed write_failed : Bool) (old new : H) (n : ℕ) (window taken : List ℕ) (refused : ℕ) (s : LineStop)
-      → StandsHere answers runs_out from to held holds old new n window refused → Consumes to then taken → StopsLine (window ++ taken) read_failed s → n ≤ max_input_lines
-      → Stops answers runs_out (run_of from then held holds old new) (record { reader = read_failed; writer = write_failed }) (fault_at s n)
+      → StandsHere replying from to held holds old new n window refused → Consumes to then taken → StopsLine (window ++ taken) read_failed s → n ≤ max_input_lines
+      → RunStops replying (run_of from then held holds old new) (record { reader = read_failed; writer = write_failed }) (fault_at s n)
   stops_reading from to then held holds read_failed write_failed old new n window taken refused stop.TooLong so consumed stopped few =
       let more = reads_more from to then held holds old new n window taken (window ++ taken) refused so refl consumed in
       (more.at, few, subst (λ (xs : List ℕ). max_line_bytes < length (first_line xs)) (sym more.here) stopped)
@@ -206,10 +206,10 @@ module _ {H : Type 0} (answers : Answering H) (runs_out : RunningOut H) where
 
   -- the writer failed in the reply to a line
   pub stops_writing : (from to then held holds holding : Option (List ℕ)) (read_failed write_failed : Bool) (old mid new : H) (n : ℕ) (window taken line text part unwritten : List ℕ) (refused : ℕ) (flag : Bool)
-      → StandsHere answers runs_out from to held holds old mid n window refused → Consumes to then taken
+      → StandsHere replying from to held holds old mid n window refused → Consumes to then taken
       → (after : List ℕ) → lines_of (window ++ taken) ≡ line ∷ lines_of after
-      → AnswersLine answers runs_out n mid line text flag new → text ≡ part ++ unwritten → Appends holds holding part → write_failed ≡ true → n ≤ max_input_lines
-      → Stops answers runs_out (run_of from then held holding old new) (record { reader = read_failed; writer = write_failed }) (WriteFailed n)
+      → ServesLine replying n mid line text flag new → text ≡ part ++ unwritten → Appends holds holding part → write_failed ≡ true → n ≤ max_input_lines
+      → RunStops replying (run_of from then held holding old new) (record { reader = read_failed; writer = write_failed }) (WriteFailed n)
   stops_writing from to then held holds holding read_failed write_failed old mid new n window taken line text part unwritten refused flag so consumed after front reply parts wrote failed few =
       let more = reads_more from to then held holds old mid n window taken (window ++ taken) refused so refl consumed in (
         mid,

@@ -1,6 +1,7 @@
--- The replies to lines. A handler gives them: `answers old line body refused new` says what its state, the
--- reply's text behind the line's number, and the mark of a refusal may be, and `runs_out old line new` what
--- its state may become where the reply is refused for memory.
+-- The replies to lines. A handler's stand behind the line's number: `answers old line body refused new` says what its
+-- state, the reply's text behind the number, and the mark of a refusal may be, and `runs_out old line new` what its
+-- state may become where the reply is refused for memory. A responder's are whole texts: `replies n old line text
+-- refused new`.
 use Rattle.std.specs.Prelude.{◌≡◌, ℕ, ◌+◌, Bool, true, false, ◌⊎◌, List, [], ◌∷◌, ◌++◌, codes, decimal, if◌then◌else◌, MatchBool}
 use Rattle.line_engine.specs.Lines.{is_blank}
 
@@ -27,21 +28,38 @@ abbrev pub Responds : {H : Type 0} → Answering H → RunningOut H → H → Li
 Responds answers runs_out old line body refused new =
     answers old line body refused new ⊎ (runs_out old line new × (body ≡ out_of_memory_body) × (refused ≡ true))
 
--- What line number n adds to the output: nothing where it is blank, else its number, a space and the reply.
+-- What a run may do with a line that isn't blank: the line's number, the state before, the line, the whole reply,
+-- whether that is a refusal, and the state after.
+abbrev pub Replying : Type 0 → Type 1
+Replying H = ℕ → H → List ℕ → List ℕ → Bool → H → Type 0
+
+-- a handler's replies, each behind its line's number and a space
+abbrev pub Numbered : {H : Type 0} → Answering H → RunningOut H → Replying H
+Numbered {H} answers runs_out n old line text refused new =
+    (body : List ℕ) × (text ≡ decimal n ++ 32 ∷ body) × Responds answers runs_out old line body refused new
+
+-- What line number n adds to the output: nothing where it is blank, else its reply.
+abbrev pub ServesLine : {H : Type 0} → Replying H → ℕ → H → List ℕ → List ℕ → Bool → H → Type 0
+ServesLine {H} replying n old line text refused new =
+    MatchBool (is_blank line) ((text ≡ []) × (refused ≡ false) × (new ≡ old)) (replying n old line text refused new)
+
+-- the same where replies stand behind their lines' numbers
 abbrev pub AnswersLine : {H : Type 0} → Answering H → RunningOut H → ℕ → H → List ℕ → List ℕ → Bool → H → Type 0
-AnswersLine {H} answers runs_out n old line text refused new =
-    MatchBool (is_blank line) ((text ≡ []) × (refused ≡ false) × (new ≡ old))
-    ((body : List ℕ) × (text ≡ decimal n ++ 32 ∷ body) × Responds answers runs_out old line body refused new)
+AnswersLine {H} answers runs_out n old line text refused new = ServesLine (Numbered answers runs_out) n old line text refused new
 
 abbrev pub refusal_count : Bool → ℕ
 refusal_count refused = if refused then 1 else 0
 
--- The lines from number n on, one after the other, take the handler from old to new, and give this output
+-- The lines from number n on, one after the other, take the state from old to new, and give this output
 -- with so many refusals in it.
-abbrev pub Replies : {H : Type 0} → Answering H → RunningOut H → ℕ → H → List (List ℕ) → List ℕ → ℕ → H → Type 0
-Replies {H} answers runs_out n old [] output refusals new = (output ≡ []) × (refusals ≡ 0) × (new ≡ old)
-Replies {H} answers runs_out n old (line ∷ lines) output refusals new =
+abbrev pub ServesLines : {H : Type 0} → Replying H → ℕ → H → List (List ℕ) → List ℕ → ℕ → H → Type 0
+ServesLines {H} replying n old [] output refusals new = (output ≡ []) × (refusals ≡ 0) × (new ≡ old)
+ServesLines {H} replying n old (line ∷ lines) output refusals new =
     (text : List ℕ) × (rest : List ℕ) × (refused : Bool) × (others : ℕ) × (mid : H)
-    × AnswersLine answers runs_out n old line text refused mid
-    × Replies answers runs_out (n + 1) mid lines rest others new
+    × ServesLine replying n old line text refused mid
+    × ServesLines replying (n + 1) mid lines rest others new
     × (output ≡ text ++ rest) × (refusals ≡ refusal_count refused + others)
+
+-- the same where replies stand behind their lines' numbers
+abbrev pub Replies : {H : Type 0} → Answering H → RunningOut H → ℕ → H → List (List ℕ) → List ℕ → ℕ → H → Type 0
+Replies {H} answers runs_out n old lines output refusals new = ServesLines (Numbered answers runs_out) n old lines output refusals new

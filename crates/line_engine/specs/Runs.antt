@@ -2,13 +2,13 @@
 use Rattle.std.specs.Prelude.{◌≡◌, ℕ, ◌+◌, ◌<◌, ◌≤◌, Bool, true, false, ◌⊎◌, List, [], ◌∷◌, ◌++◌, length, Option}
 use Rattle.std.specs.Io.KnownBytes.{Consumes, Appends, Keeps, IsAtEnd}
 use Rattle.line_engine.specs.Lines.{lines_of, first_line, has_feed, max_input_lines, max_line_bytes, BeginsWith}
-use Rattle.line_engine.specs.Replies.{Answering, RunningOut, AnswersLine, Replies}
+use Rattle.line_engine.specs.Replies.{Answering, RunningOut, Replying, Numbered, ServesLine, ServesLines}
 use Rattle.line_engine.specs.declared.run.RunCount.{RunCount}
 use Rattle.line_engine.specs.declared.run.RunFault.{RunFault}
 use Rattle.line_engine.specs.declared.run.RunFault.TheVariants.{OutOfMemory, TooManyLines, LineTooLong, ReadFailed, WriteFailed}
 
 -- What a run goes over: the bytes that the reader has left before and after it, where they are known; the bytes that
--- the writer holds before and after it, where they are known; the handler's state before and after it.
+-- the writer holds before and after it, where they are known; the state before and after it.
 pub record Run (H : Type 0) : Type 0 where
   pub from : Option (List ℕ)
   pub to : Option (List ℕ)
@@ -24,18 +24,18 @@ pub record Failures : Type 0 where
 
 -- The reader came to its end. What was read are the lines, at most 1,000,000 of them, and what was written are their
 -- replies and nothing else.
-pub record Ends {H : Type 0} (answers : Answering H) (runs_out : RunningOut H) (run : Run H) (count : RunCount) : Type 0 where
+pub record RunEnds {H : Type 0} (replying : Replying H) (run : Run H) (count : RunCount) : Type 0 where
   pub input : List ℕ
   pub output : List ℕ
   pub consumed : Consumes run.from run.to input
   pub ended : IsAtEnd run.to
-  pub replies : Replies answers runs_out 1 run.old (lines_of input) output count.refused run.new
+  pub replies : ServesLines replying 1 run.old (lines_of input) output count.refused run.new
   pub lines : count.lines ≡ length (lines_of input)
   pub few : count.lines ≤ max_input_lines
   pub written : Appends run.held run.holds output
 
 -- The run stands before line number n: what was read are the lines before it, whose replies were written, and the rest.
-pub record StandsAt {H : Type 0} (answers : Answering H) (runs_out : RunningOut H) (run : Run H) (n : ℕ) : Type 0 where
+pub record RunStandsAt {H : Type 0} (replying : Replying H) (run : Run H) (n : ℕ) : Type 0 where
   pub input : List ℕ
   pub lines : List (List ℕ)
   pub rest : List ℕ
@@ -44,17 +44,17 @@ pub record StandsAt {H : Type 0} (answers : Answering H) (runs_out : RunningOut 
   pub consumed : Consumes run.from run.to input
   pub begins : BeginsWith input lines rest
   pub number : n ≡ length lines + 1
-  pub replies : Replies answers runs_out 1 run.old lines output refusals run.new
+  pub replies : ServesLines replying 1 run.old lines output refusals run.new
   pub written : Appends run.held run.holds output
 
 -- The line at the front of the rest was answered, and a part of its reply written.
-pub record WritesPart {H : Type 0} (answers : Answering H) (runs_out : RunningOut H) (run : Run H) (rest : List ℕ) (n : ℕ) : Type 0 where
+pub record RunWritesPart {H : Type 0} (replying : Replying H) (run : Run H) (rest : List ℕ) (n : ℕ) : Type 0 where
   pub line : List ℕ
   pub after : List ℕ
   pub front : lines_of rest ≡ line ∷ lines_of after
   pub text : List ℕ
   pub refused : Bool
-  pub reply : AnswersLine answers runs_out n run.old line text refused run.new
+  pub reply : ServesLine replying n run.old line text refused run.new
   pub part : List ℕ
   pub unwritten : List ℕ
   pub parts : text ≡ part ++ unwritten
@@ -65,12 +65,23 @@ abbrev pub IsLineOrNext : ℕ → (rest : List ℕ) → Type 0
 IsLineOrNext n rest = (n ≤ max_input_lines) ⊎ ((n ≡ max_input_lines + 1) × (rest ≡ []))
 
 -- Why a run stops, and what it leaves. Out of memory comes before any line.
+abbrev pub RunStops : {H : Type 0} → Replying H → Run H → Failures → RunFault → Type 0
+RunStops {H} replying run failed OutOfMemory = Keeps run.from run.to × Keeps run.held run.holds × (run.new ≡ run.old)
+RunStops {H} replying run failed (TooManyLines n) = (at : RunStandsAt replying run n) × (n ≡ max_input_lines + 1) × (0 < length at.rest)
+RunStops {H} replying run failed (LineTooLong n) = (at : RunStandsAt replying run n) × (n ≤ max_input_lines) × (max_line_bytes < length (first_line at.rest))
+RunStops {H} replying run failed (ReadFailed n) =
+    (at : RunStandsAt replying run n) × IsLineOrNext n at.rest × (has_feed at.rest ≡ false) × (failed.reader ≡ true)
+RunStops {H} replying run failed (WriteFailed n) =
+    (mid : H) × (between : Option (List ℕ)) × (at : RunStandsAt replying (record run { holds = between; new = mid }) n) × (n ≤ max_input_lines)
+    × RunWritesPart replying (record run { held = between; old = mid }) at.rest n × (failed.writer ≡ true)
+
+-- ---- the same where replies stand behind their lines' numbers
+
+abbrev pub Ends : {H : Type 0} → Answering H → RunningOut H → Run H → RunCount → Type 0
+Ends {H} answers runs_out run count = RunEnds (Numbered answers runs_out) run count
+
+abbrev pub StandsAt : {H : Type 0} → Answering H → RunningOut H → Run H → ℕ → Type 0
+StandsAt {H} answers runs_out run n = RunStandsAt (Numbered answers runs_out) run n
+
 abbrev pub Stops : {H : Type 0} → Answering H → RunningOut H → Run H → Failures → RunFault → Type 0
-Stops {H} answers runs_out run failed OutOfMemory = Keeps run.from run.to × Keeps run.held run.holds × (run.new ≡ run.old)
-Stops {H} answers runs_out run failed (TooManyLines n) = (at : StandsAt answers runs_out run n) × (n ≡ max_input_lines + 1) × (0 < length at.rest)
-Stops {H} answers runs_out run failed (LineTooLong n) = (at : StandsAt answers runs_out run n) × (n ≤ max_input_lines) × (max_line_bytes < length (first_line at.rest))
-Stops {H} answers runs_out run failed (ReadFailed n) =
-    (at : StandsAt answers runs_out run n) × IsLineOrNext n at.rest × (has_feed at.rest ≡ false) × (failed.reader ≡ true)
-Stops {H} answers runs_out run failed (WriteFailed n) =
-    (mid : H) × (between : Option (List ℕ)) × (at : StandsAt answers runs_out (record run { holds = between; new = mid }) n) × (n ≤ max_input_lines)
-    × WritesPart answers runs_out (record run { held = between; old = mid }) at.rest n × (failed.writer ≡ true)
+Stops {H} answers runs_out run failed fault = RunStops (Numbered answers runs_out) run failed fault

@@ -1,7 +1,7 @@
 //! What answers the lines of a run.
 ghost use Rattle.std.specs.Prelude.{◌≡◌, ℕ, ◌≤◌, Bool, List, ◌++◌, length, MatchResult};
 ghost use Rattle.line_engine.specs.Outcome.{is_refusal};
-ghost use Rattle.line_engine.specs.Replies.{max_head_bytes};
+ghost use Rattle.line_engine.specs.Replies.{max_head_bytes, Numbered};
 
 use crate::reply_text::ReplyText;
 use std::alloc::{AllocError, Global};
@@ -48,4 +48,54 @@ pub trait Handler {
         ensures { MatchResult result
             (λ outcome. (body : List ℕ) × (reply.new ≡ reply.old ++ body) × answers state.old line.now body (is_refusal outcome) state.new)
             (λ _. runs_out state.old line.now state.new) };
+}
+
+/// What replies to lines, one after the other, each reply a whole text.
+pub trait Responder {
+    /// What a line may change, and the lines after it see.
+    type State;
+
+    /// Line number n may take the state from old to new, get this text, and be refused or not.
+    ghost replies: { ℕ → Self.State → List ℕ → List ℕ → Bool → Self.State → Type 0 };
+
+    /// Puts the reply to a line that isn't blank, with its line feed, in place of what stood in `reply`.
+    fn respond(
+        &self,
+        alloc: Global,
+        state: &mut Self::State,
+        number: u64,
+        line: &[u8],
+        reply: &mut ReplyText,
+    ) -> Outcome
+        ensures { replies number state.old line.now reply.new (is_refusal result) state.new };
+}
+
+/// A handler's replies, each behind its line's number.
+#[derive(Drop)]
+pub(crate) struct NumberedReplies<'h, H> {
+    pub handler: &'h H,
+}
+
+impl<H: Handler> Responder for NumberedReplies<'_, H> {
+    type State = H::State;
+
+    ghost replies = { Numbered H.answers H.runs_out };
+
+    fn respond(
+        &self,
+        alloc: Global,
+        state: &mut H::State,
+        number: u64,
+        line: &[u8],
+        reply: &mut ReplyText,
+    ) -> Outcome {
+        reply.begin(number);
+        match self.handler.answer(alloc, state, line, reply) {
+            Ok(outcome) => outcome,
+            Err(_) => {
+                reply.refuse_for_memory(number);
+                Outcome::Refused
+            }
+        }
+    }
 }

@@ -12,8 +12,8 @@ mod window;
 
 pub use device::{DeviceFailed, Sink, Source};
 pub use from_read::FromRead;
-pub use handler::{Handler, Outcome};
+pub use handler::{Handler, Outcome, Responder};
 pub use line_buffer::MAX_LINE_BYTES;
 pub use reply_text::ReplyText;
-pub use run::{MAX_INPUT_LINES, RunCount, RunFault, run_lines};
+pub use run::{MAX_INPUT_LINES, RunCount, RunFault, run_lines, run_replies};
 pub use to_write::ToWrite;

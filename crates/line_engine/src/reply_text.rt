@@ -35,6 +35,13 @@ impl ReplyText {
         })
     }
 
+    /// Empties the text.
+    pub fn clear(&mut self)
+        ensures { self.new ≡ [] }
+    {
+        self.bytes.clear();
+    }
+
     /// Begins the reply to this line anew: its number and a space. Takes no memory.
     pub(crate) fn begin(&mut self, number: u64)
         ensures text { self.new ≡ decimal number ++ 32 ∷ [] }

@@ -1,12 +1,12 @@
 //! The loop over the lines of an input, and why it may stop early.
-ghost use Rattle.std.specs.Prelude.{◌≡◌, ℕ, ◌+◌, ◌++◌, List, [], ◌∷◌, Bool, false, true, decimal, IsOk, IfOk, IfErr, OnOk, OnErr};
+ghost use Rattle.std.specs.Prelude.{◌≡◌, ℕ, ◌+◌, ◌++◌, List, [], ◌∷◌, Bool, false, true, IsOk, IfOk, IfErr, OnOk, OnErr};
 ghost use Rattle.std.specs.Io.KnownBytes.{Appends};
 ghost use Rattle.line_engine.specs.Lines.{is_blank as is_blank_line};
-ghost use Rattle.line_engine.specs.Replies.{AnswersLine, Responds};
-ghost use Rattle.line_engine.specs.Runs.{Ends, Stops};
+ghost use Rattle.line_engine.specs.Replies.{ServesLine};
+ghost use Rattle.line_engine.specs.Runs.{Ends, RunEnds, RunStops, Stops};
 
 use crate::device::{DeviceFailed, Sink, Source};
-use crate::handler::{Handler, Outcome};
+use crate::handler::{Handler, NumberedReplies, Responder};
 use crate::line_buffer::LineBuffer;
 use crate::reply_text::ReplyText;
 use crate::window::{LineEnd, LineStop, Window};
@@ -115,67 +115,46 @@ fn write_all<W: Sink>(writer: &mut W, bytes: &[u8]) -> Result<(), DeviceFailed>
     Ok(())
 }
 
-/// Puts the reply to a line that isn't blank together, and answers whether it is a refusal.
-fn respond<H: Handler>(
-    alloc: Global,
-    handler: &H,
-    state: &mut H::State,
-    number: u64,
-    line: &[u8],
-    reply: &mut ReplyText,
-) -> bool
-    ensures { (body : List ℕ) × (reply.new ≡ decimal number ++ 32 ∷ body) × Responds H.answers H.runs_out state.old line.now body result state.new }
-{
-    reply.begin(number);
-    match handler.answer(alloc, state, line, reply) {
-        Ok(outcome) => outcome.is_refusal(),
-        Err(_) => {
-            reply.refuse_for_memory(number);
-            true
-        }
-    }
-}
-
 /// Answers one line, in one write, and tells whether it was refused. A blank line gets no reply.
-fn serve<W: Sink, H: Handler>(
+fn serve<W: Sink, H: Responder>(
     alloc: Global,
-    handler: &H,
+    responder: &H,
     state: &mut H::State,
     writer: &mut W,
     number: u64,
     line: &[u8],
     reply: &mut ReplyText,
 ) -> Result<bool, DeviceFailed>
-    ensures ok { IfOk result (λ refused. (text : List ℕ) × AnswersLine H.answers H.runs_out number state.old line.now text refused state.new
+    ensures ok { IfOk result (λ refused. (text : List ℕ) × ServesLine H.replies number state.old line.now text refused state.new
         × Appends (W.contents writer.old) (W.contents writer.new) text) }
-    ensures err { OnErr result ((text : List ℕ) × (refused : Bool) × AnswersLine H.answers H.runs_out number state.old line.now text refused state.new
+    ensures err { OnErr result ((text : List ℕ) × (refused : Bool) × ServesLine H.replies number state.old line.now text refused state.new
         × (part : List ℕ) × (unwritten : List ℕ) × (text ≡ part ++ unwritten)
         × Appends (W.contents writer.old) (W.contents writer.new) part × (W.has_failed writer.new ≡ true)) }
 {
     if is_blank(line) {
         return Ok(false);
     }
-    let refused = respond(alloc, handler, state, number, line, reply);
+    let outcome = responder.respond(alloc, state, number, line, reply);
     write_all(writer, reply.as_slice())?;
-    Ok(refused)
+    Ok(outcome.is_refusal())
 }
 
-/// Answers all lines of a reader, each by one write to a writer.
+/// Replies to all lines of a reader, each by one write to a writer.
 ///
 /// A line ends with a line feed or, where it isn't empty, at the end of the input; lines are numbered from 1. Blank
 /// lines are skipped. Memory for the lines is allocated first (1). After that the run stops only where a byte of
 /// line 1,000,001 was read (91), a line has over 65,536 bytes (92), or the reader (93) or the writer (94) failed in
 /// this call; the replies to the lines before are then written.
-pub fn run_lines<R: Source, W: Sink, H: Handler>(
+pub fn run_replies<R: Source, W: Sink, H: Responder>(
     alloc: Global,
     reader: &mut R,
     writer: &mut W,
-    handler: &H,
+    responder: &H,
     state: &mut H::State,
 ) -> Result<RunCount, RunFault>
     requires reader { R.has_failed reader.old ≡ false }
     requires writer { W.has_failed writer.old ≡ false }
-    ensures ok { IfOk result (λ count. Ends H.answers H.runs_out (record {
+    ensures ok { IfOk result (λ count. RunEnds H.replies (record {
       from = R.remaining reader.old;
       to = R.remaining reader.new;
       held = W.contents writer.old;
@@ -183,7 +162,7 @@ pub fn run_lines<R: Source, W: Sink, H: Handler>(
       old = state.old;
       new = state.new;
     }) count) }
-    ensures err { IfErr result (λ fault. Stops H.answers H.runs_out (record {
+    ensures err { IfErr result (λ fault. RunStops H.replies (record {
       from = R.remaining reader.old;
       to = R.remaining reader.new;
       held = W.contents writer.old;
@@ -215,7 +194,7 @@ pub fn run_lines<R: Source, W: Sink, H: Handler>(
             Err(stop) => return Err(RunFault::at_line(stop, number)),
         };
         let text = line.as_slice();
-        let served = serve(alloc, handler, state, writer, number, text, &mut reply);
+        let served = serve(alloc, responder, state, writer, number, text, &mut reply);
         let refused = match served {
             Ok(refused) => refused,
             Err(_) => return Err(RunFault::WriteFailed(number)),
@@ -227,4 +206,35 @@ pub fn run_lines<R: Source, W: Sink, H: Handler>(
             LineEnd::Input => return Ok(count),
         }
     }
+}
+
+/// The same with a handler's replies, each behind its line's number and a space.
+pub fn run_lines<R: Source, W: Sink, H: Handler>(
+    alloc: Global,
+    reader: &mut R,
+    writer: &mut W,
+    handler: &H,
+    state: &mut H::State,
+) -> Result<RunCount, RunFault>
+    requires reader { R.has_failed reader.old ≡ false }
+    requires writer { W.has_failed writer.old ≡ false }
+    ensures ok { IfOk result (λ count. Ends H.answers H.runs_out (record {
+      from = R.remaining reader.old;
+      to = R.remaining reader.new;
+      held = W.contents writer.old;
+      holds = W.contents writer.new;
+      old = state.old;
+      new = state.new;
+    }) count) }
+    ensures err { IfErr result (λ fault. Stops H.answers H.runs_out (record {
+      from = R.remaining reader.old;
+      to = R.remaining reader.new;
+      held = W.contents writer.old;
+      holds = W.contents writer.new;
+      old = state.old;
+      new = state.new;
+    })
+        (record { reader = R.has_failed reader.new; writer = W.has_failed writer.new }) fault) }
+{
+    run_replies(alloc, reader, writer, &NumberedReplies { handler }, state)
 }

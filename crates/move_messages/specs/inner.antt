@@ -1,2 +1,3 @@
 -- What only private functions and proofs of move_messages need.
 pub mod PaddedClasses
+pub mod PlainMessage

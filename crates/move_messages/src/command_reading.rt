@@ -12,6 +12,7 @@ use crate::limits::{MAX_LOAD, MAX_ORDER_WAGONS, MAX_PENALTY, MAX_REVISION, MAX_V
 use crate::line_type::LineType;
 use crate::message::{Message, MessageKind};
 use crate::order_text::OrderText;
+use crate::plain_message::plain_message;
 use json_fields::{
     Field, LineFault, boolean_at, company_at, count_at, moment_at, number_at, numbers_at,
     object_of, optional_count_at, order_id_at, pairs_at, place_at, text_at, wagon_number_at,
@@ -30,6 +31,9 @@ use std::alloc::Global;
 pub fn read_line(alloc: Global, bytes: &[u8]) -> Result<Command, LineFault>
     ensures { Gives (λ command. command) result (meaning.command_of bytes.now) }
 {
+    if let Some(message) = plain_message(bytes) {
+        return Ok(Command::Message(message));
+    }
     let object = object_of(alloc, bytes)?;
     let line_type = LineType::named(text_at(&object, Field::TypeName)?)?;
     command_at(alloc, line_type, &object)

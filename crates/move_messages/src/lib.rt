@@ -12,6 +12,7 @@ mod limits;
 mod line_type;
 mod message;
 mod order_text;
+mod plain_message;
 
 pub use classes::Classes;
 pub use command::Command;

@@ -10,53 +10,13 @@ use Rattle.std.proofs.lemmas.Option.{slice_get-get_or}
 use Rattle.wagon_state.specs.declared.wagon_row.WagonRow.{WagonRow}
 use Rattle.load_orders.specs.OrderRow.{OrderRowValue}
 use Rattle.database_rows.specs.Kept.{IsWagonRows}
-use Rattle.database_rows.specs.Rows.{wagon_in, order_in, at_wagon}
+use Rattle.database_rows.specs.Rows.{wagon_in, order_in, at_wagon, with_promise}
 use Rattle.database_rows.proofs.Wagons.{number-wagon_in, numbers_distinct, wagon_in-there}
 use Rattle.operating_db.specs.After.{unpromised}
-use Rattle.operating_db.specs.Commits.{with_promise}
 use Rattle.operating_db.specs.inner.EventParts.{unpromised_among}
 use Rattle.operating_db.specs.Office.{Office}
 use Rattle.operating_db.specs.Promises.{is_among, is_promise_to, promise_of, promised_of, SidesAgree}
 use Rattle.operating_db.proofs.Names.{same, same_is, same_self, same_sym, among_contains}
-
--- ---- a row that is put in place of its wagon's row
-
-some_is : {A : Type 0} (x y : A) → Some x ≡ Some y → x ≡ y
-some_is x y h = cc
-
--- where no wagon has the number, nothing changes
-none_at : (n : List ℕ) (f : WagonRow → WagonRow) (rows : List WagonRow) → AllByRecursion (λ m. same n m ≡ false) (map (λ (row : WagonRow). row.number) rows) → at_wagon n f rows ≡ rows
-none_at n f [] all = refl
-none_at n f (row ∷ rows) all = ap (λ (b : Bool). cond b (f row) row ∷ at_wagon n f rows) all.0 ∙ ap (λ (rs : List WagonRow). row ∷ rs) (none_at n f rows all.1)
-
-put_step : (n : List ℕ) (f : WagonRow → WagonRow) (new row : WagonRow) (rows : List WagonRow) (b : Bool) → same n row.number ≡ b → cond b (Some row) (wagon_in rows n) ≡ Some new
-    → AllByRecursion (λ m. same row.number m ≡ false) (map (λ (r : WagonRow). r.number) rows) → (wagon_in rows n ≡ Some new → at_wagon n (λ _. f new) rows ≡ at_wagon n f rows)
-    → cond b (f new) row ∷ at_wagon n (λ _. f new) rows ≡ cond b (f row) row ∷ at_wagon n f rows
-put_step n f new row rows true is found others rest =
-    let here : row ≡ new = some_is row new found in
-    let apart : AllByRecursion (λ m. same n m ≡ false) (map (λ (r : WagonRow). r.number) rows) =
-    subst (λ (k : List ℕ). AllByRecursion (λ m. same k m ≡ false) (map (λ (r : WagonRow). r.number) rows)) (sym (same_is n row.number is)) others in
-    ap (λ (r : WagonRow). f r ∷ at_wagon n (λ _. f new) rows) (sym here) ∙ ap (λ (rs : List WagonRow). f row ∷ rs) (none_at n (λ _. f new) rows apart ∙ sym (none_at n f rows apart))
-put_step n f new row rows false is found others rest = ap (λ (rs : List WagonRow). row ∷ rs) (rest found)
-
-put_one : (n : List ℕ) (f : WagonRow → WagonRow) (new : WagonRow) (rows : List WagonRow) → IsDistinct same (map (λ (r : WagonRow). r.number) rows) → wagon_in rows n ≡ Some new → at_wagon n (λ _. f new) rows ≡ at_wagon n f rows
-put_one n f new [] h found = refl
-put_one n f new (row ∷ rows) h found =
-    put_step n f new row rows (same n row.number) refl found
-    (IsDistinct-head same row.number (map (λ (r : WagonRow). r.number) rows) h)
-    (put_one n f new rows (IsDistinct-tail same row.number (map (λ (r : WagonRow). r.number) rows) h))
-
-pub put_is_change : (n : List ℕ) (f : WagonRow → WagonRow) (row : WagonRow) (rows : List WagonRow) → IsWagonRows rows → wagon_in rows n ≡ Some row → at_wagon n (λ _. f row) rows ≡ at_wagon n f rows
-put_is_change n f row rows h found = put_one n f row rows (numbers_distinct rows h.ascending) found
-
-missing_step : (n : List ℕ) (f : WagonRow → WagonRow) (row : WagonRow) (rows : List WagonRow) (b : Bool) → cond b (Some row) (wagon_in rows n) ≡ None → (wagon_in rows n ≡ None → at_wagon n f rows ≡ rows) → cond b (f row) row ∷ at_wagon n f rows ≡ row ∷ rows
-missing_step n f row rows true h rest = cc h
-missing_step n f row rows false h rest = ap (λ (rs : List WagonRow). row ∷ rs) (rest h)
-
--- where the office has no such wagon, nothing changes
-pub missing_stays : (n : List ℕ) (f : WagonRow → WagonRow) (rows : List WagonRow) → wagon_in rows n ≡ None → at_wagon n f rows ≡ rows
-missing_stays n f [] h = refl
-missing_stays n f (row ∷ rows) h = missing_step n f row rows (same n row.number) h (missing_stays n f rows)
 
 -- ---- wagons that lose their promises one after the other
 
@@ -122,18 +82,6 @@ order_known office n row id found had agree =
 pub among_promised : (n : List ℕ) (o : Option OrderRowValue) → is_among n (promised_of o) ≡ true → IfSome o (λ row. Contains row.promised n)
 among_promised n None h = tt
 among_promised n (Some row) h = among_contains n row.promised h
-
-some_row : {A : Type 0} (x : A) → IsSome (Some x)
-some_row x = refl
-
-pub put_known : (rows : List WagonRow) (n : List ℕ) (row : WagonRow) → Some row ≡ wagon_in rows n → IsSome (wagon_in rows row.number)
-put_known rows n row h =
-    let there : wagon_in rows row.number ≡ Some row = ap (wagon_in rows) (number-wagon_in rows n row (sym h)) ∙ sym h in
-    subst (λ (o : Option WagonRow). IsSome o) (sym there) (some_row row)
-
-pub put_promise : (rows : List WagonRow) (n : List ℕ) (promise : Option (List ℕ)) (row : WagonRow) → IsWagonRows rows → Some row ≡ wagon_in rows n → at_wagon row.number (λ _. with_promise promise row) rows ≡ at_wagon n (with_promise promise) rows
-put_promise rows n promise row kept h =
-    ap (λ (m : List ℕ). at_wagon m (λ _. with_promise promise row) rows) (number-wagon_in rows n row (sym h)) ∙ put_is_change n (with_promise promise) row rows kept (sym h)
 
 pub ended_next : (numbers : List (List ℕ)) (i : ℕ) (n : List ℕ) (before rows after : List WagonRow) → n ≡ get_or numbers i n → i < length numbers → rows ≡ unpromised_among (take i numbers) before → after ≡ at_wagon n (with_promise None) rows → after ≡ unpromised_among (take (i + 1) numbers) before
 ended_next numbers i n before rows after is below so_far now =

@@ -2,6 +2,7 @@ pub mod Agree
 pub mod Changes
 pub mod Commits
 pub mod Events
+pub mod FreeCounts
 pub mod KeptOrders
 pub mod Lookups
 pub mod Names

@@ -38,7 +38,8 @@ distinct_step name None rest k is others h = h
 distinct_step name (Some y) rest k is others h =
     IsDistinct-cons same (name y) (map name rest) (subst (λ (n : List ℕ). AllByRecursion (λ m. same n m ≡ false) (map name rest)) (sym (is y refl)) others) h
 
-picked_distinct : {X Y : Type 0} (key : X → List ℕ) (name : Y → List ℕ) (pick : X → Option Y) → ((x : X) (y : Y) → pick x ≡ Some y → name y ≡ key x) → (xs : List X) → IsDistinct same (map key xs) → IsDistinct same (map name (filter_map pick xs))
+-- what is picked keeps its row's name, so no two have one
+pub picked_distinct : {X Y : Type 0} (key : X → List ℕ) (name : Y → List ℕ) (pick : X → Option Y) → ((x : X) (y : Y) → pick x ≡ Some y → name y ≡ key x) → (xs : List X) → IsDistinct same (map key xs) → IsDistinct same (map name (filter_map pick xs))
 unfolding IsDistinct
 picked_distinct key name pick keeps [] h = tt
 picked_distinct key name pick keeps (x ∷ xs) h =
@@ -66,7 +67,7 @@ all_new : (others : List (List ℕ)) → AllByRecursion (IsNew []) others
 all_new [] = tt
 all_new (n ∷ others) = (refl, all_new others)
 
-once : (others : List (List ℕ)) → IsDistinct same others → first_repeated others ≡ None
+pub once : (others : List (List ℕ)) → IsDistinct same others → first_repeated others ≡ None
 once others h = none_repeated [] others (all_new others) h
 
 -- ---- wagons
@@ -103,7 +104,7 @@ wagons_once rows h = once (wagon_names (free_wagons rows)) (picked_distinct (λ 
 
 -- ---- orders
 
-wanted_name : (b : Bool) (row : OrderRowValue) (wanted : WantedOrder) → cond b (Some (record { order = row.text; lack = lack_of row })) None ≡ Some wanted → wanted.order.id ≡ row.text.id
+pub wanted_name : (b : Bool) (row : OrderRowValue) (wanted : WantedOrder) → cond b (Some (record { order = row.text; lack = lack_of row })) None ≡ Some wanted → wanted.order.id ≡ row.text.id
 wanted_name true row wanted h = let is : record { order = row.text; lack = lack_of row } ≡ wanted = cc in ap (λ (w : WantedOrder). w.order.id) (sym is)
 wanted_name false row wanted h = cc
 

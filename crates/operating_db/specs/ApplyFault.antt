@@ -1,10 +1,11 @@
 -- The faults of an event: their numbers, and when each comes.
-use Rattle.std.specs.Prelude.{◌≡◌, ◌⊎◌, ℕ, Result, Err, IsOk}
+use Rattle.std.specs.Prelude.{◌≡◌, ◌⊎◌, ℕ, List, Result, Ok, Err, IsOk}
 use Rattle.wagon_state.specs.StepFault as step
+use Rattle.database_rows.specs.EmptyWagons.{IsNewStand, stand_in}
 use Rattle.operating_db.specs.declared.apply_fault.ApplyFault.{ApplyFault}
 use Rattle.operating_db.specs.declared.apply_fault.ApplyFault.TheVariants.{OutOfMemory, UnknownWagon, Step, OrderKnown, TooManyOpen, UnknownOrder, OrderClosed, UnknownNetwork, SameNetwork}
 use Rattle.operating_db.specs.declared.event.Event.{Event}
-use Rattle.operating_db.specs.declared.event.Event.TheVariants.{Place}
+use Rattle.operating_db.specs.declared.event.Event.TheVariants.{Message, Place}
 use Rattle.operating_db.specs.Office.{Office}
 
 -- the number that stands for a fault in a reply
@@ -23,12 +24,21 @@ fault_number SameNetwork = 80
 abbrev pub IsRefusal : Result Office ApplyFault → ApplyFault → Type 0
 IsRefusal after fault = (after ≡ Err fault) ⊎ ((fault ≡ OutOfMemory) × IsOk after)
 
--- the same of this event: memory is needed for a new order alone
+-- the same of this event: memory is needed for a new order and for a message alone
 abbrev pub IsRefusalOf : Event → Result Office ApplyFault → ApplyFault → Type 0
 IsRefusalOf (Place text) after fault = IsRefusal after fault
+IsRefusalOf (Message message) after fault = IsRefusal after fault
 IsRefusalOf event after fault = after ≡ Err fault
 
--- whether an event is a new order
-abbrev pub IsPlace : Event → Type 0
-IsPlace (Place text) = Unit {0}
-IsPlace event = ⊥
+-- a wagon is Empty and not held after an event, and stands where it wasn't so before
+pub record EmptiesWagon (office : Office) (number : List ℕ) (after : Result Office ApplyFault) : Type 0 where
+  pub new : Office
+  pub happens : after ≡ Ok new
+  pub empties : IsNewStand (stand_in office.wagons number) (stand_in new.wagons number)
+
+-- whether an event may be refused because memory is out: a new order; a message that makes its wagon empty and not
+-- held, or moves it so
+abbrev pub MayWantMemory : Office → Event → (after : Result Office ApplyFault) → Type 0
+MayWantMemory office (Place text) after = Unit {0}
+MayWantMemory office (Message message) after = EmptiesWagon office message.wagon after
+MayWantMemory office event after = ⊥

@@ -5,7 +5,7 @@ use Rattle.wagon_state.specs.declared.wagon_row.WagonRow.{WagonRow}
 use Rattle.wagon_state.specs.Free.{free_of}
 use Rattle.load_orders.specs.Lack.{lack_of}
 use Rattle.load_orders.specs.OrderRow.{OrderRowValue}
-use Rattle.database_rows.specs.Rows.{wagon_in, order_in, at_wagon, at_order, promised_to}
+use Rattle.database_rows.specs.Rows.{wagon_in, order_in, at_wagon, at_order, promised_to, with_promise}
 use Rattle.operating_db.specs.Office.{Office}
 
 abbrev pub Pair : Type 0
@@ -38,10 +38,7 @@ pub record IsPromisable (office : Office) (pairs : List Pair) (pair : Pair) : Ty
 abbrev pub CanPromise : Office → List Pair → Type 0
 CanPromise office pairs = All (IsPromisable office pairs) pairs
 
--- a wagon with another promise; one that is given to an order
-abbrev pub with_promise : Option (List ℕ) → WagonRow → WagonRow
-with_promise promise row = record row { promise = promise }
-
+-- a wagon that is given to an order
 abbrev pub given_to : List ℕ → WagonRow → WagonRow
 given_to id row = with_promise (Some id) row
 

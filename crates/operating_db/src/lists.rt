@@ -1,12 +1,11 @@
 //! What is to be distributed: the free wagons and the waiting orders among the rows.
 ghost use Rattle.std.specs.Prelude.{◌≡◌, IfOk};
 ghost use Rattle.std.specs.List.{filter_map};
-ghost use Rattle.operating_db.specs.Problem.{free_count, free_wagons, waiting_orders, wanted_in};
+ghost use Rattle.operating_db.specs.Problem.{free_wagons, waiting_orders, wanted_in};
 ghost use Rattle.operating_db.specs.inner.Walks.{wanted_at};
 
 use database_rows::OrderRows;
 use load_orders::{OrderRow, Wanted};
-use rail_codes::{ClassCode, Place};
 use std::alloc::{AllocError, Global};
 use wagon_state::{FreeWagon, WagonRow, free};
 
@@ -15,16 +14,6 @@ pub(crate) fn free_wagons(alloc: Global, rows: &[WagonRow]) -> Result<Vec<FreeWa
     ensures { IfOk result (λ wagons. wagons.items ≡ free_wagons rows.now) }
 {
     rows.iter().filter_map(|row| free(row)).collect(alloc)
-}
-
-/// How many free wagons of a class stand at a place. Takes no memory.
-pub(crate) fn free_count(rows: &[WagonRow], class: ClassCode, place: Place) -> usize
-    ensures { result ≡ free_count rows.now class place }
-{
-    rows.iter()
-        .filter_map(|row| free(row))
-        .filter(|wagon| wagon.class == class && wagon.place == place)
-        .count()
 }
 
 /// The orders that lack a wagon, as placed, each with how many it lacks. Only those that wait are looked at.

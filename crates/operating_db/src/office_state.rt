@@ -5,7 +5,7 @@ ghost use Rattle.database_rows.specs.Kept.{IsOrderRows, IsWagonRows};
 ghost use Rattle.database_rows.specs.Rows.{order_in, wagon_in};
 ghost use Rattle.operating_db.specs.After.{after_call, after_order, after_revision, message_to, order_place, withdrawn_from};
 ghost use Rattle.operating_db.specs.inner.EventParts.{IsChange, IsNext, is_promisable};
-ghost use Rattle.operating_db.specs.ApplyFault.{IsPlace, IsRefusal, IsRefusalOf};
+ghost use Rattle.operating_db.specs.ApplyFault.{EmptiesWagon, IsRefusal, IsRefusalOf, MayWantMemory};
 ghost use Rattle.operating_db.specs.Commits.{CanPromise, is_free_row, lack_in, promise_all, promise_pair};
 ghost use Rattle.operating_db.specs.Office.{first_office};
 ghost use Rattle.operating_db.specs.Problem.{free_count, problem_of};
@@ -14,9 +14,9 @@ ghost use Rattle.distance_tables.specs.Networks.{max_networks};
 ghost use Rattle.operating_db.specs.State.{IsState};
 ghost use Rattle.operating_db.specs.Steps.{IsPromised};
 
-use crate::lists::{free_count, free_wagons, waiting_orders};
+use crate::lists::{free_wagons, waiting_orders};
 use crate::pair_counts::{times_of_order, times_of_wagon};
-use crate::promises::{end_promises, set_promise, settle};
+use crate::promises::{end_promises, settle};
 use crate::{ApplyFault, Event};
 use cost_table::Problem;
 use database_rows::{MAX_OPEN_WAGONS, OrderRows, WagonRows};
@@ -130,7 +130,7 @@ impl OfficeState {
     pub fn free_count(&self, class: ClassCode, place: Place) -> usize
         ensures { result ≡ free_count self.now.office.wagons class place }
     {
-        free_count(self.wagons.as_slice(), class, place)
+        self.wagons.free_count(class, place)
     }
 
     /// Whether these pairs can be promised together: no wagon stands twice, each is free now, and each order lacks as
@@ -201,7 +201,8 @@ impl OfficeState {
     /// possible together (`can_promise`).
     ///
     /// Refused, with the office unchanged: a message with `UnknownWagon` (73), else as the status table says (31 to
-    /// 33); an order with `OrderKnown` (74), else with `TooManyOpen` (75) where the open orders and this one want over
+    /// 33), else with `OutOfMemory` (1), but only where its wagon would be empty and not held at a place where it isn't
+    /// so yet; an order with `OrderKnown` (74), else with `TooManyOpen` (75) where the open orders and this one want over
     /// 500 wagons in all, else with `OutOfMemory` (1); a withdrawal with `UnknownOrder` (76), else with `OrderClosed`
     /// (77); a revision with `UnknownNetwork` (79), else with `SameNetwork` (80).
     #[tactic(auto, unfolding(crate::specs::After::after_call))]
@@ -210,7 +211,7 @@ impl OfficeState {
         ensures done { OnOk result (after_call self.old.networks self.old.office event.now ≡ Ok self.new.office) }
         ensures refused { IfErr result (λ fault. IsRefusal (after_call self.old.networks self.old.office event.now) fault) }
         ensures by_event { IfErr result (λ fault. IsRefusalOf event.now (after_call self.old.networks self.old.office event.now) fault) }
-        ensures memory { IfErr result (λ fault. fault ≡ ApplyFault.OutOfMemory → IsPlace event.now) }
+        ensures memory { IfErr result (λ fault. fault ≡ ApplyFault.OutOfMemory → MayWantMemory self.old.office event.now (after_call self.old.networks self.old.office event.now)) }
         ensures unchanged { OnErr result (self.new ≡ self.old) }
         ensures networks { self.new.networks ≡ self.old.networks }
     {
@@ -252,8 +253,8 @@ impl OfficeState {
     /// Takes a message in.
     fn accept(&mut self, message: &Message) -> Result<(), ApplyFault>
         ensures done { OnOk result (message_to self.old.office message.now (wagon_in self.old.office.wagons message.now.wagon) ≡ Ok self.new.office) }
-        ensures refused { IfErr result (λ fault. message_to self.old.office message.now (wagon_in self.old.office.wagons message.now.wagon) ≡ Err fault) }
-        ensures memory { IfErr result (λ fault. ¬ (fault ≡ ApplyFault.OutOfMemory)) }
+        ensures refused { IfErr result (λ fault. IsRefusal (message_to self.old.office message.now (wagon_in self.old.office.wagons message.now.wagon)) fault) }
+        ensures memory { IfErr result (λ fault. fault ≡ ApplyFault.OutOfMemory → EmptiesWagon self.old.office message.now.wagon (message_to self.old.office message.now (wagon_in self.old.office.wagons message.now.wagon))) }
         ensures unchanged { OnErr result (self.new ≡ self.old) }
         ensures networks { self.new.networks ≡ self.old.networks }
     {
@@ -262,9 +263,13 @@ impl OfficeState {
             Ok(found) => found,
             Err(fault) => return Err(fault),
         };
-        self.wagons.put(change.row);
-        settle(&mut self.orders, change.effect, promise, number);
-        Ok(())
+        match self.wagons.put(change.row) {
+            Ok(()) => {
+                settle(&mut self.orders, change.effect, promise, number);
+                Ok(())
+            }
+            Err(_) => Err(ApplyFault::OutOfMemory),
+        }
     }
 
     /// Whether an order may be placed.
@@ -317,7 +322,7 @@ impl OfficeState {
         ensures unchanged { OnErr result (self.new ≡ self.old) }
         ensures networks { self.new.networks ≡ self.old.networks }
     {
-        let Some(row) = self.orders.get(id) else {
+        let Some((place, row)) = self.orders.find(id) else {
             return Err(ApplyFault::UnknownOrder);
         };
         if !row.is_open() {
@@ -325,7 +330,7 @@ impl OfficeState {
         }
         let _rows = self.wagons.as_slice();
         end_promises(&mut self.wagons, row.promised());
-        self.orders.withdraw(id);
+        self.orders.withdraw(place);
         Ok(())
     }
 
@@ -344,7 +349,7 @@ impl OfficeState {
         requires { IsNext self.old.office (number, id) }
         ensures { self.new ≡ record self.old { office = promise_pair self.old.office (number, id) } }
     {
-        set_promise(&mut self.wagons, number, Some(id));
+        self.wagons.set_promise(number, Some(id));
         self.orders.promise(id, number);
     }
 

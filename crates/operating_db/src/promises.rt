@@ -1,32 +1,20 @@
 //! Promises, on the side of the wagons and on that of the orders.
 ghost use Rattle.std.specs.Prelude.{◌≡◌, true, IfSome};
-ghost use Rattle.database_rows.specs.Rows.{at_wagon, order_in};
+ghost use Rattle.database_rows.specs.Rows.{order_in};
 ghost use Rattle.operating_db.specs.After.{orders_after};
-ghost use Rattle.operating_db.specs.Commits.{with_promise};
 ghost use Rattle.operating_db.specs.inner.EventParts.{unpromised_among};
 ghost use Rattle.operating_db.specs.Promises.{is_among, promised_of};
 
 use database_rows::{OrderRows, WagonRows};
 use rail_codes::{OrderId, WagonNumber};
-use wagon_state::{Effect, WagonRow};
-
-/// Sets the promise of a wagon, where the office has it. Takes no memory.
-pub(crate) fn set_promise(wagons: &mut WagonRows, number: WagonNumber, promise: Option<OrderId>)
-    ensures { wagons.new ≡ at_wagon number (with_promise promise) wagons.old }
-{
-    let _rows = wagons.as_slice();
-    if let Some(row) = wagons.get(number) {
-        let row = WagonRow { promise, ..*row };
-        wagons.put(row);
-    }
-}
+use wagon_state::Effect;
 
 /// Ends the promises of these wagons. Takes no memory.
 pub(crate) fn end_promises(wagons: &mut WagonRows, numbers: &[WagonNumber])
     ensures { wagons.new ≡ unpromised_among numbers.now wagons.old }
 {
     for number in numbers {
-        set_promise(wagons, *number, None);
+        wagons.set_promise(*number, None);
     }
 }
 

@@ -37,6 +37,13 @@ fn least_plans(rt: HostRuntime) -> Result<(), Fail> {
         ),
         ("[10]", "50", "2", [(0, 0)].as_slice(), 60),
         ("[50],[150]", "1000", "1", [(0, 0)].as_slice(), 50),
+        (
+            "[0,1000000000]",
+            "1000000000,1000000000",
+            "1,1",
+            [(0, 0)].as_slice(),
+            1_000_000_000,
+        ),
     ] {
         let (plan, certified) = planned(alloc, &table(alloc, rows, penalties, lacks)?)?;
         assert_eq!(rt; plan.pairs(), pairs, "{rows}");

@@ -144,3 +144,34 @@ Usage: wagons feed [OPTIONS] --roster <FILE> --network <FILE> <FILE>...
 
 For more information, try '--help'.
 ";
+
+pub(crate) const SOLVE_EXTRA: &str = r"error: unexpected argument 'extra' found
+
+Usage: wagons solve
+
+For more information, try '--help'.
+";
+
+pub(crate) const NO_FILES_TO_MAP: &str =
+    r"error: the following required arguments were not provided:
+  --roster <FILE>
+  --network <FILE>
+
+Usage: wagons map --roster <FILE> --network <FILE>
+
+For more information, try '--help'.
+";
+
+pub(crate) const NO_SUCH_CODE: &str =
+    r"error: no refusal has the code 7; `wagons explain` lists those there are
+
+Usage: wagons explain [CODE]
+
+For more information, try '--help'.
+";
+
+pub(crate) const WORD_CODE: &str =
+    r"error: invalid value 'many' for '[CODE]': invalid digit found in string
+
+For more information, try '--help'.
+";

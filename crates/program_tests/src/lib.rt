@@ -4,8 +4,6 @@
 #[cfg(test)]
 mod faults;
 #[cfg(test)]
-mod help;
-#[cfg(test)]
 mod stops;
 #[cfg(test)]
 mod words;

@@ -1,122 +1,67 @@
-//! What the program's words ask for, and the texts of help, of the version and of faults of the arguments.
+//! What the program's words ask for, and the texts of faults of the arguments.
 
-use crate::{faults, help};
+use crate::faults;
 use clap::Error;
 use std::alloc::{AllocError, Global};
 use std::test::Fail;
 use wagons_program::{OfficeOptions, Word, not_utf8, read_words};
 
-/// Words, what is printed, and the exit status.
-const PRINTED: &[(&[&str], &str, i32)] = &[
-    (&["wagons", "--help"], help::HELP, 0),
-    (&["wagons", "-h"], help::HELP, 0),
-    (&["wagons", "help"], help::HELP, 0),
-    (&["wagons", "check", "--help"], help::CHECK_HELP, 0),
-    (&["wagons", "help", "check"], help::CHECK_HELP, 0),
-    (&["wagons", "check", "-h"], help::CHECK_SUMMARY, 0),
-    (&["wagons", "run", "--help"], help::RUN_HELP, 0),
-    (&["wagons", "help", "run"], help::RUN_HELP, 0),
-    (&["wagons", "run", "-h"], help::RUN_SUMMARY, 0),
-    (&["wagons", "feed", "--help"], help::FEED_HELP, 0),
-    (&["wagons", "feed", "-h"], help::FEED_SUMMARY, 0),
-    (&["wagons", "--version"], "wagons 0.1.0\n", 0),
-    (&["wagons", "-V"], "wagons 0.1.0\n", 0),
-    (&["wagons", "fly"], faults::FLY, 2),
-    (&["wagons", "--bad"], faults::BAD, 2),
-    (&["wagons", "check", "extra"], faults::CHECK_EXTRA, 2),
-    (&["wagons", "check", "--bad"], faults::CHECK_BAD, 2),
-    (&["wagons", "run", "extra"], faults::RUN_EXTRA, 2),
-    (&["wagons", "run", "--bad"], faults::RUN_BAD, 2),
-    (&["wagons", "run"], faults::NO_FILES, 2),
+/// A call with a fault, and what is printed; the exit status is 2.
+const FAULTS: &[(&str, &str)] = &[
+    ("wagons fly", faults::FLY),
+    ("wagons --bad", faults::BAD),
+    ("wagons check extra", faults::CHECK_EXTRA),
+    ("wagons check --bad", faults::CHECK_BAD),
+    ("wagons run extra", faults::RUN_EXTRA),
+    ("wagons run --bad", faults::RUN_BAD),
+    ("wagons run", faults::NO_FILES),
+    ("wagons run --network n.csv", faults::NO_ROSTER),
+    ("wagons run --roster r.csv", faults::NO_NETWORK),
+    ("wagons run --roster", faults::NO_FILE_NAME),
     (
-        &["wagons", "run", "--network", "n.csv"],
-        faults::NO_ROSTER,
-        2,
-    ),
-    (
-        &["wagons", "run", "--roster", "r.csv"],
-        faults::NO_NETWORK,
-        2,
-    ),
-    (&["wagons", "run", "--roster"], faults::NO_FILE_NAME, 2),
-    (
-        &["wagons", "run", "--roster", "r.csv", "--roster", "r.csv"],
+        "wagons run --roster r.csv --roster r.csv",
         faults::TWO_ROSTERS,
-        2,
     ),
-    (&["wagons", "run", "--entries", "0"], faults::NO_ENTRIES, 2),
+    ("wagons run --entries 0", faults::NO_ENTRIES),
+    ("wagons run --entries 1000001", faults::MANY_ENTRIES),
+    ("wagons run --entries many", faults::WORD_ENTRIES),
+    ("wagons run --kept 0", faults::NONE_KEPT),
+    ("wagons run --kept 65", faults::MANY_KEPT),
     (
-        &["wagons", "run", "--entries", "1000001"],
-        faults::MANY_ENTRIES,
-        2,
-    ),
-    (
-        &["wagons", "run", "--entries", "many"],
-        faults::WORD_ENTRIES,
-        2,
-    ),
-    (&["wagons", "run", "--kept", "0"], faults::NONE_KEPT, 2),
-    (&["wagons", "run", "--kept", "65"], faults::MANY_KEPT, 2),
-    (
-        &["wagons", "feed", "--roster", "r.csv", "--network", "n.csv"],
+        "wagons feed --roster r.csv --network n.csv",
         faults::NO_COMMAND_FILE,
-        2,
     ),
     (
-        &[
-            "wagons",
-            "feed",
-            "--roster",
-            "r.csv",
-            "--network",
-            "n.csv",
-            "a",
-            "b",
-            "c",
-            "d",
-            "e",
-            "f",
-            "g",
-            "h",
-            "i",
-            "j",
-            "k",
-            "l",
-            "m",
-            "n",
-            "o",
-            "p",
-            "q",
-        ],
+        "wagons feed --roster r.csv --network n.csv a b c d e f g h i j k l m n o p q",
         faults::MANY_COMMAND_FILES,
-        2,
     ),
-    (&["wagons", "run", "--workers", "0"], faults::NO_WORKERS, 2),
-    (
-        &["wagons", "run", "--workers", "65"],
-        faults::MANY_WORKERS,
-        2,
-    ),
+    ("wagons run --workers 0", faults::NO_WORKERS),
+    ("wagons run --workers 65", faults::MANY_WORKERS),
+    ("wagons solve extra", faults::SOLVE_EXTRA),
+    ("wagons map", faults::NO_FILES_TO_MAP),
+    ("wagons explain 7", faults::NO_SUCH_CODE),
+    ("wagons explain many", faults::WORD_CODE),
 ];
 
-/// Whether an error prints this text and stands for this exit status.
-fn is_printed(alloc: Global, error: &Error, text: &str, status: i32) -> Result<bool, AllocError> {
+/// Whether an error prints this text and stands for exit status 2.
+fn is_printed(alloc: Global, error: &Error, text: &str) -> Result<bool, AllocError> {
     let printed = format!(in alloc; "{error}")?;
-    Ok(printed.as_str() == text && error.exit_code() == status)
+    Ok(printed.as_str() == text && error.exit_code() == 2)
 }
 
-/// Whether these words are answered by this text and this exit status.
-fn is_answered(alloc: Global, words: &[&str], text: &str, status: i32) -> Result<bool, AllocError> {
-    match read_words(alloc, words) {
+/// Whether a call is answered by this text and exit status 2.
+fn is_refused(alloc: Global, call: &str, text: &str) -> Result<bool, AllocError> {
+    let words: Vec<&str> = call.split_whitespace().collect(alloc)?;
+    match read_words(alloc, words.as_slice()) {
         Ok(_) => Ok(false),
-        Err(error) => is_printed(alloc, &error, text, status),
+        Err(error) => is_printed(alloc, &error, text),
     }
 }
 
 #[test]
-fn printed_texts(rt: HostRuntime) -> Result<(), Fail> {
-    for (k, (words, text, status)) in PRINTED.iter().enumerate() {
-        assert!(rt; is_answered(rt.alloc(), words, text, *status)?, "{k}");
+fn faults_of_arguments(rt: HostRuntime) -> Result<(), Fail> {
+    for (call, text) in FAULTS {
+        assert!(rt; is_refused(rt.alloc(), call, text)?, "{call}");
     }
     Ok(())
 }
@@ -124,7 +69,7 @@ fn printed_texts(rt: HostRuntime) -> Result<(), Fail> {
 #[test]
 fn arguments_that_are_no_text(rt: HostRuntime) -> Result<(), Fail> {
     let error = not_utf8(rt.alloc())?;
-    assert!(rt; is_printed(rt.alloc(), &error, faults::NOT_UTF8, 2)?);
+    assert!(rt; is_printed(rt.alloc(), &error, faults::NOT_UTF8)?);
     Ok(())
 }
 
@@ -233,4 +178,47 @@ fn words_that_feed(rt: HostRuntime) {
         "south.jsonl",
     ];
     assert!(rt; is_feed(rt.alloc(), words, &["north.jsonl", "south.jsonl"]));
+}
+
+/// Whether these words ask for a map with these files and the options that aren't said.
+fn is_map(alloc: Global, words: &[&str], roster: &str, networks: &[&str]) -> bool {
+    match read_words(alloc, words) {
+        Ok(Word::Map(options)) => are_options(&options, roster, networks, (100_000, 8, 4)),
+        _ => false,
+    }
+}
+
+/// Whether these words ask for tables to be solved.
+fn is_solve(alloc: Global, words: &[&str]) -> bool {
+    match read_words(alloc, words) {
+        Ok(Word::Solve) => true,
+        _ => false,
+    }
+}
+
+/// Whether these words ask for the entry with this heading, or for the whole manual where there is none.
+fn is_explain(alloc: Global, words: &[&str], heading: Option<&str>) -> bool {
+    match read_words(alloc, words) {
+        Ok(Word::Explain(entry)) => match (entry, heading) {
+            (Some(entry), Some(heading)) => entry.starts_with(heading),
+            (None, None) => true,
+            _ => false,
+        },
+        _ => false,
+    }
+}
+
+#[test]
+fn words_that_solve_map_and_explain(rt: HostRuntime) {
+    assert!(rt; is_solve(rt.alloc(), &["wagons", "solve"]));
+    let map = &["wagons", "map", "--roster", "r.csv", "--network", "n.csv"];
+    assert!(rt; is_map(rt.alloc(), map, "r.csv", &["n.csv"]));
+    assert!(rt; is_explain(rt.alloc(), &["wagons", "explain"], None));
+    assert!(rt;
+        is_explain(
+            rt.alloc(),
+            &["wagons", "explain", "82"],
+            Some("## 82 WagonChanged")
+        )
+    );
 }

@@ -1,15 +1,12 @@
 -- What is picked out of rows of which no two have one name, found again by its name.
 use Rattle.std.proofs.Common.{◌≡◌, ◌∙◌, ℕ, zero, suc, Bool, true, false, cond, List, [], ◌∷◌, map, refl, sym, ap, subst}
 use Rattle.std.specs.Prelude.{◌==◌, ◌&&◌, Option, Some, None, option_and_then, slice_get}
-use Rattle.std.specs.List.{AllByRecursion, IsDistinct, cons_option, filter_map, find}
+use Rattle.std.specs.List.{IsDistinct, cons_option, filter_map, find}
 use Rattle.std.proofs.lemmas.Bool.Decides.{nat_tests}
-use Rattle.std.proofs.lemmas.Map.Keys.{IsDistinct-cons, IsDistinct-head, IsDistinct-tail}
 use Rattle.std.proofs.Common.{arith}
-use Rattle.wagon_state.specs.declared.status.Status.{Status}
-use Rattle.wagon_state.specs.declared.status.Status.TheVariants.{Empty, Loading, Ready, Journey, Yard, Arrived, Unloading}
 use Rattle.wagon_state.specs.declared.free_wagon.FreeWagon.{FreeWagon}
 use Rattle.wagon_state.specs.declared.wagon_row.WagonRow.{WagonRow}
-use Rattle.wagon_state.specs.Free.{free_by, free_of}
+use Rattle.wagon_state.specs.Free.{free_of}
 use Rattle.load_orders.specs.Lack.{is_waiting, lack_of}
 use Rattle.load_orders.specs.OrderRow.{OrderRowValue}
 use Rattle.load_orders.specs.Wanted.{WantedOrder}
@@ -19,6 +16,7 @@ use Rattle.operating_db.specs.Commits.{lack_in}
 use Rattle.operating_db.specs.Office.{Office}
 use Rattle.operating_db.specs.Problem.{free_wagons, problem_of, waiting_orders, wanted_in}
 use Rattle.operating_db.proofs.Names.{same_self, same_sym}
+use Rattle.operating_db.proofs.Problems.{free_keeps, picked_distinct}
 use Rattle.commit_book.specs.Commits.{free_in, is_same_free, is_same_wagon, wagon_of}
 use Rattle.sessions.proofs.Offices.{IsNamedOnce, same}
 
@@ -46,45 +44,7 @@ pub picked_from : {X Y : Type 0} (pick : X → Option Y) (xs : List X) (k : ℕ)
 picked_from pick [] k y h = absurd cc
 picked_from pick (x ∷ xs) k y h = picked_by pick x xs (pick x) refl (λ n z g. picked_from pick xs n z g) k y h
 
-picked_step : {Y : Type 0} (P : List ℕ → Type 0) (name : Y → List ℕ) (o : Option Y) (rest : List Y) (k : List ℕ) → ((y : Y) → o ≡ Some y → name y ≡ k) → P k → AllByRecursion P (map name rest) → AllByRecursion P (map name (cons_option o rest))
-picked_step P name None rest k is h others = others
-picked_step P name (Some y) rest k is h others = (subst P (sym (is y refl)) h, others)
-
-picked_all : {X Y : Type 0} (P : List ℕ → Type 0) (key : X → List ℕ) (name : Y → List ℕ) (pick : X → Option Y) → ((x : X) (y : Y) → pick x ≡ Some y → name y ≡ key x) → (xs : List X) → AllByRecursion P (map key xs) → AllByRecursion P (map name (filter_map pick xs))
-picked_all P key name pick keeps [] all = tt
-picked_all P key name pick keeps (x ∷ xs) all = picked_step P name (pick x) (filter_map pick xs) (key x) (keeps x) all.0 (picked_all P key name pick keeps xs all.1)
-
-distinct_step : {Y : Type 0} (name : Y → List ℕ) (o : Option Y) (rest : List Y) (k : List ℕ) → ((y : Y) → o ≡ Some y → name y ≡ k) → AllByRecursion (λ m. same k m ≡ false) (map name rest) → IsDistinct same (map name rest) → IsDistinct same (map name (cons_option o rest))
-distinct_step name None rest k is others h = h
-distinct_step name (Some y) rest k is others h =
-    IsDistinct-cons same (name y) (map name rest) (subst (λ (n : List ℕ). AllByRecursion (λ m. same n m ≡ false) (map name rest)) (sym (is y refl)) others) h
-
--- what is picked keeps its row's name, so no two have one
-pub picked_distinct : {X Y : Type 0} (key : X → List ℕ) (name : Y → List ℕ) (pick : X → Option Y) → ((x : X) (y : Y) → pick x ≡ Some y → name y ≡ key x) → (xs : List X) → IsDistinct same (map key xs) → IsDistinct same (map name (filter_map pick xs))
-unfolding IsDistinct
-picked_distinct key name pick keeps [] h = tt
-picked_distinct key name pick keeps (x ∷ xs) h =
-    distinct_step name (pick x) (filter_map pick xs) (key x) (keeps x)
-    (picked_all (λ m. same (key x) m ≡ false) key name pick keeps xs (IsDistinct-head same (key x) (map key xs) h))
-    (picked_distinct key name pick keeps xs (IsDistinct-tail same (key x) (map key xs) h))
-
 -- ---- free wagons
-
-free_number : (row : WagonRow) (status : Status) (held : Bool) (promise : Option (List ℕ)) (wagon : FreeWagon) → free_by row status held promise ≡ Some wagon → wagon.number ≡ row.number
-free_number row (Empty place ready) true promise wagon h = cc
-free_number row (Empty place ready) false None wagon h =
-    let same_wagon : record { number = row.number; class = row.class; load_limit = row.load_limit; place = place; ready = ready } ≡ wagon = cc in ap (λ (w : FreeWagon). w.number) (sym same_wagon)
-free_number row (Empty place ready) false (Some id) wagon h = cc
-free_number row (Loading place) held promise wagon h = cc
-free_number row (Ready place) held promise wagon h = cc
-free_number row (Journey load place) held promise wagon h = cc
-free_number row (Yard load place) held promise wagon h = cc
-free_number row (Arrived load place) held promise wagon h = cc
-free_number row (Unloading place) held promise wagon h = cc
-
-pub free_keeps : (row : WagonRow) (wagon : FreeWagon) → free_of row ≡ Some wagon → wagon.number ≡ row.number
-unfolding free_of
-free_keeps row wagon h = free_number row row.status row.held row.promise wagon h
 
 pub free_distinct : (office : Office) → IsNamedOnce office → IsDistinct same (map (λ (w : FreeWagon). w.number) (free_wagons office.wagons))
 free_distinct office once = picked_distinct (λ (r : WagonRow). r.number) (λ (w : FreeWagon). w.number) free_of free_keeps office.wagons once.wagons

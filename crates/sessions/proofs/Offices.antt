@@ -1,5 +1,5 @@
 -- The offices of a legal history: which wagons they have, and that no two orders have one name.
-use Rattle.std.proofs.Common.{◌≡◌, ◌∙◌, ℕ, zero, suc, List, [], ◌∷◌, ◌++◌, length, map, take, refl, sym, ap, subst, append-nil}
+use Rattle.std.proofs.Common.{◌≡◌, ◌∙◌, ℕ, zero, suc, List, ◌++◌, length, map, take, refl, sym, ap, subst, append-nil}
 use Rattle.std.specs.Prelude.{nat_eq, Bool, Option, Some, None, option_to_list, Result, Ok, Err, slice_get}
 use Rattle.std.specs.Cmp.Lexicographic.{pointwise}
 use Rattle.std.specs.List.{IsDistinct}
@@ -17,19 +17,12 @@ use Rattle.commit_book.specs.History.{IsLegal, replay, version}
 use Rattle.commit_book.specs.Setting.{Setting}
 use Rattle.commit_book.proofs.BookParts.{last_version}
 use Rattle.commit_book.proofs.Replays.{after_push}
-use Rattle.commit_book.proofs.Versions.{versions_agree}
+use Rattle.commit_book.proofs.Versions.{take_next, versions_agree}
 
 -- an event keeps the numbers of the wagons
 after_numbers : (networks : ℕ) (office : Office) (event : Event) (r : Result Office ApplyFault) → after_call networks office event ≡ r → IsPromised office event → PromisesAgree office → numbers_of (result_unwrap_or r office) ≡ numbers_of office
 after_numbers networks office event (Ok new) is promised agree = (step_kept networks office event new (promised, is) agree).wagons
 after_numbers networks office event (Err fault) is promised agree = refl
-
-take_next : (events : List Event) (n : ℕ) (o : Option Event) → slice_get events n ≡ o → take (suc n) events ≡ take n events ++ option_to_list o
-take_next [] zero None is = refl
-take_next [] (suc n) None is = refl
-take_next [] n (Some event) is = absurd cc
-take_next (first ∷ events) zero o is = ap (λ (e : Option Event). option_to_list e) is
-take_next (first ∷ events) (suc n) o is = ap (λ (rest : List Event). first ∷ rest) (take_next events n o is)
 
 next_numbers : (setting : Setting) (history : List Event) → IsRoster setting.roster → IsLegal setting history → (n : ℕ) (o : Option Event) → slice_get history n ≡ o → numbers_of (replay setting (take n history ++ option_to_list o)) ≡ numbers_of (version setting history n)
 next_numbers setting history roster legal n None is = ap (λ (entries : List Event). numbers_of (replay setting entries)) (append-nil (take n history))

@@ -31,9 +31,10 @@ use Rattle.commit_book.specs.declared.reply.Reply.TheVariants.{Accepted}
 use Rattle.commit_book.proofs.BookParts.{last_version}
 use Rattle.commit_book.proofs.Placed.{positions_placed}
 use Rattle.sessions.specs.PlannersCommit.{CertificatesAreAccepted, IsCertificateAt, PlansAreAccepted}
+use Rattle.operating_db.proofs.Problems.{once}
 use Rattle.sessions.proofs.Found.{free_distinct, wanted_distinct}
 use Rattle.sessions.proofs.Offices.{IsNamedOnce, named_once}
-use Rattle.sessions.proofs.Positions.{once, positions_named}
+use Rattle.sessions.proofs.Positions.{positions_named}
 use Rattle.sessions.proofs.SameTables.{same_certificate}
 use Rattle.sessions.proofs.Unchanged.{no_order_changed, no_wagon_changed}
 

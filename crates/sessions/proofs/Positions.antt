@@ -1,16 +1,13 @@
 -- The pairs of a plan, by name, are found at the positions of the plan.
-use Rattle.std.proofs.Common.{◌≡◌, ◌∙◌, ◌<◌, ◌||◌, ℕ, Bool, false, cond, List, [], ◌∷◌, ◌++◌, length, map, refl, ap, arith}
+use Rattle.std.proofs.Common.{◌≡◌, ◌<◌, ℕ, List, [], ◌∷◌, length, map, refl, arith}
 use Rattle.std.specs.Prelude.{Some, None, Ok, position}
-use Rattle.std.specs.List.{AllByRecursion, IsDistinct}
 use Rattle.std.proofs.lemmas.List.{length-map}
-use Rattle.std.proofs.lemmas.List.Folds.{list_any-append}
-use Rattle.std.proofs.lemmas.Map.Keys.{IsDistinct-head, IsDistinct-tail}
 use Rattle.std.proofs.lemmas.Option.{slice_get-get_or}
 use Rattle.wagon_state.specs.declared.free_wagon.FreeWagon.{FreeWagon}
 use Rattle.load_orders.specs.Wanted.{WantedOrder}
 use Rattle.line_network.specs.Network.{NetworkValue}
 use Rattle.cost_table.specs.Allowed.{IsTableOf}
-use Rattle.cost_table.specs.Names.{first_repeated, is_among, is_name, pair_of, repeated_after}
+use Rattle.cost_table.specs.Names.{first_repeated, is_name, pair_of}
 use Rattle.cost_table.specs.Plan.{AllAllowed}
 use Rattle.cost_table.specs.Problem.{ProblemValue, names_of_problem, order_names, wagon_names}
 use Rattle.cost_table.specs.Table.{Table}
@@ -18,31 +15,7 @@ use Rattle.cost_table.proofs.NameLemmas.{held_at}
 use Rattle.named_pairs.specs.NamedFaults.{name_at}
 use Rattle.named_pairs.specs.NamedPairs.{before_rest, found_or, positions_of}
 use Rattle.commit_book.specs.Snap.{named_pair}
-use Rattle.sessions.proofs.Offices.{same}
 use Rattle.sessions.proofs.SameTables.{columns}
-
--- ---- no name is repeated where all are distinct
-
-abbrev IsNew : List (List ℕ) → List ℕ → Type 0
-IsNew before n = is_among before n ≡ false
-
-new_more : (before : List (List ℕ)) (n : List ℕ) (others : List (List ℕ)) → AllByRecursion (IsNew before) others → AllByRecursion (λ m. same n m ≡ false) others → AllByRecursion (IsNew (before ++ n ∷ [])) others
-new_more before n [] new apart = tt
-new_more before n (m ∷ others) new apart =
-    (list_any-append (is_name m) before (n ∷ []) ∙ (ap (λ (b : Bool). b || (same n m || false)) new.0 ∙ ap (λ (b : Bool). b || false) apart.0), new_more before n others new.1 apart.1)
-
-none_repeated : (before others : List (List ℕ)) → AllByRecursion (IsNew before) others → IsDistinct same others → repeated_after before others ≡ None
-none_repeated before [] new h = refl
-none_repeated before (n ∷ others) new h =
-    ap (λ (b : Bool). cond b (Some n) (repeated_after (before ++ n ∷ []) others)) new.0
-    ∙ none_repeated (before ++ n ∷ []) others (new_more before n others new.1 (IsDistinct-head same n others h)) (IsDistinct-tail same n others h)
-
-all_new : (others : List (List ℕ)) → AllByRecursion (IsNew []) others
-all_new [] = tt
-all_new (n ∷ others) = (refl, all_new others)
-
-pub once : (others : List (List ℕ)) → IsDistinct same others → first_repeated others ≡ None
-once others h = none_repeated [] others (all_new others) h
 
 -- ---- positions
 

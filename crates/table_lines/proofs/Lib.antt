@@ -1,3 +1,4 @@
 pub mod Rows
 pub mod Bounds
 pub mod Even
+pub mod Parts

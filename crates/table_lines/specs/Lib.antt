@@ -1,3 +1,5 @@
 pub mod TableLine
 pub mod TableRefusals
 pub mod TableCost
+pub mod TablePart
+pub mod StatedTable

@@ -32,7 +32,7 @@ pub fn table_cost(alloc: Global, line: &[u8]) -> Result<u128, TableRefusal>
 }
 
 /// How many wagons each order lacks: one where the line doesn't say.
-fn lacks_of(alloc: Global, table: &TableLine) -> Result<Vec<u32>, AllocError>
+pub(crate) fn lacks_of(alloc: Global, table: &TableLine) -> Result<Vec<u32>, AllocError>
     requires { IfSome table.now.lacks (λ lacks. All IsLack lacks.items) }
     ensures lacks { IfOk result (λ lacks. lacks.items ≡ lacks_in (table_text table.now)) }
     ensures limits { IfOk result (λ lacks. All IsLack lacks.items) }
@@ -44,7 +44,7 @@ fn lacks_of(alloc: Global, table: &TableLine) -> Result<Vec<u32>, AllocError>
 }
 
 /// Whether there are over 1,000 wagons, over 500 orders, or over 500 lacking wagons in all.
-fn is_too_large(table: &TableLine, lacks: &[u32]) -> bool
+pub(crate) fn is_too_large(table: &TableLine, lacks: &[u32]) -> bool
     requires { lacks.now ≡ lacks_in (table_text table.now) }
     ensures { result ≡ is_large (table_text table.now) }
 {
@@ -68,7 +68,7 @@ fn lack_too_much(lacks: &[u32]) -> bool
 }
 
 /// The table of these cells, where there is a row for each wagon and everywhere a number for each order.
-fn even_cells(
+pub(crate) fn even_cells(
     alloc: Global,
     wagons: usize,
     orders: usize,

@@ -2,10 +2,18 @@
 
 use crate::help;
 use crate::office_options::{FeedOptions, OfficeOptions, with_files, with_office_options};
+use clap::builder::ValueParser;
 use clap::error::ErrorKind;
-use clap::{Command, Error};
+use clap::{Arg, ArgMatches, Command, Error};
+use refusal_manual::entry_text;
 use std::alloc::{AllocError, Global};
 use std::convert::AsStr;
+
+/// The argument of `explain`.
+const CODE: &str = "code";
+
+/// The largest number that an argument of `explain` may be.
+const MAX_CODE: u64 = 999;
 
 /// The program's version.
 const VERSION: &str = "0.1.0";
@@ -15,10 +23,16 @@ const VERSION: &str = "0.1.0";
 pub enum Word<'a> {
     /// Check the table lines of standard input.
     Check,
+    /// Plan the table lines of standard input.
+    Solve,
     /// Bring the command lines of standard input to an office.
     Run(OfficeOptions<'a>),
     /// Bring the command lines of files to an office, all at once.
     Feed(FeedOptions<'a>),
+    /// Bring the command lines of standard input to an office, and draw it.
+    Map(OfficeOptions<'a>),
+    /// Print this entry of the manual of refusals, or the whole manual.
+    Explain(Option<&'static str>),
 }
 
 /// What the words ask for, the program's name first; without a word it is `Check`. Else the error is a request for help
@@ -31,7 +45,37 @@ pub fn read_words<'a, S: AsStr>(alloc: Global, words: &'a [S]) -> Result<Word<'a
     if let Some(options) = matches.subcommand_matches("feed") {
         return Ok(Word::Feed(FeedOptions::read(alloc, options)?));
     }
+    if let Some(options) = matches.subcommand_matches("map") {
+        return Ok(Word::Map(OfficeOptions::read(alloc, options)?));
+    }
+    if let Some(options) = matches.subcommand_matches("explain") {
+        return read_code(alloc, options);
+    }
+    if matches.subcommand_matches("solve").is_some() {
+        return Ok(Word::Solve);
+    }
     Ok(Word::Check)
+}
+
+/// What `explain` is asked for; a number that stands for no refusal is a fault of the arguments.
+fn read_code<'a>(alloc: Global, matches: &ArgMatches<'a>) -> Result<Word<'a>, Error> {
+    let Some(code) = matches.get_one::<u64>(CODE) else {
+        return Ok(Word::Explain(None));
+    };
+    let entry = match u32::try_from(code) {
+        Ok(number) => entry_text(number),
+        Err(_) => None,
+    };
+    match entry {
+        Some(entry) => Ok(Word::Explain(Some(entry))),
+        None => {
+            let text = format!(in alloc;
+                "no refusal has the code {code}; `wagons explain` lists those there are"
+            )?;
+            let mut command = explain_command(alloc)?.bin_name("wagons explain")?;
+            Err(command.error(ErrorKind::InvalidValue, text.as_str())?)
+        }
+    }
 }
 
 /// The fault that an argument is not UTF-8.
@@ -51,8 +95,11 @@ fn command_line<'a>(alloc: Global) -> Result<Command<'a>, AllocError> {
         .about(help::ABOUT)
         .after_help(help::EXAMPLES)
         .subcommand(check_command(alloc))?
+        .subcommand(solve_command(alloc))?
         .subcommand(run_command(alloc)?)?
-        .subcommand(feed_command(alloc)?)
+        .subcommand(feed_command(alloc)?)?
+        .subcommand(map_command(alloc)?)?
+        .subcommand(explain_command(alloc)?)
 }
 
 /// The word `check`.
@@ -60,6 +107,15 @@ fn check_command<'a>(alloc: Global) -> Command<'a> {
     Command::new(alloc, "check")
         .about(help::CHECK_ABOUT)
         .long_about(help::CHECK_LONG_ABOUT)
+        .after_help(help::CHECK_EXAMPLE)
+}
+
+/// The word `solve`.
+fn solve_command<'a>(alloc: Global) -> Command<'a> {
+    Command::new(alloc, "solve")
+        .about(help::SOLVE_ABOUT)
+        .long_about(help::SOLVE_LONG_ABOUT)
+        .after_help(help::SOLVE_EXAMPLE)
 }
 
 /// The word `run`.
@@ -78,4 +134,27 @@ fn feed_command<'a>(alloc: Global) -> Result<Command<'a>, AllocError> {
         .long_about(help::FEED_LONG_ABOUT)
         .after_help(help::FEED_EXAMPLE);
     with_files(alloc, with_office_options(alloc, feed)?)
+}
+
+/// The word `map`.
+fn map_command<'a>(alloc: Global) -> Result<Command<'a>, AllocError> {
+    let map = Command::new(alloc, "map")
+        .about(help::MAP_ABOUT)
+        .long_about(help::MAP_LONG_ABOUT)
+        .after_help(help::MAP_EXAMPLE);
+    with_office_options(alloc, map)
+}
+
+/// The word `explain`, which may have a code.
+fn explain_command<'a>(alloc: Global) -> Result<Command<'a>, AllocError> {
+    Command::new(alloc, "explain")
+        .about(help::EXPLAIN_ABOUT)
+        .long_about(help::EXPLAIN_LONG_ABOUT)
+        .after_help(help::EXPLAIN_EXAMPLE)
+        .arg(
+            Arg::new(alloc, CODE)
+                .value_name("CODE")
+                .value_parser(ValueParser::unsigned(1, MAX_CODE))
+                .help(help::CODE),
+        )
 }

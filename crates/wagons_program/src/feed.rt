@@ -1,8 +1,9 @@
 //! The word `feed`.
 ghost use Rattle.std.specs.Prelude.{◌≡◌, All, IfOk, false};
 
-use crate::new_book::{NewBook, new_book, open, read_files};
+use crate::new_book::{NewBook, OfficeFiles, new_book, open, read_files};
 use crate::office_options::FeedOptions;
+use crate::printing::print_whole;
 use crate::status::{DONE, REFUSED, STOPPED};
 use crate::stop::Stop;
 use office::{FeedReport, FromRead, MAX_FILES, Source, report_text};
@@ -20,9 +21,9 @@ pub(crate) fn feed<R: Print + Files + Threads + Wait + AllocGlobal + Sync>(
 where
     R::File: Send,
 {
-    let files = read_files(rt, &options.office)?;
+    let OfficeFiles { roster, networks } = read_files(rt, &options.office)?;
     let readers = open_files(rt, &options.files)?;
-    let NewBook { book, networks } = new_book(rt, &options.office, files)?;
+    let NewBook { book, networks } = new_book(rt, &options.office, roster, &networks)?;
     // The command line lets 1 to 16 files through.
     if readers.is_empty() || readers.len() > MAX_FILES {
         return Err(Stop::OpenFailed);
@@ -49,10 +50,7 @@ fn open_files<R: Files + AllocGlobal>(
 
 /// Prints what became of each file, and the sheet.
 fn print_report<R: Print + AllocGlobal, F>(rt: &R, report: &FeedReport<F>) -> Result<u8, Stop> {
-    let text = report_text(rt.alloc(), report)?;
-    if print!(rt; "{text}").is_err() {
-        return Err(Stop::WriteFailed);
-    }
+    print_whole(rt, &report_text(rt.alloc(), report)?)?;
     Ok(status_of_files(report))
 }
 

@@ -8,8 +8,10 @@ pub(crate) const ABOUT: &str =
 
 /// How the program is called.
 pub(crate) const EXAMPLES: &str = "Examples:\n  \
-     wagons check < tables.jsonl\n  \
-     wagons run --roster roster.csv --network network.csv < day.jsonl";
+     wagons solve < problems.jsonl | wagons check\n  \
+     wagons run --roster roster.csv --network network.csv < day.jsonl\n  \
+     wagons explain 82\n\n\
+     The manual: `man wagons`, and docs/FORMATS.md";
 
 /// What `check` does, on a line.
 pub(crate) const CHECK_ABOUT: &str = "Checks plans and their prices, one JSON object a line";
@@ -21,6 +23,24 @@ pub(crate) const CHECK_LONG_ABOUT: &str =
      Replies `N optimal COST` where the prices prove the plan of line N least, else\n\
      `N refused CODE` and details. Exits with 0, with 1 where a line was refused,\n\
      with 2 where it could not run or stopped.";
+
+/// How `check` is called.
+pub(crate) const CHECK_EXAMPLE: &str = "Example:\n  wagons check < tables.jsonl";
+
+/// What `solve` does, on a line.
+pub(crate) const SOLVE_ABOUT: &str = "Plans cost tables, one JSON object a line";
+
+/// What `solve` does.
+pub(crate) const SOLVE_LONG_ABOUT: &str =
+    "Reads cost tables from standard input, one JSON object a line: wagons, orders,\n\
+     the cost of each allowed pair in kilometres, and penalties. Prints each with a\n\
+     plan of the lowest cost and the prices that prove it, as JSON that `wagons\n\
+     check` reads; for a line that is refused it prints `line` and `refused`. Exits\n\
+     with 0, with 1 where a line was refused, with 2 where it could not run or\n\
+     stopped.";
+
+/// How `solve` is called.
+pub(crate) const SOLVE_EXAMPLE: &str = "Example:\n  wagons solve < problems.jsonl | wagons check";
 
 /// What `run` does, on a line.
 pub(crate) const RUN_ABOUT: &str = "Keeps a fleet: messages and orders in, replies and plans out";
@@ -52,6 +72,37 @@ pub(crate) const FEED_LONG_ABOUT: &str =
 /// How `feed` is called.
 pub(crate) const FEED_EXAMPLE: &str = "Example:\n  \
      wagons feed --roster roster.csv --network network.csv north.jsonl south.jsonl";
+
+/// What `map` does, on a line.
+pub(crate) const MAP_ABOUT: &str = "Draws a fleet: commands in, a Graphviz graph out";
+
+/// What `map` does.
+pub(crate) const MAP_LONG_ABOUT: &str =
+    "Reads the fleet and the network from files, then commands from standard input\n\
+     as `run` does, without a reply. At the end prints the office as a graph in the\n\
+     DOT language: places with their wagons, lines with kilometres and minutes,\n\
+     waiting orders, and promised wagons as arrows. Graphviz makes a picture of it.\n\
+     Exits with 0, with 1 where a line was refused, with 2 where it could not run or\n\
+     stopped; then there is no graph.";
+
+/// How `map` is called.
+pub(crate) const MAP_EXAMPLE: &str = "Example:\n  \
+     wagons map --roster roster.csv --network network.csv < day.jsonl |\n    \
+     neato -Tsvg > day.svg";
+
+/// What `explain` does, on a line.
+pub(crate) const EXPLAIN_ABOUT: &str = "Says what a refusal means, and what to do about it";
+
+/// What `explain` does.
+pub(crate) const EXPLAIN_LONG_ABOUT: &str =
+    "Says what the code of a refusal means, in which words it comes, its usual cause\n\
+     and what to do about it. Without a code it says this of all refusals.";
+
+/// How `explain` is called.
+pub(crate) const EXPLAIN_EXAMPLE: &str = "Example:\n  wagons explain 82";
+
+/// What the code of `explain` is.
+pub(crate) const CODE: &str = "The number behind `refused`, or behind `wagons:`";
 
 /// What the files of `feed` are.
 pub(crate) const FILES: &str = "Files of commands, one JSON object a line; 1 to 16";

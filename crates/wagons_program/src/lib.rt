@@ -3,12 +3,16 @@
 
 mod check;
 mod command_line;
+mod explain;
 mod feed;
 mod help;
+mod map;
 mod new_book;
 mod office_options;
+mod printing;
 mod program;
 mod run;
+mod solve;
 mod status;
 mod stop;
 

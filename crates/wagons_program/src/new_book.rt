@@ -15,8 +15,8 @@ use wagon_roster::Roster;
 /// A roster and networks, as files say them.
 #[derive(Drop)]
 pub(crate) struct OfficeFiles {
-    roster: Roster,
-    networks: Vec<Network>,
+    pub(crate) roster: Roster,
+    pub(crate) networks: Vec<Network>,
 }
 
 /// A book, and its networks.
@@ -40,16 +40,16 @@ pub(crate) fn read_files<R: Files + AllocGlobal>(
     Ok(OfficeFiles { roster, networks })
 }
 
-/// A book without entries over these files, whose distances are worked out here.
+/// A book without entries over this roster and these networks, whose distances are worked out here.
 pub(crate) fn new_book<R: Threads + Wait + AllocGlobal>(
     rt: &R,
     options: &OfficeOptions<'_>,
-    files: OfficeFiles,
+    roster: Roster,
+    networks: &[Network],
 ) -> Result<NewBook, Stop>
     ensures { IfOk result (λ new. new.book.state.history ≡ []) }
 {
-    let OfficeFiles { roster, networks } = files;
-    let tables = make_tables(rt, &networks, options.workers)?;
+    let tables = make_tables(rt, networks, options.workers)?;
     let networks = match Networks::new(tables) {
         Ok(networks) => Arc::new(rt.alloc(), networks)?,
         Err(fault) => return Err(Stop::Networks(fault)),

@@ -2,8 +2,11 @@
 
 use crate::check::check;
 use crate::command_line::{Word, not_utf8, read_words};
+use crate::explain::explain;
 use crate::feed::feed;
+use crate::map::map;
 use crate::run::run;
+use crate::solve::solve;
 use crate::status::{DONE, STOPPED};
 use crate::stop::Stop;
 use clap::Error;
@@ -43,6 +46,9 @@ where
         Ok(Word::Check) => check(rt, input),
         Ok(Word::Run(options)) => run(rt, &options, input),
         Ok(Word::Feed(options)) => feed(rt, &options),
+        Ok(Word::Solve) => solve(rt, input),
+        Ok(Word::Map(options)) => map(rt, &options, input),
+        Ok(Word::Explain(entry)) => explain(rt, entry),
         Err(error) => print_text(rt, &error),
     };
     told(rt, status)

@@ -1,6 +1,6 @@
 //! The word `run`.
 
-use crate::new_book::{new_book, read_files};
+use crate::new_book::{OfficeFiles, new_book, read_files};
 use crate::office_options::OfficeOptions;
 use crate::status::status_of_run;
 use crate::stop::Stop;
@@ -17,8 +17,8 @@ pub(crate) fn run<R: Print + Files + Threads + Wait + AllocGlobal, I: Read + Dro
     options: &OfficeOptions<'_>,
     input: I,
 ) -> Result<u8, Stop> {
-    let files = read_files(rt, options)?;
-    let mut book = new_book(rt, options, files)?.book;
+    let OfficeFiles { roster, networks } = read_files(rt, options)?;
+    let mut book = new_book(rt, options, roster, &networks)?.book;
     let mut reader = FromRead::new(input);
     let mut writer = ToWrite::new(io::writer(rt));
     status_of_run(office::run(rt.alloc(), &mut reader, &mut writer, &mut book))

@@ -1,119 +1,141 @@
 -- The search for the shortest path from an order.
-use Rattle.std.specs.Prelude.{◌≡◌, ◌≢◌, ◌+◌, ◌-◌, ◌<◌, ◌≤◌, nat_lt, ℕ, Bool, List, length, Option, Some, None, slice_index}
-use Rattle.std.specs.Prelude.{min}
+use Rattle.std.specs.Prelude.{◌≡◌, ◌≢◌, ◌+◌, ◌<◌, ◌≤◌, nat_lt, ℕ, Bool, length, min, Some, None, slice_index}
 use Rattle.std.specs.List.{count_by}
+use Rattle.std.specs.Vec.{vec_capacity}
 use Rattle.cost_table.specs.Table.{Table, cost_at, penalty_at, wagon_count, order_count}
 use Rattle.cost_table.specs.TableLimits.{max_cost}
-use Rattle.assignment.specs.declared.search.TheConstants.{FAR}
+use Rattle.assignment.specs.declared.passes.TheConstants.{FAR}
+use Rattle.assignment.specs.declared.state.TheConstants.{NO_ORDER}
 use Rattle.assignment.specs.declared.search.Search.{Search}
-use Rattle.assignment.specs.declared.search.Front.{Front}
-use Rattle.assignment.specs.declared.search.Best.{Best}
+use Rattle.assignment.specs.declared.search.Next.{Next}
+use Rattle.assignment.specs.declared.search.Path.{Path}
 use Rattle.assignment.specs.declared.search.End.{End}
 use Rattle.assignment.specs.declared.search.End.TheVariants.{Wagon, Refusal}
-use Rattle.assignment.specs.inner.IndexList.{At}
-use Rattle.assignment.specs.inner.State.{order_at}
-
--- whether a distance is that of something reached
-abbrev pub is_near : ℕ → Bool
-is_near distance = nat_lt distance FAR
+use Rattle.assignment.specs.inner.Costs.{cell_cost}
+use Rattle.assignment.specs.inner.State.{Kept, order_at}
 
 -- there is room for each wagon and each order
-pub record HasRoom (t : Table) (s : Search) : Type 0 where
-  pub wagon_distances : length s.wagon_distance.items ≡ wagon_count t
-  pub wagon_places : length s.wagon_from.items ≡ wagon_count t
-  pub order_distances : length s.order_distance.items ≡ order_count t
-  pub orders : s.orders.room ≡ order_count t
-  pub via : s.via.room ≡ order_count t
-  pub reached : s.reached.room ≡ wagon_count t
-  pub frontier : s.frontier.room ≡ wagon_count t
+pub record HasRoom (t : Table) (f : Search) : Type 0 where
+  pub labels : length f.label.items ≡ wagon_count t
+  pub places : length f.from.items ≡ wagon_count t
+  pub targets : length f.target.items ≡ wagon_count t
+  pub distances : length f.order_distance.items ≡ order_count t
+  pub orders : vec_capacity f.orders ≡ order_count t
+  pub vias : vec_capacity f.via ≡ order_count t
 
--- between searches nothing is reached
-pub record IsAtRest (t : Table) (s : Search) : Type 0 where
-  pub room : HasRoom t s
-  pub wagons : (i : ℕ) → i < wagon_count t → slice_index s.wagon_distance.items i ≡ FAR
-  pub orders : (k : ℕ) → k < order_count t → slice_index s.order_distance.items k ≡ FAR
+-- the label of wagon i; the distance of order k, FAR while it isn't settled
+abbrev pub label_at : Search → ℕ → ℕ
+label_at f i = slice_index f.label.items i
 
--- Wagon i was reached over a cell of an order that is settled: it is farther than the order by the cell's reduced
--- cost.
-pub record IsLabel (t : Table) (u v order_far wagon_far from orders : List ℕ) (i : ℕ) : Type 0 where
-  pub within : slice_index from i < length orders
-  pub cost : ℕ
-  pub allowed : cost_at t i (slice_index orders (slice_index from i)) ≡ Some cost
-  pub exact : slice_index wagon_far i + slice_index v (slice_index orders (slice_index from i)) ≡ slice_index order_far (slice_index orders (slice_index from i)) + cost + slice_index u i
+abbrev pub distance_at : Search → ℕ → ℕ
+distance_at f k = slice_index f.order_distance.items k
 
-pub record AreLabels (t : Table) (u v order_far wagon_far from orders : List ℕ) : Type 0 where
-  pub label : (i : ℕ) → i < wagon_count t → slice_index wagon_far i < FAR → IsLabel t u v order_far wagon_far from orders i
+-- the order settled at place x; the place that wagon i was reached from
+abbrev pub settled_at : Search → ℕ → ℕ
+settled_at f x = slice_index f.orders.items x
+
+abbrev pub from_at : Search → ℕ → ℕ
+from_at f i = slice_index f.from.items i
+
+-- how far wagon i is over its cell of order k, and the order's price more
+abbrev pub reach : Kept → Search → ℕ → ℕ → ℕ
+reach s f i k = distance_at f k + cell_cost (cost_at s.table i k) + slice_index s.u i
+
+-- a reached wagon is as far as it is over its cell of the order that it was reached from
+pub record IsLabel (s : Kept) (f : Search) (i : ℕ) : Type 0 where
+  pub within : from_at f i < length f.orders.items
+  pub exact : label_at f i + slice_index s.v (settled_at f (from_at f i)) ≡ reach s f i (settled_at f (from_at f i))
+
+-- no wagon is farther than over its cell of order k
+abbrev pub IsRelaxed : Kept → Search → ℕ → Type 0
+IsRelaxed s f k = (i : ℕ) → i < wagon_count s.table → label_at f i + slice_index s.v k ≤ reach s f i k
 
 -- The order at place x was reached through one of its own wagons, which is as far as it is, and which was reached
 -- from an order settled before.
-pub record IsLed (t : Table) (order_of : List (Option ℕ)) (order_far wagon_far from orders via : List ℕ) (x : ℕ) : Type 0 where
-  pub wagon : slice_index via x < wagon_count t
-  pub held : order_at order_of (slice_index via x) ≡ Some (slice_index orders x)
-  pub as_far : slice_index wagon_far (slice_index via x) ≡ slice_index order_far (slice_index orders x)
-  pub before : slice_index from (slice_index via x) < x
+pub record IsLed (s : Kept) (f : Search) (x : ℕ) : Type 0 where
+  pub wagon : slice_index f.via.items x < wagon_count s.table
+  pub held : order_at s.order_of (slice_index f.via.items x) ≡ Some (settled_at f x)
+  pub as_far : label_at f (slice_index f.via.items x) ≡ distance_at f (settled_at f x)
+  pub before : from_at f (slice_index f.via.items x) < x
 
--- the orders settled, none farther than `front`; the search began at the first
-pub record AreSettled (t : Table) (order_of : List (Option ℕ)) (order_far wagon_far from orders via : List ℕ) (front : ℕ) : Type 0 where
-  pub some : 0 < length orders
-  pub vias : length via ≡ length orders
-  pub count : length orders ≡ count_by is_near order_far
-  pub order : (x : ℕ) → x < length orders → slice_index orders x < order_count t
-  pub near : (x : ℕ) → x < length orders → slice_index order_far (slice_index orders x) ≤ front
-  pub listed : (k : ℕ) → k < order_count t → slice_index order_far k < FAR → At orders k
-  pub apart : (x y : ℕ) → x < y → y < length orders → slice_index orders x ≢ slice_index orders y
-  pub led : (x : ℕ) → 0 < x → x < length orders → IsLed t order_of order_far wagon_far from orders via x
+-- where an order stands among those settled
+pub record IsAt (f : Search) (k : ℕ) : Type 0 where
+  pub place : ℕ
+  pub within : place < length f.orders.items
+  pub is : settled_at f place ≡ k
 
--- order k, at its distance, brings no wagon nearer, nor the best end
-pub record IsRelaxed (t : Table) (u v order_far wagon_far : List ℕ) (best k : ℕ) : Type 0 where
-  pub cells : (i c : ℕ) → cost_at t i k ≡ Some c → min (slice_index wagon_far i) best + slice_index v k ≤ slice_index order_far k + c + slice_index u i
-  pub refusal : best + slice_index v k ≤ slice_index order_far k + penalty_at t k
+abbrev pub is_near : ℕ → Bool
+is_near distance = nat_lt distance FAR
 
--- A wagon of an order is no nearer than the order, or than the front where the order is not settled. A wagon
--- without an order is no nearer than the best end.
-pub record AreBeyond (t : Table) (order_of : List (Option ℕ)) (order_far wagon_far : List ℕ) (front best : ℕ) : Type 0 where
-  pub held : (i k : ℕ) → i < wagon_count t → order_at order_of i ≡ Some k → min (slice_index order_far k) front ≤ slice_index wagon_far i
-  pub free : (i : ℕ) → i < wagon_count t → order_at order_of i ≡ None → best ≤ slice_index wagon_far i
+-- the orders settled, none farther than the front
+pub record AreSettled (s : Kept) (f : Search) : Type 0 where
+  pub vias : length f.via.items ≡ length f.orders.items
+  pub count : length f.orders.items ≡ count_by is_near f.order_distance.items
+  pub order : (x : ℕ) → x < length f.orders.items → settled_at f x < order_count s.table
+  pub near : (x : ℕ) → x < length f.orders.items → distance_at f (settled_at f x) ≤ f.front
+  pub last : (x : ℕ) → x + 1 ≡ length f.orders.items → distance_at f (settled_at f x) ≡ f.front
+  pub listed : (k : ℕ) → k < order_count s.table → distance_at f k < FAR → IsAt f k
+  pub apart : (x y : ℕ) → x < y → y < length f.orders.items → settled_at f x ≢ settled_at f y
+  pub led : (x : ℕ) → 0 < x → x < length f.orders.items → IsLed s f x
+
+-- Where wagon i leads: to its order while that isn't settled.
+pub record IsOpen (s : Kept) (f : Search) (i : ℕ) : Type 0 where
+  pub leads : slice_index f.target.items i ≢ NO_ORDER → (order_at s.order_of i ≡ Some (slice_index f.target.items i)) × (FAR ≤ distance_at f (slice_index f.target.items i))
+  pub stays : (k : ℕ) → order_at s.order_of i ≡ Some k → FAR ≤ distance_at f k → slice_index f.target.items i ≡ k
+
+-- A wagon of an order is no nearer than the order, or than the front where the order isn't settled. A wagon without
+-- an order is no nearer than the front.
+pub record IsBeyond (s : Kept) (f : Search) (i : ℕ) : Type 0 where
+  pub held : (k : ℕ) → order_at s.order_of i ≡ Some k → min (distance_at f k) f.front ≤ label_at f i
+  pub idle : order_at s.order_of i ≡ None → f.front ≤ label_at f i
+
+-- The nearest refusal of a settled order, no nearer than the front; FAR where none is settled.
+pub record IsRefusal (s : Kept) (f : Search) : Type 0 where
+  pub beyond : f.front ≤ f.refusal.distance
+  pub none : length f.orders.items ≡ 0 → f.refusal.distance ≡ FAR
+  pub limit : 0 < length f.orders.items → f.refusal.distance ≤ max_cost
+  pub within : 0 < length f.orders.items → f.refusal.place < length f.orders.items
+  pub exact : 0 < length f.orders.items → f.refusal.distance + slice_index s.v (settled_at f f.refusal.place) ≡ distance_at f (settled_at f f.refusal.place) + penalty_at s.table (settled_at f f.refusal.place)
+  pub least : (x : ℕ) → x < length f.orders.items → f.refusal.distance + slice_index s.v (settled_at f x) ≤ distance_at f (settled_at f x) + penalty_at s.table (settled_at f x)
+
+-- A search of which the first `scanned` settled orders are relaxed.
+pub record IsSearch (s : Kept) (f : Search) (scanned : ℕ) : Type 0 where
+  pub room : HasRoom s.table f
+  pub labels : (i : ℕ) → i < wagon_count s.table → label_at f i < FAR → IsLabel s f i
+  pub relaxed : (x : ℕ) → x < scanned → IsRelaxed s f (settled_at f x)
+  pub opens : (i : ℕ) → i < wagon_count s.table → IsOpen s f i
+  pub beyond : (i : ℕ) → i < wagon_count s.table → IsBeyond s f i
+  pub settled : AreSettled s f
+  pub refusal : IsRefusal s f
+
+-- wagon i is no nearer than a distance, if it has no order or leads to one that isn't settled
+pub record IsFrom (s : Kept) (f : Search) (distance i : ℕ) : Type 0 where
+  pub idle : order_at s.order_of i ≡ None → distance ≤ label_at f i
+  pub held : (k : ℕ) → order_at s.order_of i ≡ Some k → FAR ≤ distance_at f k → distance ≤ label_at f i
+
+-- An order may be settled next: it is the first, or the wagon that leads to it is no farther than any that leads on or
+-- has no order, and nearer than each refusal.
+pub record IsNext (s : Kept) (f : Search) (next : Next) : Type 0 where
+  pub within : next.order < order_count s.table
+  pub far : FAR ≤ distance_at f next.order
+  pub limit : next.distance ≤ max_cost
+  pub front : f.front ≤ next.distance
+  pub refusal : next.distance ≤ f.refusal.distance
+  pub led : 0 < length f.orders.items → (next.wagon < wagon_count s.table) × (order_at s.order_of next.wagon ≡ Some next.order) × (label_at f next.wagon ≡ next.distance)
+  pub first : length f.orders.items ≡ 0 → next.distance ≡ 0
+  pub beyond : (i : ℕ) → i < wagon_count s.table → IsFrom s f next.distance i
 
 -- a wagon without an order at this distance, or a settled order that refuses a unit at it
-abbrev pub IsEnd : Table → List ℕ → List (Option ℕ) → List ℕ → List ℕ → List ℕ → ℕ → End → Type 0
-IsEnd t v order_of order_far wagon_far orders distance (Wagon i) =
-    (i < wagon_count t) × (order_at order_of i ≡ None) × (slice_index wagon_far i ≡ distance)
-IsEnd t v order_of order_far wagon_far orders distance (Refusal x) =
-    (x < length orders) × (distance + slice_index v (slice_index orders x) ≡ slice_index order_far (slice_index orders x) + penalty_at t (slice_index orders x))
+abbrev pub IsEnd : Kept → Search → ℕ → End → Type 0
+IsEnd s f distance (Wagon i) = (i < wagon_count s.table) × (order_at s.order_of i ≡ None) × (label_at f i ≡ distance)
+IsEnd s f distance (Refusal x) = (x < length f.orders.items) × (distance + slice_index s.v (settled_at f x) ≡ distance_at f (settled_at f x) + penalty_at s.table (settled_at f x))
 
-pub record IsBest (t : Table) (v : List ℕ) (order_of : List (Option ℕ)) (order_far wagon_far orders : List ℕ) (front : ℕ) (best : Best) : Type 0 where
-  pub beyond : front ≤ best.distance
-  pub limit : best.distance ≤ max_cost
-  pub end : IsEnd t v order_of order_far wagon_far orders best.distance best.end
-
--- the wagons reached, and those of them that may lead on
-pub record AreListed (t : Table) (order_of : List (Option ℕ)) (order_far wagon_far reached frontier : List ℕ) : Type 0 where
-  pub each_reached : (i : ℕ) → i < wagon_count t → slice_index wagon_far i < FAR → At reached i
-  pub reached_within : (x : ℕ) → x < length reached → slice_index reached x < wagon_count t
-  pub reached_count : length reached ≡ count_by is_near wagon_far
-  pub each_open : (i k : ℕ) → i < wagon_count t → order_at order_of i ≡ Some k → slice_index wagon_far i < FAR → FAR ≤ slice_index order_far k → At frontier i
-  pub open_within : (x : ℕ) → x < length frontier → slice_index frontier x < wagon_count t
-  pub open_count : length frontier ≤ length reached
-
--- A search from its first order. No settled order is farther than `front`, no wagon of another order is nearer; the first
--- `scanned` settled orders are relaxed.
-pub record IsSearch (t : Table) (u v : List ℕ) (order_of : List (Option ℕ)) (s : Search) (front scanned : ℕ) (best : Best) : Type 0 where
-  pub room : HasRoom t s
-  pub labels : AreLabels t u v s.order_distance.items s.wagon_distance.items s.wagon_from.items s.orders.items
-  pub settled : AreSettled t order_of s.order_distance.items s.wagon_distance.items s.wagon_from.items s.orders.items s.via.items front
-  pub relaxed : (x : ℕ) → x < scanned → IsRelaxed t u v s.order_distance.items s.wagon_distance.items best.distance (slice_index s.orders.items x)
-  pub beyond : AreBeyond t order_of s.order_distance.items s.wagon_distance.items front best.distance
-  pub kept : IsBest t v order_of s.order_distance.items s.wagon_distance.items s.orders.items front best
-  pub listed : AreListed t order_of s.order_distance.items s.wagon_distance.items s.reached.items s.frontier.items
-
--- the order settled last, at its place, distance and price
-pub record IsFront (v : List ℕ) (s : Search) (front : Front) : Type 0 where
-  pub place : front.place + 1 ≡ length s.orders.items
-  pub order : slice_index s.orders.items front.place ≡ front.order
-  pub distance : slice_index s.order_distance.items front.order ≡ front.distance
-  pub price : slice_index v front.order ≡ front.price
-
--- the end at which the order settled last refuses a unit
-abbrev pub refusal_of : Table → Front → Best
-refusal_of t front =
-    record { distance = front.distance + (penalty_at t front.order - front.price); end = Refusal front.place }
+-- A shortest path of a search that is done.
+pub record IsPath (s : Kept) (f : Search) (path : Path) : Type 0 where
+  pub search : IsSearch s f (length f.orders.items)
+  pub some : 0 < length f.orders.items
+  pub limit : path.distance ≤ max_cost
+  pub front : f.front ≤ path.distance
+  pub refusal : path.distance ≤ f.refusal.distance
+  pub beyond : (i : ℕ) → i < wagon_count s.table → IsFrom s f path.distance i
+  pub end : IsEnd s f path.distance path.end

@@ -4,9 +4,9 @@ use Rattle.move_messages.specs.declared.message.Message as message
 use Rattle.wagon_state.specs.StatusTable.{step_of}
 use Rattle.wagon_state.specs.declared.change.Change.{Change}
 use Rattle.wagon_state.specs.declared.wagon_row.WagonRow.{WagonRow}
-use Rattle.database_rows.specs.Rows.{wagon_in, order_in}
+use Rattle.database_rows.specs.Rows.{wagon_in, order_in, with_promise}
 use Rattle.operating_db.specs.After.{order_place}
-use Rattle.operating_db.specs.Commits.{Pair, is_free_row, lack_in, times_of_order, times_of_wagon, with_promise}
+use Rattle.operating_db.specs.Commits.{Pair, is_free_row, lack_in, times_of_order, times_of_wagon}
 use Rattle.operating_db.specs.Office.{Office}
 use Rattle.operating_db.specs.Promises.{is_among}
 

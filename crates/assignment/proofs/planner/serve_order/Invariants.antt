@@ -1,5 +1,12 @@
-use Rattle.assignment.proofs.Serving.{IsServing}
+use Rattle.std.proofs.Common.{◌≡◌, ℕ}
+use Rattle.assignment.specs.inner.State.{IsState, AreCounted, kept, more}
+use Rattle.assignment.specs.inner.Search.{HasRoom}
 use Rattle.assignment.proofs.planner.serve_order.Given as goal
 
 abbrev pub invariant-units : goal.invariant-units
-invariant-units l = IsServing l.initial.state.cells.now l.state.cells.now l.state.columns l.state.u.items l.state.v.items l.state.order_of.items l.search l.j l._unit
+invariant-units l = record {
+  state : IsState l.state;
+  room : HasRoom l.state.cells.now l.search;
+  counted : (taken : ℕ → ℕ) → AreCounted (kept l.initial.state) taken → AreCounted (kept l.state) (more l.j l._unit taken);
+  table : l.state.cells.now ≡ l.initial.state.cells.now;
+}

@@ -1,5 +1,13 @@
-use Rattle.assignment.proofs.Serving.{IsServing}
+use Rattle.std.proofs.Common.{◌≡◌, take}
+use Rattle.assignment.specs.inner.State.{IsState, AreCounted, kept}
+use Rattle.assignment.specs.inner.Search.{HasRoom}
+use Rattle.assignment.specs.inner.Sequence.{taken_in}
 use Rattle.assignment.proofs.planner.Planner.plan.Given as goal
 
 abbrev pub invariant-orders : goal.invariant-orders
-invariant-orders l = IsServing l.initial.state.cells.now l.state.cells.now l.state.columns l.state.u.items l.state.v.items l.state.order_of.items l.search l.j 0
+invariant-orders l = record {
+  state : IsState l.state;
+  room : HasRoom l.state.cells.now l.search;
+  counted : AreCounted (kept l.state) (taken_in l.state.cells.now (take l.entry-index l.entry-items));
+  table : l.state.cells.now ≡ l.initial.state.cells.now;
+}

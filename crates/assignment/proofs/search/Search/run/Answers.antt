@@ -1,8 +1,17 @@
-use Rattle.std.proofs.Common.{get_or, ◌∙◌, ap}
-use Rattle.assignment.proofs.Run.{running_nearer}
+use Rattle.std.proofs.Common.{ℕ, sym, refl, arith, subst}
+use Rattle.assignment.specs.inner.State.{kept}
+use Rattle.assignment.specs.inner.Search.{IsSearch}
+use Rattle.assignment.proofs.Running.{next_first}
 use Rattle.assignment.proofs.search.Search.run.Goals as goal
 
-pub settling-preserved : goal.settling-preserved
-settling-preserved c =
-    let first = c.next_order.ensures.first ∙ ap (λ xs. get_or xs 0 0) c.scan_order-best.ensures.orders ∙ c.settling.invariant.first in
-    running_nearer _ c.args.state.now.columns _ _ _ c.args.j c.next_order.new.self c.in-Some.next c.scan_order-best.result c.nearer-best.result c.refusal.result c.requires.state c.in-Some.ensures.some c.in-Some.ensures.front first c.refusal.ensures c.nearer-best.ensures
+pub settling-init : goal.settling-init
+settling-init c =
+    let s = kept c.args.state.now in
+    let f = c.clear.new.self in
+    let none = c.clear.ensures.none in
+    record {
+      search = subst (λ (n : ℕ). IsSearch s f n) (sym none) c.clear.ensures.search;
+      is_next = next_first s f c.args.j c.requires.order c.clear.ensures.search none c.clear.ensures.front;
+      begins = λ _. refl;
+      began = λ some. absurd (omega (arith, some, none));
+    }

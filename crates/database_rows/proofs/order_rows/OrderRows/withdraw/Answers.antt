@@ -5,28 +5,24 @@ use Rattle.std.specs.Ordering.{nat_cmp}
 use Rattle.load_orders.specs.Lack.{is_waiting}
 use Rattle.load_orders.proofs.Rows.{row_withdrawn}
 use Rattle.database_rows.specs.Rows.{taken_back, wanted_open}
-use Rattle.database_rows.proofs.Orders.{IsRowAt, changed_is, indexed_with, known_at, less_all, row_at, wanted_within}
-use Rattle.database_rows.proofs.Waiting.{room_there, stored_with}
+use Rattle.database_rows.proofs.Orders.{IsRowAt, indexed_with, less_all, row_there, set_at, wanted_within}
+use Rattle.database_rows.proofs.Waiting.{room_at, stored_with}
 use Rattle.database_rows.proofs.order_rows.OrderRows.withdraw.Goals as goal
 
-pub unwrap-place-requires : goal.unwrap-place-requires
-unwrap-place-requires c = known_at c.args.self.now c.args.id c.place_of.result c.place_of.ensures c.requires
-
-at : (c : goal.After-note) → IsRowAt c.self.inside.rows.items c.args.id c.unwrap-place.result c.index_mut-row.result.now
-at c =
-    row_at c.self.inside.rows.items c.args.id c.place_of.result c.unwrap-place.result c.index_mut-row.result.now c.self.invariant.rows_kept.kept (rw (← c.self.view_is) at c.place_of.ensures) c.unwrap-place.ensures c.index_mut-row.ensures.value
+at : (c : goal.After-note) → IsRowAt c.self.inside.rows.items c.index_mut-row.result.now.text.id c.args.place c.index_mut-row.result.now
+at c = row_there c.self.inside.rows.items c.args.place c.index_mut-row.result.now c.self.invariant.rows_kept.kept (rw (← c.self.view_is) at c.requires) c.index_mut-row.ensures.value
 
 pub note-requires : goal.note-requires
 note-requires c =
-    room_there c.self.inside.rows.items (get (slice_cmp nat_cmp) c.self.inside.places) c.self.inside.open_wagons c.self.inside.waiting.items _ c.args.id c.place_of.result c.unwrap-place.result c.self.invariant (rw (← c.self.view_is) at c.place_of.ensures) c.unwrap-place.ensures
+    room_at c.self.inside.rows.items (get (slice_cmp nat_cmp) c.self.inside.places) c.self.inside.open_wagons c.self.inside.waiting.items _ c.args.place c.self.invariant (rw (← c.self.view_is) at c.requires)
 
 pub invariant_of-self : goal.invariant_of-self
 invariant_of-self c =
-    let indexed = indexed_with c.self.inside.rows.items (get (slice_cmp nat_cmp) c.self.inside.places) c.self.inside.open_wagons _ c.args.id c.unwrap-place.result c.index_mut-row.result.now (taken_back c.index_mut-row.result.now) c.self.invariant.rows_kept (at c) refl
+    let indexed = indexed_with c.self.inside.rows.items (get (slice_cmp nat_cmp) c.self.inside.places) c.self.inside.open_wagons _ c.index_mut-row.result.now.text.id c.args.place c.index_mut-row.result.now (taken_back c.index_mut-row.result.now) c.self.invariant.rows_kept (at c) refl
     (row_withdrawn c.index_mut-row.result.now (at c).valid) (less_all c.self.inside.open_wagons c.wanted_open.result (wanted_open c.index_mut-row.result.now) c.wanted_open.ensures
-    (wanted_within c.self.inside.rows.items (get (slice_cmp nat_cmp) c.self.inside.places) c.self.inside.open_wagons c.args.id c.unwrap-place.result c.index_mut-row.result.now c.self.invariant.rows_kept (at c))) (omega arith) in
-    rw c.withdraw.ensures (stored_with c.self.inside.rows.items (get (slice_cmp nat_cmp) c.self.inside.places) c.self.inside.open_wagons _ c.self.inside.waiting.items _ _ _ c.args.id c.unwrap-place.result c.index_mut-row.result.now (taken_back c.index_mut-row.result.now) c.is_waiting.result c.self.invariant (at c) indexed
+    (wanted_within c.self.inside.rows.items (get (slice_cmp nat_cmp) c.self.inside.places) c.self.inside.open_wagons c.index_mut-row.result.now.text.id c.args.place c.index_mut-row.result.now c.self.invariant.rows_kept (at c))) (omega arith) in
+    rw c.withdraw.ensures (stored_with c.self.inside.rows.items (get (slice_cmp nat_cmp) c.self.inside.places) c.self.inside.open_wagons _ c.self.inside.waiting.items _ _ _ c.index_mut-row.result.now.text.id c.args.place c.index_mut-row.result.now (taken_back c.index_mut-row.result.now) c.is_waiting.result c.self.invariant (at c) indexed
     (c.is_waiting.ensures.value ∙ ap is_waiting c.withdraw.ensures) c.note.ensures.items c.note.ensures.room)
 
 pub returns : goal.returns
-returns c = rw (c.withdraw.ensures, ← c.self.view_is) (changed_is c.self.inside.rows.items c.args.id c.unwrap-place.result c.index_mut-row.result.now taken_back c.self.invariant.rows_kept.kept (at c))
+returns c = rw (c.withdraw.ensures, ← c.self.view_is) (set_at c.self.inside.rows.items c.args.place c.index_mut-row.result.now taken_back c.self.invariant.rows_kept.kept (at c))

@@ -8,4 +8,4 @@ returns c =
     let (row, there, named) = rw (c.in_ok-place.was, c.deref.ensures.value) at c.place_of.ensures.found in
     let lookup = rw c.deref-2.ensures.value at c.get.ensures.lookup in
     let read = read_at c.get.result c.self.inside.rows.items c.in_ok-place.place lookup.0 lookup.1 (slice_get_within c.self.inside.rows.items c.in_ok-place.place row there) in
-    rw (← c.self.view_is) (found_in c.self.inside.rows.items c.in_ok-place.place row c.args.number _ c.self.invariant.ascending there named read)
+    rw (← c.self.view_is) (found_in c.self.inside.rows.items c.in_ok-place.place row c.args.number _ c.self.invariant.kept.ascending there named read)

@@ -1,0 +1,33 @@
+"""Writes table lines without plans from a seed: 1,000 of some hundred cells, and ten that are near the limit of a line."""
+import json
+import random
+import sys
+
+
+def wagon(serial):
+    """A wagon number whose first eleven digits spell this serial number."""
+    digits = f"{33_847_961_000 + serial:011}"
+    products = (int(digit) * (2 if at % 2 == 0 else 1) for at, digit in enumerate(digits))
+    total = sum(product // 10 + product % 10 for product in products)
+    return f"{digits}{-total % 10}"
+
+
+def table(wagons, orders):
+    """Costs up to 9,999 km, a tenth of the pairs not allowed, a penalty that is seldom worth it."""
+    cells = [
+        [None if random.random() < 0.1 else random.randint(1, 9_999) for _ in range(orders)] for _ in range(wagons)
+    ]
+    return {
+        "wagons": [wagon(serial) for serial in range(wagons)],
+        "orders": [f"O{number}" for number in range(orders)],
+        "cells": cells,
+        "penalties": [20_000] * orders,
+    }
+
+
+random.seed(20_260_301)
+for k in range(1_010):
+    # A full line has 10,000 cells: with its plan it has some 60,000 bytes, and 65,536 are the most.
+    wagons, orders = (100, 100) if k % 101 == 100 else (random.randint(10, 30), random.randint(10, 20))
+    json.dump(table(wagons, orders), sys.stdout, separators=(",", ":"))
+    print()

@@ -1,0 +1,119 @@
+use Rattle.std.proofs.Common.{◌≡◌, ◌≢◌, ◌<◌, ◌≤◌, ℕ, false, true, List, Some, None, length, get_or, refl, ◌∙◌, ap, arith, inl, inr, min, subst}
+use Rattle.std.specs.Prelude.{◌==◌}
+use Rattle.std.proofs.lemmas.Bool.{cases_eq, cases_lt}
+use Rattle.std.proofs.lemmas.Bool.Decides.{nat_tests}
+use Rattle.cost_table.specs.Table.{wagon_count, order_count}
+use Rattle.assignment.specs.declared.search.Search.{Search}
+use Rattle.assignment.specs.declared.search.Next.{Next}
+use Rattle.assignment.specs.declared.search.End.TheVariants.{Wagon, Refusal}
+use Rattle.assignment.specs.inner.Passes.{IsAmong}
+use Rattle.assignment.specs.inner.State.{Kept, IsKept, order_at, orders_of}
+use Rattle.assignment.specs.inner.Search.{IsSearch, IsNext, IsFrom, IsPath, label_at, distance_at, settled_at}
+use Rattle.assignment.proofs.Limits.{held_order}
+use Rattle.assignment.proofs.Numbers.{orders_length, none_at}
+use Rattle.assignment.proofs.Settle.{next_of}
+
+-- a search that began at order j, and settles an order next
+pub record IsRunning (s : Kept) (f : Search) (j : ℕ) (next : Next) : Type 0 where
+  pub search : IsSearch s f (length f.orders.items)
+  pub is_next : IsNext s f next
+  pub begins : length f.orders.items ≡ 0 → next.order ≡ j
+  pub began : 0 < length f.orders.items → settled_at f 0 ≡ j
+
+same_test : (n : ℕ) → n ≡ 4294967295 → (n == 4294967295) ≡ true
+same_test n e = grind (arith, nat_tests, e)
+
+other_test : (n : ℕ) → n ≢ 4294967295 → (n == 4294967295) ≡ false
+other_test n e = grind (arith, nat_tests, e)
+
+idle_is : (n : ℕ) → (n == 4294967295) ≡ true → n ≡ 4294967295
+idle_is n e = elim (cases_eq n 4294967295) [
+  | inl same ↦ same
+  | inr other ↦ absurd (let f = other_test n other in cc)
+]
+
+leads_is : (n : ℕ) → (n == 4294967295) ≡ false → n ≢ 4294967295
+leads_is n e same = let t = same_test n same in cc
+
+-- a wagon that leads to an order that isn't settled is among those that lead on
+leads_among : (s : Kept) (f : Search) (i q : ℕ) → IsKept s → IsSearch s f (length f.orders.items) → i < wagon_count s.table → order_at s.order_of i ≡ Some q → 4294967295 ≤ distance_at f q → IsAmong f.target.items false i
+leads_among s f i q k h l is far =
+    let to = (h.opens i l).stays q is far in
+    let within = held_order s i q k is in
+    let orders = k.table.orders in
+    other_test (get_or f.target.items i 0) (λ e. omega (arith, to, within, orders, e))
+
+-- no wagon that leads on is nearer than the limit
+pub from_limit : (s : Kept) (f : Search) (limit least i : ℕ) → IsKept s → IsSearch s f (length f.orders.items) → limit ≤ least → ((i : ℕ) → i < wagon_count s.table → order_at s.order_of i ≡ None → limit ≤ label_at f i) → ((i : ℕ) → i < wagon_count s.table → IsAmong f.target.items false i → least ≤ label_at f i) → i < wagon_count s.table → IsFrom s f limit i
+from_limit s f limit least i k h le idle leads l = record {
+  idle = idle i l;
+  held = λ q is far. let m = leads i l (leads_among s f i q k h l is far) in omega (arith, m, le);
+}
+
+pub next_found : (s : Kept) (f : Search) (limit distance wagon : ℕ) → IsKept s → IsSearch s f (length f.orders.items) → 0 < length f.orders.items → distance < limit → limit ≤ f.refusal.distance → ((i : ℕ) → i < wagon_count s.table → order_at s.order_of i ≡ None → limit ≤ label_at f i) → ((i : ℕ) → i < wagon_count s.table → IsAmong f.target.items false i → distance ≤ label_at f i) → wagon < wagon_count s.table → label_at f wagon ≡ distance → IsAmong f.target.items false wagon → IsNext s f (next_of (get_or f.target.items wagon 0) distance wagon)
+next_found s f limit distance wagon k h some less refusal idle leads l at among =
+    let led = (h.opens wagon l).leads (leads_is (get_or f.target.items wagon 0) among) in
+    let top = h.refusal.limit some in
+    let far = led.1 in
+    let beyond = (h.beyond wagon l).held (get_or f.target.items wagon 0) led.0 in
+    let front = h.refusal.beyond in
+    record {
+      within = held_order s wagon (get_or f.target.items wagon 0) k led.0;
+      far = far;
+      limit = omega (arith, less, refusal, top);
+      front = omega (arith, far, beyond, front, top, at);
+      refusal = omega (arith, less, refusal);
+      led = λ _. (l, led.0, at);
+      first = λ none. absurd (omega (arith, none, some));
+      beyond = λ i li. from_limit s f distance distance i k h (omega arith) (λ x lx is. let m = idle x lx is in omega (arith, m, less)) leads li;
+    }
+
+-- the path ends at the nearest wagon without an order
+pub path_to_wagon : (s : Kept) (numbers : List ℕ) (f : Search) (idle wagon : ℕ) → IsKept s → s.order_of ≡ orders_of numbers → IsSearch s f (length f.orders.items) → 0 < length f.orders.items → ((i : ℕ) → i < wagon_count s.table → IsFrom s f (min idle f.refusal.distance) i) → idle ≤ f.refusal.distance → wagon < wagon_count s.table → label_at f wagon ≡ idle → IsAmong numbers true wagon → IsPath s f (record { distance = idle; end = Wagon wagon })
+path_to_wagon s numbers f idle wagon k hs h some beyond le l at among =
+    let top = h.refusal.limit some in
+    let held = k.held.wagons in
+    let count = ap length hs in
+    let long = orders_length numbers in
+    let none : order_at s.order_of wagon ≡ None = ap (λ x. order_at x wagon) hs ∙ none_at numbers wagon (omega (arith, l, held, count, long)) (idle_is (get_or numbers wagon 0) among) in
+    let front = (h.beyond wagon l).idle none in
+    let same : min idle f.refusal.distance ≡ idle = omega (arith, le) in
+    record {
+      search = h;
+      some = some;
+      limit = omega (arith, le, top);
+      front = omega (arith, front, at);
+      refusal = le;
+      beyond = λ i li. subst (λ (x : ℕ). IsFrom s f x i) same (beyond i li);
+      end = (l, none, at);
+    }
+
+-- the path ends at the nearest refusal
+pub path_to_refusal : (s : Kept) (f : Search) (idle : ℕ) → IsSearch s f (length f.orders.items) → 0 < length f.orders.items → ((i : ℕ) → i < wagon_count s.table → IsFrom s f (min idle f.refusal.distance) i) → f.refusal.distance ≤ idle → IsPath s f (record { distance = f.refusal.distance; end = Refusal f.refusal.place })
+path_to_refusal s f idle h some beyond le =
+    let same : min idle f.refusal.distance ≡ f.refusal.distance = omega (arith, le) in
+    record {
+      search = h;
+      some = some;
+      limit = h.refusal.limit some;
+      front = h.refusal.beyond;
+      refusal = omega arith;
+      beyond = λ i li. subst (λ (x : ℕ). IsFrom s f x i) same (beyond i li);
+      end = (h.refusal.within some, h.refusal.exact some);
+    }
+
+-- the first order
+pub next_first : (s : Kept) (f : Search) (j : ℕ) → j < order_count s.table → IsSearch s f 0 → length f.orders.items ≡ 0 → f.front ≡ 0 → IsNext s f (next_of j 0 0)
+next_first s f j l h none front = record {
+  within = l;
+  far = elim (cases_lt (distance_at f j) 4294967295) [
+    | inl near ↦ absurd (let within = (h.settled.listed j l near).within in omega (arith, within, none))
+    | inr far ↦ far
+  ];
+  limit = omega arith;
+  front = omega (arith, front);
+  refusal = omega arith;
+  led = λ some. absurd (omega (arith, some, none));
+  first = λ _. refl;
+  beyond = λ i li. record { idle = λ is. omega arith; held = λ q is far. omega arith };
+}

@@ -1,0 +1,35 @@
+-- The costs of a table by order, in one flat list.
+use Rattle.std.specs.Prelude.{◌≡◌, ◌+◌, ◌*◌, ◌<◌, ◌==◌, nat_lt, ℕ, if◌then◌else◌, List, length, take, Option, Some, None, slice_index}
+use Rattle.cost_table.specs.Table.{Table, cost_at, cost_in, row_at, wagon_count, order_count}
+use Rattle.assignment.specs.declared.costs.TheConstants.{NO_CELL}
+
+-- the number that stands for a cell
+abbrev pub cell_cost : Option ℕ → ℕ
+cell_cost None = NO_CELL
+cell_cost (Some c) = c
+
+-- for each order one number of each wagon, which stands for the cell that `cell` has for the wagon and the order
+pub record AreCostsOf (t : Table) (cell : ℕ → ℕ → Option ℕ) (costs : List ℕ) : Type 0 where
+  pub count : length costs ≡ order_count t * wagon_count t
+  pub each : (i j : ℕ) → i < wagon_count t → j < order_count t → slice_index costs (j * wagon_count t + i) ≡ cell_cost (cell i j)
+
+-- the costs of a table by order
+abbrev pub AreCosts : Table → List ℕ → Type 0
+AreCosts t costs = AreCostsOf t (cost_at t) costs
+
+-- the cells of the first n wagons
+abbrev pub cost_before : Table → ℕ → ℕ → ℕ → Option ℕ
+cost_before t n i j = if nat_lt i n then cost_at t i j else None
+
+-- the cells of the first n wagons, and the first m of the next one
+abbrev pub cost_within : Table → ℕ → ℕ → ℕ → ℕ → Option ℕ
+cost_within t n m i j = if i == n then cost_in (take m (row_at t n)) j else cost_before t n i j
+
+-- the cells of the first n wagons, and for the first m orders those of two wagons more
+abbrev pub cost_two : Table → ℕ → ℕ → ℕ → ℕ → Option ℕ
+cost_two t n m i j = if nat_lt j m then cost_before t (n + 2) i j else cost_before t n i j
+
+-- the costs of order j, one of each wagon
+pub record IsColumn (t : Table) (j : ℕ) (column : List ℕ) : Type 0 where
+  pub count : length column ≡ wagon_count t
+  pub each : (i : ℕ) → i < wagon_count t → slice_index column i ≡ cell_cost (cost_at t i j)

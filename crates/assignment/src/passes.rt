@@ -1,0 +1,106 @@
+//! Passes over all wagons, without a branch in their loops, so that the compiler makes vector code of them.
+ghost use Rattle.std.specs.Prelude.{◌≡◌, ◌<◌, ◌≤◌, ◌+◌, ◌-◌, ◌^◌, ◌==◌, ℕ, min, nat_lt, if◌then◌else◌, length, slice_index};
+ghost use Rattle.assignment.specs.inner.Passes.{IsAmong, HasLabel, through};
+
+use crate::state::NO_ORDER;
+
+/// The distance of what a search hasn't reached; distances are in kilometres.
+pub(crate) const FAR: u32 = u32::MAX;
+
+/// The order settled last: its place among the settled ones, its distance and its price in kilometres.
+#[derive(Clone, Copy)]
+pub(crate) struct Front {
+    pub(crate) place: u32,
+    pub(crate) distance: u32,
+    pub(crate) price: u32,
+}
+
+/// One of two numbers, without a branch.
+fn choose(is: bool, yes: u32, no: u32) -> u32
+    ensures { result ≡ (if is then yes else no) }
+{
+    let mask = 0u32.wrapping_sub(u32::from(is));
+    (yes & mask) | (no & !mask)
+}
+
+/// Relaxes all cells of the order at the front: a wagon that is nearer over its cell gets a new label, and is reached
+/// from that order.
+// In a function of its own, so that it is vector code whatever stands around it.
+#[inline(never)]
+pub(crate) fn relax(label: &mut [u32], from: &mut [u32], costs: &[u32], u: &[u32], front: Front)
+    requires places { length from.old ≡ length label.old }
+    requires costs { length costs.now ≡ length label.old }
+    requires prices { length u.now ≡ length label.old }
+    requires no_gap { (i : ℕ) → i < length label.old → front.price ≤ slice_index costs.now i + slice_index u.now i }
+    requires limit { (i : ℕ) → i < length label.old → slice_index costs.now i + slice_index u.now i + front.distance < 2 ^ 32 }
+    ensures labels { (i : ℕ) → i < length label.old → slice_index label.new i ≡ min (slice_index label.old i) (through front (slice_index costs.now i) (slice_index u.now i)) }
+    ensures places { (i : ℕ) → i < length label.old → slice_index from.new i ≡ (if nat_lt (through front (slice_index costs.now i) (slice_index u.now i)) (slice_index label.old i) then front.place else slice_index from.old i) }
+{
+    for w in 0..label.len() {
+        let distance = costs[w] + u[w] - front.price + front.distance;
+        from[w] = choose(distance < label[w], front.place, from[w]);
+        label[w] = label[w].min(distance);
+    }
+}
+
+/// Closes an order: no wagon leads on to it any more.
+#[inline(never)]
+pub(crate) fn close(target: &mut [u32], order: u32)
+    ensures { (i : ℕ) → i < length target.old → slice_index target.new i ≡ (if slice_index target.old i == order then NO_ORDER else slice_index target.old i) }
+{
+    for w in 0..target.len() {
+        target[w] = choose(target[w] == order, NO_ORDER, target[w]);
+    }
+}
+
+/// The least label of a wagon without an order, or of one with an order; `FAR` where there is none.
+#[inline(never)]
+pub(crate) fn nearest(label: &[u32], orders: &[u32], is_idle: bool) -> u32
+    requires { length orders.now ≡ length label.now }
+    ensures least { (i : ℕ) → i < length label.now → IsAmong orders.now is_idle i → result ≤ slice_index label.now i }
+    ensures label { result < FAR → HasLabel label.now orders.now is_idle result }
+{
+    let mut least = FAR;
+    for w in 0..label.len() {
+        least = least.min(choose((orders[w] == NO_ORDER) == is_idle, label[w], FAR));
+    }
+    least
+}
+
+/// The first wagon without an order, or with an order, that has this label.
+pub(crate) fn find(label: &[u32], orders: &[u32], is_idle: bool, least: u32) -> usize
+    requires orders { length orders.now ≡ length label.now }
+    requires label { HasLabel label.now orders.now is_idle least }
+    ensures within { result < length label.now }
+    ensures label { slice_index label.now result ≡ least }
+    ensures among { IsAmong orders.now is_idle result }
+{
+    for w in 0..label.len() {
+        if label[w] == least && (orders[w] == NO_ORDER) == is_idle {
+            return w;
+        }
+    }
+    unreachable!()
+}
+
+/// Raises each price by how much nearer than the end its wagon or order is.
+#[inline(never)]
+pub(crate) fn raise(prices: &mut [u32], distances: &[u32], end: u32)
+    requires lengths { length distances.now ≡ length prices.old }
+    requires limit { (i : ℕ) → i < length prices.old → slice_index prices.old i + end < 2 ^ 32 }
+    ensures { (i : ℕ) → i < length prices.old → slice_index prices.new i ≡ slice_index prices.old i + (end - slice_index distances.now i) }
+{
+    for i in 0..prices.len() {
+        prices[i] += end.saturating_sub(distances[i]);
+    }
+}
+
+/// Writes the same numbers in a wider type.
+pub(crate) fn widen(wide: &mut [u64], numbers: &[u32])
+    requires { length wide.old ≡ length numbers.now }
+    ensures { wide.new ≡ numbers.now }
+{
+    for i in 0..numbers.len() {
+        wide[i] = u64::from(numbers[i]);
+    }
+}

@@ -1,0 +1,3 @@
+pub mod Arrows
+pub mod Loops
+pub mod Names

@@ -1,0 +1,9 @@
+pub mod Words
+pub mod Wagons
+pub mod Places
+pub mod Outside
+pub mod Lines
+pub mod Promises
+pub mod Map
+pub mod Laws
+pub mod inner

@@ -1,0 +1,32 @@
+//! Words of a map. `Err` only when out of memory; part of the text may be there then.
+ghost use Rattle.std.specs.Prelude.{◌≡◌, ◌++◌, decimal, OnOk, string_bytes};
+ghost use Rattle.std.specs.Str.{IsAscii};
+ghost use Rattle.fleet_map.specs.Words.{quoted};
+
+use std::alloc::AllocError;
+use std::fmt::Write;
+
+/// Adds ASCII characters.
+pub(crate) fn push_ascii(text: &mut String, characters: &[u8]) -> Result<(), AllocError>
+    requires { IsAscii characters.now }
+    ensures { OnOk result (string_bytes text.new ≡ string_bytes text.old ++ characters.now) }
+{
+    text.push_str(str::from_utf8(characters).unwrap())
+}
+
+/// Adds a name in quotes.
+pub(crate) fn push_quoted(text: &mut String, name: &[u8]) -> Result<(), AllocError>
+    requires { IsAscii name.now }
+    ensures { OnOk result (string_bytes text.new ≡ string_bytes text.old ++ quoted name.now) }
+{
+    text.push_str("\"")?;
+    push_ascii(text, name)?;
+    text.push_str("\"")
+}
+
+/// Adds a number.
+pub(crate) fn push_number(text: &mut String, number: u64) -> Result<(), AllocError>
+    ensures { OnOk result (string_bytes text.new ≡ string_bytes text.old ++ decimal number) }
+{
+    write!(text, "{number}")
+}

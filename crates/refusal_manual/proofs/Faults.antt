@@ -1,0 +1,226 @@
+-- Faults and the list of refusal numbers.
+use Rattle.std.proofs.Common.{ℕ, zero, suc, List, [], ◌∷◌, map, codes, refl, arith, Vec, Global}
+use Rattle.sessions.specs.Seat.{SeatValue}
+use Rattle.json_fields.specs.declared.field.Field.TheVariants.{Wagon}
+use Rattle.distance_tables.specs.declared.networks_fault.NetworksFault.TheVariants.{BadNetworkCount}
+use Rattle.rail_codes.specs.declared.code_fault.CodeFault.TheVariants as code
+use Rattle.json_fields.specs.declared.fault.FieldFault.TheVariants as field
+use Rattle.json_fields.specs.declared.fault.LineFault.TheVariants as line
+use Rattle.wagon_state.specs.declared.step_fault.StepFault.TheVariants as step
+use Rattle.wagon_roster.specs.declared.roster_fault.RosterFault.TheVariants as roster
+use Rattle.line_engine.specs.declared.run.RunFault.TheVariants as run
+use Rattle.line_network.specs.declared.network_fault.NetworkFault.TheVariants as network
+use Rattle.distance_tables.specs.declared.work_fault.WorkFault.TheVariants as work
+use Rattle.cost_table.specs.declared.table_fault.TableFault.TheVariants as table
+use Rattle.price_checker.specs.declared.check_fault.CheckFault.TheVariants as check
+use Rattle.named_pairs.specs.declared.named_fault.NamedFault.TheVariants as named
+use Rattle.table_lines.specs.declared.table_refusal.TableRefusal.TheVariants as table_line
+use Rattle.operating_db.specs.declared.apply_fault.ApplyFault.TheVariants as event
+use Rattle.commit_book.specs.declared.refusal.Refusal.TheVariants as call
+use Rattle.sessions.specs.declared.plan_fault.PlanFault.TheVariants as plan
+use Rattle.sessions.specs.declared.close_fault.CloseFault.TheVariants as close
+use Rattle.office.specs.declared.feed_fault.FeedFault.TheVariants as feed
+use Rattle.refusal_manual.specs.Laws.{AnyFault, of_code, of_field, of_line, of_step, of_roster, of_run, of_network, of_networks, of_work, of_table, of_check, of_named, of_table_line, of_event, of_call, of_plan, of_opening, of_closing, of_feed, EachFaultIsListed, EachNumberIsAFaults, AreFaults, number_of}
+
+pub listed : (L : Type 0) → EachFaultIsListed L
+listed L (of_code code.NotTwelveDigits) = refl
+listed L (of_code code.CheckDigit) = refl
+listed L (of_code code.BadPlace) = refl
+listed L (of_code code.BadClass) = refl
+listed L (of_code code.BadCompany) = refl
+listed L (of_code code.BadOrderId) = refl
+listed L (of_code code.BadMoment) = refl
+listed L (of_code code.MomentOutOfRange) = refl
+listed L (of_field (field.Code code.NotTwelveDigits)) = refl
+listed L (of_field (field.Code code.CheckDigit)) = refl
+listed L (of_field (field.Code code.BadPlace)) = refl
+listed L (of_field (field.Code code.BadClass)) = refl
+listed L (of_field (field.Code code.BadCompany)) = refl
+listed L (of_field (field.Code code.BadOrderId)) = refl
+listed L (of_field (field.Code code.BadMoment)) = refl
+listed L (of_field (field.Code code.MomentOutOfRange)) = refl
+listed L (of_field field.WrongKind) = refl
+listed L (of_field field.OutOfRange) = refl
+listed L (of_line line.OutOfMemory) = refl
+listed L (of_line line.NotJson) = refl
+listed L (of_line line.NotAnObject) = refl
+listed L (of_line line.UnknownType) = refl
+listed L (of_line (line.MissingField a)) = refl
+listed L (of_line (line.BadField a b)) = refl
+listed L (of_step step.Earlier) = refl
+listed L (of_step step.WrongStatus) = refl
+listed L (of_step step.WrongPlace) = refl
+listed L (of_roster roster.OutOfMemory) = refl
+listed L (of_roster (roster.DuplicateWagon a)) = refl
+listed L (of_roster roster.TooLarge) = refl
+listed L (of_roster (roster.BadRosterRow a)) = refl
+listed L (of_roster roster.ReadFailed) = refl
+listed L (of_run run.OutOfMemory) = refl
+listed L (of_run (run.TooManyLines a)) = refl
+listed L (of_run (run.LineTooLong a)) = refl
+listed L (of_run (run.ReadFailed a)) = refl
+listed L (of_run (run.WriteFailed a)) = refl
+listed L (of_network network.OutOfMemory) = refl
+listed L (of_network (network.BadRow a)) = refl
+listed L (of_network network.TooManyPlaces) = refl
+listed L (of_network network.TooManyLines) = refl
+listed L (of_network network.ReadFailed) = refl
+listed L (of_networks fault) = refl
+listed L (of_work work.OutOfMemory) = refl
+listed L (of_work work.BadWorkerCount) = refl
+listed L (of_work work.NoThread) = refl
+listed L (of_table table.OutOfMemory) = refl
+listed L (of_table (table.DuplicateWagon a)) = refl
+listed L (of_table (table.DuplicateOrder a)) = refl
+listed L (of_table table.TooLarge) = refl
+listed L (of_table table.UnevenRows) = refl
+listed L (of_check check.WrongLengths) = refl
+listed L (of_check (check.NotAllowed a b)) = refl
+listed L (of_check (check.UsedTwice a b)) = refl
+listed L (of_check (check.PriceGap a b)) = refl
+listed L (of_check (check.OverPenalty a)) = refl
+listed L (of_check (check.SumsDiffer a b)) = refl
+listed L (of_named named.OutOfMemory) = refl
+listed L (of_named named.WrongLengths) = refl
+listed L (of_named (named.NotAllowed a b)) = refl
+listed L (of_named (named.UsedTwice a b)) = refl
+listed L (of_named (named.PriceGap a b)) = refl
+listed L (of_named (named.OverPenalty a)) = refl
+listed L (of_named (named.SumsDiffer a b)) = refl
+listed L (of_named (named.NotInProblem a b)) = refl
+listed L (of_table_line table_line.OutOfMemory) = refl
+listed L (of_table_line (table_line.Line line.OutOfMemory)) = refl
+listed L (of_table_line (table_line.Line line.NotJson)) = refl
+listed L (of_table_line (table_line.Line line.NotAnObject)) = refl
+listed L (of_table_line (table_line.Line line.UnknownType)) = refl
+listed L (of_table_line (table_line.Line (line.MissingField a))) = refl
+listed L (of_table_line (table_line.Line (line.BadField a b))) = refl
+listed L (of_table_line (table_line.Table table.OutOfMemory)) = refl
+listed L (of_table_line (table_line.Table (table.DuplicateWagon a))) = refl
+listed L (of_table_line (table_line.Table (table.DuplicateOrder a))) = refl
+listed L (of_table_line (table_line.Table table.TooLarge)) = refl
+listed L (of_table_line (table_line.Table table.UnevenRows)) = refl
+listed L (of_table_line (table_line.Check named.OutOfMemory)) = refl
+listed L (of_table_line (table_line.Check named.WrongLengths)) = refl
+listed L (of_table_line (table_line.Check (named.NotAllowed a b))) = refl
+listed L (of_table_line (table_line.Check (named.UsedTwice a b))) = refl
+listed L (of_table_line (table_line.Check (named.PriceGap a b))) = refl
+listed L (of_table_line (table_line.Check (named.OverPenalty a))) = refl
+listed L (of_table_line (table_line.Check (named.SumsDiffer a b))) = refl
+listed L (of_table_line (table_line.Check (named.NotInProblem a b))) = refl
+listed L (of_event event.OutOfMemory) = refl
+listed L (of_event (event.Step step.Earlier)) = refl
+listed L (of_event (event.Step step.WrongStatus)) = refl
+listed L (of_event (event.Step step.WrongPlace)) = refl
+listed L (of_event event.UnknownWagon) = refl
+listed L (of_event event.OrderKnown) = refl
+listed L (of_event event.TooManyOpen) = refl
+listed L (of_event event.UnknownOrder) = refl
+listed L (of_event event.OrderClosed) = refl
+listed L (of_event event.UnknownNetwork) = refl
+listed L (of_event event.SameNetwork) = refl
+listed L (of_call call.OutOfMemory) = refl
+listed L (of_call (call.Step step.Earlier)) = refl
+listed L (of_call (call.Step step.WrongStatus)) = refl
+listed L (of_call (call.Step step.WrongPlace)) = refl
+listed L (of_call (call.Check named.OutOfMemory)) = refl
+listed L (of_call (call.Check named.WrongLengths)) = refl
+listed L (of_call (call.Check (named.NotAllowed a b))) = refl
+listed L (of_call (call.Check (named.UsedTwice a b))) = refl
+listed L (of_call (call.Check (named.PriceGap a b))) = refl
+listed L (of_call (call.Check (named.OverPenalty a))) = refl
+listed L (of_call (call.Check (named.SumsDiffer a b))) = refl
+listed L (of_call (call.Check (named.NotInProblem a b))) = refl
+listed L (of_call call.IdReused) = refl
+listed L (of_call call.BookFull) = refl
+listed L (of_call call.UnknownWagon) = refl
+listed L (of_call call.OrderKnown) = refl
+listed L (of_call call.TooManyOpen) = refl
+listed L (of_call call.UnknownOrder) = refl
+listed L (of_call call.OrderClosed) = refl
+listed L (of_call call.UnknownNetwork) = refl
+listed L (of_call call.SameNetwork) = refl
+listed L (of_call call.NotKept) = refl
+listed L (of_call (call.WagonChanged a)) = refl
+listed L (of_call (call.OrderChanged a)) = refl
+listed L (of_plan plan.OutOfMemory) = refl
+listed L (of_plan plan.UnknownNetwork) = refl
+listed L (of_opening fault) = refl
+listed L (of_closing (close.SeatsMissing a b)) = refl
+listed L (of_closing (close.ReceiptLost a b c d)) = refl
+listed L (of_feed feed.OutOfMemory) = refl
+listed L (of_feed feed.NoThread) = refl
+listed L (of_feed (feed.ReceiptLost a b)) = refl
+
+a_wagon : List ℕ
+a_wagon = codes "338447961008"
+
+an_order : List ℕ
+an_order = codes "O1"
+
+-- a fault of each number
+abbrev examples : (L : Type 0) → Vec SeatValue Global → List (AnyFault L)
+examples L seats =
+    of_line line.OutOfMemory
+    ∷ of_code code.NotTwelveDigits
+    ∷ of_code code.CheckDigit
+    ∷ of_code code.BadPlace
+    ∷ of_code code.BadClass
+    ∷ of_code code.BadCompany
+    ∷ of_code code.BadOrderId
+    ∷ of_code code.BadMoment
+    ∷ of_code code.MomentOutOfRange
+    ∷ of_field field.WrongKind
+    ∷ of_field field.OutOfRange
+    ∷ of_line line.NotJson
+    ∷ of_line line.NotAnObject
+    ∷ of_line line.UnknownType
+    ∷ of_line (line.MissingField Wagon)
+    ∷ of_line (line.BadField Wagon field.WrongKind)
+    ∷ of_step step.Earlier
+    ∷ of_step step.WrongStatus
+    ∷ of_step step.WrongPlace
+    ∷ of_network (network.BadRow 1)
+    ∷ of_network network.TooManyPlaces
+    ∷ of_network network.TooManyLines
+    ∷ of_work work.BadWorkerCount
+    ∷ of_work work.NoThread
+    ∷ of_networks BadNetworkCount
+    ∷ of_table (table.DuplicateWagon a_wagon)
+    ∷ of_table (table.DuplicateOrder an_order)
+    ∷ of_table table.TooLarge
+    ∷ of_table table.UnevenRows
+    ∷ of_check check.WrongLengths
+    ∷ of_check (check.NotAllowed 0 0)
+    ∷ of_check (check.UsedTwice 0 0)
+    ∷ of_check (check.PriceGap 0 0)
+    ∷ of_check (check.OverPenalty 0)
+    ∷ of_check (check.SumsDiffer 0 1)
+    ∷ of_call call.IdReused
+    ∷ of_call call.BookFull
+    ∷ of_call call.UnknownWagon
+    ∷ of_call call.OrderKnown
+    ∷ of_call call.TooManyOpen
+    ∷ of_call call.UnknownOrder
+    ∷ of_call call.OrderClosed
+    ∷ of_roster (roster.BadRosterRow 1)
+    ∷ of_call call.UnknownNetwork
+    ∷ of_call call.SameNetwork
+    ∷ of_call call.NotKept
+    ∷ of_call (call.WagonChanged a_wagon)
+    ∷ of_call (call.OrderChanged an_order)
+    ∷ of_named (named.NotInProblem a_wagon an_order)
+    ∷ of_run (run.TooManyLines 1)
+    ∷ of_run (run.LineTooLong 1)
+    ∷ of_run (run.ReadFailed 1)
+    ∷ of_run (run.WriteFailed 1)
+    ∷ of_closing (close.SeatsMissing (record { seats = 1 }) seats)
+    ∷ of_feed (feed.ReceiptLost 1 1) ∷ []
+
+are_faults : (L : Type 0) (faults : List (AnyFault L)) → AreFaults L (map number_of faults)
+are_faults L [] k d lt = absurd (omega arith)
+are_faults L (fault ∷ faults) zero d lt = (fault, refl)
+are_faults L (fault ∷ faults) (suc k) d lt = are_faults L faults k d (omega arith)
+
+pub answered : (L : Type 0) → EachNumberIsAFaults L
+answered L seats = are_faults L (examples L seats)

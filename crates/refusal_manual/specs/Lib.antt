@@ -1,0 +1,4 @@
+pub mod Numbers
+pub mod Manual
+pub mod Laws
+pub mod inner

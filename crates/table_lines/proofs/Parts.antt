@@ -1,0 +1,103 @@
+-- The table that a line states, and then its plan.
+use Rattle.std.proofs.Common.{◌≡◌, ℕ, Bool, true, false, cond, List, [], Option, Result, Ok, Err, length, refl, ap}
+use Rattle.serde_json.specs.Data.{Data}
+use Rattle.cost_table.specs.Names.{NameLists, names_of}
+use Rattle.cost_table.specs.Table.{Table}
+use Rattle.cost_table.specs.declared.table_fault.TableFault.{TableFault}
+use Rattle.cost_table.specs.declared.table_fault.TableFault.TheVariants.{TooLarge}
+use Rattle.json_fields.specs.declared.field.Field.TheVariants.{Wagons, Orders, Penalties, Pairs, WagonPrices, OrderPrices}
+use Rattle.json_fields.specs.declared.fault.LineFault.{LineFault}
+use Rattle.json_fields.specs.Values.{◌>>=◌, number_within, wagon_number_from, order_id_from, pair_of}
+use Rattle.json_fields.specs.Fields.{list_at}
+use Rattle.json_fields.specs.Line.{object_of}
+use Rattle.cost_table.specs.TableLimits.{max_cost}
+use Rattle.named_pairs.specs.NamedPairs.{checked}
+use Rattle.table_lines.specs.TableLine.{TableText, cells_of, lacks_of, prices_of, table_text_of, table_line_of}
+use Rattle.table_lines.specs.TablePart.{table_of, table_then_plan, with_plan, with_plan_of}
+use Rattle.table_lines.specs.StatedTable.{CostsOfPlans, stated_in}
+use Rattle.table_lines.specs.TableCost.{cost_in, cost_of_line, even_table, is_too_large, lacks_in, with_check_fault, with_line_fault, with_table_fault}
+use Rattle.table_lines.specs.declared.table_refusal.TableRefusal.{TableRefusal}
+use Rattle.table_lines.specs.declared.table_refusal.TableRefusal.TheVariants.{Table as OfTable}
+
+abbrev Names : Type 0
+Names = List (List ℕ)
+
+-- fields one after the other, at once or in two parts
+in_two : (w o : Result Names LineFault) (c : Result (List (List (Option ℕ))) LineFault) (p : Result (List ℕ) LineFault) (l : Result (Option (List ℕ)) LineFault)
+    (q : Result (List (List ℕ × List ℕ)) LineFault) (u v : Result (List ℕ) LineFault)
+    → (w >>= λ wagons. o >>= λ orders. c >>= λ cells. p >>= λ penalties. l >>= λ lacks. q >>= λ pairs. u >>= λ us. v >>= λ vs.
+    Ok (record { wagons = wagons; orders = orders; cells = cells; penalties = penalties; lacks = lacks; pairs = pairs; u = us; v = vs }))
+    ≡ ((w >>= λ wagons. o >>= λ orders. c >>= λ cells. p >>= λ penalties. l >>= λ lacks.
+    Ok (record { wagons = wagons; orders = orders; cells = cells; penalties = penalties; lacks = lacks; pairs = []; u = []; v = [] }))
+    >>= λ (t : TableText). q >>= λ pairs. u >>= λ us. v >>= λ vs. Ok (with_plan t pairs us vs))
+in_two (Err e) o c p l q u v = refl
+in_two (Ok ws) (Err e) c p l q u v = refl
+in_two (Ok ws) (Ok os) (Err e) p l q u v = refl
+in_two (Ok ws) (Ok os) (Ok cs) (Err e) l q u v = refl
+in_two (Ok ws) (Ok os) (Ok cs) (Ok ps) (Err e) q u v = refl
+in_two (Ok ws) (Ok os) (Ok cs) (Ok ps) (Ok ls) q u v = refl
+
+object_then_plan : (d : Data) → table_text_of d ≡ (table_of d >>= with_plan_of d)
+unfolding table_text_of table_of with_plan_of
+object_then_plan d =
+    in_two (list_at wagon_number_from Wagons d) (list_at order_id_from Orders d) (cells_of d) (list_at (number_within 0 max_cost) Penalties d) (lacks_of d)
+    (list_at pair_of Pairs d) (prices_of WagonPrices d) (prices_of OrderPrices d)
+
+then_plan : (r : Result Data LineFault) → (r >>= table_text_of) ≡ (r >>= λ d. table_of d >>= with_plan_of d)
+then_plan (Err e) = refl
+then_plan (Ok d) = object_then_plan d
+
+-- a line is read as its table and then its plan
+pub line_then_plan : (bytes : List ℕ) → table_line_of bytes ≡ table_then_plan bytes
+unfolding table_line_of
+line_then_plan bytes = then_plan (object_of bytes)
+
+-- ---- a stated table
+
+stated_then : (b : Bool) (names : Result NameLists TableRefusal) (even : Result Table TableRefusal) (check : NameLists → Table → Result ℕ TableRefusal)
+    → cond b (Err (OfTable TooLarge)) (names >>= λ n. even >>= λ t. check n t)
+    ≡ (cond b (Err (OfTable TooLarge)) (names >>= λ n. even >>= λ t. Ok (n, t)) >>= λ (s : NameLists × Table). check s.0 s.1)
+stated_then true names even check = refl
+stated_then false (Err e) even check = refl
+stated_then false (Ok n) (Err e) check = refl
+stated_then false (Ok n) (Ok t) check = refl
+
+pub costs_of_plans : (t : TableText) → CostsOfPlans t
+unfolding cost_in stated_in
+costs_of_plans t pairs u v =
+    stated_then (is_too_large t) (with_table_fault (names_of t.wagons t.orders)) (even_table (length t.wagons) (length t.orders) t.cells t.penalties (lacks_in t))
+    (λ n s. with_check_fault (checked n s pairs u v))
+
+-- what a stated table was made of
+pub record StatedParts (t : TableText) (names : NameLists) (table : Table) : Type 0 where
+  pub named : names_of t.wagons t.orders ≡ Ok names
+  pub even : even_table (length t.wagons) (length t.orders) t.cells t.penalties (lacks_in t) ≡ Ok table
+
+abbrev both_parts : NameLists → Table → Result (NameLists × Table) TableRefusal
+both_parts n t = Ok (n, t)
+
+abbrev both_done : NameLists × Table → Result (NameLists × Table) TableRefusal
+both_done p = Ok p
+
+both_are : (p q : NameLists × Table) → both_done p ≡ both_done q → p ≡ q
+both_are p q h = cc
+
+parts_by : (b : Bool) (names : Result NameLists TableFault) (even : Result Table TableRefusal) (n : NameLists) (t : Table)
+    → cond b (Err (OfTable TooLarge)) (with_table_fault names >>= λ m. even >>= λ s. both_parts m s) ≡ both_parts n t → (names ≡ Ok n) × (even ≡ Ok t)
+parts_by true names even n t h = absurd cc
+parts_by false (Err e) even n t h = absurd cc
+parts_by false (Ok m) (Err e) n t h = absurd cc
+parts_by false (Ok m) (Ok s) n t h =
+    let e = both_are (m, s) (n, t) h in
+    (ap (λ (p : NameLists × Table). Ok p.0) e, ap (λ (p : NameLists × Table). Ok p.1) e)
+
+pub stated_parts : (t : TableText) (names : NameLists) (table : Table) → stated_in t ≡ Ok (names, table) → StatedParts t names table
+unfolding stated_in
+stated_parts t names table h =
+    let f = parts_by (is_too_large t) (names_of t.wagons t.orders) (even_table (length t.wagons) (length t.orders) t.cells t.penalties (lacks_in t)) names table h in
+    record { named = f.0; even = f.1 }
+
+-- what the check of a line answers is what it says of the table that was read
+pub cost_of_read : (bytes : List ℕ) (t : TableText) → table_line_of bytes ≡ Ok t → cost_of_line bytes ≡ cost_in t
+unfolding cost_of_line
+cost_of_read bytes t h = ap (λ (r : Result TableText LineFault). with_line_fault r >>= cost_in) h

@@ -1,0 +1,63 @@
+//! Table lines, read without their plan.
+
+ghost use Rattle.std.specs.Prelude.{◌≡◌, ◌≤◌, All, IfOk, IfSome};
+ghost use Rattle.serde_json.specs.View.{view};
+ghost use Rattle.json_fields.specs.Fields.{Gives};
+ghost use Rattle.table_lines.specs.TableLine.{table_text, table_line_of};
+ghost use Rattle.table_lines.specs.TablePart.{table_of, table_of_line, table_then_plan};
+ghost use Rattle.cost_table.specs.Rows.{IsNumber};
+ghost use Rattle.cost_table.specs.TableLimits.{max_cost};
+ghost use Rattle.load_orders.specs.Wanted.{IsLack};
+
+use crate::cells::cells_at;
+use crate::lacks::lacks_at;
+use crate::table_line::TableLine;
+use cost_table::MAX_COST;
+use json_fields::{Field, LineFault, numbers_at, object_of, order_ids_at, wagon_numbers_at};
+use serde_json::Value;
+use std::alloc::Global;
+
+/// The table that a line states, without pairs and prices, whether the line gives some or not.
+///
+/// The bytes are no JSON value (21), or no object (22); else the fields are tried in the order
+/// wagons, orders, cells, penalties, lacks, and the first that is missing (24) or bad (25) is the
+/// answer. `lacks` may be missing. `OutOfMemory` (1) may be the answer in place of any other.
+#[tactic(auto, unfolding(crate::specs::TablePart::table_of_line))]
+pub fn read_table(alloc: Global, bytes: &[u8]) -> Result<TableLine, LineFault>
+    ensures meaning { Gives table_text result (table_of_line bytes.now) }
+    ensures costs { IfOk result (λ line. All (λ row. All IsNumber row.items) line.cells.items) }
+    ensures penalties { IfOk result
+        (λ line. All (λ penalty. penalty ≤ max_cost) line.penalties.items) }
+    ensures lacks { IfOk result (λ line. IfSome line.lacks (λ lacks. All IsLack lacks.items)) }
+    // What `read_table_line` reads is this table, and then its plan.
+    ensures agrees { table_line_of bytes.now ≡ table_then_plan bytes.now }
+{
+    let object = object_of(alloc, bytes)?;
+    table_part(alloc, &object)
+}
+
+/// The table that an object states.
+#[tactic(auto, unfolding(crate::specs::TablePart::table_of))]
+fn table_part(alloc: Global, object: &Value) -> Result<TableLine, LineFault>
+    ensures meaning { Gives table_text result (table_of (view object.now)) }
+    ensures costs { IfOk result (λ line. All (λ row. All IsNumber row.items) line.cells.items) }
+    ensures penalties { IfOk result
+        (λ line. All (λ penalty. penalty ≤ max_cost) line.penalties.items) }
+    ensures lacks { IfOk result (λ line. IfSome line.lacks (λ lacks. All IsLack lacks.items)) }
+{
+    let wagons = wagon_numbers_at(alloc, object, Field::Wagons)?;
+    let orders = order_ids_at(alloc, object, Field::Orders)?;
+    let cells = cells_at(alloc, object)?;
+    let penalties = numbers_at(alloc, object, Field::Penalties, 0, MAX_COST)?;
+    let lacks = lacks_at(alloc, object)?;
+    Ok(TableLine {
+        wagons,
+        orders,
+        cells,
+        penalties,
+        lacks,
+        pairs: Vec::new(alloc),
+        u: Vec::new(alloc),
+        v: Vec::new(alloc),
+    })
+}

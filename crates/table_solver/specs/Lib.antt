@@ -1,0 +1,3 @@
+pub mod SolvedText
+pub mod Solving
+pub mod inner

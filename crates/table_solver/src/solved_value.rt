@@ -1,0 +1,105 @@
+//! A table with its plan, as JSON.
+ghost use Rattle.std.specs.Prelude.{◌≡◌, ◌≤◌, ◌-◌, ◌^◌, All, IfOk, IfSome, OnOk, string_bytes};
+ghost use Rattle.serde_json.specs.Data.{string};
+ghost use Rattle.serde_json.specs.View.{members_view, view};
+ghost use Rattle.json_fields.specs.Values.{number_within, order_id_from, pair_of, wagon_number_from};
+ghost use Rattle.json_fields.specs.Written.{list_data, number_data, number_or_null, pair_data};
+ghost use Rattle.cost_table.specs.Rows.{IsNumber};
+ghost use Rattle.cost_table.specs.TableLimits.{max_cost};
+ghost use Rattle.load_orders.specs.Wanted.{IsLack};
+ghost use Rattle.table_lines.specs.TableLine.{table_line_of, table_text, table_text_of};
+ghost use Rattle.table_lines.specs.TablePart.{with_plan};
+ghost use Rattle.table_solver.specs.SolvedText.{solved_data, solved_text};
+ghost use Rattle.table_solver.specs.inner.Members.{plain_members};
+
+use json_fields::list_value;
+use price_checker::Prices;
+use rail_codes::{OrderId, WagonNumber};
+use serde_json::{Map, Value, put};
+use std::alloc::{AllocError, Global};
+use table_lines::TableLine;
+
+/// The line of a table with this plan, these prices and the plan's cost in kilometres, without its line feed: members
+/// ascending by name, and no space. It reads as that table. `Err` only when out of memory.
+pub(crate) fn solved_line(
+    alloc: Global,
+    table: &TableLine,
+    pairs: &[(WagonNumber, OrderId)],
+    prices: &Prices,
+    cost: u64,
+) -> Result<String, AllocError>
+    requires costs { All (λ row. All IsNumber row.items) table.now.cells.items }
+    requires penalties { All (λ penalty. penalty ≤ max_cost) table.now.penalties.items }
+    requires lacks { IfSome table.now.lacks (λ lacks. All IsLack lacks.items) }
+    ensures text { let t = with_plan (table_text table.now) pairs.now prices.now.u.items prices.now.v.items in IfOk result (λ line. string_bytes line ≡ solved_text t cost) }
+    ensures reads { let t = with_plan (table_text table.now) pairs.now prices.now.u.items prices.now.v.items in IfOk result (λ line. table_line_of (string_bytes line) ≡ Ok t) }
+{
+    let value = solved_value(alloc, table, pairs, prices, cost)?;
+    value.to_string(alloc)
+}
+
+/// The table with its plan as one object.
+fn solved_value(
+    alloc: Global,
+    table: &TableLine,
+    pairs: &[(WagonNumber, OrderId)],
+    prices: &Prices,
+    cost: u64,
+) -> Result<Value, AllocError>
+    requires costs { All (λ row. All IsNumber row.items) table.now.cells.items }
+    requires penalties { All (λ penalty. penalty ≤ max_cost) table.now.penalties.items }
+    requires lacks { IfSome table.now.lacks (λ lacks. All IsLack lacks.items) }
+    ensures value { let t = with_plan (table_text table.now) pairs.now prices.now.u.items prices.now.v.items in IfOk result (λ value. view value ≡ solved_data t cost) }
+    ensures reads { let t = with_plan (table_text table.now) pairs.now prices.now.u.items prices.now.v.items in OnOk result (table_text_of (solved_data t cost) ≡ Ok t) }
+{
+    let mut members = members_without_lacks(alloc, table, pairs, prices, cost)?;
+    match &table.lacks {
+        None => Ok(Value::Object(members)),
+        Some(lacks) => {
+            let lacks = list_value(alloc, lacks)?;
+            put(&mut members, alloc, "lacks", lacks)?;
+            Ok(Value::Object(members))
+        }
+    }
+}
+
+/// The rows of costs, one for each wagon.
+fn cells_value(alloc: Global, table: &TableLine) -> Result<Value, AllocError>
+    ensures { let t = table_text table.now in IfOk result (λ value. view value ≡ list_data (list_data number_or_null) t.cells) }
+{
+    list_value(alloc, &table.cells)
+}
+
+/// The members of that object but for what the orders lack.
+fn members_without_lacks(
+    alloc: Global,
+    table: &TableLine,
+    pairs: &[(WagonNumber, OrderId)],
+    prices: &Prices,
+    cost: u64,
+) -> Result<Map<String, Value>, AllocError>
+    ensures members { let t = with_plan (table_text table.now) pairs.now prices.now.u.items prices.now.v.items in IfOk result (λ members. members_view members.entries ≡ plain_members t cost) }
+    ensures wagons { OnOk result (All (λ number. wagon_number_from (string number) ≡ Ok number) table.now.wagons.items) }
+    ensures orders { OnOk result (All (λ id. order_id_from (string id) ≡ Ok id) table.now.orders.items) }
+    ensures pairs { OnOk result (All (λ pair. pair_of (pair_data pair) ≡ Ok pair) pairs.now) }
+    ensures prices_of_wagons { OnOk result (All (λ price. number_within 0 (2 ^ 64 - 1) (number_data price) ≡ Ok price) prices.now.u.items) }
+    ensures prices_of_orders { OnOk result (All (λ price. number_within 0 (2 ^ 64 - 1) (number_data price) ≡ Ok price) prices.now.v.items) }
+{
+    let cells = cells_value(alloc, table)?;
+    let orders = list_value(alloc, &table.orders)?;
+    let pairs = list_value(alloc, pairs)?;
+    let penalties = list_value(alloc, &table.penalties)?;
+    let u = list_value(alloc, &prices.u)?;
+    let v = list_value(alloc, &prices.v)?;
+    let wagons = list_value(alloc, &table.wagons)?;
+    let mut members = Map::new(alloc);
+    put(&mut members, alloc, "cells", cells)?;
+    put(&mut members, alloc, "cost", Value::from(cost))?;
+    put(&mut members, alloc, "orders", orders)?;
+    put(&mut members, alloc, "pairs", pairs)?;
+    put(&mut members, alloc, "penalties", penalties)?;
+    put(&mut members, alloc, "u", u)?;
+    put(&mut members, alloc, "v", v)?;
+    put(&mut members, alloc, "wagons", wagons)?;
+    Ok(members)
+}

@@ -1,0 +1,37 @@
+//! The word `map`.
+
+use crate::new_book::{OfficeFiles, new_book, read_files};
+use crate::office_options::OfficeOptions;
+use crate::printing::print_whole;
+use crate::status::status_of_run;
+use crate::stop::Stop;
+use fleet_map::map_text;
+use office::{FromRead, ToWrite};
+use std::io;
+use std::io::Read;
+use std::rt::Files;
+use std::sync::Wait;
+use std::thread::Threads;
+
+/// Opens an office, brings the command lines of an input to it without replies, and prints the office as a graph: status
+/// 0, or 1 where a line was refused.
+pub(crate) fn map<R: Print + Files + Threads + Wait + AllocGlobal, I: Read + Drop>(
+    rt: &R,
+    options: &OfficeOptions<'_>,
+    input: I,
+) -> Result<u8, Stop> {
+    let OfficeFiles { roster, networks } = read_files(rt, options)?;
+    let mut book = new_book(rt, options, roster, &networks)?.book;
+    let mut reader = FromRead::new(input);
+    let mut nowhere = ToWrite::new(io::sink());
+    let count = office::run(rt.alloc(), &mut reader, &mut nowhere, &mut book);
+    let status = status_of_run(count)?;
+    let state = book.state();
+    // A book's network in force is one of its networks, which are numbered from 1.
+    let Some(network) = networks.get(state.network() as usize - 1) else {
+        return Err(Stop::OpenFailed);
+    };
+    let text = map_text(rt.alloc(), state, network)?;
+    print_whole(rt, &text)?;
+    Ok(status)
+}
