@@ -1,18 +1,20 @@
-//! A short text in a field of fixed size.
+//! A short text of ASCII characters in a field of fixed size.
 ghost use Rattle.std.specs.Prelude.{◌≡◌, ℕ, ◌<◌, ◌≤◌, List, length, nat_eq, Some, refl};
 ghost use Rattle.std.specs.Ordering.{nat_cmp};
 ghost use Rattle.std.specs.Cmp.{partial_equiv_from_equiv};
 ghost use Rattle.std.specs.Cmp.Lexicographic.{pointwise, slice_cmp, nat_list_eq_equiv, nat_list_cmp_total, texts_po, texts_ties};
 ghost use Rattle.std.specs.Cmp.Rules.{hashing};
 ghost use Rattle.std.specs.Hash as fed;
+ghost use Rattle.std.specs.Str.{IsAscii};
 ghost use Rattle.std.proofs.Common.{rules};
 ghost use Rattle.rail_codes.specs.inner.ShortText.{padded};
 
+use crate::ascii_text::ascii_str;
 use std::cmp::Ordering;
 use std::hash::{Hash, Hasher};
 use std::marker::Model;
 
-/// A text of at most `ROOM` bytes, which is compared as a text.
+/// A text of at most `ROOM` ASCII characters, which is compared as a text.
 #[derive(Clone, Copy, Debug)]
 pub(crate) struct ShortText<const ROOM: usize> {
     // 0 past the bytes in use
@@ -22,24 +24,26 @@ pub(crate) struct ShortText<const ROOM: usize> {
 
 impl<const ROOM: usize> Model for ShortText<ROOM> {
     ghost use Rattle.std.specs.Prelude.{ℕ, List, length, take};
+    ghost use Rattle.std.specs.Str.{IsAscii};
     ghost use Rattle.rail_codes.specs.inner.ShortText.{IsPadded, padded, length-take-used};
 
     ghost Value = { List ℕ };
 
     ghost view = { λ t. take t.used t.bytes };
 
-    ghost invariant = { λ t. IsPadded ROOM t.bytes t.used };
+    ghost invariant = { λ t. IsPadded ROOM t.bytes t.used × IsAscii (take t.used t.bytes) };
 
     ghost inverse = { λ text. record { bytes = padded ROOM text; used = length text } };
 
-    ghost inverse_ok = { λ t h i. record { bytes = h.2 i; used = length-take-used ROOM t.bytes t.used h i } };
+    ghost inverse_ok = { λ t h i. record { bytes = h.0.2 i; used = length-take-used ROOM t.bytes t.used h.0 i } };
 }
 
 impl<const ROOM: usize> ShortText<ROOM> {
-    /// A text of at most `ROOM` bytes.
+    /// A text of at most `ROOM` ASCII characters.
     pub(crate) fn new(text: &[u8]) -> ShortText<ROOM>
         requires room { length text.now ≤ ROOM }
         requires short { length text.now < 256 }
+        requires ascii { IsAscii text.now }
         ensures { result ≡ text.now }
     {
         ShortText {
@@ -50,7 +54,8 @@ impl<const ROOM: usize> ShortText<ROOM> {
 
     /// The bytes of the text.
     pub(crate) fn as_bytes(&self) -> &[u8]
-        ensures { result.now ≡ self.now }
+        ensures value { result.now ≡ self.now }
+        ensures ascii { IsAscii result.now }
     {
         &self.bytes[..usize::from(self.used)]
     }
@@ -62,7 +67,8 @@ impl<const ROOM: usize> PartialEq for ShortText<ROOM> {
     ghost laws = { partial_equiv_from_equiv nat_list_eq_equiv };
 
     fn eq(&self, other: &Self) -> bool {
-        self.as_bytes() == other.as_bytes()
+        // arrays of one length are compared by words
+        self.used == other.used && self.bytes == other.bytes
     }
 }
 
@@ -90,7 +96,8 @@ impl<const ROOM: usize> Ord for ShortText<ROOM> {
     ghost matches_eq = { texts_ties };
 
     fn cmp(&self, other: &Self) -> Ordering {
-        self.as_bytes().cmp(other.as_bytes())
+        // texts are compared by words
+        ascii_str(self.as_bytes()).cmp(ascii_str(other.as_bytes()))
     }
 }
 
