@@ -4,6 +4,7 @@ ghost use Rattle.std.specs.List.{list_all};
 ghost use Rattle.rail_codes.specs.Company.{is_company, is_company_character, company_of, IsCompany};
 
 use crate::CodeFault;
+use crate::ascii_array::AsciiArray;
 use crate::ascii_text::ascii_text;
 use std::alloc::{AllocError, Global};
 use std::marker::Model;
@@ -12,7 +13,7 @@ use std::marker::Model;
 /// codes.
 #[derive(Clone, Copy, Debug, PartialEq, Eq, PartialOrd, Ord, Hash)]
 pub struct Company {
-    characters: [u8; 4],
+    characters: AsciiArray<4>,
 }
 
 impl Model for Company {
@@ -42,7 +43,9 @@ impl Company {
         if !is_company(&characters) {
             return Err(CodeFault::BadCompany);
         }
-        Ok(Company { characters })
+        Ok(Company {
+            characters: AsciiArray::new(&characters),
+        })
     }
 
     /// The characters as ASCII codes.
@@ -50,7 +53,7 @@ impl Company {
         ensures value { result.now ≡ self.now }
         ensures valid { IsCompany result.now }
     {
-        &self.characters
+        self.characters.as_array()
     }
 
     /// The company as text.

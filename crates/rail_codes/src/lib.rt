@@ -4,6 +4,7 @@
 //! again. A contract sees a code as the bytes of its text.
 #![tactic(auto)]
 
+mod ascii_array;
 mod ascii_text;
 mod characters;
 mod class_code;

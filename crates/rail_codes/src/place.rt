@@ -3,6 +3,7 @@ ghost use Rattle.std.specs.Prelude.{◌≡◌, ◌↔◌, Ok, IsOk, IfOk, string
 ghost use Rattle.rail_codes.specs.Place.{is_place, place_of, IsPlace};
 
 use crate::CodeFault;
+use crate::ascii_array::AsciiArray;
 use crate::ascii_text::ascii_text;
 use crate::characters::{are_digits, are_uppercase_letters};
 use std::alloc::{AllocError, Global};
@@ -12,7 +13,7 @@ use std::marker::Model;
 /// A contract sees the characters as ASCII codes.
 #[derive(Clone, Copy, Debug, PartialEq, Eq, PartialOrd, Ord, Hash)]
 pub struct Place {
-    characters: [u8; 7],
+    characters: AsciiArray<7>,
 }
 
 impl Model for Place {
@@ -41,7 +42,17 @@ impl Place {
         if !is_place(&characters) {
             return Err(CodeFault::BadPlace);
         }
-        Ok(Place { characters })
+        Ok(Place::of_shape(&characters))
+    }
+
+    /// The place of these characters.
+    fn of_shape(characters: &[u8; 7]) -> Place
+        requires { IsPlace characters.now }
+        ensures { result ≡ characters.now }
+    {
+        Place {
+            characters: AsciiArray::new(characters),
+        }
     }
 
     /// The characters as ASCII codes.
@@ -49,7 +60,7 @@ impl Place {
         ensures value { result.now ≡ self.now }
         ensures valid { IsPlace result.now }
     {
-        &self.characters
+        self.characters.as_array()
     }
 
     /// The place as text.

@@ -1,23 +1,21 @@
 //! Wagon numbers.
-ghost use Rattle.std.specs.Prelude.{◌≡◌, ◌≤◌, ◌*◌, ℕ, ◌%◌, ◌↔◌, IsTrue, if◌then◌else◌, Some, None, Ok, IsOk, IfOk, IfSome, List, refl, take, string_bytes};
-ghost use Rattle.std.specs.Cmp.Lexicographic.{slice_cmp, nat_list_cmp_total, texts_po, texts_ties};
-ghost use Rattle.std.specs.Ordering.{nat_cmp};
+ghost use Rattle.std.specs.Prelude.{◌≡◌, ◌≤◌, ◌*◌, ℕ, ◌%◌, ◌↔◌, IsTrue, if◌then◌else◌, Some, None, Ok, IsOk, IfOk, IfSome, List, take, string_bytes};
 ghost use Rattle.rail_codes.specs.inner.CheckDigit.{missing_to_ten};
 ghost use Rattle.rail_codes.specs.WagonNumber.{kept_characters, are_twelve_digits, digit_sum, weighted_digit_sum, wagon_number_of, IsWagonNumber};
 
 use crate::CodeFault;
-use crate::ascii_text::{ascii_str, ascii_text};
+use crate::ascii_array::AsciiArray;
+use crate::ascii_text::ascii_text;
 use crate::characters::are_digits;
 use std::alloc::{AllocError, Global};
-use std::cmp::Ordering;
 use std::marker::Model;
 
 /// A wagon's twelve-digit number: two digits of interoperability code, two of country, four of
 /// technical characteristics, three of serial number and a check digit. Only the length and the
 /// check digit are judged. A contract sees the twelve ASCII digits.
-#[derive(Clone, Copy, Debug, PartialEq, Eq, Hash)]
+#[derive(Clone, Copy, Debug, PartialEq, Eq, PartialOrd, Ord, Hash)]
 pub struct WagonNumber {
-    digits: [u8; 12],
+    digits: AsciiArray<12>,
 }
 
 impl Model for WagonNumber {
@@ -46,7 +44,9 @@ impl WagonNumber {
         if !ends_in_check_digit(&digits) {
             return Err(CodeFault::CheckDigit);
         }
-        Ok(WagonNumber { digits })
+        Ok(WagonNumber {
+            digits: AsciiArray::new(&digits),
+        })
     }
 
     /// The twelve ASCII digits.
@@ -54,14 +54,7 @@ impl WagonNumber {
         ensures value { result.now ≡ self.now }
         ensures valid { IsWagonNumber result.now }
     {
-        &self.digits
-    }
-
-    /// The same as a `str`.
-    fn as_str(&self) -> &str
-        ensures { result.now ≡ self.now }
-    {
-        ascii_str(self.digits())
+        self.digits.as_array()
     }
 
     /// The number as text: its twelve digits.
@@ -70,32 +63,6 @@ impl WagonNumber {
         ensures reads_back { wagon_number_of self ≡ Ok self }
     {
         ascii_text(alloc, self.digits())
-    }
-}
-
-// By the digits, the first digit first. As texts they are compared by words, which is several times as fast as byte by
-// byte.
-impl PartialOrd for WagonNumber {
-    ghost partial_cmp = { λ a b. Some (slice_cmp nat_cmp a b) };
-
-    ghost laws = { texts_po };
-
-    fn partial_cmp(&self, other: &Self) -> Option<Ordering> {
-        Some(self.cmp(other))
-    }
-}
-
-impl Ord for WagonNumber {
-    ghost cmp = { slice_cmp nat_cmp };
-
-    ghost total = { nat_list_cmp_total };
-
-    ghost matches_partial_cmp = { λ a b. refl };
-
-    ghost matches_eq = { texts_ties };
-
-    fn cmp(&self, other: &Self) -> Ordering {
-        self.as_str().cmp(other.as_str())
     }
 }
 
