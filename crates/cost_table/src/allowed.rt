@@ -135,8 +135,11 @@ fn reached(
     ensures meaning { (km : ℕ) → (result ≡ Some km) ↔ Reaches tables.now at wagon.now order.now km }
     ensures limit { IfSome result (λ km. km ≤ max_cost) }
 {
+    if !suits(wagon, order) {
+        return None;
+    }
     let (km, minutes) = distance(tables, from, to)?;
-    if is_in_time(wagon.ready, at, minutes, order.latest()) && suits(wagon, order) {
+    if is_in_time(wagon.ready, at, minutes, order.latest()) {
         Some(u64::from(km))
     } else {
         None
