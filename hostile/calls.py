@@ -1,0 +1,118 @@
+#!/usr/bin/env python3
+"""Calls that take memory, each with every request refused in turn, by a small program over them (calls/).
+
+The program stands in no crate of the repository: a copy of the crates gets it, and `rt try` builds it there without a proof.
+`rt try` refuses one request, always the same. The program makes requests of its own first, one more in each case, so that
+the refused one comes earlier and earlier among those of the calls. Where a call is out of memory the program tests that the
+value shows what it showed before, makes the same call again, and says `refused: CALL`; where anything else happens it ends
+with a fault.
+"""
+
+import os
+import re
+import shutil
+import subprocess
+import sys
+import tempfile
+from concurrent.futures import ThreadPoolExecutor
+
+from program import EACH, HERE, PROCESSES, Table
+
+ROOT = os.path.dirname(HERE)
+NAME = "hostile_calls"
+LIBRARIES = """office sessions assignment dispatch_sheet fleet_map table_solver commit_book operating_db price_checker cost_table
+distance_tables line_network line_engine wagon_roster move_messages rail_codes test_samples""".split()
+# The request that is refused. It comes behind all others in the case whose program makes none of its own.
+REFUSED = 3000
+# Of each part: what it tries, and the calls that must have been refused memory in some case.
+PARTS = {
+    "readings": ("calls that read lines and files, make tables and plans, and write texts", """WagonNumber::text
+        Place::text ClassCode::text Company::text OrderId::text Moment::text read_line CommitText::copy solve_line read_lines
+        Network::copy tables tables_by_workers Cells::from_rows plan Roster::read_rows Roster::copy Book::new OfficeState::new
+        OfficeState::apply OfficeState::problem Problem::copy work cells Snap::commit_text plan_text certificate_line
+        sheet_text map_text""".split()),
+    "books": ("the calls of `Book`", ["message", "place", "withdraw", "revise", "begin", "commit",
+        "message (a delivery that frees a wagon and lets an order wait)", "begin (the oldest problem is dropped)",
+        "begin (the problem that it would drop is committed)", "run (its answers)", "run (one of its calls)"]),
+    "seats": ("the calls of seats, `open` and `close`", ["open", "message", "place", "withdraw", "revise", "begin", "commit",
+        "message (a delivery that frees a wagon and lets an order wait)", "message (repeated)"]),
+    "runs": ("`run` and `check_run` over lines", ["a run (the memory for its lines)", "a run (a line)"]),
+    "feeds": ("`feed` of one reader, and its report", ["feed", "feed (the memory for its lines)", "feed (a line)",
+        "report_text"]),
+}
+# Where these are refused, what comes of the call isn't printed: the program compares it with another run's.
+UNPRINTED = ("run (one of its calls)", "a run (a line)", "feed (a line)", "feed (the memory for its lines)")
+
+
+def built_in(folder):
+    """A copy of the crates with the program among them; its folder."""
+    shutil.copytree(f"{ROOT}/crates", f"{folder}/crates", ignore=shutil.ignore_patterns("out"))
+    shutil.copy(f"{ROOT}/HANDLES", folder)
+    with open(f"{ROOT}/crates.txt", encoding="utf-8") as lines, open(f"{folder}/crates.txt", "w", encoding="utf-8") as copy:
+        copy.write(f"{lines.read()}{NAME}: {' '.join(LIBRARIES)}\n")
+    source = f"{folder}/crates/{NAME}/src"
+    os.makedirs(source)
+    for file in os.listdir(f"{HERE}/calls"):
+        shutil.copy(f"{HERE}/calls/{file}", f"{source}/{file.removesuffix('.rs')}.rt")
+    return f"{folder}/crates/{NAME}"
+
+
+def tried(crate, folder, cases):
+    """What each case printed, and why `rt try` says that it didn't end as it should, if so."""
+    os.makedirs(folder)
+    for part, requests in cases:
+        open(f"{folder}/{part}_{requests:04}", "wb").close()
+        with open(f"{folder}/{part}_{requests:04}.args", "w", encoding="utf-8") as words:
+            words.write(f"{requests}\n{part}\n")
+    ended = subprocess.run(["rt", "try", "--fail-alloc", str(REFUSED), "--cases", folder], cwd=crate, capture_output=True, text=True)
+    printed = dict(re.findall(r"^== (\w+)\n((?:(?!== ).*\n)*)", ended.stdout, re.M))
+    ends = {}
+    said = []
+    for line in ended.stderr.splitlines():
+        said.append(line)
+        if match := re.match(r"case=(\w+) (.*)", line):
+            ends[match[1]] = None if match[2].startswith("run=ended status=0 ") else " ".join(said)
+            said = []
+    if len(ends) != len(cases):
+        raise SystemExit(f"hostile: rt try doesn't run: {ended.stderr[-2000:]}")
+    return {case: (printed.get(f"{case[0]}_{case[1]:04}", "").splitlines(), ends[f"{case[0]}_{case[1]:04}"]) for case in cases}
+
+
+def loss(lines, end, reference):
+    """What was refused in a case, and what is wrong with it."""
+    marks = [line.removeprefix("refused: ") for line in lines if line.startswith("refused: ")]
+    rest = [line for line in lines if not line.startswith("refused: ")]
+    if end:
+        return marks, end
+    if len(marks) > 1:
+        return marks, f"more than one call says that it was refused: {marks}"
+    if marks == ["set-up"]:
+        return marks, None if rest == reference[:len(rest)] else "another answer before the set-up was refused"
+    following = iter(reference)
+    same = all(line in following for line in rest) if marks and marks[0] in UNPRINTED else rest == reference
+    return marks, None if same else "another answer than without a refusal"
+
+
+def judge(table, part, results):
+    """A row of the table: in how many cases a call, and not what was made for it, was refused memory."""
+    what, calls = PARTS[part]
+    reference, end = results[part, 0]
+    losses = [f"nothing refused: {end}"] if end else []
+    seen, counted, last = set(), 0, None
+    for requests in sorted((requests for name, requests in results if name == part and requests), reverse=True):
+        marks, lost = loss(*results[part, requests], reference)
+        if lost:
+            losses.append(f"{part} {requests}: {lost}")
+        if not marks and not lost and last is None:
+            losses.append(f"{part} {requests}: a request was refused and no call says so")
+        if marks == ["end"]:
+            last = requests
+        elif marks and last is not None:
+            losses.append(f"{part} {requests}: a request behind the last one")
+        counted += marks not in ([], ["set-up"], ["end"])
+        seen |= set(marks)
+    if EACH == 1:
+        losses += [f"{part}: no request of `{call}` was refused" for call in calls if call not in seen]
+        losses += [] if last else [f"{part}: the last request wasn't reached"]
+    table.add(f"{what}: one request for memory refused", counted, losses)
+    return last
