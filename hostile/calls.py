@@ -2,17 +2,19 @@
 """Calls that take memory, each with every request refused in turn, by a small program over them (calls/).
 
 The program stands in no crate of the repository: a copy of the crates gets it, and `rt try` builds it there without a proof.
-`rt try` refuses one request, always the same. The program makes requests of its own first, one more in each case, so that
-the refused one comes earlier and earlier among those of the calls. Where a call is out of memory the program tests that the
-value shows what it showed before, makes the same call again, and says `refused: CALL`; where anything else happens it ends
-with a fault.
+`rt try` refuses one request, always the same. The program prepares what the calls need, and makes requests of its own before
+the calls, one more in each case, so that the refused one comes earlier and earlier among those of the calls. Where a call is out
+of memory the program tests that the value shows what it showed before, makes the same call again, and says `refused: CALL`;
+where anything else happens it ends with a fault.
+
+Two cases of each part come first. In one the program makes requests until one is refused, and says how many it made before the
+calls; in the other it does so behind the calls. What lies between is what the calls ask for, and each of it is refused once.
 """
 
 import os
 import re
 import shutil
 import subprocess
-import sys
 import tempfile
 from concurrent.futures import ThreadPoolExecutor
 
@@ -22,8 +24,8 @@ ROOT = os.path.dirname(HERE)
 NAME = "hostile_calls"
 LIBRARIES = """office sessions assignment dispatch_sheet fleet_map table_solver commit_book operating_db price_checker cost_table
 distance_tables line_network line_engine wagon_roster move_messages rail_codes test_samples""".split()
-# The request that is refused. It comes behind all others in the case whose program makes none of its own.
-REFUSED = 3000
+# The request that is refused, and more requests than come before it. MANY stands in calls/trying.rs too.
+REFUSED, MANY = 3000, 5000
 # Of each part: what it tries, and the calls that must have been refused memory in some case.
 PARTS = {
     "readings": ("calls that read lines and files, make tables and plans, and write texts", """WagonNumber::text
@@ -83,36 +85,65 @@ def loss(lines, end, reference):
     marks = [line.removeprefix("refused: ") for line in lines if line.startswith("refused: ")]
     rest = [line for line in lines if not line.startswith("refused: ")]
     if end:
-        return marks, end
-    if len(marks) > 1:
-        return marks, f"more than one call says that it was refused: {marks}"
-    if marks == ["set-up"]:
-        return marks, None if rest == reference[:len(rest)] else "another answer before the set-up was refused"
+        return None, end
+    if len(marks) != 1:
+        return None, f"one request is refused, and these say so: {marks}"
     following = iter(reference)
-    same = all(line in following for line in rest) if marks and marks[0] in UNPRINTED else rest == reference
-    return marks, None if same else "another answer than without a refusal"
+    if marks[0] == "preparation":
+        same = rest == reference[:len(rest)]
+    elif marks[0] in UNPRINTED:
+        same = all(line in following for line in rest)
+    else:
+        same = rest == reference
+    return marks[0], None if same else f"{marks[0]}: what follows is another than without a refusal"
 
 
-def judge(table, part, results):
-    """A row of the table: in how many cases a call, and not what was made for it, was refused memory."""
+def told(results, part, requests, word):
+    """The number that a case says behind a word, and its other lines."""
+    lines, end = results[part, requests]
+    numbers = [int(line.split()[1]) for line in lines if line.startswith(f"{word}: ")]
+    if end or len(numbers) != 1:
+        raise SystemExit(f"hostile: {part} doesn't run without a refusal: {end} {lines[-3:]}")
+    return numbers[0], [line for line in lines if not line.startswith(f"{word}: ")]
+
+
+def judge(table, part, results, reference):
+    """A row of the table: in how many cases a call, and nothing between calls, was refused memory."""
     what, calls = PARTS[part]
-    reference, end = results[part, 0]
-    losses = [f"nothing refused: {end}"] if end else []
-    seen, counted, last = set(), 0, None
-    for requests in sorted((requests for name, requests in results if name == part and requests), reverse=True):
-        marks, lost = loss(*results[part, requests], reference)
-        if lost:
-            losses.append(f"{part} {requests}: {lost}")
-        if not marks and not lost and last is None:
-            losses.append(f"{part} {requests}: a request was refused and no call says so")
-        if marks == ["end"]:
-            last = requests
-        elif marks and last is not None:
-            losses.append(f"{part} {requests}: a request behind the last one")
-        counted += marks not in ([], ["set-up"], ["end"])
-        seen |= set(marks)
+    refused, losses = [], []
+    for (name, requests), (lines, end) in results.items():
+        if name == part:
+            mark, lost = loss(lines, end, reference)
+            refused.append(mark)
+            losses += [f"{part} {requests}: {lost}"] if lost else []
     if EACH == 1:
-        losses += [f"{part}: no request of `{call}` was refused" for call in calls if call not in seen]
-        losses += [] if last else [f"{part}: the last request wasn't reached"]
-    table.add(f"{what}: one request for memory refused", counted, losses)
-    return last
+        losses += [f"no request of `{call}` was refused" for call in calls if call not in refused]
+    table.add(f"{what}: one request for memory refused", len(refused) - refused.count("preparation"), losses)
+
+
+def all_tried(crate, folder, cases):
+    """What comes of the cases, shared out to several runs of `rt try`, each of which builds the program."""
+    shares = [cases[k::PROCESSES] for k in range(min(PROCESSES, len(cases)))]
+    with ThreadPoolExecutor(PROCESSES) as pool:
+        done = pool.map(lambda k: tried(crate, f"{folder}/cases_{k}", shares[k]), range(len(shares)))
+        return {case: result for results in done for case, result in results.items()}
+
+
+def main():
+    table = Table()
+    with tempfile.TemporaryDirectory() as folder:
+        crate = built_in(folder)
+        ends = tried(crate, f"{folder}/ends", [(part, requests) for part in PARTS for requests in (0, MANY)])
+        cases, references = [], {}
+        for part in PARTS:
+            left, references[part] = told(ends, part, 0, "left")
+            made, _ = told(ends, part, MANY, "made")
+            cases += [(part, requests) for requests in range(made, left, -EACH)]
+        results = all_tried(crate, folder, cases)
+    for part in PARTS:
+        judge(table, part, results, references[part])
+    table.end()
+
+
+if __name__ == "__main__":
+    main()

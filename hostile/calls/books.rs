@@ -2,7 +2,7 @@
 //! it should.
 
 use crate::samples::{book, command};
-use crate::trying::{must, say_refused, shown};
+use crate::trying::{must, prepared, say_refused, shown};
 use commit_book::{Answer, Book, Call, Refusal, Reply};
 use move_messages::Command;
 use std::alloc::{AllocError, Global};
@@ -74,10 +74,24 @@ pub(crate) const DAY: [(&str, &str, Answer); 16] = [
 
 pub(crate) const NO_MEMORY: Answer = Answer::Refused(Refusal::OutOfMemory);
 
-pub(crate) fn all(rt: &HostRuntime, alloc: Global) -> Option<()> {
-    day(rt, alloc)?;
-    dropped(rt, alloc)?;
-    at_once(rt, alloc)
+pub(crate) fn all(rt: &HostRuntime, alloc: Global, requests: u32) -> Option<()> {
+    let calls = day_calls(alloc)?;
+    let first = book(alloc, 2)?;
+    let second = dropping(alloc)?;
+    let third = book(alloc, 2)?;
+    prepared(rt, alloc, requests)?;
+    day(rt, alloc, &calls, first)?;
+    dropped(rt, alloc, &calls, second);
+    at_once(rt, alloc, &calls, third)
+}
+
+/// The calls of the day.
+pub(crate) fn day_calls(alloc: Global) -> Option<Vec<Call>> {
+    let mut calls = Vec::with_capacity(alloc, DAY.len()).ok()?;
+    for (_name, line, _wanted) in DAY {
+        calls.push(call_of(alloc, line)?).ok()?;
+    }
+    Some(calls)
 }
 
 /// A line as a call of a book.
@@ -115,16 +129,15 @@ fn answer(alloc: Global, book: &mut Book, call: &Call) -> Answer {
 }
 
 /// Each call of the day by itself. The book keeps two problems.
-fn day(rt: &HostRuntime, alloc: Global) -> Option<()> {
-    let mut book = book(alloc, 2)?;
-    for (name, line, wanted) in DAY {
-        let call = call_of(alloc, line)?;
+fn day(rt: &HostRuntime, alloc: Global, calls: &[Call], book: Book) -> Option<()> {
+    let mut book = book;
+    for (call, (name, _line, wanted)) in calls.iter().zip(DAY) {
         let before = shown(alloc, &book)?;
-        let mut answered = answer(alloc, &mut book, &call);
+        let mut answered = answer(alloc, &mut book, call);
         if answered == NO_MEMORY {
             say_refused(rt, name);
             must(shown(alloc, &book).unwrap().as_str() == before.as_str());
-            answered = answer(alloc, &mut book, &call);
+            answered = answer(alloc, &mut book, call);
         }
         must(answered == wanted);
     }
@@ -135,7 +148,22 @@ fn day(rt: &HostRuntime, alloc: Global) -> Option<()> {
 
 /// A book that keeps one problem. Where a second begin is refused, the first problem is still kept, and its commit is
 /// accepted; where it isn't, the commit is refused (81).
-fn dropped(rt: &HostRuntime, alloc: Global) -> Option<()> {
+fn dropped(rt: &HostRuntime, alloc: Global, calls: &[Call], book: Book) {
+    let mut book = book;
+    let (begin, commit) = (&calls[1], &calls[2]);
+    let begun = answer(alloc, &mut book, begin);
+    if begun == NO_MEMORY {
+        say_refused(rt, "begin (the problem that it would drop is committed)");
+        must(answer(alloc, &mut book, commit) == Answer::Done(Reply::Accepted(3)));
+    } else {
+        must(begun == Answer::Begun(2));
+        let refused = answer(alloc, &mut book, commit);
+        must(refused == Answer::Refused(Refusal::NotKept));
+    }
+}
+
+/// A book that keeps one problem, that of its first order, and has a second order since.
+fn dropping(alloc: Global) -> Option<Book> {
     let mut book = book(alloc, 1)?;
     for line in [ORDER, BEGIN, OTHER_ORDER] {
         let call = call_of(alloc, line)?;
@@ -143,37 +171,23 @@ fn dropped(rt: &HostRuntime, alloc: Global) -> Option<()> {
             return None;
         }
     }
-    let begin = call_of(alloc, BEGIN)?;
-    let commit = call_of(alloc, COMMIT)?;
-    let begun = answer(alloc, &mut book, &begin);
-    if begun == NO_MEMORY {
-        say_refused(rt, "begin (the problem that it would drop is committed)");
-        must(answer(alloc, &mut book, &commit) == Answer::Done(Reply::Accepted(3)));
-    } else {
-        must(begun == Answer::Begun(2));
-        must(answer(alloc, &mut book, &commit) == Answer::Refused(Refusal::NotKept));
-    }
-    Some(())
+    Some(book)
 }
 
 /// The whole day by `Book::run`. Where the answers' memory is refused nothing has changed; where a call's is, the day goes
 /// on as it does without that call.
-fn at_once(rt: &HostRuntime, alloc: Global) -> Option<()> {
-    let mut calls = Vec::with_capacity(alloc, DAY.len()).ok()?;
-    for (_name, line, _wanted) in DAY {
-        calls.push(call_of(alloc, line)?).ok()?;
-    }
-    let mut first = book(alloc, 2)?;
+fn at_once(rt: &HostRuntime, alloc: Global, calls: &[Call], book: Book) -> Option<()> {
+    let mut first = book;
     let before = shown(alloc, &first)?;
-    let answers = match first.run(alloc, &calls) {
+    let answers = match first.run(alloc, calls) {
         Ok(answers) => answers,
         Err(AllocError) => {
             say_refused(rt, "run (its answers)");
             must(shown(alloc, &first).unwrap().as_str() == before.as_str());
-            first.run(alloc, &calls).unwrap()
+            first.run(alloc, calls).unwrap()
         }
     };
-    judge_answers(rt, alloc, &calls, &answers, &first)
+    judge_answers(rt, alloc, calls, &answers, &first)
 }
 
 fn judge_answers(

@@ -3,7 +3,7 @@
 
 use crate::runs::run_lines_text;
 use crate::samples::{book, networks};
-use crate::trying::{must, say_refused};
+use crate::trying::{must, prepared, say_refused};
 use distance_tables::Networks;
 use office::{FeedFault, FeedReport, feed, report_text};
 use std::alloc::{AllocError, Global};
@@ -15,10 +15,14 @@ pub(crate) fn all<T: Threads + Wait + Sync>(
     rt: &HostRuntime,
     threads: &T,
     alloc: Global,
+    requests: u32,
 ) -> Option<()> {
     let networks = networks(alloc)?;
     let text = run_lines_text(alloc, None)?;
-    let report = match fed(threads, alloc, &text, &networks)? {
+    let readers = vec![in alloc; MemorySource::new(text.as_bytes(), usize::MAX)].ok()?;
+    let book = book(alloc, 2)?;
+    prepared(rt, alloc, requests)?;
+    let report = match feed(threads, alloc, readers, book, &networks) {
         Ok(report) => report,
         Err(fault) => {
             must(fault.number() == 1);

@@ -3,12 +3,12 @@
 
 use crate::books::DAY;
 use crate::samples::{LONGER, book, command, networks};
-use crate::trying::{must, say_refused, shown_state};
+use crate::trying::{must, prepared, say_refused, shown_state};
 use assignment::plan;
 use commit_book::{Book, Limits, Snap};
 use cost_table::{Cells, Plan, cells};
 use dispatch_sheet::{certificate_line, plan_text, sheet_text};
-use distance_tables::{OpenGate, Tables, tables, tables_by_workers};
+use distance_tables::{Networks, OpenGate, Tables, tables, tables_by_workers};
 use fleet_map::map_text;
 use line_network::{Network, read_lines};
 use move_messages::{Command, read_line};
@@ -26,14 +26,58 @@ use wagon_roster::Roster;
 const TABLE: &[u8] =
     br#"{"wagons":["338447961008","218124712173"],"orders":["O1","O2"],"cells":[[10,20],[15,null]],"penalties":[1000,1000]}"#;
 
-pub(crate) fn all<T: Threads + Wait>(rt: &HostRuntime, threads: &T, alloc: Global) -> Option<()> {
+/// What some calls start from.
+#[derive(Drop)]
+struct Start {
+    rows: Vec<Vec<Option<u64>>>,
+    roster: Roster,
+    shared: Arc<Networks>,
+    events: Vec<Event>,
+    book: Book,
+    snap: Snap,
+    networks: Networks,
+    longer: Network,
+}
+
+impl Start {
+    fn new(alloc: Global) -> Option<Start> {
+        let first = vec![in alloc; Some(10u64), Some(20)].ok()?;
+        let second = vec![in alloc; Some(15u64), None].ok()?;
+        let mut book = book(alloc, 2)?;
+        let Command::Place(text) = command(alloc, DAY[0].1)? else {
+            return None;
+        };
+        book.place(alloc, &text).ok()?;
+        let at = Moment::read("2026-03-01T01:00:00Z").ok()?;
+        let snap = book.begin(alloc, at).ok()?;
+        Some(Start {
+            rows: vec![in alloc; first, second].ok()?,
+            roster: Roster::read_rows(alloc, ROSTER.as_bytes()).ok()?,
+            shared: Arc::new(alloc, networks(alloc)?).ok()?,
+            events: events(alloc)?,
+            book,
+            snap,
+            networks: networks(alloc)?,
+            longer: read_lines(alloc, LONGER.as_bytes()).ok()?,
+        })
+    }
+}
+
+pub(crate) fn all<T: Threads + Wait>(
+    rt: &HostRuntime,
+    threads: &T,
+    alloc: Global,
+    requests: u32,
+) -> Option<()> {
+    let start = Start::new(alloc)?;
+    prepared(rt, alloc, requests)?;
     codes(rt, alloc)?;
     lines(rt, alloc)?;
     distances(rt, threads, alloc)?;
-    costs(rt, alloc)?;
-    rosters(rt, alloc)?;
-    offices(rt, alloc)?;
-    plans(rt, alloc)
+    costs(rt, alloc, &start.rows)?;
+    rosters(rt, alloc, &start)?;
+    offices(rt, alloc, &start)?;
+    plans(rt, alloc, &start)
 }
 
 fn say(rt: &HostRuntime, text: &str) {
@@ -101,28 +145,24 @@ fn say_distances(rt: &HostRuntime, network: &Network, one: &Tables, two: &Tables
 }
 
 /// A table of costs from rows, and its plan.
-fn costs(rt: &HostRuntime, alloc: Global) -> Option<()> {
-    let first = vec![in alloc; Some(10u64), Some(20)].ok()?;
-    let second = vec![in alloc; Some(15u64), None].ok()?;
-    let rows = vec![in alloc; first, second].ok()?;
+fn costs(rt: &HostRuntime, alloc: Global, rows: &[Vec<Option<u64>>]) -> Option<()> {
     let table = tried_fault!(
         rt,
         "Cells::from_rows",
-        Cells::from_rows(alloc, &rows, &[1000, 1000], &[1, 1])
+        Cells::from_rows(alloc, rows, &[1000, 1000], &[1, 1])
     );
     let (plan, prices) = tried!(rt, "plan", plan(alloc, &table));
     must(println!(rt; "{table:?} {plan:?} {:?} {:?}", prices.u, prices.v).is_ok());
     Some(())
 }
 
-/// A roster and its copy.
-fn rosters(rt: &HostRuntime, alloc: Global) -> Option<()> {
+/// A roster, its copy, and a book of it.
+fn rosters(rt: &HostRuntime, alloc: Global, start: &Start) -> Option<()> {
     let read = tried_fault!(rt, "Roster::read_rows", Roster::read_rows(alloc, ROSTER.as_bytes()));
     let copy = tried!(rt, "Roster::copy", read.copy(alloc));
     must(println!(rt; "{:?} {:?}", read.rows(), copy.rows()).is_ok());
-    let networks = networks(alloc)?;
-    let shared = Arc::new(alloc, networks).ok()?;
-    let other = shared.clone().ok()?;
+    let shared = start.shared.clone().ok()?;
+    let other = start.shared.clone().ok()?;
     let limits = Limits::new(100, 2)?;
     let made = match Book::new(alloc, copy, shared, limits) {
         Ok(made) => made,
@@ -137,21 +177,18 @@ fn rosters(rt: &HostRuntime, alloc: Global) -> Option<()> {
 }
 
 /// An office takes the day's events in, each of which changes nothing where memory is refused; then its problem.
-fn offices(rt: &HostRuntime, alloc: Global) -> Option<()> {
-    let roster = Roster::read_rows(alloc, ROSTER.as_bytes()).ok()?;
-    let mut state = tried!(rt, "OfficeState::new", OfficeState::new(alloc, &roster, 2));
-    for (_name, line, _wanted) in DAY {
-        let Some(event) = event_of(alloc, line)? else {
-            continue;
-        };
+fn offices(rt: &HostRuntime, alloc: Global, start: &Start) -> Option<()> {
+    let roster = &start.roster;
+    let mut state = tried!(rt, "OfficeState::new", OfficeState::new(alloc, roster, 2));
+    for event in &start.events {
         let before = shown_state(alloc, &state)?;
-        if let Err(fault) = state.apply(alloc, &event) {
+        if let Err(fault) = state.apply(alloc, event) {
             let after = shown_state(alloc, &state).unwrap();
             must(after.as_str() == before.as_str());
             // One message comes twice, which an office doesn't know.
             if fault.number() == 1 {
                 say_refused(rt, "OfficeState::apply");
-                must(state.apply(alloc, &event).is_ok());
+                must(state.apply(alloc, event).is_ok());
             }
         }
     }
@@ -163,47 +200,45 @@ fn offices(rt: &HostRuntime, alloc: Global) -> Option<()> {
     Some(())
 }
 
-fn event_of(alloc: Global, line: &str) -> Option<Option<Event>> {
-    Some(match command(alloc, line)? {
-        Command::Message(message) => Some(Event::Message(message)),
-        Command::Place(text) => Some(Event::Place(text)),
-        Command::Withdraw(id) => Some(Event::Withdraw(id)),
-        Command::Commit(commit) => Some(Event::Commit(commit)),
-        Command::Revise(network) => Some(Event::Revise(network)),
-        _ => None,
-    })
+/// The events of the day.
+fn events(alloc: Global) -> Option<Vec<Event>> {
+    let mut events = Vec::new(alloc);
+    for (_name, line, _wanted) in DAY {
+        let event = match command(alloc, line)? {
+            Command::Message(message) => Event::Message(message),
+            Command::Place(text) => Event::Place(text),
+            Command::Withdraw(id) => Event::Withdraw(id),
+            Command::Commit(commit) => Event::Commit(commit),
+            Command::Revise(network) => Event::Revise(network),
+            _ => continue,
+        };
+        events.push(event).ok()?;
+    }
+    Some(events)
 }
 
 /// A planner's work on a book with an order, and the texts of it.
-fn plans(rt: &HostRuntime, alloc: Global) -> Option<()> {
-    let mut book = book(alloc, 2)?;
-    let Command::Place(text) = command(alloc, DAY[0].1)? else {
-        return None;
-    };
-    book.place(alloc, &text).ok()?;
-    let at = Moment::read("2026-03-01T01:00:00Z").ok()?;
-    let snap = book.begin(alloc, at).ok()?;
-    let networks = networks(alloc)?;
-    let (plan, prices) = tried_fault!(rt, "work", work(alloc, &snap, &networks));
+fn plans(rt: &HostRuntime, alloc: Global, start: &Start) -> Option<()> {
+    let (snap, networks) = (&start.snap, &start.networks);
+    let (plan, prices) = tried_fault!(rt, "work", work(alloc, snap, networks));
     let table = tried!(rt, "cells", cells(alloc, snap.problem(), networks.get(1)?));
-    texts(rt, alloc, &book, &snap, &table, &plan, &prices)
+    texts(rt, alloc, start, &table, &plan, &prices)
 }
 
 fn texts(
     rt: &HostRuntime,
     alloc: Global,
-    book: &Book,
-    snap: &Snap,
+    start: &Start,
     table: &Cells,
     plan: &Plan,
     prices: &Prices,
 ) -> Option<()> {
+    let (book, snap) = (&start.book, &start.snap);
     let commit = tried!(rt, "Snap::commit_text", snap.commit_text(alloc, plan, prices));
     must(println!(rt; "{commit:?}").is_ok());
     say(rt, &tried!(rt, "plan_text", plan_text(alloc, snap, table, plan)));
     say(rt, &tried!(rt, "certificate_line", certificate_line(alloc, snap, plan, prices)));
     say(rt, &tried!(rt, "sheet_text", sheet_text(alloc, book.len(), book.state())));
-    let network = read_lines(alloc, LONGER.as_bytes()).ok()?;
-    say(rt, &tried!(rt, "map_text", map_text(alloc, book.state(), &network)));
+    say(rt, &tried!(rt, "map_text", map_text(alloc, book.state(), &start.longer)));
     Some(())
 }

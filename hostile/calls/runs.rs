@@ -4,7 +4,7 @@ ghost use Rattle.std.specs.Prelude.{None};
 
 use crate::books::DAY;
 use crate::samples::book;
-use crate::trying::{must, say_refused, shown};
+use crate::trying::{must, prepared, say_refused, shown};
 use commit_book::Book;
 use line_engine::{DeviceFailed, RunCount, RunFault, Sink};
 use office::{check_run, run};
@@ -66,9 +66,32 @@ enum Word {
     Check,
 }
 
-pub(crate) fn all(rt: &HostRuntime, alloc: Global) -> Option<()> {
-    judged(rt, alloc, Word::Check)?;
-    judged(rt, alloc, Word::Run)
+pub(crate) fn all(rt: &HostRuntime, alloc: Global, requests: u32) -> Option<()> {
+    let tables = Start::new(alloc, Word::Check)?;
+    let day = Start::new(alloc, Word::Run)?;
+    prepared(rt, alloc, requests)?;
+    judged(rt, alloc, tables)?;
+    judged(rt, alloc, day)
+}
+
+/// What a run starts with.
+#[derive(Drop)]
+struct Start {
+    word: Word,
+    text: String,
+    page: Page,
+    book: Book,
+}
+
+impl Start {
+    fn new(alloc: Global, word: Word) -> Option<Start> {
+        Some(Start {
+            word,
+            text: text_of(alloc, word, None)?,
+            page: Page::new(alloc)?,
+            book: book(alloc, 2)?,
+        })
+    }
 }
 
 /// The lines of a word, the one of this number left blank.
@@ -116,10 +139,13 @@ fn ran(
 }
 
 /// A run of a word. Where the memory for its lines is refused it says so, has written nothing and changed nothing.
-fn judged(rt: &HostRuntime, alloc: Global, word: Word) -> Option<()> {
-    let mut book = book(alloc, 2)?;
-    let mut page = Page::new(alloc)?;
-    let text = text_of(alloc, word, None)?;
+fn judged(rt: &HostRuntime, alloc: Global, start: Start) -> Option<()> {
+    let Start {
+        word,
+        text,
+        mut page,
+        mut book,
+    } = start;
     let before = shown(alloc, &book)?;
     let count = match ran(alloc, word, &text, &mut page, &mut book) {
         Ok(count) => count,

@@ -1,9 +1,9 @@
 //! The calls of seats: where memory is refused, count and receipts stay, and the same call made again is the entry that it
 //! would have been.
 
-use crate::books::{DAY, NO_MEMORY, call_of};
+use crate::books::{DAY, NO_MEMORY, day_calls};
 use crate::samples::book;
-use crate::trying::{must, say_refused, shown};
+use crate::trying::{must, prepared, say_refused, shown};
 use commit_book::{Answer, Book, Call, Reply};
 use sessions::{Office, OpenFault, Seat, close, open};
 use std::alloc::{AllocError, Global};
@@ -11,9 +11,16 @@ use std::marker::Brand;
 use std::sync::Wait;
 use std::sync::ledger::{Blank, Ledger};
 
-pub(crate) fn all<T: Wait>(rt: &HostRuntime, threads: &T, alloc: Global) -> Option<()> {
+pub(crate) fn all<T: Wait>(
+    rt: &HostRuntime,
+    threads: &T,
+    alloc: Global,
+    requests: u32,
+) -> Option<()> {
     let book = book(alloc, 2)?;
-    opened::<Brand, T>(rt, threads, alloc, Blank::new(2), book)
+    let calls = day_calls(alloc)?;
+    prepared(rt, alloc, requests)?;
+    opened::<Brand, T>(rt, threads, alloc, &calls, Blank::new(2), book)
 }
 
 /// An office of two seats is opened, has its day, and is closed.
@@ -21,6 +28,7 @@ fn opened<L: Ledger, T: Wait>(
     rt: &HostRuntime,
     threads: &T,
     alloc: Global,
+    calls: &[Call],
     blank: Blank,
     book: Book,
 ) -> Option<()> {
@@ -36,21 +44,19 @@ fn opened<L: Ledger, T: Wait>(
             }
         }
     };
-    day(rt, threads, alloc, &office, &mut seats)?;
+    day(rt, threads, alloc, calls, &office, &mut seats)?;
     closed(rt, alloc, office, seats)
 }
 
-/// Closing asks for no memory: one request more comes behind it in `main`, and each before it is told of.
+/// Closing asks for no memory: each request before the last ones is told of, and it tells of none.
 fn closed<L: Ledger>(
     rt: &HostRuntime,
     alloc: Global,
     office: Office<L>,
     seats: Vec<Seat<L>>,
 ) -> Option<()> {
-    let text = String::with_capacity(alloc, 1).ok()?;
     match close(office, seats) {
         Ok(book) => {
-            let _room = text;
             let len = book.len();
             must(len == 11);
             must(println!(rt; "closed with {len} entries").is_ok());
@@ -67,20 +73,21 @@ fn day<L: Ledger, T: Wait>(
     rt: &HostRuntime,
     threads: &T,
     alloc: Global,
+    calls: &[Call],
     office: &Office<L>,
     seats: &mut [Seat<L>],
 ) -> Option<()> {
-    for (k, (name, line, wanted)) in DAY.iter().enumerate() {
-        let call = call_of(alloc, line)?;
+    for (k, (name, _line, wanted)) in DAY.iter().enumerate() {
+        let call = &calls[k];
         let seat = &mut seats[k % 2];
         let count = seat.count();
         let receipts = format!(in alloc; "{:?}", seat.receipts()).ok()?;
-        let mut answered = answer(threads, alloc, office, seat, &call);
+        let mut answered = answer(threads, alloc, office, seat, call);
         if answered == NO_MEMORY {
             say_refused(rt, name);
             let after = format!(in alloc; "{:?}", seat.receipts()).unwrap();
             must(seat.count() == count && after.as_str() == receipts.as_str());
-            answered = answer(threads, alloc, office, seat, &call);
+            answered = answer(threads, alloc, office, seat, call);
         }
         must(answered == *wanted);
         let added = u64::from(matches!(answered, Answer::Done(Reply::Accepted(_))));

@@ -9,6 +9,31 @@ use std::fmt::Write;
 /// Room for what a value shows, got at once.
 const ROOM: usize = 32_768;
 
+/// More requests than come before the refused one.
+pub(crate) const MANY: u32 = 5_000;
+
+/// Makes so many requests, and answers how many come before the one that is refused.
+pub(crate) fn refused_behind(alloc: Global, requests: u32) -> Option<u32> {
+    for k in 0..requests {
+        let Ok(one) = Vec::from_slice(alloc, &[k]) else {
+            return Some(k);
+        };
+        must(one[0] == k);
+    }
+    None
+}
+
+/// Makes so many requests, all before the calls are made; says how many there are where one is refused.
+pub(crate) fn prepared(rt: &HostRuntime, alloc: Global, requests: u32) -> Option<()> {
+    match refused_behind(alloc, requests) {
+        None => Some(()),
+        Some(made) => {
+            must(println!(rt; "made: {made}").is_ok());
+            None
+        }
+    }
+}
+
 /// A fault, which the kit reports, where something doesn't hold.
 pub(crate) fn must(holds: bool) {
     if !holds {
@@ -16,7 +41,7 @@ pub(crate) fn must(holds: bool) {
     }
 }
 
-/// Says which call, or which preparation, was refused memory.
+/// Says which call was refused memory, or that something between calls was.
 pub(crate) fn say_refused(rt: &HostRuntime, name: &str) {
     must(println!(rt; "refused: {name}").is_ok());
 }
