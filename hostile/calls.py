@@ -66,7 +66,8 @@ def tried(crate, folder, cases):
         open(f"{folder}/{part}_{requests:04}", "wb").close()
         with open(f"{folder}/{part}_{requests:04}.args", "w", encoding="utf-8") as words:
             words.write(f"{requests}\n{part}\n")
-    ended = subprocess.run(["rt", "try", "--fail-alloc", str(REFUSED), "--cases", folder], cwd=crate, capture_output=True, text=True)
+    words = ["rt", "try", "--fail-alloc", str(REFUSED), "--cases", folder]
+    ended = subprocess.run(words, cwd=crate, capture_output=True, text=True)
     printed = dict(re.findall(r"^== (\w+)\n((?:(?!== ).*\n)*)", ended.stdout, re.M))
     ends = {}
     said = []

@@ -9,9 +9,12 @@ use std::alloc::{AllocError, Global};
 
 const ORDER: &str =
     r#"{"type":"order","order":"O1","place":"DE00003","classes":["Eanos"],"load":50000,"latest":"2026-03-01T04:00:00Z","penalty":1000}"#;
+
 const OTHER_ORDER: &str =
     r#"{"type":"order","order":"O2","place":"DE00003","classes":["Eanos"],"load":50000,"latest":"2026-03-01T09:00:00Z","penalty":1000,"wagons":2}"#;
+
 const BEGIN: &str = r#"{"type":"begin","at":"2026-03-01T01:00:00Z"}"#;
+
 const COMMIT: &str =
     r#"{"type":"commit","version":1,"at":"2026-03-01T01:00:00Z","pairs":[["218124712173","O1"]],"u":[0,0],"v":[50]}"#;
 
@@ -43,7 +46,11 @@ pub(crate) const DAY: [(&str, &str, Answer); 16] = [
     ),
     ("begin", BEGIN, Answer::Begun(5)),
     ("place", OTHER_ORDER, Answer::Done(Reply::Accepted(6))),
-    ("begin (the oldest problem is dropped)", BEGIN, Answer::Begun(6)),
+    (
+        "begin (the oldest problem is dropped)",
+        BEGIN,
+        Answer::Begun(6),
+    ),
     (
         "message",
         r#"{"type":"exception","company":"0080","number":8,"wagon":"338447961008","place":"DE00001","moment":"2026-03-01T00:30:00Z","hold":true}"#,

@@ -56,11 +56,7 @@ fn main(rt: HostRuntime) {
 }
 
 /// Makes the calls, and then requests until one is refused, if none was before.
-fn all_done<T: Threads + Wait + Sync>(
-    rt: &HostRuntime,
-    threads: &T,
-    alloc: Global,
-) -> Option<()> {
+fn all_done<T: Threads + Wait + Sync>(rt: &HostRuntime, threads: &T, alloc: Global) -> Option<()> {
     let words: Vec<String> = env::args(rt).ok()?.collect(alloc).ok()?;
     let requests = words.get(1)?.parse::<u32>().ok()?;
     let part = words.get(2)?;

@@ -110,7 +110,10 @@ fn lines(rt: &HostRuntime, alloc: Global) -> Option<()> {
             must(tried!(rt, "CommitText::copy", commit.copy(alloc)) == commit);
         }
     }
-    for line in [r#"{"type":"sheet"}"#, r#"{"type":"plan","at":"2026-03-01T01:00:00Z"}"#] {
+    for line in [
+        r#"{"type":"sheet"}"#,
+        r#"{"type":"plan","at":"2026-03-01T01:00:00Z"}"#,
+    ] {
         let read = tried_fault!(rt, "read_line", read_line(alloc, line.as_bytes()));
         must(println!(rt; "{read:?}").is_ok());
     }
@@ -158,7 +161,11 @@ fn costs(rt: &HostRuntime, alloc: Global, rows: &[Vec<Option<u64>>]) -> Option<(
 
 /// A roster, its copy, and a book of it.
 fn rosters(rt: &HostRuntime, alloc: Global, start: &Start) -> Option<()> {
-    let read = tried_fault!(rt, "Roster::read_rows", Roster::read_rows(alloc, ROSTER.as_bytes()));
+    let read = tried_fault!(
+        rt,
+        "Roster::read_rows",
+        Roster::read_rows(alloc, ROSTER.as_bytes())
+    );
     let copy = tried!(rt, "Roster::copy", read.copy(alloc));
     must(println!(rt; "{:?} {:?}", read.rows(), copy.rows()).is_ok());
     let shared = start.shared.clone().ok()?;
@@ -234,11 +241,35 @@ fn texts(
     prices: &Prices,
 ) -> Option<()> {
     let (book, snap) = (&start.book, &start.snap);
-    let commit = tried!(rt, "Snap::commit_text", snap.commit_text(alloc, plan, prices));
+    let commit = tried!(
+        rt,
+        "Snap::commit_text",
+        snap.commit_text(alloc, plan, prices)
+    );
     must(println!(rt; "{commit:?}").is_ok());
-    say(rt, &tried!(rt, "plan_text", plan_text(alloc, snap, table, plan)));
-    say(rt, &tried!(rt, "certificate_line", certificate_line(alloc, snap, plan, prices)));
-    say(rt, &tried!(rt, "sheet_text", sheet_text(alloc, book.len(), book.state())));
-    say(rt, &tried!(rt, "map_text", map_text(alloc, book.state(), &start.longer)));
+    say(
+        rt,
+        &tried!(rt, "plan_text", plan_text(alloc, snap, table, plan)),
+    );
+    say(
+        rt,
+        &tried!(
+            rt,
+            "certificate_line",
+            certificate_line(alloc, snap, plan, prices)
+        ),
+    );
+    say(
+        rt,
+        &tried!(
+            rt,
+            "sheet_text",
+            sheet_text(alloc, book.len(), book.state())
+        ),
+    );
+    say(
+        rt,
+        &tried!(rt, "map_text", map_text(alloc, book.state(), &start.longer)),
+    );
     Some(())
 }

@@ -13,7 +13,9 @@ use std::str;
 use test_samples::MemorySource;
 
 const PLAN: &str = r#"{"type":"plan","at":"2026-03-01T01:00:00Z"}"#;
+
 const SHEET: &str = r#"{"type":"sheet"}"#;
+
 const BROKEN: &str = r#"{"type":"withdraw","ord"#;
 
 /// Lines of `check`: an optimal plan, one that isn't, and no table.
