@@ -240,36 +240,30 @@ fn texts(
     plan: &Plan,
     prices: &Prices,
 ) -> Option<()> {
-    let (book, snap) = (&start.book, &start.snap);
+    let snap = &start.snap;
     let commit = tried!(
         rt,
         "Snap::commit_text",
         snap.commit_text(alloc, plan, prices)
     );
     must(println!(rt; "{commit:?}").is_ok());
-    say(
+    let planned = tried!(rt, "plan_text", plan_text(alloc, snap, table, plan));
+    say(rt, &planned);
+    let line = tried!(
         rt,
-        &tried!(rt, "plan_text", plan_text(alloc, snap, table, plan)),
+        "certificate_line",
+        certificate_line(alloc, snap, plan, prices)
     );
-    say(
-        rt,
-        &tried!(
-            rt,
-            "certificate_line",
-            certificate_line(alloc, snap, plan, prices)
-        ),
-    );
-    say(
-        rt,
-        &tried!(
-            rt,
-            "sheet_text",
-            sheet_text(alloc, book.len(), book.state())
-        ),
-    );
-    say(
-        rt,
-        &tried!(rt, "map_text", map_text(alloc, book.state(), &start.longer)),
-    );
+    say(rt, &line);
+    sheets(rt, alloc, start)
+}
+
+/// The sheet and the map of a book.
+fn sheets(rt: &HostRuntime, alloc: Global, start: &Start) -> Option<()> {
+    let (version, state) = (start.book.len(), start.book.state());
+    let sheet = tried!(rt, "sheet_text", sheet_text(alloc, version, state));
+    say(rt, &sheet);
+    let map = tried!(rt, "map_text", map_text(alloc, state, &start.longer));
+    say(rt, &map);
     Some(())
 }
