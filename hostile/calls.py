@@ -87,8 +87,11 @@ def loss(lines, end, reference):
     rest = [line for line in lines if not line.startswith("refused: ")]
     if end:
         return None, end
-    if len(marks) != 1:
+    if len(marks) > 1:
         return None, f"one request is refused, and these say so: {marks}"
+    if not marks:
+        # The kit's lists ask for less where more is refused, so a call may do without.
+        return None, None if rest == reference else "no call says that it was refused, and another answer than without a refusal"
     following = iter(reference)
     if marks[0] == "preparation":
         same = rest == reference[:len(rest)]
