@@ -90,7 +90,7 @@ def loss(lines, end, reference):
     if len(marks) > 1:
         return None, f"one request is refused, and these say so: {marks}"
     if not marks:
-        # The kit's lists ask for less where more is refused, so a call may do without.
+        # A list that is filled from an iterator asks for room for all, and where that is refused for one more.
         return None, None if rest == reference else "no call says that it was refused, and another answer than without a refusal"
     following = iter(reference)
     if marks[0] == "preparation":
