@@ -1,0 +1,94 @@
+//! A feed of one file: where a line is refused memory, the report is that of the file with that line blank, and one line
+//! more is counted as refused.
+
+use crate::runs::run_lines_text;
+use crate::samples::{book, networks};
+use crate::trying::{must, prepared, say_refused};
+use distance_tables::Networks;
+use office::{FeedFault, FeedReport, feed, report_text};
+use std::alloc::{AllocError, Global};
+use std::sync::Wait;
+use std::thread::Threads;
+use test_samples::MemorySource;
+
+pub(crate) fn all<T: Threads + Wait + Sync>(
+    rt: &HostRuntime,
+    threads: &T,
+    alloc: Global,
+    requests: u32,
+) -> Option<()> {
+    let networks = networks(alloc)?;
+    let text = run_lines_text(alloc, None)?;
+    let readers = vec![in alloc; MemorySource::new(text.as_bytes(), usize::MAX)].ok()?;
+    let book = book(alloc, 2)?;
+    prepared(rt, alloc, requests)?;
+    let report = match feed(threads, alloc, readers, book, &networks) {
+        Ok(report) => report,
+        Err(fault) => {
+            must(fault.number() == 1);
+            say_refused(rt, "feed");
+            match fed(threads, alloc, &text, &networks).unwrap() {
+                Ok(report) => report,
+                Err(_) => unreachable!(),
+            }
+        }
+    };
+    judge(rt, threads, alloc, &networks, &report)
+}
+
+/// What comes of one file.
+fn fed<'a, T: Threads + Wait + Sync>(
+    rt: &T,
+    alloc: Global,
+    text: &'a str,
+    networks: &Networks,
+) -> Option<Result<FeedReport<MemorySource<'a>>, FeedFault>> {
+    let readers = vec![in alloc; MemorySource::new(text.as_bytes(), usize::MAX)].ok()?;
+    let book = book(alloc, 2)?;
+    Some(feed(rt, alloc, readers, book, networks))
+}
+
+fn judge<T: Threads + Wait + Sync>(
+    rt: &HostRuntime,
+    threads: &T,
+    alloc: Global,
+    networks: &Networks,
+    report: &FeedReport<MemorySource<'_>>,
+) -> Option<()> {
+    let file = &report.files[0];
+    must(report.files.len() == 1 && file.accepted == report.book.len());
+    let text = tried!(rt, "report_text", report_text(alloc, report));
+    if file.failed.is_some() {
+        must(file.failed == Some(1) && report.book.len() == 0);
+        say_refused(rt, "feed (the memory for its lines)");
+        return Some(());
+    }
+    // The broken line is refused, and no other.
+    if file.refused == 1 && file.accepted == 12 {
+        must(println!(rt; "{text}").is_ok());
+        return Some(());
+    }
+    say_refused(rt, "feed (a line)");
+    must(fits_some_line(threads, alloc, networks, &text));
+    Some(())
+}
+
+/// Whether the report is that of the file with one line blank, but for one refused line more.
+fn fits_some_line<T: Threads + Wait + Sync>(
+    rt: &T,
+    alloc: Global,
+    networks: &Networks,
+    text: &str,
+) -> bool {
+    for number in 1..=20 {
+        let lines = run_lines_text(alloc, Some(number)).unwrap();
+        let Ok(mut report) = fed(rt, alloc, &lines, networks).unwrap() else {
+            return false;
+        };
+        report.files[0].refused = report.files[0].refused.saturating_add(1);
+        if report_text(alloc, &report).unwrap().as_str() == text {
+            return true;
+        }
+    }
+    false
+}
