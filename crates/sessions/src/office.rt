@@ -13,9 +13,13 @@ use move_messages::{CommitText, Message, OrderText};
 use operating_db::Event;
 use rail_codes::{Moment, OrderId};
 use std::alloc::{AllocError, Global};
+use std::hint::spin_loop;
 use std::marker::Model;
 use std::sync::ledger::Ledger;
-use std::sync::{Mutex, Wait};
+use std::sync::{Mutex, MutexGuard, Wait};
+
+/// How often a call tries to take the lock before it waits in turn.
+const TRIES: u32 = 200;
 
 /// A book that several seats share. A contract sees how many seats it was opened with.
 ///
@@ -130,7 +134,7 @@ impl<L: Ledger> Office<L> {
         ensures book { IfOk result (IsSnapAt (count_of seat.old) at) }
         ensures seat { seat.new ≡ seat.old }
     {
-        self.book.lock(rt).begin(alloc, &mut seat.share, at)
+        self.locked(rt).begin(alloc, &mut seat.share, at)
     }
 
     /// Makes the call for an event at a seat, whose answer and refusals are those of the call of its kind: `send`, `place`,
@@ -147,12 +151,24 @@ impl<L: Ledger> Office<L> {
     {
         // First the receipt's memory, then the book's call while the lock is held, then the receipt.
         seat.receipts.reserve(1)?;
-        let reply = match self.book.lock(rt).enter(alloc, &mut seat.share, &event) {
+        let reply = match self.locked(rt).enter(alloc, &mut seat.share, &event) {
             Ok(reply) => reply,
             Err(refusal) => return Err(refusal),
         };
         note(&mut seat.receipts, reply, event);
         Ok(reply)
+    }
+
+    /// The book behind the lock. May wait.
+    fn locked(&self, rt: &impl Wait) -> MutexGuard<'_, SharedBook<L>> {
+        // Most calls hold the lock for a microsecond, where to sleep and be woken takes several.
+        for _ in 0..TRIES {
+            if let Some(book) = self.book.try_lock() {
+                return book;
+            }
+            spin_loop();
+        }
+        self.book.lock(rt)
     }
 }
 
