@@ -190,7 +190,7 @@ fn offices(rt: &HostRuntime, alloc: Global, start: &Start) -> Option<()> {
     for event in &start.events {
         let before = shown_state(alloc, &state)?;
         if let Err(fault) = state.apply(alloc, event) {
-            let after = shown_state(alloc, &state).unwrap();
+            let after = shown_state(alloc, &state)?;
             must(after.as_str() == before.as_str());
             // One message comes twice, which an office doesn't know.
             if fault.number() == 1 {
