@@ -73,7 +73,7 @@ impl<const COUNT: usize> Ord for AsciiArray<COUNT> {
 
     ghost matches_eq = { texts_ties };
 
-    // as texts they are compared by words, which is several times as fast as byte by byte
+    // the kit compares texts by words, and arrays by its code for slices of anything
     fn cmp(&self, other: &Self) -> Ordering {
         self.as_str().cmp(other.as_str())
     }

@@ -161,7 +161,7 @@ impl<L: Ledger> Office<L> {
 
     /// The book behind the lock. May wait.
     fn locked(&self, rt: &impl Wait) -> MutexGuard<'_, SharedBook<L>> {
-        // Most calls hold the lock for a microsecond, where to sleep and be woken takes several.
+        // Most calls are short, and to sleep and be woken takes a call of the kernel each.
         for _ in 0..TRIES {
             if let Some(book) = self.book.try_lock() {
                 return book;
