@@ -6,3 +6,4 @@ pub mod NameLemmas
 pub mod Search
 pub mod ProblemLemmas
 pub mod AllowedLemmas
+pub mod GoalLemmas

@@ -1,4 +1,5 @@
 -- What only proofs and private functions need.
 pub mod AllowedRows
 pub mod Flat
+pub mod Goals
 pub mod Searched

@@ -1,20 +1,19 @@
 //! The table of a problem over a network.
 ghost use Rattle.std.specs.Prelude.{◌≡◌, ◌+◌, ◌*◌, ◌<◌, ◌≤◌, ◌↔◌, ℕ, List, All, IfOk, OnOk, IfSome, IsTrue, Option, Some, length, map, max};
 ghost use Rattle.line_network.specs.Network.{place_index};
-ghost use Rattle.distance_tables.specs.Distance.{IsAnswered};
-ghost use Rattle.distance_tables.specs.Distance.{max_distance};
 ghost use Rattle.cost_table.specs.Allowed.{Reaches, IsTableOf};
 ghost use Rattle.cost_table.specs.inner.AllowedRows.{AddsRow, AreRowsOf};
+ghost use Rattle.cost_table.specs.inner.Goals.{goal_of, goals_of};
+ghost use Rattle.load_orders.specs.Wanted.{WantedOrder};
 ghost use Rattle.cost_table.specs.Problem.{penalties_of, lacks_of};
 ghost use Rattle.cost_table.specs.TableLimits.{max_cost};
 ghost use Rattle.load_orders.specs.Wanted.{IsLack};
 
+use crate::goals::{Goal, class_position};
 use crate::problem::Problem;
 use crate::table_cells::Cells;
 use distance_tables::Tables;
-use line_network::Network;
-use load_orders::{Wanted, suits};
-use move_messages::OrderText;
+use load_orders::{Wanted, carries};
 use rail_codes::Moment;
 use std::alloc::{AllocError, Global};
 use wagon_state::FreeWagon;
@@ -26,26 +25,10 @@ pub fn cells(alloc: Global, problem: &Problem, tables: &Tables) -> Result<Cells,
     ensures table { IfOk result (IsTableOf tables.now problem.now) }
 {
     let orders = problem.orders();
-    let goals = place_numbers(alloc, tables.network(), orders)?;
-    let (entries, ends) = rows(alloc, problem, tables, &goals)?;
+    let (entries, ends) = rows(alloc, problem, tables)?;
     let penalties = penalties(alloc, orders)?;
     let lacks = lacks(alloc, orders)?;
     Ok(Cells::of_rows(entries, ends, penalties, lacks))
-}
-
-/// The number of each order's place, where the network has it.
-fn place_numbers(
-    alloc: Global,
-    network: &Network,
-    orders: &[Wanted],
-) -> Result<Vec<Option<usize>>, AllocError>
-    ensures { IfOk result (λ goals. goals.items ≡ map (λ wanted. place_index network.now.places wanted.order.place) orders.now) }
-{
-    let mut goals = Vec::with_capacity(alloc, orders.len())?;
-    for wanted in orders {
-        goals.push(network.index_of(wanted.order().place()))?;
-    }
-    Ok(goals)
 }
 
 /// The penalty of each order.
@@ -77,83 +60,69 @@ fn rows(
     alloc: Global,
     problem: &Problem,
     tables: &Tables,
-    goals: &[Option<usize>],
 ) -> Result<(Vec<(usize, u64)>, Vec<usize>), AllocError>
-    requires goals { goals.now ≡ map (λ wanted. place_index tables.now.places wanted.order.place) problem.now.orders }
     ensures { IfOk result (λ r. AreRowsOf (λ wagon wanted. Reaches tables.now problem.now.at wagon wanted.order) problem.now.wagons problem.now.orders r.0.items r.1.items) }
 {
     let wagons = problem.wagons();
+    let orders = problem.orders();
+    let network = tables.network();
+    let mut classes = Vec::new(alloc);
     let mut entries = Vec::new(alloc);
     let mut ends = Vec::with_capacity(alloc, wagons.len())?;
     for wagon in wagons {
-        push_row(
-            &mut entries,
-            problem.at(),
-            wagon,
-            problem.orders(),
-            goals,
-            tables,
-        )?;
+        let k = class_position(alloc, &mut classes, wagon.class, network, orders)?;
+        push_row(&mut entries, problem, wagon, &classes[k].goals, tables)?;
         ends.push(entries.len())?;
     }
     Ok((entries, ends))
 }
 
-/// Appends the row of one wagon.
+/// Appends the row of one wagon, by the goals of its class.
 fn push_row(
     entries: &mut Vec<(usize, u64)>,
-    at: Moment,
+    problem: &Problem,
     wagon: &FreeWagon,
-    orders: &[Wanted],
-    goals: &[Option<usize>],
+    goals: &[Option<Goal>],
     tables: &Tables,
 ) -> Result<(), AllocError>
-    requires goals { goals.now ≡ map (λ wanted. place_index tables.now.places wanted.order.place) orders.now }
-    ensures { OnOk result (AddsRow (λ wanted. Reaches tables.now at wagon.now wanted.order) orders.now entries.old.items entries.new.items) }
+    requires goals { goals.now ≡ goals_of tables.now wagon.now.class problem.now.orders }
+    ensures { OnOk result (AddsRow (λ wanted. Reaches tables.now problem.now.at wagon.now wanted.order) problem.now.orders entries.old.items entries.new.items) }
 {
+    let at = problem.at();
     let from = tables.network().index_of(wagon.place);
-    for (j, wanted) in orders.iter().enumerate() {
-        if let Some(km) = reached(tables, from, goals[j], at, wagon, wanted.order()) {
-            entries.push((j, km))?;
+    entries.reserve(goals.len())?;
+    for (j, goal) in goals.iter().enumerate() {
+        if let Some(km) = reached(tables, from, *goal, at, wagon) {
+            entries.push_reserved((j, km));
         }
     }
     Ok(())
 }
 
-/// The kilometres from a wagon to an order's place, if it suits the order and reaches the place in time. The
-/// numbers of the two places are handed in.
+/// The kilometres from a wagon to a goal of its class, if its load is within the wagon's limit and it is reached in
+/// time. The number of the wagon's place is handed in.
 fn reached(
     tables: &Tables,
     from: Option<usize>,
-    to: Option<usize>,
+    goal: Option<Goal>,
     at: Moment,
     wagon: &FreeWagon,
-    order: &OrderText,
 ) -> Option<u64>
     requires from { from ≡ place_index tables.now.places wagon.now.place }
-    requires to { to ≡ place_index tables.now.places order.now.place }
-    ensures meaning { (km : ℕ) → (result ≡ Some km) ↔ Reaches tables.now at wagon.now order.now km }
+    requires goal { IfSome goal (λ g. g.place < length tables.now.places) }
+    ensures meaning { (wanted : WantedOrder) → goal ≡ goal_of tables.now wagon.now.class wanted → (km : ℕ) → (result ≡ Some km) ↔ Reaches tables.now at wagon.now wanted.order km }
     ensures limit { IfSome result (λ km. km ≤ max_cost) }
 {
-    if !suits(wagon, order) {
+    let goal = goal?;
+    if !carries(wagon, goal.load) {
         return None;
     }
-    let (km, minutes) = distance(tables, from, to)?;
-    if is_in_time(wagon.ready, at, minutes, order.latest()) {
+    let (km, minutes) = tables.between_numbers(from?, goal.place)?;
+    if is_in_time(wagon.ready, at, minutes, goal.latest) {
         Some(u64::from(km))
     } else {
         None
     }
-}
-
-/// The distance between two places, if both are places of the network and a walk leads.
-fn distance(tables: &Tables, from: Option<usize>, to: Option<usize>) -> Option<(u32, u32)>
-    requires from { IfSome from (λ k. k < length tables.now.places) }
-    requires to { IfSome to (λ k. k < length tables.now.places) }
-    ensures meaning { (a b : List ℕ) → place_index tables.now.places a ≡ from → place_index tables.now.places b ≡ to → IsAnswered tables.now a b result }
-    ensures limit { IfSome result (λ d. (d.0 ≤ max_distance) × (d.1 ≤ max_distance)) }
-{
-    tables.between_numbers(from?, to?)
 }
 
 /// Whether a wagon that is ready at one moment and starts at another or later is there by the latest one.

@@ -2,6 +2,7 @@
 #![tactic(auto)]
 
 mod allowed;
+mod goals;
 mod limits;
 mod names;
 mod pair_names;

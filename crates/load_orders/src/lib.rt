@@ -10,5 +10,5 @@ mod wanted;
 
 pub use order_row::OrderRow;
 pub use order_state::OrderState;
-pub use suitability::suits;
+pub use suitability::{accepts, carries, suits};
 pub use wanted::Wanted;

@@ -1,8 +1,10 @@
 //! Which wagon suits which order.
-ghost use Rattle.std.specs.Prelude.{◌↔◌, IsTrue};
-ghost use Rattle.load_orders.specs.Suits.{Suits};
+ghost use Rattle.std.specs.Prelude.{◌≡◌, ◌≤◌, ◌↔◌, IsTrue};
+ghost use Rattle.std.specs.List.{Contains};
+ghost use Rattle.load_orders.specs.Suits.{Suits, is_listed};
 
 use move_messages::OrderText;
+use rail_codes::ClassCode;
 use wagon_state::FreeWagon;
 
 /// Whether a wagon suits an order: the order lists the wagon's class, whole and with case, and its
@@ -10,5 +12,20 @@ use wagon_state::FreeWagon;
 pub fn suits(wagon: &FreeWagon, order: &OrderText) -> bool
     ensures { IsTrue result ↔ Suits wagon.now order.now }
 {
-    order.load() <= wagon.load_limit && order.classes().as_slice().contains(&wagon.class)
+    carries(wagon, order.load()) && accepts(order, wagon.class)
+}
+
+/// Whether a load in kg is at most a wagon's load limit. Takes no memory.
+pub fn carries(wagon: &FreeWagon, load: u32) -> bool
+    ensures { IsTrue result ↔ (load ≤ wagon.now.load_limit) }
+{
+    load <= wagon.load_limit
+}
+
+/// Whether an order lists a class, whole and with case. Takes no memory.
+pub fn accepts(order: &OrderText, class: ClassCode) -> bool
+    ensures value { result ≡ is_listed order.now.classes class }
+    ensures listed { IsTrue result ↔ Contains order.now.classes class }
+{
+    order.classes().as_slice().contains(&class)
 }

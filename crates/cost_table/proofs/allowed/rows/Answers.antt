@@ -1,14 +1,25 @@
-use Rattle.std.proofs.Common.{rules, arith}
+use Rattle.std.proofs.Common.{◌∙◌, ℕ, List, ap, sym, subst, rules, arith}
+use Rattle.cost_table.specs.declared.goals.ClassGoals.{ClassGoals}
+use Rattle.cost_table.specs.inner.Goals.{AreGoalsOf, goals_of}
 use Rattle.cost_table.specs.Allowed.{Reaches}
 use Rattle.cost_table.proofs.AllowedLemmas.{AreRowsOf-next, AreRowsOf-whole}
 use Rattle.cost_table.proofs.allowed.rows.Goals as goal
 
+pub push_row-requires : goal.push_row-requires
+push_row-requires c =
+    let kept = c.in_ok-k.ensures.found c.in_ok-k.k c.index.result.now c.in_ok-k.ensures.within in
+    let here : AreGoalsOf c.network-network.result.now c.orders-orders.result.now c.index.result.now = subst (λ (one : ClassGoals). AreGoalsOf c.network-network.result.now c.orders-orders.result.now one) (sym c.index.ensures) kept in
+    let of_class = rw (c.network-network.ensures, c.orders-orders.ensures.orders) at here in
+    let class = ap (λ (one : ClassGoals). one.class) c.index.ensures ∙ c.in_ok-k.ensures.class c.index.result.now in
+    record { goals = c.deref.ensures.value ∙ (of_class ∙ ap (λ (of : List ℕ). goals_of c.args.tables.now of c.args.problem.now.orders) class) }
+
 pub loop-wagon-preserved : goal.loop-wagon-preserved
-loop-wagon-preserved c =
-    let adds = rw (c.at.ensures, c.orders.ensures.orders) at c.in_ok-push_row.ensures in
-    AreRowsOf-next (λ wagon wanted. Reaches c.args.tables.now c.args.problem.now.at wagon wanted.order) c.wagons-wagons.result.now c.args.problem.now.orders c.loop-wagon.wagon-index c.wagon-item.result c.loop-wagon.entries.items c.push_row.new.entries.items c.loop-wagon.ends.items c.push.new.self.items (omega arith) c.wagon-item.is c.loop-wagon.invariant adds (search rules)
+loop-wagon-preserved c = record {
+  rows = AreRowsOf-next (λ wagon wanted. Reaches c.args.tables.now c.args.problem.now.at wagon wanted.order) c.wagons-wagons.result.now c.args.problem.now.orders c.loop-wagon.wagon-index c.wagon-item.result c.loop-wagon.entries.items c.push_row.new.entries.items c.loop-wagon.ends.items c.push.new.self.items (omega arith) c.wagon-item.is c.loop-wagon.invariant.rows c.in_ok-push_row.ensures (search rules);
+  found = rw (c.network-network.ensures, c.orders-orders.ensures.orders) at c.in_ok-k.ensures.found;
+}
 
 pub returns : goal.returns
 returns c =
-    let whole = AreRowsOf-whole (λ wagon wanted. Reaches c.args.tables.now c.args.problem.now.at wagon wanted.order) c.wagons-wagons.result.now c.args.problem.now.orders c.loop-wagon.wagon-index _ _ (omega arith) c.loop-wagon.invariant in
+    let whole = AreRowsOf-whole (λ wagon wanted. Reaches c.args.tables.now c.args.problem.now.at wagon wanted.order) c.wagons-wagons.result.now c.args.problem.now.orders c.loop-wagon.wagon-index _ _ (omega arith) c.loop-wagon.invariant.rows in
     rw c.wagons-wagons.ensures.wagons at whole

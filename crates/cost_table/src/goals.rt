@@ -1,0 +1,88 @@
+//! What a wagon's way to an order depends on, found once for each class of wagons.
+ghost use Rattle.std.specs.Prelude.{◌≡◌, ◌<◌, All, IfOk, OnOk, length, position, slice_index_or};
+ghost use Rattle.cost_table.specs.Names.{is_name};
+ghost use Rattle.cost_table.specs.declared.goals.ClassGoals.{ClassGoals};
+ghost use Rattle.cost_table.specs.inner.Goals.{AreGoalsOf, goal_of, goals_of};
+
+use line_network::Network;
+use load_orders::{Wanted, accepts};
+use rail_codes::{ClassCode, Moment};
+use std::alloc::{AllocError, Global};
+
+/// Where an order wants wagons, how much each loads, and by when.
+#[derive(Clone, Copy, Debug)]
+pub(crate) struct Goal {
+    /// The number of its place in the network.
+    pub(crate) place: usize,
+    /// In kg.
+    pub(crate) load: u32,
+    pub(crate) latest: Moment,
+}
+
+/// The goals of all orders for the wagons of one class; none where an order doesn't list the class or the network
+/// doesn't have its place.
+#[derive(Debug, Drop)]
+pub(crate) struct ClassGoals {
+    pub(crate) class: ClassCode,
+    pub(crate) goals: Vec<Option<Goal>>,
+}
+
+/// Where the goals of a class stand among those found so far; they go behind them where they aren't there yet.
+pub(crate) fn class_position(
+    alloc: Global,
+    found: &mut Vec<ClassGoals>,
+    class: ClassCode,
+    network: &Network,
+    orders: &[Wanted],
+) -> Result<usize, AllocError>
+    requires found { All (AreGoalsOf network.now orders.now) found.old.items }
+    ensures found { OnOk result (All (AreGoalsOf network.now orders.now) found.new.items) }
+    ensures within { IfOk result (λ k. k < length found.new.items) }
+    ensures class { IfOk result (λ k. (d : ClassGoals) → (slice_index_or found.new.items k d).class ≡ class) }
+{
+    if let Some(k) = position_of_class(found, class) {
+        return Ok(k);
+    }
+    let goals = goals(alloc, class, network, orders)?;
+    found.push(ClassGoals { class, goals })?;
+    Ok(found.len() - 1)
+}
+
+/// Where the goals of a class stand.
+fn position_of_class(found: &[ClassGoals], class: ClassCode) -> Option<usize>
+    ensures { result ≡ position (λ one. is_name class one.class) found.now }
+{
+    found.iter().position(|one| one.class == class)
+}
+
+/// The goals of all orders for the wagons of a class.
+fn goals(
+    alloc: Global,
+    class: ClassCode,
+    network: &Network,
+    orders: &[Wanted],
+) -> Result<Vec<Option<Goal>>, AllocError>
+    ensures { IfOk result (λ goals. goals.items ≡ goals_of network.now class orders.now) }
+{
+    let mut goals = Vec::with_capacity(alloc, orders.len())?;
+    for wanted in orders {
+        goals.push(goal_of(class, network, wanted))?;
+    }
+    Ok(goals)
+}
+
+/// The goal of an order for the wagons of a class.
+fn goal_of(class: ClassCode, network: &Network, wanted: &Wanted) -> Option<Goal>
+    ensures { result ≡ goal_of network.now class wanted.now }
+{
+    let order = wanted.order();
+    if !accepts(order, class) {
+        return None;
+    }
+    let place = network.index_of(order.place())?;
+    Some(Goal {
+        place,
+        load: order.load(),
+        latest: order.latest(),
+    })
+}
