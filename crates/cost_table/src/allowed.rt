@@ -88,6 +88,9 @@ fn push_row(
     requires goals { goals.now ≡ goals_of tables.now wagon.now.class problem.now.orders }
     ensures { OnOk result (AddsRow (λ wanted. Reaches tables.now problem.now.at wagon.now wanted.order) problem.now.orders entries.old.items entries.new.items) }
 {
+    if goals.is_empty() {
+        return Ok(());
+    }
     let at = problem.at();
     let from = tables.network().index_of(wagon.place);
     entries.reserve(goals.len())?;
