@@ -9,3 +9,4 @@ pub mod Names
 pub mod Problems
 pub mod States
 pub mod Walks
+pub mod Picked

@@ -13,7 +13,13 @@ use wagon_state::{FreeWagon, WagonRow, free};
 pub(crate) fn free_wagons(alloc: Global, rows: &[WagonRow]) -> Result<Vec<FreeWagon>, AllocError>
     ensures { IfOk result (λ wagons. wagons.items ≡ free_wagons rows.now) }
 {
-    rows.iter().filter_map(|row| free(row)).collect(alloc)
+    let mut wagons = Vec::with_capacity(alloc, rows.len())?;
+    for row in rows {
+        if let Some(wagon) = free(row) {
+            wagons.push_reserved(wagon);
+        }
+    }
+    Ok(wagons)
 }
 
 /// The orders that lack a wagon, as placed, each with how many it lacks. Only those that wait are looked at.
