@@ -1,10 +1,13 @@
 #!/usr/bin/env python3
 """Makes scripts of 300 waiting orders over the fleet of day.py, all of whose wagons are free when it begins.
 
-waiting.py FOLDER LINES writes into FOLDER orders.jsonl, the orders alone, and begins.jsonl and plans.jsonl, the orders
-and then so many `begin` or `plan` lines.
+waiting.py FOLDER LINES reads roster.csv and network.csv in FOLDER, and writes into it orders.jsonl, the orders alone;
+begins.jsonl and plans.jsonl, the orders and then so many `begin` or `plan` lines; and table.json, the table that each
+of these lines plans, as a table line.
 """
 
+import csv
+import heapq
 import json
 import random
 import sys
@@ -21,7 +24,40 @@ def line(fields):
 def order(k):
     fields = {"type": "order", "order": f"P{k}", "place": f"DE{random.randrange(PLACES):05}"}
     fields |= {"classes": [random.choice(CLASSES)], "load": 50000}
-    return line(fields | {"latest": "2026-04-03T00:00:00Z", "penalty": 1000000})
+    return fields | {"latest": "2026-04-03T00:00:00Z", "penalty": 1000000}
+
+
+def kilometres_from(lines, start):
+    """The kilometres to each place that can be reached."""
+    found, heap = {}, [(0, start)]
+    while heap:
+        km, place = heapq.heappop(heap)
+        if place not in found:
+            found[place] = km
+            for there, more in lines.get(place, []):
+                heapq.heappush(heap, (km + more, there))
+    return found
+
+
+def table(folder, orders):
+    """Who is in time for which order: here every wagon of the order's class, since its latest moment is far off."""
+    lines = {}
+    with open(f"{folder}/network.csv") as file:
+        for line_of in csv.DictReader(file):
+            ends = line_of["from"], line_of["to"]
+            lines.setdefault(ends[0], []).append((ends[1], int(line_of["km"])))
+            if line_of["way"] == "both":
+                lines.setdefault(ends[1], []).append((ends[0], int(line_of["km"])))
+    with open(f"{folder}/roster.csv") as file:
+        wagons = sorted(csv.DictReader(file), key=lambda wagon: wagon["wagon"])
+    away = {place: kilometres_from(lines, place) for place in {wagon["place"] for wagon in wagons}}
+    cells = [
+        [away[wagon["place"]].get(one["place"]) if wagon["class"] in one["classes"] else None for one in orders]
+        for wagon in wagons
+    ]
+    penalties = [one["penalty"] for one in orders]
+    fields = {"wagons": [], "orders": [], "cells": cells, "penalties": penalties}
+    return line(fields | {"lacks": [1] * len(orders), "pairs": [], "u": [], "v": []})
 
 
 def asks(kind, lines):
@@ -31,7 +67,10 @@ def asks(kind, lines):
 def main():
     folder, lines = sys.argv[1], int(sys.argv[2])
     random.seed(2)
-    orders = "".join(order(k) for k in range(ORDERS))
+    waiting = [order(k) for k in range(ORDERS)]
+    with open(f"{folder}/table.json", "w") as out:
+        out.write(table(folder, waiting))
+    orders = "".join(map(line, waiting))
     for name, more in ("orders", ""), ("begins", asks("begin", lines)), ("plans", asks("plan", lines)):
         with open(f"{folder}/{name}.jsonl", "w") as out:
             out.write(orders + more)
