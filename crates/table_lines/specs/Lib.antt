@@ -3,3 +3,4 @@ pub mod TableRefusals
 pub mod TableCost
 pub mod TablePart
 pub mod StatedTable
+pub mod inner

@@ -6,10 +6,12 @@ mod cells;
 mod lacks;
 mod stating;
 mod table_answer;
+mod table_in_order;
 mod table_line;
 mod table_part;
 mod table_reading;
 mod table_refusal;
+mod tokens;
 
 pub use stating::stated_table;
 pub use table_answer::table_cost;

@@ -10,6 +10,7 @@ ghost use Rattle.load_orders.specs.Wanted.{IsLack};
 
 use crate::cells::cells_at;
 use crate::lacks::lacks_at;
+use crate::table_in_order::table_in_order;
 use crate::table_line::TableLine;
 use cost_table::MAX_COST;
 use json_fields::{
@@ -32,6 +33,9 @@ pub fn read_table_line(alloc: Global, bytes: &[u8]) -> Result<TableLine, LineFau
         (λ line. All (λ penalty. penalty ≤ max_cost) line.penalties.items) }
     ensures lacks { IfOk result (λ line. IfSome line.lacks (λ lacks. All IsLack lacks.items)) }
 {
+    if let Some(table) = table_in_order(alloc, bytes) {
+        return Ok(table);
+    }
     let object = object_of(alloc, bytes)?;
     table_of(alloc, &object)
 }

@@ -1,0 +1,3 @@
+-- What only private functions and proofs of table_lines need.
+pub mod InOrder
+pub mod Tokens
