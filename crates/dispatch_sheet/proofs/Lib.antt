@@ -1,5 +1,6 @@
 pub mod Lines
 pub mod PlanLines
+pub mod PlanPairs
 pub mod Lists
 pub mod Certificates
 pub mod Moments

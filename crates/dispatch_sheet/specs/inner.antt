@@ -1,4 +1,5 @@
 -- What only proofs and private functions need.
+pub mod PairLines
 pub mod Parts
 pub mod Pushed
 pub mod RosterWords

@@ -1,8 +1,10 @@
 //! The lines of a plan.
-ghost use Rattle.std.specs.Prelude.{◌≡◌, ◌++◌, ◌<◌, ◌-◌, length, IfOk, OnOk, string_bytes};
-ghost use Rattle.cost_table.specs.Plan.{IsAllowed, IsPlan, serves};
-ghost use Rattle.cost_table.specs.Table.{lack_at, order_count};
-ghost use Rattle.dispatch_sheet.specs.PlanText.{assign_line, assign_lines, order_lines, plan_text_of, refuse_line, refuse_lines, FitsProblem};
+ghost use Rattle.std.specs.Prelude.{◌≡◌, ◌++◌, ◌<◌, ◌≤◌, ◌==◌, ℕ, length, replicate, IfOk, OnOk, string_bytes};
+ghost use Rattle.std.specs.List.{concat, flat_map, prefix_len};
+ghost use Rattle.cost_table.specs.Plan.{AllAllowed, IsAllowed, IsPlan};
+ghost use Rattle.cost_table.specs.Table.{lack_at};
+ghost use Rattle.dispatch_sheet.specs.PlanText.{assign_line, plan_text_of, refuse_line, FitsProblem};
+ghost use Rattle.dispatch_sheet.specs.inner.PairLines.{lines_of_pairs};
 
 use crate::words::{push_code, push_number};
 use commit_book::Snap;
@@ -24,47 +26,55 @@ pub fn plan_text(
     ensures { IfOk result (λ text. string_bytes text ≡ plan_text_of snap.now.problem cells.now plan.now) }
 {
     let problem = snap.problem();
-    let pairs = plan.pairs();
+    let mut rest = plan.pairs();
     let mut text = String::new(alloc);
     for j in 0..problem.orders().len() {
-        push_lines_of_order(&mut text, problem, cells, pairs, j)?;
+        let (mine, later) = rest.split_at(pairs_of_order(rest, j));
+        push_lines_of_order(&mut text, problem, cells, mine, j)?;
+        rest = later;
     }
     Ok(text)
 }
 
-/// Adds the lines of order `j`.
+/// How many pairs at the front go to order `j`.
+fn pairs_of_order(pairs: &[(usize, usize)], j: usize) -> usize
+    ensures value { result ≡ prefix_len (λ (p : ℕ × ℕ). p.1 == j) pairs.now }
+    ensures within { result ≤ length pairs.now }
+{
+    pairs.iter().take_while(|pair| pair.1 == j).count()
+}
+
+/// Adds the lines of order `j`; `mine` are its pairs.
 fn push_lines_of_order(
     text: &mut String,
     problem: &Problem,
     cells: &Cells,
-    pairs: &[(usize, usize)],
+    mine: &[(usize, usize)],
     j: usize,
 ) -> Result<(), AllocError>
     requires fits { FitsProblem problem.now cells.now }
-    requires plan { IsPlan cells.now pairs.now }
+    requires allowed { AllAllowed cells.now mine.now }
     requires order { j < length problem.now.orders }
-    ensures { OnOk result (string_bytes text.new ≡ string_bytes text.old ++ order_lines problem.now cells.now pairs.now j) }
+    requires within { length mine.now ≤ lack_at cells.now j }
+    ensures { OnOk result (string_bytes text.new ≡ string_bytes text.old ++ lines_of_pairs problem.now cells.now mine.now j) }
 {
-    push_assign_lines(text, problem, cells, pairs, j)?;
-    push_refuse_lines(text, problem, cells, pairs, j)
+    push_assign_lines(text, problem, cells, mine)?;
+    push_refuse_lines(text, problem, cells, j, cells.lack(j) as usize - mine.len())
 }
 
-/// Adds the lines of the wagons that go to order `j`.
+/// Adds a line for each pair.
 fn push_assign_lines(
     text: &mut String,
     problem: &Problem,
     cells: &Cells,
     pairs: &[(usize, usize)],
-    j: usize,
 ) -> Result<(), AllocError>
     requires fits { FitsProblem problem.now cells.now }
-    requires plan { IsPlan cells.now pairs.now }
-    ensures { OnOk result (string_bytes text.new ≡ string_bytes text.old ++ assign_lines problem.now cells.now pairs.now j) }
+    requires allowed { AllAllowed cells.now pairs.now }
+    ensures { OnOk result (string_bytes text.new ≡ string_bytes text.old ++ flat_map (assign_line problem.now cells.now) pairs.now) }
 {
     for pair in pairs {
-        if pair.1 == j {
-            push_assign_line(text, problem, cells, *pair)?;
-        }
+        push_assign_line(text, problem, cells, *pair)?;
     }
     Ok(())
 }
@@ -93,27 +103,17 @@ fn push_refuse_lines(
     text: &mut String,
     problem: &Problem,
     cells: &Cells,
-    pairs: &[(usize, usize)],
     j: usize,
+    missed: usize,
 ) -> Result<(), AllocError>
     requires fits { FitsProblem problem.now cells.now }
-    requires plan { IsPlan cells.now pairs.now }
     requires order { j < length problem.now.orders }
-    ensures { OnOk result (string_bytes text.new ≡ string_bytes text.old ++ refuse_lines problem.now cells.now pairs.now j) }
+    ensures { OnOk result (string_bytes text.new ≡ string_bytes text.old ++ concat (replicate missed (refuse_line problem.now cells.now j))) }
 {
-    for _missed in 0..missed_wagons(cells, pairs, j) {
+    for _missed in 0..missed {
         push_refuse_line(text, problem, cells, j)?;
     }
     Ok(())
-}
-
-/// How many wagons order `j` misses.
-fn missed_wagons(cells: &Cells, pairs: &[(usize, usize)], j: usize) -> usize
-    requires plan { IsPlan cells.now pairs.now }
-    requires order { j < order_count cells.now }
-    ensures { result ≡ lack_at cells.now j - serves j pairs.now }
-{
-    cells.lack(j) as usize - pairs.iter().filter(|pair| pair.1 == j).count()
 }
 
 /// Adds the line of a wagon that order `j` misses.
