@@ -109,20 +109,12 @@ module _ (R : WantedOrder → ℕ → Type 0) where
     none-at x h = cc
 
   -- the next order
-  pub AddsRow-next : (orders : List WantedOrder) (j : ℕ) (wanted : WantedOrder) (o : Option ℕ) (old now new : List (ℕ × ℕ)) → j < length orders → wanted ≡ get_or orders j wanted → AddsRow R (take j orders) old now → ((km : ℕ) → (o ≡ Some km) ↔ R wanted km) → IfSome o (λ km. km ≤ max_cost) → new ≡ now ++ cell_of j o → AddsRow R (take (j + 1) orders) old new
-  AddsRow-next orders j wanted o old now new within at h means limit added =
-      let short : length (take j orders) ≡ j = length-take-le j orders (omega arith) in
-      let more : take (j + 1) orders ≡ take j orders ++ wanted ∷ [] = take_more orders j wanted within ∙ ap (λ y. take j orders ++ y ∷ []) (sym at) in
-      let long : length (take (j + 1) orders) ≡ j + 1 = length-take-le (j + 1) orders (omega arith) in
-      let longer : length (take j orders ++ wanted ∷ []) ≡ length (take j orders) + 1 = sym (ap length more) ∙ omega (arith, long, short) in
-      subst (λ (os : List WantedOrder). AddsRow R os old new) (sym more) (record {
-        row = h.row ++ cell_of j o;
-        behind = added ∙ (ap (λ es. es ++ cell_of j o) h.behind ∙ append_assoc old h.row (cell_of j o));
-        is = subst (λ (k : ℕ). IsRowOf R (take j orders ++ wanted ∷ []) (h.row ++ cell_of k o)) short (IsRowOf-push (take j orders) wanted h.row o h.is means limit longer);
-      })
-
-  pub AddsRow-whole : (orders : List WantedOrder) (j : ℕ) (old new : List (ℕ × ℕ)) → length orders ≤ j → AddsRow R (take j orders) old new → AddsRow R orders old new
-  AddsRow-whole orders j old new l h = subst (λ (os : List WantedOrder). AddsRow R os old new) (take_all j orders l) h
+  pub AddsRow-next : (orders : List WantedOrder) (wanted : WantedOrder) (o : Option ℕ) (old now new : List (ℕ × ℕ)) → AddsRow R orders old now → ((km : ℕ) → (o ≡ Some km) ↔ R wanted km) → IfSome o (λ km. km ≤ max_cost) → new ≡ now ++ cell_of (length orders) o → AddsRow R (orders ++ wanted ∷ []) old new
+  AddsRow-next orders wanted o old now new h means limit added = record {
+    row = h.row ++ cell_of (length orders) o;
+    behind = added ∙ (ap (λ es. es ++ cell_of (length orders) o) h.behind ∙ append_assoc old h.row (cell_of (length orders) o));
+    is = IsRowOf-push orders wanted h.row o h.is means limit (length-append orders (wanted ∷ []));
+  }
 
 module _ (R : FreeWagon → WantedOrder → ℕ → Type 0) where
   pub AreRowsOf-start : (orders : List WantedOrder) → AreRowsOf R [] orders [] []

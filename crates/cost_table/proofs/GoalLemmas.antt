@@ -1,8 +1,8 @@
 -- What the goal of an order for a class says of a wagon of that class.
-use Rattle.std.proofs.Common.{◌≡◌, ◌≢◌, ◌∙◌, ◌+◌, ◌*◌, ◌<◌, ◌≤◌, ℕ, zero, suc, Bool, true, false, Option, Some, None, List, [], ◌∷◌, ◌++◌, length, get_or, refl, sym, ap, subst, inl, inr, arith}
-use Rattle.std.specs.Prelude.{◌↔◌, ◌||◌, if◌then◌else◌, max, position, IfSome}
+use Rattle.std.proofs.Common.{◌≡◌, ◌∙◌, ◌+◌, ◌*◌, ◌<◌, ◌≤◌, ℕ, zero, suc, Bool, true, false, Option, Some, None, List, [], ◌∷◌, ◌++◌, length, get_or, take, refl, sym, ap, subst, inl, inr, arith, append-nil, append_assoc, length-take-le}
+use Rattle.std.specs.Prelude.{◌↔◌, ◌||◌, if◌then◌else◌, max, position}
 use Rattle.std.specs.List.{Contains, slice_index_or}
-use Rattle.std.specs.Option.{option_map}
+use Rattle.std.specs.Option.{option_map, option_to_list}
 use Rattle.std.specs.Cmp.Lexicographic.{pointwise, bytes_decides}
 use Rattle.std.specs.Prelude.{nat_eq}
 use Rattle.std.proofs.lemmas.Bool.{cases_Bool}
@@ -14,8 +14,8 @@ use Rattle.load_orders.specs.Wanted.{WantedOrder}
 use Rattle.line_network.specs.Network.{NetworkValue, place_index, is_same_place}
 use Rattle.distance_tables.specs.Distance.{IsDistance}
 use Rattle.cost_table.specs.declared.goals.Goal.{Goal}
-use Rattle.cost_table.specs.inner.Goals.{goal_at, goal_of, goals_of}
-use Rattle.std.proofs.lemmas.List.{length-map, get_or_push}
+use Rattle.cost_table.specs.inner.Goals.{goal_at, goal_of, goals_from, goals_of}
+use Rattle.std.proofs.lemmas.List.{get_or_push, take_more}
 use Rattle.cost_table.specs.Names.{is_name}
 use Rattle.cost_table.specs.declared.goals.ClassGoals.{ClassGoals}
 use Rattle.cost_table.specs.Allowed.{Reaches}
@@ -46,66 +46,66 @@ is_there (c ∷ cs) class h = elim (cases_Bool (pointwise nat_eq c class)) [
 ]
 
 -- what a goal says of its order
-record Says (listed : Bool) (place : Option ℕ) (order : Order) (goal : Goal) : Type 0 where
+record Says (listed : Bool) (place : Option ℕ) (j : ℕ) (order : Order) (goal : Goal) : Type 0 where
   is_listed : listed ≡ true
+  order_is : goal.order ≡ j
   place_is : place ≡ Some goal.place
   load_is : goal.load ≡ order.load
   latest_is : goal.latest ≡ order.latest
 
-abbrev goal_if : Bool → Option ℕ → Order → Option Goal
-goal_if true place order = option_map (goal_at order) place
-goal_if false place order = None
+abbrev goal_if : Bool → Option ℕ → ℕ → Order → Option Goal
+goal_if true place j order = option_map (goal_at j order) place
+goal_if false place j order = None
 
-goal_is : (b : Bool) (place : Option ℕ) (order : Order) (goal : Goal) → Some goal ≡ goal_if b place order → Says b place order goal
-goal_is true (Some k) order goal h =
-    let same : goal ≡ goal_at order k = some_same goal (goal_at order k) h in
-    record { is_listed = refl; place_is = ap (λ (g : Goal). Some g.place) (sym same); load_is = ap (λ (g : Goal). g.load) same; latest_is = ap (λ (g : Goal). g.latest) same }
+goal_is : (b : Bool) (place : Option ℕ) (j : ℕ) (order : Order) (goal : Goal) → Some goal ≡ goal_if b place j order → Says b place j order goal
+goal_is true (Some k) j order goal h =
+    let same : goal ≡ goal_at j order k = some_same goal (goal_at j order k) h in
+    record { is_listed = refl; order_is = ap (λ (g : Goal). g.order) same; place_is = ap (λ (g : Goal). Some g.place) (sym same); load_is = ap (λ (g : Goal). g.load) same; latest_is = ap (λ (g : Goal). g.latest) same }
   where
     some_same : (x y : Goal) → Some x ≡ Some y → x ≡ y
     some_same x y e = cc
-goal_is true None order goal h = cc
-goal_is false place order goal h = cc
+goal_is true None j order goal h = cc
+goal_is false place j order goal h = cc
 
-no_goal : (b : Bool) (place : Option ℕ) (order : Order) (k : ℕ) → None ≡ goal_if b place order → b ≡ true → place ≡ Some k → ⊥
-no_goal true (Some x) order k h t e = cc
-no_goal true None order k h t e = cc
-no_goal false place order k h t e = cc
+no_goal : (b : Bool) (place : Option ℕ) (j : ℕ) (order : Order) (k : ℕ) → None ≡ goal_if b place j order → b ≡ true → place ≡ Some k → ⊥
+no_goal true (Some x) j order k h t e = cc
+no_goal true None j order k h t e = cc
+no_goal false place j order k h t e = cc
 
-goal_of-if : (net : NetworkValue) (class : List ℕ) (wanted : WantedOrder) → goal_of net class wanted ≡ goal_if (is_listed wanted.order.classes class) (place_index net.places wanted.order.place) wanted.order
-goal_of-if net class wanted = by (is_listed wanted.order.classes class) where
-  by : (b : Bool) → (if b then option_map (goal_at wanted.order) (place_index net.places wanted.order.place) else None) ≡ goal_if b (place_index net.places wanted.order.place) wanted.order
+goal_of-if : (net : NetworkValue) (class : List ℕ) (j : ℕ) (wanted : WantedOrder) → goal_of net class j wanted ≡ goal_if (is_listed wanted.order.classes class) (place_index net.places wanted.order.place) j wanted.order
+goal_of-if net class j wanted = by (is_listed wanted.order.classes class) where
+  by : (b : Bool) → (if b then option_map (goal_at j wanted.order) (place_index net.places wanted.order.place) else None) ≡ goal_if b (place_index net.places wanted.order.place) j wanted.order
   by true = refl
   by false = refl
 
-module _ (net : NetworkValue) (at : ℕ) (wagon : FreeWagon) (wanted : WantedOrder) where
-  says : (goal : Goal) → Some goal ≡ goal_of net wagon.class wanted → Says (is_listed wanted.order.classes wagon.class) (place_index net.places wanted.order.place) wanted.order goal
-  says goal h = goal_is _ _ wanted.order goal (h ∙ goal_of-if net wagon.class wanted)
+says : (net : NetworkValue) (class : List ℕ) (j : ℕ) (wanted : WantedOrder) (goal : Goal) → Some goal ≡ goal_of net class j wanted → Says (is_listed wanted.order.classes class) (place_index net.places wanted.order.place) j wanted.order goal
+says net class j wanted goal h = goal_is _ _ j wanted.order goal (h ∙ goal_of-if net class j wanted)
 
+module _ (net : NetworkValue) (at : ℕ) (wagon : FreeWagon) (j : ℕ) (wanted : WantedOrder) where
   -- an order without a goal is reached by no wagon of the class
-  pub unreached : (o : Option ℕ) → None ≡ goal_of net wagon.class wanted → o ≡ None → (km : ℕ) → (o ≡ Some km) ↔ Reaches net at wagon wanted.order km
+  pub unreached : (o : Option ℕ) → None ≡ goal_of net wagon.class j wanted → o ≡ None → (km : ℕ) → (o ≡ Some km) ↔ Reaches net at wagon wanted.order km
   unreached o h none km =
-      (λ some. cc, λ (r : Reaches net at wagon wanted.order km). absurd (no_goal _ _ wanted.order r.distance.leads.last (h ∙ goal_of-if net wagon.class wanted) (listed wanted.order.classes wagon.class r.suits.class) r.distance.leads.ends))
+      (λ some. cc, λ (r : Reaches net at wagon wanted.order km). absurd (no_goal _ _ j wanted.order r.distance.leads.last (h ∙ goal_of-if net wagon.class j wanted) (listed wanted.order.classes wagon.class r.suits.class) r.distance.leads.ends))
 
   -- the place of a goal is one of the network
-  pub goal_within : (o : Option Goal) → o ≡ goal_of net wagon.class wanted → IfSome o (λ goal. goal.place < length net.places)
-  goal_within None h = tt
-  goal_within (Some goal) h = (position-Some (is_same_place wanted.order.place) net.places goal.place [] (says goal h).place_is).0
+  pub goal_within : (goal : Goal) → Some goal ≡ goal_of net wagon.class j wanted → goal.place < length net.places
+  goal_within goal h = (position-Some (is_same_place wanted.order.place) net.places goal.place [] (says net wagon.class j wanted goal h).place_is).0
 
   -- the place of a goal is that of its order
-  pub goal_place : (goal : Goal) → Some goal ≡ goal_of net wagon.class wanted → place_index net.places wanted.order.place ≡ Some goal.place
-  goal_place goal h = (says goal h).place_is
+  pub goal_place : (goal : Goal) → Some goal ≡ goal_of net wagon.class j wanted → place_index net.places wanted.order.place ≡ Some goal.place
+  goal_place goal h = (says net wagon.class j wanted goal h).place_is
 
   -- a goal that the wagon reaches in time, and whose load is within its limit
-  pub reached_goal : (goal : Goal) (d : ℕ × ℕ) → Some goal ≡ goal_of net wagon.class wanted → goal.load ≤ wagon.load_limit → IsDistance net wagon.place wanted.order.place d → max wagon.ready at + 60 * d.1 ≤ goal.latest → (km : ℕ) → (Some d.0 ≡ Some km) ↔ Reaches net at wagon wanted.order km
+  pub reached_goal : (goal : Goal) (d : ℕ × ℕ) → Some goal ≡ goal_of net wagon.class j wanted → goal.load ≤ wagon.load_limit → IsDistance net wagon.place wanted.order.place d → max wagon.ready at + 60 * d.1 ≤ goal.latest → (km : ℕ) → (Some d.0 ≡ Some km) ↔ Reaches net at wagon wanted.order km
   reached_goal goal d h load distance in_time km = (to, from) where
     to : Some d.0 ≡ Some km → Reaches net at wagon wanted.order km
     to e =
         let same : d.0 ≡ km = some_same d.0 km e in
         record {
-          suits = record { class = is_there wanted.order.classes wagon.class (says goal h).is_listed; load = omega (arith, load, (says goal h).load_is) };
+          suits = record { class = is_there wanted.order.classes wagon.class (says net wagon.class j wanted goal h).is_listed; load = omega (arith, load, (says net wagon.class j wanted goal h).load_is) };
           minutes = d.1;
           distance = subst (λ (k : ℕ). IsDistance net wagon.place wanted.order.place (k, d.1)) same distance;
-          in_time = omega (arith, in_time, (says goal h).latest_is);
+          in_time = omega (arith, in_time, (says net wagon.class j wanted goal h).latest_is);
         }
       where
         some_same : (x y : ℕ) → Some x ≡ Some y → x ≡ y
@@ -117,25 +117,70 @@ module _ (net : NetworkValue) (at : ℕ) (wagon : FreeWagon) (wanted : WantedOrd
         let there = r.distance.least distance.walk distance.leads in
         ap Some (omega (arith, here.0, there.0, distance.km, r.distance.km))
 
--- the order whose goal stands at a place of the goals of a class
-pub record GoalAt (net : NetworkValue) (class : List ℕ) (orders : List WantedOrder) (j : ℕ) (o : Option Goal) : Type 0 where
+module _ (net : NetworkValue) (class : List ℕ) where
+  goals_from-push : (orders : List WantedOrder) (j : ℕ) (wanted : WantedOrder) → goals_from net class j (orders ++ wanted ∷ []) ≡ goals_from net class j orders ++ option_to_list (goal_of net class (j + length orders) wanted)
+  goals_from-push [] j wanted = append-nil _ ∙ ap (λ (k : ℕ). option_to_list (goal_of net class k wanted)) (omega arith)
+  goals_from-push (w ∷ ws) j wanted =
+      ap (λ gs. option_to_list (goal_of net class j w) ++ gs) (goals_from-push ws (j + 1) wanted ∙ ap (λ (k : ℕ). goals_from net class (j + 1) ws ++ option_to_list (goal_of net class k wanted)) (omega arith))
+      ∙ sym (append_assoc (option_to_list (goal_of net class j w)) (goals_from net class (j + 1) ws) _)
+
+  -- the goals go on with that of the next order, if it has one
+  pub goals_next : (orders : List WantedOrder) (j : ℕ) (wanted : WantedOrder) (o : Option Goal) (goals new : List Goal) → j < length orders → wanted ≡ get_or orders j wanted → o ≡ goal_of net class j wanted → goals ≡ goals_of net class (take j orders) → new ≡ goals ++ option_to_list o → new ≡ goals_of net class (take (j + 1) orders)
+  goals_next orders j wanted o goals new within at is h added =
+      let short : length (take j orders) ≡ j = length-take-le j orders (omega arith) in
+      let more : take (j + 1) orders ≡ take j orders ++ wanted ∷ [] = take_more orders j wanted within ∙ ap (λ y. take j orders ++ y ∷ []) (sym at) in
+      added ∙ (ap (λ gs. gs ++ option_to_list o) h ∙ ap (λ (p : Option Goal). goals_of net class (take j orders) ++ option_to_list p) is)
+      ∙ (ap (λ (k : ℕ). goals_of net class (take j orders) ++ option_to_list (goal_of net class k wanted)) (omega (arith, short))
+      ∙ (sym (goals_from-push (take j orders) 0 wanted) ∙ ap (goals_of net class) (sym more)))
+
+-- the next goal: its order behind the orders without a goal, and the orders behind it
+pub record NextGoal (net : NetworkValue) (class : List ℕ) (j : ℕ) (later : List WantedOrder) (goal : Goal) (rest : List Goal) : Type 0 where
+  pub gap : List WantedOrder
   pub wanted : WantedOrder
-  pub at : wanted ≡ get_or orders j wanted
-  pub within : j < length orders
-  pub goal : o ≡ goal_of net class wanted
+  pub behind : List WantedOrder
+  pub split : later ≡ gap ++ wanted ∷ behind
+  pub no_goals : goals_from net class j gap ≡ []
+  pub order : goal.order ≡ j + length gap
+  pub goal_is : Some goal ≡ goal_of net class goal.order wanted
+  pub rest_is : rest ≡ goals_from net class (j + length gap + 1) behind
 
-goal_in : (net : NetworkValue) (class : List ℕ) (orders : List WantedOrder) (j : ℕ) (o : Option Goal) → j < length (goals_of net class orders) → o ≡ get_or (goals_of net class orders) j o → GoalAt net class orders j o
-goal_in net class [] j o l e = absurd (omega arith)
-goal_in net class (w ∷ ws) zero o l e = record { wanted = w; at = refl; within = omega arith; goal = e }
-goal_in net class (w ∷ ws) (suc j) o l e =
-    let rest = goal_in net class ws j o (omega arith) e in
-    record { wanted = rest.wanted; at = rest.at; within = omega (arith, rest.within); goal = rest.goal }
+module _ (net : NetworkValue) (class : List ℕ) (goal : Goal) (rest : List Goal) where
+  next_at : (j : ℕ) (w : WantedOrder) (ws : List WantedOrder) (o : Option Goal) → o ≡ goal_of net class j w → goal ∷ rest ≡ option_to_list o ++ goals_from net class (j + 1) ws → (goal ∷ rest ≡ goals_from net class (j + 1) ws → NextGoal net class (j + 1) ws goal rest) → NextGoal net class j (w ∷ ws) goal rest
+  next_at j w ws None is h later =
+      let more = later h in
+      record {
+        gap = w ∷ more.gap;
+        wanted = more.wanted;
+        behind = more.behind;
+        split = ap (λ os. w ∷ os) more.split;
+        no_goals = ap (λ (o : Option Goal). option_to_list o ++ goals_from net class (j + 1) more.gap) (sym is) ∙ more.no_goals;
+        order = omega (arith, more.order);
+        goal_is = more.goal_is;
+        rest_is = more.rest_is ∙ ap (λ (k : ℕ). goals_from net class k more.behind) (omega arith);
+      }
+  next_at j w ws (Some g) is h later =
+      let here : Some goal ≡ goal_of net class j w = ap Some (first goal g rest _ h) ∙ is in
+      let at : goal.order ≡ j = (says net class j w goal here).order_is in
+      record {
+        gap = [];
+        wanted = w;
+        behind = ws;
+        split = refl;
+        no_goals = refl;
+        order = omega (arith, at);
+        goal_is = here ∙ ap (λ (k : ℕ). goal_of net class k w) (sym at);
+        rest_is = others goal g rest _ h ∙ ap (λ (k : ℕ). goals_from net class k ws) (omega arith);
+      }
+    where
+      first : (x y : Goal) (xs ys : List Goal) → x ∷ xs ≡ y ∷ ys → x ≡ y
+      first x y xs ys e = cc
 
-pub goal_found : (net : NetworkValue) (class : List ℕ) (orders : List WantedOrder) (goals : List (Option Goal)) (j : ℕ) (o : Option Goal) → goals ≡ goals_of net class orders → j < length goals → o ≡ get_or goals j o → GoalAt net class orders j o
-goal_found net class orders goals j o h l e = goal_in net class orders j o (subst (λ (gs : List (Option Goal)). j < length gs) h l) (e ∙ ap (λ (gs : List (Option Goal)). get_or gs j o) h)
+      others : (x y : Goal) (xs ys : List Goal) → x ∷ xs ≡ y ∷ ys → xs ≡ ys
+      others x y xs ys e = cc
 
-pub goals_length : (net : NetworkValue) (class : List ℕ) (orders : List WantedOrder) (goals : List (Option Goal)) → goals ≡ goals_of net class orders → length goals ≡ length orders
-goals_length net class orders goals h = ap length h ∙ length-map orders (goal_of net class)
+  pub next_goal : (j : ℕ) (later : List WantedOrder) → goal ∷ rest ≡ goals_from net class j later → NextGoal net class j later goal rest
+  next_goal j [] h = cc h
+  next_goal j (w ∷ ws) h = next_at j w ws (goal_of net class j w) refl h (next_goal (j + 1) ws)
 
 -- where goals of a class are found, they are those of that class
 pub class_found : (found : List ClassGoals) (class : List ℕ) (k : ℕ) → position (λ (one : ClassGoals). is_name class one.class) found ≡ Some k → (k < length found) × ((d : ClassGoals) → (get_or found k d).class ≡ class)

@@ -7,3 +7,4 @@ pub mod Search
 pub mod ProblemLemmas
 pub mod AllowedLemmas
 pub mod GoalLemmas
+pub mod GoalSteps

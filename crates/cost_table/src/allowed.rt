@@ -9,7 +9,7 @@ ghost use Rattle.cost_table.specs.Problem.{penalties_of, lacks_of};
 ghost use Rattle.cost_table.specs.TableLimits.{max_cost};
 ghost use Rattle.load_orders.specs.Wanted.{IsLack};
 
-use crate::goals::{Goal, class_position};
+use crate::goals::{Goal, class_position, count_goals};
 use crate::problem::Problem;
 use crate::table_cells::Cells;
 use distance_tables::Tables;
@@ -67,7 +67,8 @@ fn rows(
     let orders = problem.orders();
     let network = tables.network();
     let mut classes = Vec::new(alloc);
-    let mut entries = Vec::new(alloc);
+    let most = count_goals(alloc, &mut classes, wagons, network, orders)?;
+    let mut entries = Vec::with_capacity(alloc, most)?;
     let mut ends = Vec::with_capacity(alloc, wagons.len())?;
     for wagon in wagons {
         let k = class_position(alloc, &mut classes, wagon.class, network, orders)?;
@@ -82,7 +83,7 @@ fn push_row(
     entries: &mut Vec<(usize, u64)>,
     problem: &Problem,
     wagon: &FreeWagon,
-    goals: &[Option<Goal>],
+    goals: &[Goal],
     tables: &Tables,
 ) -> Result<(), AllocError>
     requires goals { goals.now ≡ goals_of tables.now wagon.now.class problem.now.orders }
@@ -94,9 +95,9 @@ fn push_row(
     let at = problem.at();
     let from = tables.network().index_of(wagon.place);
     entries.reserve(goals.len())?;
-    for (j, goal) in goals.iter().enumerate() {
+    for goal in goals {
         if let Some(km) = reached(tables, from, *goal, at, wagon) {
-            entries.push_reserved((j, km));
+            entries.push_reserved((goal.order, km));
         }
     }
     Ok(())
@@ -107,16 +108,15 @@ fn push_row(
 fn reached(
     tables: &Tables,
     from: Option<usize>,
-    goal: Option<Goal>,
+    goal: Goal,
     at: Moment,
     wagon: &FreeWagon,
 ) -> Option<u64>
     requires from { from ≡ place_index tables.now.places wagon.now.place }
-    requires goal { IfSome goal (λ g. g.place < length tables.now.places) }
-    ensures meaning { (wanted : WantedOrder) → goal ≡ goal_of tables.now wagon.now.class wanted → (km : ℕ) → (result ≡ Some km) ↔ Reaches tables.now at wagon.now wanted.order km }
+    requires goal { goal.place < length tables.now.places }
+    ensures meaning { (wanted : WantedOrder) → Some goal ≡ goal_of tables.now wagon.now.class goal.order wanted → (km : ℕ) → (result ≡ Some km) ↔ Reaches tables.now at wagon.now wanted.order km }
     ensures limit { IfSome result (λ km. km ≤ max_cost) }
 {
-    let goal = goal?;
     if !carries(wagon, goal.load) {
         return None;
     }

@@ -8,10 +8,13 @@ use line_network::Network;
 use load_orders::{Wanted, accepts};
 use rail_codes::{ClassCode, Moment};
 use std::alloc::{AllocError, Global};
+use wagon_state::FreeWagon;
 
-/// Where an order wants wagons, how much each loads, and by when.
+/// An order that wants wagons of a class: where, how much each loads, and by when.
 #[derive(Clone, Copy, Debug)]
 pub(crate) struct Goal {
+    /// The order's position in the problem.
+    pub(crate) order: usize,
     /// The number of its place in the network.
     pub(crate) place: usize,
     /// In kg.
@@ -19,12 +22,12 @@ pub(crate) struct Goal {
     pub(crate) latest: Moment,
 }
 
-/// The goals of all orders for the wagons of one class; none where an order doesn't list the class or the network
-/// doesn't have its place.
+/// The goals for the wagons of one class, ascending by order: one for each order that lists the class and whose
+/// place the network has.
 #[derive(Debug, Drop)]
 pub(crate) struct ClassGoals {
     pub(crate) class: ClassCode,
-    pub(crate) goals: Vec<Option<Goal>>,
+    pub(crate) goals: Vec<Goal>,
 }
 
 /// Where the goals of a class stand among those found so far; they go behind them where they aren't there yet.
@@ -48,6 +51,26 @@ pub(crate) fn class_position(
     Ok(found.len() - 1)
 }
 
+/// How many goals the classes of these wagons have, each wagon counted by itself: no more cells stand in their rows.
+/// It is a size to ask for and nothing more; the goals of the classes are found on the way.
+pub(crate) fn count_goals(
+    alloc: Global,
+    found: &mut Vec<ClassGoals>,
+    wagons: &[FreeWagon],
+    network: &Network,
+    orders: &[Wanted],
+) -> Result<usize, AllocError>
+    requires found { All (AreGoalsOf network.now orders.now) found.old.items }
+    ensures found { OnOk result (All (AreGoalsOf network.now orders.now) found.new.items) }
+{
+    let mut count: usize = 0;
+    for wagon in wagons {
+        let k = class_position(alloc, found, wagon.class, network, orders)?;
+        count = count.saturating_add(found[k].goals.len());
+    }
+    Ok(count)
+}
+
 /// Where the goals of a class stand.
 fn position_of_class(found: &[ClassGoals], class: ClassCode) -> Option<usize>
     ensures { result ≡ position (λ one. is_name class one.class) found.now }
@@ -55,25 +78,27 @@ fn position_of_class(found: &[ClassGoals], class: ClassCode) -> Option<usize>
     found.iter().position(|one| one.class == class)
 }
 
-/// The goals of all orders for the wagons of a class.
+/// The goals for the wagons of a class. The list grows with them: an order without a goal takes no memory.
 fn goals(
     alloc: Global,
     class: ClassCode,
     network: &Network,
     orders: &[Wanted],
-) -> Result<Vec<Option<Goal>>, AllocError>
+) -> Result<Vec<Goal>, AllocError>
     ensures { IfOk result (λ goals. goals.items ≡ goals_of network.now class orders.now) }
 {
-    let mut goals = Vec::with_capacity(alloc, orders.len())?;
-    for wanted in orders {
-        goals.push(goal_of(class, network, wanted))?;
+    let mut goals = Vec::new(alloc);
+    for (j, wanted) in orders.iter().enumerate() {
+        if let Some(goal) = goal_of(class, network, j, wanted) {
+            goals.push(goal)?;
+        }
     }
     Ok(goals)
 }
 
-/// The goal of an order for the wagons of a class.
-fn goal_of(class: ClassCode, network: &Network, wanted: &Wanted) -> Option<Goal>
-    ensures { result ≡ goal_of network.now class wanted.now }
+/// The goal of order j for the wagons of a class.
+fn goal_of(class: ClassCode, network: &Network, j: usize, wanted: &Wanted) -> Option<Goal>
+    ensures { result ≡ goal_of network.now class j wanted.now }
 {
     let order = wanted.order();
     if !accepts(order, class) {
@@ -81,6 +106,7 @@ fn goal_of(class: ClassCode, network: &Network, wanted: &Wanted) -> Option<Goal>
     }
     let place = network.index_of(order.place())?;
     Some(Goal {
+        order: j,
         place,
         load: order.load(),
         latest: order.latest(),

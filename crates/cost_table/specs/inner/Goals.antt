@@ -1,6 +1,6 @@
 -- What a wagon's way to an order depends on, for the wagons of one class.
-use Rattle.std.specs.Prelude.{◌≡◌, ℕ, if◌then◌else◌, List, Option, None, map}
-use Rattle.std.specs.Option.{option_map}
+use Rattle.std.specs.Prelude.{◌≡◌, ◌+◌, ℕ, if◌then◌else◌, List, [], ◌∷◌, ◌++◌, Option, None}
+use Rattle.std.specs.Option.{option_map, option_to_list}
 use Rattle.move_messages.specs.Order.{Order}
 use Rattle.load_orders.specs.Suits.{is_listed}
 use Rattle.load_orders.specs.Wanted.{WantedOrder}
@@ -8,18 +8,23 @@ use Rattle.line_network.specs.Network.{NetworkValue, place_index}
 use Rattle.cost_table.specs.declared.goals.Goal.{Goal}
 use Rattle.cost_table.specs.declared.goals.ClassGoals.{ClassGoals}
 
--- where an order wants wagons, how much each loads, and by when
-abbrev pub goal_at : Order → ℕ → Goal
-goal_at order place = record { place = place; load = order.load; latest = order.latest }
+-- what order j wants of a wagon: where, how much it loads, and by when
+abbrev pub goal_at : ℕ → Order → ℕ → Goal
+goal_at j order place = record { order = j; place = place; load = order.load; latest = order.latest }
 
 -- the same, where the order lists the class and the network has its place
-abbrev pub goal_of : NetworkValue → List ℕ → WantedOrder → Option Goal
-goal_of network class wanted =
-    if is_listed wanted.order.classes class then option_map (goal_at wanted.order) (place_index network.places wanted.order.place) else None
+abbrev pub goal_of : NetworkValue → List ℕ → ℕ → WantedOrder → Option Goal
+goal_of network class j wanted =
+    if is_listed wanted.order.classes class then option_map (goal_at j wanted.order) (place_index network.places wanted.order.place) else None
+
+-- the goals of these orders for the wagons of one class; the first of them is order j
+abbrev pub goals_from : NetworkValue → List ℕ → ℕ → List WantedOrder → List Goal
+goals_from network class j [] = []
+goals_from network class j (wanted ∷ later) = option_to_list (goal_of network class j wanted) ++ goals_from network class (j + 1) later
 
 -- the goals of all orders for the wagons of one class
-abbrev pub goals_of : NetworkValue → List ℕ → List WantedOrder → List (Option Goal)
-goals_of network class orders = map (goal_of network class) orders
+abbrev pub goals_of : NetworkValue → List ℕ → List WantedOrder → List Goal
+goals_of network class orders = goals_from network class 0 orders
 
 -- whether goals that are kept with a class are those of that class
 abbrev pub AreGoalsOf : NetworkValue → List WantedOrder → ClassGoals → Type 0
