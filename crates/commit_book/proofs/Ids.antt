@@ -16,7 +16,7 @@ use Rattle.database_rows.proofs.Named.{position-new, position-push}
 use Rattle.operating_db.specs.declared.event.Event.{Event}
 use Rattle.operating_db.specs.declared.event.Event.TheVariants.{Message, Place, Withdraw, Commit, Revise}
 use Rattle.commit_book.specs.History.{IsFresh}
-use Rattle.commit_book.specs.inner.Ledger.{IsIndexOf, IsNoMessage, compare_ids, is_id, is_message_of, message_at, message_of}
+use Rattle.commit_book.specs.inner.Ledger.{IsIndexOf, compare_ids, is_id, is_message_of, message_at, message_of}
 
 -- ---- ids compared
 
@@ -160,14 +160,6 @@ index_stays events event index other h q = h q ∙ sym (position-push (is_messag
 -- the index of no event
 pub index_none : (ids : BTreeMap MessageId ℕ) → ids.entries ≡ [] → IsIndexOf [] (get compare_ids ids)
 index_none ids empty id = rw empty refl
-
--- an event that is no message keeps the index
-pub no_note : (event : Event) → IsNoMessage event → (m : movement.Message) → event ≡ Message m → ⊥
-no_note (Message m) none other is = none
-no_note (Place text) none other is = absurd cc
-no_note (Withdraw id) none other is = absurd cc
-no_note (Commit commit) none other is = absurd cc
-no_note (Revise network) none other is = absurd cc
 
 -- ---- the last event taken back
 

@@ -6,7 +6,7 @@ ghost use Rattle.distance_tables.specs.Networks.{max_networks};
 ghost use Rattle.operating_db.specs.Steps.{IsPromised};
 ghost use Rattle.operating_db.specs.declared.event.Event.TheVariants as event;
 ghost use Rattle.commit_book.specs.History.{IsFresh};
-ghost use Rattle.commit_book.specs.inner.Ledger.{IsFreshEvent, IsIndexOf, IsNoMessage, compare_ids, message_at, office_of, state_of};
+ghost use Rattle.commit_book.specs.inner.Ledger.{IsFreshEvent, IsIndexOf, compare_ids, message_at, office_of, state_of};
 ghost use Rattle.std.specs.BTreeMap.{get};
 
 use move_messages::Message;
@@ -154,22 +154,30 @@ fn prepare(
     ensures refused { IfErr result (λ fault. IsRefusal (after_call state.now.networks state.now.office event.now) fault) }
     ensures unchanged { OnErr result (IsIndexOf events.old.items (get compare_ids ids.new)) }
 {
-    // A message wants memory for its id. Another event wants none here while there is room; it is then tested once,
-    // where it happens.
-    if !is_message(event) && events.len() < events.capacity() {
-        return Ok(());
+    if make_room(ids, events, event).is_err() {
+        // Out of memory is answered only where nothing else is wrong.
+        state.possible(event)?;
+        return Err(ApplyFault::OutOfMemory);
     }
-    state.possible(event)?;
-    events.reserve(1)?;
-    note(ids, events, event)?;
     Ok(())
 }
 
-/// Whether an event is a message.
-fn is_message(event: &Event) -> bool
-    ensures { result ≡ false → IsNoMessage event.now }
+/// Makes room for one more event behind the others, and notes its place by its id, if it is a message. Where memory is
+/// refused, no place is noted.
+fn make_room(
+    ids: &mut BTreeMap<MessageId, usize>,
+    events: &mut Vec<Event>,
+    event: &Event,
+) -> Result<(), AllocError>
+    requires fresh { IsFreshEvent event.now events.old.items }
+    requires indexed { IsIndexOf events.old.items (get compare_ids ids.old) }
+    ensures events { events.new.items ≡ events.old.items }
+    ensures room { OnOk result (vec_len events.new < vec_capacity events.new) }
+    ensures noted { OnOk result (IsIndexOf (events.old.items ++ event.now ∷ []) (get compare_ids ids.new)) }
+    ensures refused { OnErr result (IsIndexOf events.old.items (get compare_ids ids.new)) }
 {
-    matches!(event, Event::Message(_))
+    events.reserve(1)?;
+    note(ids, events, event)
 }
 
 /// Notes the place of an event behind others by its id, if it is a message. Where memory is refused, nothing changes.

@@ -63,14 +63,6 @@ IsFreshEvent (Withdraw id) events = Unit {0}
 IsFreshEvent (Commit commit) events = Unit {0}
 IsFreshEvent (Revise network) events = Unit {0}
 
--- whether an event is no message
-abbrev pub IsNoMessage : Event → Type 0
-IsNoMessage (Message message) = ⊥
-IsNoMessage (Place text) = Unit {0}
-IsNoMessage (Withdraw id) = Unit {0}
-IsNoMessage (Commit commit) = Unit {0}
-IsNoMessage (Revise network) = Unit {0}
-
 -- the index has the messages, and the state is the office after all events
 pub record IsLedger (roster : List WagonRow) (events : List Event) (index : MessageId → Option ℕ) (state : StateValue) : Type 0 where
   pub indexed : IsIndexOf events index
