@@ -1,5 +1,5 @@
 -- Labels' numbers and the distances that they stand for.
-use Rattle.std.proofs.Common.{◌≡◌, ◌≢◌, ℕ, zero, suc, ◌∷◌, replicate, ◌+◌, ◌*◌, ◌/◌, ◌%◌, ◌^◌, ◌<◌, ◌≤◌, ◌==◌, Bool, true, false, ltb, List, length, set, get_or, refl, ◌∙◌, ap, arith, Some, None}
+use Rattle.std.proofs.Common.{◌≡◌, ◌≢◌, ℕ, zero, suc, ◌∷◌, replicate, ◌+◌, ◌*◌, ◌/◌, ◌%◌, ◌^◌, ◌<◌, ◌≤◌, ◌==◌, Bool, true, false, ltb, List, length, set, get_or, refl, sym, ◌∙◌, ap, arith, Some, None}
 use Rattle.std.specs.Bool.{MatchBool}
 use Rattle.std.proofs.lemmas.Bool.{cond-false, cond_both, eqb-true, ne_eqb, ltb-true, ltb-false}
 use Rattle.std.proofs.lemmas.List.{length-map, map-set, get_or-map}
@@ -14,6 +14,10 @@ length_known labels = length-map labels distance_of
 -- the label of a place, as it is read
 pub label_read : (labels : List Label) (place : ℕ) (l : Label) → place < length labels → label_at (known labels) place ≡ distance_of (get_or labels place l)
 label_read labels place l within = get_or-map distance_of labels place l None within
+
+-- the same, where what is read is named
+pub known_read : (labels : List Label) (place : ℕ) (l : Label) → place < length labels → l ≡ get_or labels place l → distance_of l ≡ label_at (known labels) place
+known_read labels place l within same = ap distance_of same ∙ sym (label_read labels place l within)
 
 -- a label that is written
 pub known_set : (labels : List Label) (place : ℕ) (l : Label) (d : Distance) → distance_of l ≡ Some d → known (set labels place l) ≡ set (known labels) place (Some d)

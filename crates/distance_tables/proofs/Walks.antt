@@ -4,7 +4,7 @@ use Rattle.std.specs.List.{Contains}
 use Rattle.std.specs.declared.alloc.Global.{Global}
 use Rattle.std.specs.declared.vec.Vec.{Vec}
 use Rattle.std.proofs.lemmas.Bool.{cases_lt}
-use Rattle.std.proofs.lemmas.List.{get_or_append_left, get_or_push, get_or_read}
+use Rattle.std.proofs.lemmas.List.{get_or_append_left, get_or_push}
 use Rattle.std.proofs.lemmas.List.Sorted.{Contains-permutation, IsPermutation-sym}
 use Rattle.std.specs.List.Sorted.{IsPermutation}
 use Rattle.std.proofs.lemmas.List.Sums.{sum_by-append}
@@ -12,10 +12,13 @@ use Rattle.std.proofs.lemmas.Option.{same_Some}
 use Rattle.line_network.specs.declared.line.Line.{Line}
 use Rattle.line_network.specs.Network.{NetworkValue, place_index}
 use Rattle.distance_tables.specs.declared.distance.Distance.{Distance}
+use Rattle.distance_tables.specs.declared.label.Label.{Label}
 use Rattle.distance_tables.specs.Walk.{IsPath, IsWalk, km_of, minutes_of}
 use Rattle.distance_tables.specs.Distance.{AtMost, IsDistance, IsAnswered}
+use Rattle.distance_tables.specs.inner.Numbers.{distance_of, known}
 use Rattle.distance_tables.specs.inner.Rows.{IsLeast, IsAnswer, IsNear, IsRow, AreRows}
 use Rattle.distance_tables.specs.Laws.{TriangleHolds}
+use Rattle.distance_tables.proofs.Numbering.{length_known, known_read}
 use Rattle.distance_tables.proofs.Paths.{IsPath-append}
 
 -- a walk is a path between the numbers of its places
@@ -67,42 +70,37 @@ IsAnswer-same xs ys a b (Some d) there back h = record {
 }
 
 -- rows don't depend on the order of the lines
-pub AreRows-permutation : (xs ys : List Line) (places : ℕ) (rows : List (Vec (Option Distance) Global)) → IsPermutation xs ys → AreRows ys places rows → AreRows xs places rows
+pub AreRows-permutation : (xs ys : List Line) (places : ℕ) (rows : List (Vec Label Global)) → IsPermutation xs ys → AreRows ys places rows → AreRows xs places rows
 AreRows-permutation xs ys places rows moved h = record {
   full = h.full;
   each = λ a d within. record {
     full = (h.each a d within).full;
-    answers = λ b known. IsAnswer-same ys xs a b _ (λ l. Contains-permutation ys xs l (IsPermutation-sym xs ys moved)) (λ l. Contains-permutation xs ys l moved) ((h.each a d within).answers b known);
+    answers = λ b below. IsAnswer-same ys xs a b _ (λ l. Contains-permutation ys xs l (IsPermutation-sym xs ys moved)) (λ l. Contains-permutation xs ys l moved) ((h.each a d within).answers b below);
     near = (h.each a d within).near;
   };
 }
 
 -- the rows of the first so many places
-abbrev pub AreFirstRows : List Line → ℕ → ℕ → List (Vec (Option Distance) Global) → Type 0
-AreFirstRows lines places count rows = (a : ℕ) (d : Vec (Option Distance) Global) → a < count → IsRow lines places a (get_or rows a d).items
+abbrev pub AreFirstRows : List Line → ℕ → ℕ → List (Vec Label Global) → Type 0
+AreFirstRows lines places count rows = (a : ℕ) (d : Vec Label Global) → a < count → IsRow lines places a (known (get_or rows a d).items)
 
 -- one row more
-pub AreFirstRows-push : (lines : List Line) (places count : ℕ) (rows : List (Vec (Option Distance) Global)) (row : Vec (Option Distance) Global) → length rows ≡ count → AreFirstRows lines places count rows → IsRow lines places count row.items → AreFirstRows lines places (count + 1) (rows ++ row ∷ [])
+pub AreFirstRows-push : (lines : List Line) (places count : ℕ) (rows : List (Vec Label Global)) (row : Vec Label Global) → length rows ≡ count → AreFirstRows lines places count rows → IsRow lines places count (known row.items) → AreFirstRows lines places (count + 1) (rows ++ row ∷ [])
 AreFirstRows-push lines places count rows row same each last a d below = elim (cases_lt a count) [
-  | inl before ↦ (let P : Vec (Option Distance) Global → Type 0 = λ r. IsRow lines places a r.items in subst P (sym (get_or_append_left rows (row ∷ []) d a (omega arith))) (each a d before))
+  | inl before ↦ (let P : Vec Label Global → Type 0 = λ r. IsRow lines places a (known r.items) in subst P (sym (get_or_append_left rows (row ∷ []) d a (omega arith))) (each a d before))
   | inr past ↦ (let here : a ≡ count = omega arith in
-      let P : Vec (Option Distance) Global → Type 0 = λ r. IsRow lines places count r.items in
-      let Q : ℕ → Type 0 = λ n. IsRow lines places n (get_or (rows ++ row ∷ []) n d).items in
+      let P : Vec Label Global → Type 0 = λ r. IsRow lines places count (known r.items) in
+      let Q : ℕ → Type 0 = λ n. IsRow lines places n (known (get_or (rows ++ row ∷ []) n d).items) in
       subst Q (sym here) (subst P (sym (get_or_push rows row d count same)) last))
 ]
 
 -- what a row has for a place, as it is read
-pub answer_read : (lines : List Line) (places a b : ℕ) (rows : List (Vec (Option Distance) Global)) (row : Vec (Option Distance) Global) (o : Option Distance) → AreRows lines places rows → a < places → b < places → row ≡ get_or rows a row → o ≡ get_or row.items b o → IsAnswer lines a b o
-answer_read lines places a b rows row o h from to at here =
-    let P : Vec (Option Distance) Global → Type 0 = λ r. IsRow lines places a r.items in
-    let is : IsRow lines places a row.items = subst P (sym at) (h.each a row from) in
-    subst (IsAnswer lines a b) (sym (get_or_read row.items b o (omega (arith, is.full)) here None)) (is.answers b to)
-
-pub near_read : (lines : List Line) (places a b : ℕ) (rows : List (Vec (Option Distance) Global)) (row : Vec (Option Distance) Global) (o : Option Distance) → AreRows lines places rows → a < places → b < places → row ≡ get_or rows a row → o ≡ get_or row.items b o → IsNear places o
-near_read lines places a b rows row o h from to at here =
-    let P : Vec (Option Distance) Global → Type 0 = λ r. IsRow lines places a r.items in
-    let is : IsRow lines places a row.items = subst P (sym at) (h.each a row from) in
-    subst (IsNear places) (sym (get_or_read row.items b o (omega (arith, is.full)) here None)) (is.near b to)
+pub answer_read : (lines : List Line) (places a b : ℕ) (rows : List (Vec Label Global)) (row : Vec Label Global) (l : Label) (o : Option Distance) → AreRows lines places rows → a < places → b < places → row ≡ get_or rows a row → l ≡ get_or row.items b l → o ≡ distance_of l → IsAnswer lines a b o × IsNear places o
+answer_read lines places a b rows row l o h from to at here read =
+    let P : Vec Label Global → Type 0 = λ r. IsRow lines places a (known r.items) in
+    let is : IsRow lines places a (known row.items) = subst P (sym at) (h.each a row from) in
+    let same = sym (read ∙ known_read row.items b l (omega (arith, is.full, length_known row.items)) here) in
+    (subst (IsAnswer lines a b) same (is.answers b to), subst (IsNear places) same (is.near b to))
 
 -- as kilometres and minutes
 abbrev pub pair_of : Option Distance → Option (ℕ × ℕ)

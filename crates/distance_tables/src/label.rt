@@ -1,4 +1,4 @@
-//! Labels of places in a search.
+//! Labels of places, in a search and in the tables.
 ghost use Rattle.std.specs.Prelude.{◌≡◌, ◌+◌, ◌*◌, ◌^◌, ◌<◌, MatchBool, None, Some};
 ghost use Rattle.distance_tables.specs.inner.Numbers.{distance_of};
 ghost use Rattle.distance_tables.specs.inner.Search.{LabelAbove, LabelAtMost};
@@ -9,7 +9,8 @@ use crate::distance::Distance;
 const LABEL_MINUTES: u64 = 4_294_967_296;
 
 /// The shortest way found to a place, if one is found, as one number: its kilometres, then its minutes, as digits;
-/// the greatest number where none is found. So a search finds by one comparison whether a label falls.
+/// the greatest number where none is found. So a search finds by one comparison whether a label falls, and the
+/// tables keep the labels that it leaves.
 #[derive(Clone, Copy, Debug)]
 pub(crate) struct Label {
     number: u64,

@@ -4,8 +4,9 @@ ghost use Rattle.line_network.specs.Network.{IsLine, max_places};
 ghost use Rattle.distance_tables.specs.inner.Rows.{AreRows};
 
 use crate::Tables;
-use crate::distance::Distance;
+use crate::label::Label;
 use crate::lines_by_origin::LinesByOrigin;
+use crate::queue::Queue;
 use crate::search::row_of_origin;
 use line_network::Network;
 use std::alloc::{AllocError, Global};
@@ -26,15 +27,16 @@ fn rows_of_origins(
     alloc: Global,
     lines: &LinesByOrigin,
     places: usize,
-) -> Result<Vec<Vec<Option<Distance>>>, AllocError>
+) -> Result<Vec<Vec<Label>>, AllocError>
     requires few { places ≤ max_places }
     requires indexed { vec_len lines.now.starts ≡ places + 1 }
     requires lines { All (IsLine places) lines.now.lines.items }
     ensures { IfOk result (λ rows. AreRows lines.now.lines.items places rows.items) }
 {
     let mut rows = Vec::with_capacity(alloc, places)?;
+    let mut waiting = Queue::with_capacity(alloc, places)?;
     for origin in 0..places {
-        rows.push(row_of_origin(alloc, lines, places, origin)?)?;
+        rows.push(row_of_origin(alloc, &mut waiting, lines, places, origin)?)?;
     }
     Ok(rows)
 }

@@ -18,23 +18,26 @@ use crate::waiting::Waiting;
 use line_network::Line;
 use std::alloc::{AllocError, Global};
 
-/// The distances from one place to each place, `None` where no walk leads.
+/// The labels of the distances from one place to each place. None waits before the search or after it, so that the
+/// searches of a thread can share a queue's memory.
 pub(crate) fn row_of_origin(
     alloc: Global,
+    waiting: &mut Queue,
     lines: &LinesByOrigin,
     places: usize,
     origin: usize,
-) -> Result<Vec<Option<Distance>>, AllocError>
+) -> Result<Vec<Label>, AllocError>
     requires origin { origin < places }
     requires few { places ≤ max_places }
     requires indexed { vec_len lines.now.starts ≡ places + 1 }
     requires lines { All (IsLine places) lines.now.lines.items }
-    ensures { IfOk result (λ row. IsRow lines.now.lines.items places origin row.items) }
+    requires none_waits { waits waiting.old ≡ [] }
+    ensures row { IfOk result (λ row. IsRow lines.now.lines.items places origin (known row.items)) }
+    ensures none_waits { OnOk result (waits waiting.new ≡ []) }
 {
     let mut labels = unreached(alloc, places)?;
-    let mut waiting = Queue::with_capacity(alloc, places)?;
-    search(&mut labels, &mut waiting, lines, origin)?;
-    distances(alloc, &labels)
+    search(&mut labels, waiting, lines, origin)?;
+    Ok(labels)
 }
 
 /// The labels before a search.
@@ -43,17 +46,6 @@ fn unreached(alloc: Global, places: usize) -> Result<Vec<Label>, AllocError>
     ensures none { IfOk result (λ labels. known labels.items ≡ replicate places None) }
 {
     vec![in alloc; Label::unreached(); places]
-}
-
-/// The distances that labels say.
-fn distances(alloc: Global, labels: &[Label]) -> Result<Vec<Option<Distance>>, AllocError>
-    ensures { IfOk result (λ row. row.items ≡ known labels.now) }
-{
-    let mut row = Vec::with_capacity(alloc, labels.len())?;
-    for label in labels {
-        row.push(label.distance())?;
-    }
-    Ok(row)
 }
 
 /// Labels each place that a walk from the origin leads to with its distance.
@@ -70,7 +62,8 @@ fn search(
     requires unreached { known labels.old ≡ replicate (length labels.old) None }
     requires none_waits { waits waiting.old ≡ [] }
 
-    ensures { OnOk result (IsRow lines.now.lines.items (length labels.old) origin (known labels.new)) }
+    ensures row { OnOk result (IsRow lines.now.lines.items (length labels.old) origin (known labels.new)) }
+    ensures none_waits { OnOk result (waits waiting.new ≡ []) }
 {
     let distance = Distance { km: 0, minutes: 0 };
     waiting.push(Waiting {

@@ -3,17 +3,18 @@ ghost use Rattle.std.specs.Prelude.{◌≡◌, IfOk};
 ghost use Rattle.distance_tables.specs.inner.Shares.{IsShare, IsWork};
 
 use crate::Gate;
-use crate::distance::Distance;
+use crate::label::Label;
 use crate::lines_by_origin::LinesByOrigin;
+use crate::queue::Queue;
 use crate::search::row_of_origin;
 use std::alloc::{AllocError, Global};
 use std::thread::Promise;
 
-/// The distances from one place, with its number.
+/// The labels of the distances from one place, with its number.
 #[derive(Drop)]
 pub(crate) struct OriginRow {
     pub(crate) origin: usize,
-    pub(crate) row: Vec<Option<Distance>>,
+    pub(crate) row: Vec<Label>,
 }
 
 /// What all workers do together: the lines, between so many places, and how many workers there are.
@@ -53,12 +54,13 @@ impl<'a> Share<'a> {
             workers,
         } = self.work;
         let mut rows = Vec::with_capacity(alloc, places / workers + 1)?;
+        let mut waiting = Queue::with_capacity(alloc, places)?;
         for origin in 0..places {
             if origin % workers != self.worker {
                 continue;
             }
             gate.enter(origin);
-            let row = row_of_origin(alloc, lines, places, origin)?;
+            let row = row_of_origin(alloc, &mut waiting, lines, places, origin)?;
             rows.push(OriginRow { origin, row })?;
         }
         Ok(rows)

@@ -5,8 +5,10 @@ use Rattle.std.specs.declared.vec.Vec.{Vec}
 use Rattle.line_network.specs.Network.{max_line_km, max_line_minutes}
 use Rattle.line_network.specs.declared.line.Line.{Line}
 use Rattle.distance_tables.specs.declared.distance.Distance.{Distance}
+use Rattle.distance_tables.specs.declared.label.Label.{Label}
 use Rattle.distance_tables.specs.Walk.{IsPath, km_of, minutes_of}
 use Rattle.distance_tables.specs.Distance.{AtMost}
+use Rattle.distance_tables.specs.inner.Numbers.{known}
 
 -- the pair of a path between two places, by their numbers
 pub record IsPathPair (lines : List Line) (a b : ℕ) (d : Distance) : Type 0 where
@@ -36,7 +38,7 @@ pub record IsRow (lines : List Line) (places a : ℕ) (row : List (Option Distan
   pub answers : (b : ℕ) → b < places → IsAnswer lines a b (slice_index_or row b None)
   pub near : (b : ℕ) → b < places → IsNear places (slice_index_or row b None)
 
--- a row for each of so many places
-pub record AreRows (lines : List Line) (places : ℕ) (rows : List (Vec (Option Distance) Global)) : Type 0 where
+-- a row for each of so many places, as its labels
+pub record AreRows (lines : List Line) (places : ℕ) (rows : List (Vec Label Global)) : Type 0 where
   pub full : length rows ≡ places
-  pub each : (a : ℕ) (d : Vec (Option Distance) Global) → a < places → IsRow lines places a (slice_index_or rows a d).items
+  pub each : (a : ℕ) (d : Vec Label Global) → a < places → IsRow lines places a (known (slice_index_or rows a d).items)

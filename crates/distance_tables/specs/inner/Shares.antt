@@ -1,13 +1,14 @@
 -- How the origins are shared out over workers.
-use Rattle.std.specs.Prelude.{◌≡◌, ℕ, ◌+◌, ◌%◌, ◌<◌, ◌≤◌, ◌==◌, List, All, Option, Result, IfOk, filter, fold, length, map, slice_index_or, slice_set}
+use Rattle.std.specs.Prelude.{◌≡◌, ℕ, ◌+◌, ◌%◌, ◌<◌, ◌≤◌, ◌==◌, List, All, Result, IfOk, filter, fold, length, map, slice_index_or, slice_set}
 use Rattle.std.specs.List.{range_with_len}
 use Rattle.std.specs.declared.alloc.AllocError.{AllocError}
 use Rattle.std.specs.declared.alloc.Global.{Global}
 use Rattle.std.specs.declared.vec.Vec.{Vec}
 use Rattle.line_network.specs.Network.{IsLine, max_places}
 use Rattle.line_network.specs.declared.line.Line.{Line}
-use Rattle.distance_tables.specs.declared.distance.Distance.{Distance}
+use Rattle.distance_tables.specs.declared.label.Label.{Label}
 use Rattle.distance_tables.specs.declared.share.OriginRow.{OriginRow}
+use Rattle.distance_tables.specs.inner.Numbers.{known}
 use Rattle.distance_tables.specs.inner.Rows.{IsRow}
 
 -- lines between so many places, indexed by their origins, and a worker at least
@@ -24,7 +25,7 @@ origins_of places workers worker = filter (λ k. k % workers == worker) (range_w
 -- what a worker answers: a row for each of its origins, none left out, none twice and no other
 pub record IsShare (lines : List Line) (places workers worker : ℕ) (rows : List OriginRow) : Type 0 where
   pub origins : map (λ r. r.origin) rows ≡ origins_of places workers worker
-  pub distances : All (λ r. IsRow lines places r.origin r.row.items) rows
+  pub distances : All (λ r. IsRow lines places r.origin (known r.row.items)) rows
 
 -- what all workers answer, in their order
 pub record AreShares (lines : List Line) (places workers : ℕ) (answers : List (Result (Vec OriginRow Global) AllocError)) : Type 0 where
@@ -32,5 +33,5 @@ pub record AreShares (lines : List Line) (places workers : ℕ) (answers : List 
   pub each : (k : ℕ) (d : Result (Vec OriginRow Global) AllocError) → k < workers → IfOk (slice_index_or answers k d) (λ rows. IsShare lines places workers k rows.items)
 
 -- the rows after those of a worker are put in their places
-abbrev pub put_rows : List (Vec (Option Distance) Global) → List OriginRow → List (Vec (Option Distance) Global)
+abbrev pub put_rows : List (Vec Label Global) → List OriginRow → List (Vec Label Global)
 put_rows rows share = fold (λ before r. slice_set before r.origin r.row) rows share
