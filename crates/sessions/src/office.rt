@@ -18,8 +18,9 @@ use std::marker::Model;
 use std::sync::ledger::Ledger;
 use std::sync::{Mutex, MutexGuard, Wait};
 
-/// How often a call tries to take the lock before it waits in turn.
-const TRIES: u32 = 200;
+/// How often a call tries to take the lock before it waits in turn: for some 20 microseconds where nobody else tries,
+/// which is longer than most calls hold it.
+const TRIES: u32 = 2_000;
 
 /// A book that several seats share. A contract sees how many seats it was opened with.
 ///
