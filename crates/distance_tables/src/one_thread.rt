@@ -6,7 +6,6 @@ ghost use Rattle.distance_tables.specs.inner.Rows.{AreRows};
 use crate::Tables;
 use crate::label::Label;
 use crate::lines_by_origin::LinesByOrigin;
-use crate::queue::Queue;
 use crate::search::row_of_origin;
 use line_network::Network;
 use std::alloc::{AllocError, Global};
@@ -34,9 +33,8 @@ fn rows_of_origins(
     ensures { IfOk result (λ rows. AreRows lines.now.lines.items places rows.items) }
 {
     let mut rows = Vec::with_capacity(alloc, places)?;
-    let mut waiting = Queue::with_capacity(alloc, places)?;
     for origin in 0..places {
-        rows.push(row_of_origin(alloc, &mut waiting, lines, places, origin)?)?;
+        rows.push(row_of_origin(alloc, lines, places, origin)?)?;
     }
     Ok(rows)
 }

@@ -38,7 +38,6 @@ impl Queue {
         ensures next { IfSome result (λ next. IsPermutation (waits self.old) (next ∷ waits self.new)) }
         ensures len { OnSome result (length (waits self.new) + 1 ≡ length (waits self.old)) }
         ensures none { IfNone result (length (waits self.old) ≡ 0) }
-        ensures left { IfNone result (waits self.new ≡ []) }
     {
         let Reverse(turn) = self.turns.pop()?;
         Some(turn.waiting())

@@ -18,11 +18,9 @@ use crate::waiting::Waiting;
 use line_network::Line;
 use std::alloc::{AllocError, Global};
 
-/// The labels of the distances from one place to each place. None waits before the search or after it, so that the
-/// searches of a thread can share a queue's memory.
+/// The labels of the distances from one place to each place.
 pub(crate) fn row_of_origin(
     alloc: Global,
-    waiting: &mut Queue,
     lines: &LinesByOrigin,
     places: usize,
     origin: usize,
@@ -31,12 +29,11 @@ pub(crate) fn row_of_origin(
     requires few { places ≤ max_places }
     requires indexed { vec_len lines.now.starts ≡ places + 1 }
     requires lines { All (IsLine places) lines.now.lines.items }
-    requires none_waits { waits waiting.old ≡ [] }
-    ensures row { IfOk result (λ row. IsRow lines.now.lines.items places origin (known row.items)) }
-    ensures none_waits { OnOk result (waits waiting.new ≡ []) }
+    ensures { IfOk result (λ row. IsRow lines.now.lines.items places origin (known row.items)) }
 {
     let mut labels = unreached(alloc, places)?;
-    search(&mut labels, waiting, lines, origin)?;
+    let mut waiting = Queue::with_capacity(alloc, places)?;
+    search(&mut labels, &mut waiting, lines, origin)?;
     Ok(labels)
 }
 
@@ -62,8 +59,7 @@ fn search(
     requires unreached { known labels.old ≡ replicate (length labels.old) None }
     requires none_waits { waits waiting.old ≡ [] }
 
-    ensures row { OnOk result (IsRow lines.now.lines.items (length labels.old) origin (known labels.new)) }
-    ensures none_waits { OnOk result (waits waiting.new ≡ []) }
+    ensures { OnOk result (IsRow lines.now.lines.items (length labels.old) origin (known labels.new)) }
 {
     let distance = Distance { km: 0, minutes: 0 };
     waiting.push(Waiting {

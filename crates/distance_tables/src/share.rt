@@ -5,7 +5,6 @@ ghost use Rattle.distance_tables.specs.inner.Shares.{IsShare, IsWork};
 use crate::Gate;
 use crate::label::Label;
 use crate::lines_by_origin::LinesByOrigin;
-use crate::queue::Queue;
 use crate::search::row_of_origin;
 use std::alloc::{AllocError, Global};
 use std::thread::Promise;
@@ -54,13 +53,12 @@ impl<'a> Share<'a> {
             workers,
         } = self.work;
         let mut rows = Vec::with_capacity(alloc, places / workers + 1)?;
-        let mut waiting = Queue::with_capacity(alloc, places)?;
         for origin in 0..places {
             if origin % workers != self.worker {
                 continue;
             }
             gate.enter(origin);
-            let row = row_of_origin(alloc, &mut waiting, lines, places, origin)?;
+            let row = row_of_origin(alloc, lines, places, origin)?;
             rows.push(OriginRow { origin, row })?;
         }
         Ok(rows)

@@ -26,5 +26,5 @@ pub loop-next-preserved-then-not-is_label : goal.loop-next-preserved-then-not-is
 loop-next-preserved-then-not-is_label c =
     IsSearch-stale _ _ _ _ _ _ c.in-Some.next.distance c.in-Some.next.place c.loop-next.invariant c.in-Some.ensures.next (iff_false c.is_label.ensures c.if-not-is_label.true)
 
-pub returns-clause-row : goal.returns-clause-row
-returns-clause-row c = IsRow-search _ _ _ _ _ c.loop-next.invariant (omega (arith, c.in_default.ensures.none))
+pub returns : goal.returns
+returns c = IsRow-search _ _ _ _ _ c.loop-next.invariant (omega (arith, c.in_default.ensures.none))
