@@ -9,7 +9,7 @@ ghost use Rattle.cost_table.specs.Problem.{penalties_of, lacks_of};
 ghost use Rattle.cost_table.specs.TableLimits.{max_cost};
 ghost use Rattle.load_orders.specs.Wanted.{IsLack};
 
-use crate::goals::{Goal, class_position, count_goals};
+use crate::goals::{Goal, class_position};
 use crate::problem::Problem;
 use crate::table_cells::Cells;
 use distance_tables::Tables;
@@ -67,8 +67,7 @@ fn rows(
     let orders = problem.orders();
     let network = tables.network();
     let mut classes = Vec::new(alloc);
-    let most = count_goals(alloc, &mut classes, wagons, network, orders)?;
-    let mut entries = Vec::with_capacity(alloc, most)?;
+    let mut entries = Vec::new(alloc);
     let mut ends = Vec::with_capacity(alloc, wagons.len())?;
     for wagon in wagons {
         let k = class_position(alloc, &mut classes, wagon.class, network, orders)?;

@@ -8,7 +8,6 @@ use line_network::Network;
 use load_orders::{Wanted, accepts};
 use rail_codes::{ClassCode, Moment};
 use std::alloc::{AllocError, Global};
-use wagon_state::FreeWagon;
 
 /// An order that wants wagons of a class: where, how much each loads, and by when.
 #[derive(Clone, Copy, Debug)]
@@ -49,26 +48,6 @@ pub(crate) fn class_position(
     let goals = goals(alloc, class, network, orders)?;
     found.push(ClassGoals { class, goals })?;
     Ok(found.len() - 1)
-}
-
-/// How many goals the classes of these wagons have, each wagon counted by itself: no more cells stand in their rows.
-/// It is a size to ask for and nothing more; the goals of the classes are found on the way.
-pub(crate) fn count_goals(
-    alloc: Global,
-    found: &mut Vec<ClassGoals>,
-    wagons: &[FreeWagon],
-    network: &Network,
-    orders: &[Wanted],
-) -> Result<usize, AllocError>
-    requires found { All (AreGoalsOf network.now orders.now) found.old.items }
-    ensures found { OnOk result (All (AreGoalsOf network.now orders.now) found.new.items) }
-{
-    let mut count: usize = 0;
-    for wagon in wagons {
-        let k = class_position(alloc, found, wagon.class, network, orders)?;
-        count = count.saturating_add(found[k].goals.len());
-    }
-    Ok(count)
 }
 
 /// Where the goals of a class stand.
