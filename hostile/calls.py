@@ -18,12 +18,14 @@ import subprocess
 import tempfile
 from concurrent.futures import ThreadPoolExecutor
 
-from program import EACH, HERE, PROCESSES, Table
+from program import EACH, HERE, Table
 
 ROOT = os.path.dirname(HERE)
 NAME = "hostile_calls"
 LIBRARIES = """office sessions assignment dispatch_sheet fleet_map table_solver commit_book operating_db price_checker cost_table
 distance_tables line_network line_engine wagon_roster move_messages rail_codes test_samples""".split()
+# How many runs of `rt try` share the cases: each builds the program anew, which takes two processor minutes.
+SHARES = 2
 # The request that is refused, and more requests than come before it. MANY stands in calls/trying.rs too.
 REFUSED, MANY = 3000, 5000
 # Of each part: what it tries, and the calls that must have been refused memory in some case.
@@ -126,9 +128,9 @@ def judge(table, part, results, reference):
 
 
 def all_tried(crate, folder, cases):
-    """What comes of the cases, shared out to several runs of `rt try`, each of which builds the program."""
-    shares = [cases[k::PROCESSES] for k in range(min(PROCESSES, len(cases)))]
-    with ThreadPoolExecutor(PROCESSES) as pool:
+    """What comes of the cases, shared out to several runs of `rt try`."""
+    shares = [cases[k::SHARES] for k in range(min(SHARES, len(cases)))]
+    with ThreadPoolExecutor(SHARES) as pool:
         done = pool.map(lambda k: tried(crate, f"{folder}/cases_{k}", shares[k]), range(len(shares)))
         return {case: result for results in done for case, result in results.items()}
 

@@ -1,13 +1,12 @@
 #!/usr/bin/env python3
-"""Lines that nobody writes by accident: scripts cut after every byte, every byte replaced, random lines, reused message ids,
-and keys that collide in a hash map. The model of office.py judges every reply."""
+"""Lines that nobody writes by accident: scripts cut after every byte, every byte replaced, random lines, and reused message
+ids. The model of office.py judges every reply."""
 
 import json
 import os
 import random
 import re
 import tempfile
-import time
 
 import judge
 from memory import ENTRIES, KEPT, new_office
@@ -17,8 +16,6 @@ from program import NOT_JUDGED, Table, office_words, run, script
 HOSTILE = [0x00, 0x09, 0x0A, 0x0D, 0x20, 0x22, 0x2C, 0x2D, 0x30, 0x39, 0x3A, 0x5B, 0x5C, 0x5D, 0x65, 0x7B, 0x7D, 0x7F, 0xC3, 0xFF]
 RANDOM_LINES = int(os.environ.get("HOSTILE_RANDOM_LINES", 100_000))
 LINES_A_SCRIPT = 250
-KEYS = int(os.environ.get("HOSTILE_KEYS", 200_000))
-SAME_TIME = 1.3
 
 
 def tried(word, given, entries=ENTRIES):
@@ -313,90 +310,6 @@ def reused_id(given):
     return tried("run", given, 1000)
 
 
-# Keys that collide.
-
-FNV_START, FNV_PRIME = 0xCBF29CE484222325, 0x100000001B3
-BITS = 20
-LETTERS = b"0123456789ABCDEFGHIJKLMNOPQRSTUVWXYZ-"
-
-
-def colliding_names(count):
-    """Order names that all fall into one bucket of a map of up to 2^20 buckets under the hash FNV-1a: a name's last four
-    characters are chosen so that the last 20 bits of its hash are 0."""
-    mask = (1 << BITS) - 1
-    back = pow(FNV_PRIME, -1, 1 << BITS)
-    ends = {}
-    dice = random.Random(5)
-    while len(ends) < 1 << 17:
-        end = bytes(dice.choice(LETTERS) for _ in range(4))
-        state = 0
-        for byte in reversed(end):
-            state = ((state * back) ^ byte) & mask
-        ends[state] = end
-    names = set()
-    while len(names) < count:
-        start = bytes(dice.choice(LETTERS) for _ in range(12))
-        state = FNV_START & mask
-        for byte in start:
-            state = ((state ^ byte) * FNV_PRIME) & mask
-        if state in ends:
-            names.add((start + ends[state]).decode())
-    return sorted(names, key=lambda _: dice.random())
-
-
-def other_names(count):
-    dice = random.Random(6)
-    names = set()
-    while len(names) < count:
-        names.add(bytes(dice.choice(LETTERS) for _ in range(16)).decode())
-    return sorted(names, key=lambda _: dice.random())
-
-
-def order_lines(names):
-    """Orders by these names, each withdrawn at once."""
-    order = '{{"type":"order","order":"{0}","place":"DE00001","classes":["Eanos"],"load":1,"latest":"2026-03-02T01:00:00Z","penalty":1}}\n'
-    return "".join(order.format(name) + f'{{"type":"withdraw","order":"{name}"}}\n' for name in names).encode()
-
-
-def message_lines(numbers):
-    hold = '{{"type":"exception","company":"1001","number":{0},"wagon":"318053700015","place":"DE00001","moment":"2026-03-02T01:00:00Z","hold":true}}\n'
-    return "".join(hold.format(number) for number in numbers).encode()
-
-
-def member_lines(names):
-    """Objects of a thousand members by these names, none of which is known."""
-    rows = [names[k:k + 1000] for k in range(0, len(names), 1000)]
-    return "".join("{" + ",".join(f'"{name}":1' for name in row) + ',"type":"sheet "}\n' for row in rows).encode()
-
-
-def least_time(given):
-    """The least of five runs in seconds, and how many lines weren't accepted."""
-    least = None
-    for _ in range(5):
-        start = time.perf_counter()
-        outcome = run(office_words("run", 1_000_000, KEPT), given)
-        took = time.perf_counter() - start
-        least = took if least is None else min(least, took)
-    return least, sum(b" accepted " not in row for row in outcome.out.splitlines())
-
-
-def colliding_keys(table):
-    """Beside as many keys that don't collide."""
-    dice = random.Random(7)
-    low_bits_alike = dice.sample([k << 14 for k in range(1 << 18)], KEYS)
-    cases = [("order names", order_lines(colliding_names(KEYS)), order_lines(other_names(KEYS)), 0),
-             ("message numbers", message_lines(low_bits_alike), message_lines(dice.sample(range(1 << 32), KEYS)), 0),
-             ("names of members", member_lines(colliding_names(KEYS)), member_lines(other_names(KEYS)), KEYS // 1000)]
-    for name, colliding, others, refused in cases:
-        (first, first_refused), (second, second_refused) = least_time(colliding), least_time(others)
-        losses = []
-        if first > SAME_TIME * second:
-            losses.append(f"{first:.2f} s, and {second:.2f} s for others")
-        if (first_refused, second_refused) != (refused, refused):
-            losses.append(f"{first_refused} and {second_refused} lines were refused")
-        table.add(f"{name} that collide in a hash map ({first / second:.2f} of the time of others)", KEYS, losses)
-
-
 def main():
     table = Table()
     scripts = [("check", "tables.jsonl"), ("run", "office.jsonl"), ("feed", "office.jsonl")]
@@ -415,7 +328,6 @@ def main():
         table.try_all(f"`{word}`: random lines", random_lines, [(word, seed) for seed in range(RANDOM_LINES // LINES_A_SCRIPT)],
                       lambda cases: len(cases) * LINES_A_SCRIPT)
     table.try_all("message ids reused, one member changed", reused_id, list(reused_ids()))
-    colliding_keys(table)
     table.end()
 
 
