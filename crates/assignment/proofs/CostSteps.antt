@@ -107,9 +107,6 @@ cost_place t n m costs ln is lm count =
     let swap : order_count t * wagon_count t ≡ wagon_count t * order_count t = grind arith in
     omega (arith, bound, swap, count)
 
-pub row_limit : (orders m : ℕ) (row : List (ℕ × ℕ)) → IsRow orders 0 row → m < length row → (get_or row m (0, 0)).1 ≤ 1000000000
-row_limit orders m row is l = (row_from orders 0 m row is l).2
-
 pub costs_limit : (t : Table) → IsTable t → order_count t * wagon_count t ≤ 500000
 costs_limit t h =
     let wagons = h.wagons in

@@ -58,8 +58,8 @@ fn place_full_rows(costs: &mut [u32], cells: &Cells, i: usize)
     let second = cells.row(i + 1);
     'orders: for j in 0..first.len() {
         let place = j * wagons + i;
-        costs[place] = first[j].1 as u32;
-        costs[place + 1] = second[j].1 as u32;
+        costs[place] = first[j].1;
+        costs[place + 1] = second[j].1;
     }
 }
 
@@ -72,7 +72,7 @@ fn place_row(costs: &mut [u32], cells: &Cells, i: usize)
 {
     let wagons = cells.wagons();
     for cell in cells.row(i) {
-        costs[cell.0 * wagons + i] = cell.1 as u32;
+        costs[cell.0 as usize * wagons + i] = cell.1;
     }
 }
 

@@ -60,7 +60,7 @@ fn rows(
     alloc: Global,
     problem: &Problem,
     tables: &Tables,
-) -> Result<(Vec<(usize, u64)>, Vec<usize>), AllocError>
+) -> Result<(Vec<(u32, u32)>, Vec<usize>), AllocError>
     ensures { IfOk result (λ r. AreRowsOf (λ wagon wanted. Reaches tables.now problem.now.at wagon wanted.order) problem.now.wagons problem.now.orders r.0.items r.1.items) }
 {
     let wagons = problem.wagons();
@@ -79,7 +79,7 @@ fn rows(
 
 /// Appends the row of one wagon, by the goals of its class.
 fn push_row(
-    entries: &mut Vec<(usize, u64)>,
+    entries: &mut Vec<(u32, u32)>,
     problem: &Problem,
     wagon: &FreeWagon,
     goals: &[Goal],
@@ -110,7 +110,7 @@ fn reached(
     goal: Goal,
     at: Moment,
     wagon: &FreeWagon,
-) -> Option<u64>
+) -> Option<u32>
     requires from { from ≡ place_index tables.now.places wagon.now.place }
     requires goal { goal.place < length tables.now.places }
     ensures meaning { (wanted : WantedOrder) → Some goal ≡ goal_of tables.now wagon.now.class goal.order wanted → (km : ℕ) → (result ≡ Some km) ↔ Reaches tables.now at wagon.now wanted.order km }
@@ -121,7 +121,7 @@ fn reached(
     }
     let (km, minutes) = tables.between_numbers(from?, goal.place)?;
     if is_in_time(wagon.ready, at, minutes, goal.latest) {
-        Some(u64::from(km))
+        Some(km)
     } else {
         None
     }

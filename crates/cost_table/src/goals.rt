@@ -1,6 +1,7 @@
 //! What a wagon's way to an order depends on, found once for each class of wagons.
-ghost use Rattle.std.specs.Prelude.{◌≡◌, ◌<◌, All, IfOk, OnOk, length, position, slice_index_or};
+ghost use Rattle.std.specs.Prelude.{◌≡◌, ◌<◌, ◌≤◌, All, IfOk, OnOk, length, position, slice_index_or};
 ghost use Rattle.cost_table.specs.Names.{is_name};
+ghost use Rattle.cost_table.specs.TableLimits.{max_table_orders};
 ghost use Rattle.cost_table.specs.declared.goals.ClassGoals.{ClassGoals};
 ghost use Rattle.cost_table.specs.inner.Goals.{AreGoalsOf, goal_of, goals_of};
 
@@ -13,7 +14,7 @@ use std::alloc::{AllocError, Global};
 #[derive(Clone, Copy, Debug)]
 pub(crate) struct Goal {
     /// The order's position in the problem.
-    pub(crate) order: usize,
+    pub(crate) order: u32,
     /// The number of its place in the network.
     pub(crate) place: usize,
     /// In kg.
@@ -37,6 +38,7 @@ pub(crate) fn class_position(
     network: &Network,
     orders: &[Wanted],
 ) -> Result<usize, AllocError>
+    requires few { length orders.now ≤ max_table_orders }
     requires found { All (AreGoalsOf network.now orders.now) found.old.items }
     ensures found { OnOk result (All (AreGoalsOf network.now orders.now) found.new.items) }
     ensures within { IfOk result (λ k. k < length found.new.items) }
@@ -64,11 +66,12 @@ fn goals(
     network: &Network,
     orders: &[Wanted],
 ) -> Result<Vec<Goal>, AllocError>
+    requires { length orders.now ≤ max_table_orders }
     ensures { IfOk result (λ goals. goals.items ≡ goals_of network.now class orders.now) }
 {
     let mut goals = Vec::new(alloc);
     for (j, wanted) in orders.iter().enumerate() {
-        if let Some(goal) = goal_of(class, network, j, wanted) {
+        if let Some(goal) = goal_of(class, network, j as u32, wanted) {
             goals.push(goal)?;
         }
     }
@@ -76,7 +79,7 @@ fn goals(
 }
 
 /// The goal of order j for the wagons of a class.
-fn goal_of(class: ClassCode, network: &Network, j: usize, wanted: &Wanted) -> Option<Goal>
+fn goal_of(class: ClassCode, network: &Network, j: u32, wanted: &Wanted) -> Option<Goal>
     ensures { result ≡ goal_of network.now class j wanted.now }
 {
     let order = wanted.order();

@@ -4,7 +4,7 @@ ghost use Rattle.std.specs.List.{list_all};
 ghost use Rattle.load_orders.specs.Wanted.{IsLack};
 ghost use Rattle.cost_table.specs.inner.Flat.{HoldRows};
 ghost use Rattle.cost_table.specs.TableLimits.{max_table_orders};
-ghost use Rattle.cost_table.specs.Rows.{cells_of, is_too_large, is_even};
+ghost use Rattle.cost_table.specs.Rows.{IsNumber, cells_of, is_too_large, is_even};
 
 use crate::limits::{MAX_TABLE_LACK, MAX_TABLE_ORDERS, MAX_TABLE_WAGONS};
 use std::alloc::{AllocError, Global};
@@ -46,13 +46,15 @@ pub(crate) fn are_even(rows: &[Vec<Option<u64>>], penalties: &[u64], lacks: &[u3
 }
 
 /// Appends the cells of one row.
-fn push_row(entries: &mut Vec<(usize, u64)>, numbers: &[Option<u64>]) -> Result<(), AllocError>
+fn push_row(entries: &mut Vec<(u32, u32)>, numbers: &[Option<u64>]) -> Result<(), AllocError>
+    requires few { length numbers.now ≤ max_table_orders }
+    requires numbers { All IsNumber numbers.now }
     ensures { OnOk result (entries.new.items ≡ entries.old.items ++ cells_of 0 numbers.now) }
 {
     entries.reserve(numbers.len())?;
     for (order, number) in numbers.iter().enumerate() {
         if let Some(cost) = number {
-            entries.push_reserved((order, *cost));
+            entries.push_reserved((order as u32, *cost as u32));
         }
     }
     Ok(())
@@ -62,7 +64,9 @@ fn push_row(entries: &mut Vec<(usize, u64)>, numbers: &[Option<u64>]) -> Result<
 pub(crate) fn flatten(
     alloc: Global,
     rows: &[Vec<Option<u64>>],
-) -> Result<(Vec<(usize, u64)>, Vec<usize>), AllocError>
+) -> Result<(Vec<(u32, u32)>, Vec<usize>), AllocError>
+    requires few { All (λ row. length row.items ≤ max_table_orders) rows.now }
+    requires numbers { All (λ row. All IsNumber row.items) rows.now }
     ensures { IfOk result (λ r. HoldRows r.0.items r.1.items (map (λ row. cells_of 0 row.items) rows.now)) }
 {
     let orders = rows.first().map_or(0, Vec::len);

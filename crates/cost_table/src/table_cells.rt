@@ -19,7 +19,7 @@ use std::marker::Model;
 /// each lack is 1 to 20; at most 1,000 wagons, 500 orders, and 500 lacking wagons in all.
 #[derive(Debug, Drop)]
 pub struct Cells {
-    entries: Vec<(usize, u64)>,
+    entries: Vec<(u32, u32)>,
     ends: Vec<usize>,
     penalties: Vec<u64>,
     lacks: Vec<u32>,
@@ -40,7 +40,7 @@ impl Model for Cells {
 impl Cells {
     /// The table of rows that lie one after another.
     pub(crate) fn of_rows(
-        entries: Vec<(usize, u64)>,
+        entries: Vec<(u32, u32)>,
         ends: Vec<usize>,
         penalties: Vec<u64>,
         lacks: Vec<u32>,
@@ -135,7 +135,7 @@ impl Cells {
     }
 
     /// The orders that wagon `i` may serve, ascending, each with its cost in kilometres.
-    pub fn row(&self, i: usize) -> &[(usize, u64)]
+    pub fn row(&self, i: usize) -> &[(u32, u32)]
         requires { i < wagon_count self.now }
         ensures row { result.now ≡ row_at self.now i }
         ensures cells { IsRow (order_count self.now) 0 result.now }
@@ -215,7 +215,7 @@ fn bounds_of(ends: &[usize], limit: usize, i: usize) -> (usize, usize)
 
 /// Row `i` of the rows that lie one after another in `entries`.
 #[tactic(auto, using(crate::proofs::RowLemmas::row_lookups))]
-fn row_of<'a>(entries: &'a [(usize, u64)], ends: &[usize], i: usize) -> &'a [(usize, u64)]
+fn row_of<'a>(entries: &'a [(u32, u32)], ends: &[usize], i: usize) -> &'a [(u32, u32)]
     requires ends { AreEnds (length entries.now) 0 ends.now }
     requires wagon { i < length ends.now }
     ensures { result.now ≡ slice_index_or (rows_of entries.now 0 ends.now) i [] }
@@ -225,12 +225,12 @@ fn row_of<'a>(entries: &'a [(usize, u64)], ends: &[usize], i: usize) -> &'a [(us
 }
 
 /// The cost that a row has for an order.
-fn find_cost(row: &[(usize, u64)], order: usize) -> Option<u64>
+fn find_cost(row: &[(u32, u32)], order: usize) -> Option<u64>
     requires { IsAscendingRow row.now }
     ensures { result ≡ cost_in row.now order }
 {
-    match row.binary_search_by_key(&order, |cell| cell.0) {
-        Ok(at) => Some(row[at].1),
+    match row.binary_search_by_key(&order, |cell| cell.0 as usize) {
+        Ok(at) => Some(u64::from(row[at].1)),
         Err(_) => None,
     }
 }

@@ -103,13 +103,14 @@ fn check_used(cells: &Cells, pairs: &[(usize, usize)]) -> Result<(), CheckFault>
 
 /// No price of an order in a wagon's row passes the cost and the wagon's price. (Less the wagon's price it is
 /// compared with the cost, since the sum of those two may not fit.)
-fn check_row(i: usize, row: &[(usize, u64)], u: u64, v: &[u64]) -> Result<(), CheckFault>
+fn check_row(i: usize, row: &[(u32, u32)], u: u64, v: &[u64]) -> Result<(), CheckFault>
     requires { All (λ cell. cell.0 < length v.now) row.now }
     ensures { result_err result ≡ gap_of_row i row.now u v.now }
 {
     for cell in row {
-        if v[cell.0].saturating_sub(u) > cell.1 {
-            return Err(CheckFault::PriceGap(i, cell.0));
+        let j = cell.0 as usize;
+        if v[j].saturating_sub(u) > u64::from(cell.1) {
+            return Err(CheckFault::PriceGap(i, j));
         }
     }
     Ok(())

@@ -1,21 +1,7 @@
 use Rattle.std.proofs.Common.{◌+◌, ◌<◌, length, get_or, ◌∙◌, ap, refl, arith}
 use Rattle.cost_table.specs.Table.{order_count}
-use Rattle.assignment.proofs.CostSteps.{row_limit}
 use Rattle.assignment.proofs.TwoRows.{full_at, two_more}
 use Rattle.assignment.proofs.costs.place_full_rows.Goals as goal
-
-pub overflow_cast-costs : goal.overflow_cast-costs
-overflow_cast-costs c =
-    let limit = row_limit (order_count c.args.cells.now) c.orders.j c.row-first.result.now c.row-first.ensures.cells c.orders-test.true in
-    omega (arith, limit)
-
-pub overflow_cast-costs-in-orders : goal.overflow_cast-costs-in-orders
-overflow_cast-costs-in-orders c =
-    let one = ap length c.row-first.ensures.row ∙ c.requires.first in
-    let two = ap length c.row-second.ensures.row ∙ c.requires.second in
-    let test = c.orders-test.true in
-    let limit = row_limit (order_count c.args.cells.now) c.orders.j c.row-second.result.now c.row-second.ensures.cells (omega (arith, one, two, test)) in
-    omega (arith, limit)
 
 pub orders-preserved : goal.orders-preserved
 orders-preserved c =

@@ -1,11 +1,6 @@
 use Rattle.std.proofs.Common.{refl, arith, length, subst, ◌≤◌, List, ℕ}
-use Rattle.assignment.proofs.CostSteps.{row_limit, costs_limit, place_read, more_read, costs_whole}
+use Rattle.assignment.proofs.CostSteps.{costs_limit, place_read, more_read, costs_whole}
 use Rattle.assignment.proofs.costs.place_row.Goals as goal
-
-pub overflow_cast-costs : goal.overflow_cast-costs
-overflow_cast-costs c =
-    let limit = row_limit _ c.loop-cell.cell-index c.row-cell-items.result.now c.row-cell-items.ensures.cells c.loop-cell-test.true in
-    omega (arith, limit)
 
 pub overflow_mul-costs : goal.overflow_mul-costs
 overflow_mul-costs c =

@@ -7,7 +7,7 @@ use Rattle.cost_table.proofs.table_cells.find_cost.Goals as goal
 pub returns-in-Ok : goal.returns-in-Ok
 returns-in-Ok c =
     let by_order = c.in-Ok.ensures.position (λ cell. cell.0) (answers_always _ _ _ (λ f a r g called. search rules)) in
-    sym (searched c.args.row.now c.args.order (Ok c.in-Ok.at) c.requires c.in-Ok.ensures.bound by_order)
+    rw c.from.ensures (sym (searched c.args.row.now c.args.order (Ok c.in-Ok.at) c.requires c.in-Ok.ensures.bound by_order))
 
 pub returns-in-Err : goal.returns-in-Err
 returns-in-Err c =
