@@ -1,5 +1,5 @@
 //! The rows of the wagons.
-ghost use Rattle.std.specs.Prelude.{◌≡◌, IfNone, IfOk, IfSome, IsSome, None, OnErr, OnOk, Some, count_by, option_copied, slice_get};
+ghost use Rattle.std.specs.Prelude.{◌≡◌, IfNone, IfOk, IfSome, None, OnErr, OnOk, Some, count_by, option_copied, option_map, slice_get};
 ghost use Rattle.std.specs.List.Sorted.{IsStrictlySortedBy};
 ghost use Rattle.database_rows.specs.EmptyWagons.{IsNewStand, is_free_at, stand_in, stand_of};
 ghost use Rattle.database_rows.specs.Rows.{at_wagon, wagon_in, with_promise};
@@ -62,8 +62,20 @@ impl WagonRows {
     pub fn get(&self, number: WagonNumber) -> Option<&WagonRow>
         ensures { option_copied result ≡ wagon_in self.now number }
     {
+        match self.find(number) {
+            Some((_, row)) => Some(row),
+            None => None,
+        }
+    }
+
+    /// The row of a wagon and its place, where the office has it.
+    pub fn find(&self, number: WagonNumber) -> Option<(usize, &WagonRow)>
+        ensures row { option_map (λ found. found.1.now) result ≡ wagon_in self.now number }
+        ensures place { IfSome result (λ found. slice_get self.now found.0 ≡ Some found.1.now) }
+    {
         let place = place_of(&self.rows, number)?;
-        self.rows.get(place)
+        let row = self.rows.get(place)?;
+        Some((place, row))
     }
 
     /// How many wagons of a class stand at a place empty, not held and not promised. Only those that stand there
@@ -86,15 +98,14 @@ impl WagonRows {
             .count()
     }
 
-    /// Puts a row in place of the one that its wagon has. Memory is wanted only where the wagon is then empty and not
-    /// held at a place where it wasn't so before; where memory is out, nothing changes.
-    pub fn put(&mut self, row: WagonRow) -> Result<(), AllocError>
-        requires { IsSome (wagon_in self.old row.number) }
+    /// Puts a row in place of the one that its wagon has, which stands at this place. Memory is wanted only where the
+    /// wagon is then empty and not held at a place where it wasn't so before; where memory is out, nothing changes.
+    pub fn put(&mut self, place: usize, row: WagonRow) -> Result<(), AllocError>
+        requires { (old : WagonRow) × (slice_get self.old place ≡ Some old) × (old.number ≡ row.number) }
         ensures put { OnOk result (self.new ≡ at_wagon row.number (λ _. row) self.old) }
         ensures refused { OnErr result (self.new ≡ self.old) }
         ensures memory { OnErr result (IsNewStand (stand_in self.old row.number) (stand_of row)) }
     {
-        let place = place_of(&self.rows, row.number).unwrap();
         let before = standing_of(&self.rows[place], place);
         replace(&mut self.empty, before, standing_of(&row, place))?;
         self.rows[place] = row;

@@ -92,10 +92,6 @@ change_number : (office : Office) (m : message.Message) (change : Change) (promi
 change_number office m change promise h =
     (step_keeps h.row m (order_place office.orders h.row.promise) change h.stepped).number ∙ number-wagon_in office.wagons m.wagon h.row h.found
 
-pub change_known : (office : Office) (m : message.Message) (change : Change) (promise : Option (List ℕ)) → IsChange office m change promise → IsSome (wagon_in office.wagons change.row.number)
-change_known office m change promise h =
-    subst (λ (o : Option WagonRow). IsSome o) (sym (ap (wagon_in office.wagons) (change_number office m change promise h) ∙ h.found)) refl
-
 settles_by : (office : Office) (n : List ℕ) (row : WagonRow) (p : Option (List ℕ)) → Some row ≡ wagon_in office.wagons n → p ≡ row.promise → PromisesAgree office → IfSome p (λ id. is_among n (promised_of (order_in office.orders id)) ≡ true)
 settles_by office n row None found is agree = tt
 settles_by office n row (Some id) found is agree = order_known office n row id found (sym is) agree.agree

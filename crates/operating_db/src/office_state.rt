@@ -1,5 +1,5 @@
 //! The state of an office.
-ghost use Rattle.std.specs.Prelude.{◌≡◌, ◌≤◌, ◌↔◌, IsTrue, Ok, Err, IfOk, IfErr, IsOk, OnErr, OnOk, MatchResult, option_copied, option_map};
+ghost use Rattle.std.specs.Prelude.{◌≡◌, ◌≤◌, ◌↔◌, IsTrue, Ok, Err, IfOk, IfErr, IsOk, OnErr, OnOk, MatchResult, Some, option_copied, option_map, slice_get};
 ghost use Rattle.std.specs.List.{list_all};
 ghost use Rattle.database_rows.specs.Kept.{IsOrderRows, IsWagonRows};
 ghost use Rattle.database_rows.specs.Rows.{order_in, wagon_in};
@@ -13,6 +13,7 @@ ghost use Rattle.operating_db.specs.Promises.{PromisesAgree};
 ghost use Rattle.distance_tables.specs.Networks.{max_networks};
 ghost use Rattle.operating_db.specs.State.{IsState};
 ghost use Rattle.operating_db.specs.Steps.{IsPromised};
+ghost use Rattle.wagon_state.specs.declared.wagon_row.WagonRow.{WagonRow};
 
 use crate::lists::{free_wagons, waiting_orders};
 use crate::pair_counts::{times_of_order, times_of_wagon};
@@ -227,17 +228,18 @@ impl OfficeState {
         }
     }
 
-    /// What a message changes, and the order that its wagon is promised to.
-    fn change_by(&self, message: &Message) -> Result<(Change, Option<OrderId>), ApplyFault>
-        ensures change { IfOk result (λ found. IsChange self.now.office message.now found.0 found.1) }
+    /// Where the row of a message's wagon stands, what the message changes, and the order that the wagon is promised to.
+    fn change_by(&self, message: &Message) -> Result<(usize, Change, Option<OrderId>), ApplyFault>
+        ensures change { IfOk result (λ found. IsChange self.now.office message.now found.1 found.2) }
+        ensures place { IfOk result (λ found. (row : WagonRow) × (slice_get self.now.office.wagons found.0 ≡ Some row) × (row.number ≡ found.1.row.number)) }
         ensures refused { IfErr result (λ fault. message_to self.now.office message.now (wagon_in self.now.office.wagons message.now.wagon) ≡ Err fault) }
         ensures memory { IfErr result (λ fault. ¬ (fault ≡ ApplyFault.OutOfMemory)) }
     {
-        let Some(row) = self.wagons.get(message.wagon) else {
+        let Some((place, row)) = self.wagons.find(message.wagon) else {
             return Err(ApplyFault::UnknownWagon);
         };
         match step(row, message, self.order_place(row.promise)) {
-            Ok(change) => Ok((change, row.promise)),
+            Ok(change) => Ok((place, change, row.promise)),
             Err(fault) => Err(ApplyFault::Step(fault)),
         }
     }
@@ -259,11 +261,11 @@ impl OfficeState {
         ensures networks { self.new.networks ≡ self.old.networks }
     {
         let number = message.wagon;
-        let (change, promise) = match self.change_by(message) {
+        let (place, change, promise) = match self.change_by(message) {
             Ok(found) => found,
             Err(fault) => return Err(fault),
         };
-        match self.wagons.put(change.row) {
+        match self.wagons.put(place, change.row) {
             Ok(()) => {
                 settle(&mut self.orders, change.effect, promise, number);
                 Ok(())
