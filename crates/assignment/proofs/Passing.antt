@@ -1,73 +1,65 @@
-use Rattle.std.proofs.Common.{◌≡◌, ◌+◌, ◌<◌, ◌≤◌, ℕ, Bool, true, false, cond, List, length, get_or, refl, sym, ◌∙◌, ap, arith, inl, inr, subst, min}
-use mathlib.Core.Bool.{beq}
+use Rattle.std.proofs.Common.{◌≡◌, ◌+◌, ◌-◌, ◌<◌, ◌≤◌, ℕ, Bool, true, false, cond, List, length, take, drop, get_or, set, get_or-set_same, get_or-set_other, refl, sym, ◌∙◌, ap, arith, inl, inr, subst, min}
 use Rattle.std.specs.Prelude.{◌==◌}
-use Rattle.std.proofs.lemmas.Bool.{cases_eq, cases_lt}
-use Rattle.assignment.specs.inner.Passes.{IsAmong, HasLabel}
+use Rattle.std.specs.List.{list_any}
+use Rattle.std.proofs.lemmas.Bool.{cases_eq, cases_lt, eq-eqb}
+use Rattle.std.proofs.lemmas.List.{get_or-take, get_or-drop, length-take-le, length-drop}
+use Rattle.std.proofs.lemmas.List.Folds.{list_any_at}
+use Rattle.assignment.specs.inner.Passes.{IsAmong, IsLeast}
 
 -- the first n items are written anew, each as `f` says
 pub record IsPassed (f : ℕ → ℕ) (old new : List ℕ) (n : ℕ) : Type 0 where
   pub written : (i : ℕ) → i < n → get_or new i 0 ≡ f i
   pub left : (i : ℕ) → n ≤ i → get_or new i 0 ≡ get_or old i 0
 
--- the least label of those among the first n that are meant
-pub record IsLeast (label orders : List ℕ) (is_idle : Bool) (least n : ℕ) : Type 0 where
-  pub below : (i : ℕ) → i < n → IsAmong orders is_idle i → least ≤ get_or label i 0
-  pub attained : least < 4294967295 → HasLabel label orders is_idle least
-  pub limit : least ≤ 4294967295
+-- one item more is written
+pub passed_more : (f : ℕ → ℕ) (old new : List ℕ) (n number : ℕ) → IsPassed f old new n → n < length new → number ≡ f n → IsPassed f old (set new n number) (n + 1)
+passed_more f old new n number h l e = record {
+  written = λ i li. elim (cases_eq i n) [
+    | inl same ↦ ap (λ x. get_or (set new n number) x 0) same ∙ get_or-set_same new n number 0 l ∙ e ∙ ap f (sym same)
+    | inr apart ↦ get_or-set_other new n i number 0 apart ∙ h.written i (omega (arith, li, apart))
+  ];
+  left = λ i li. get_or-set_other new n i number 0 (λ e. omega (arith, e, li)) ∙ h.left i (omega (arith, li));
+}
 
-least_same : (label orders : List ℕ) (is_idle : Bool) (least n : ℕ) → IsLeast label orders is_idle least n → (IsAmong orders is_idle n → least ≤ get_or label n 0) → IsLeast label orders is_idle least (n + 1)
-least_same label orders is_idle least n h here = record {
+-- a number if it is meant, else the greatest
+pub record IsChosen (is_meant : Type 0) (chosen number : ℕ) : Type 0 where
+  pub meant : is_meant → chosen ≡ number
+  pub other : chosen < 4294967295 → is_meant × (chosen ≡ number)
+
+pub chosen_onward : (b : Bool) (chosen number : ℕ) → chosen ≡ cond b 4294967295 number → IsChosen (b ≡ false) chosen number
+chosen_onward true chosen number e = record { meant = λ no. cc; other = λ near. absurd (omega (arith, e, near)) }
+chosen_onward false chosen number e = record { meant = λ _. e; other = λ _. (refl, e) }
+
+pub chosen_idle : (b : Bool) (chosen number : ℕ) → chosen ≡ cond b number 4294967295 → IsChosen (b ≡ true) chosen number
+chosen_idle true chosen number e = record { meant = λ _. e; other = λ _. (refl, e) }
+chosen_idle false chosen number e = record { meant = λ no. cc; other = λ near. absurd (omega (arith, e, near)) }
+
+-- one wagon more
+pub least_more : (f : ℕ → ℕ) (orders : List ℕ) (is_idle : Bool) (least n number chosen next : ℕ) → IsLeast f orders is_idle least n → number ≡ f n → IsChosen (IsAmong orders is_idle n) chosen number → next ≡ min least chosen → IsLeast f orders is_idle next (n + 1)
+least_more f orders is_idle least n number chosen next h new is m = record {
   below = λ i l a. elim (cases_eq i n) [
-    | inl same ↦ subst (λ (x : ℕ). IsAmong orders is_idle x → least ≤ get_or label x 0) (sym same) here a
-    | inr other ↦ h.below i (omega (arith, l, other)) a
+    | inl same ↦ let e = ap f same in let c = is.meant (subst (λ (x : ℕ). IsAmong orders is_idle x) same a) in omega (arith, new, m, e, c)
+    | inr apart ↦ let b = h.below i (omega (arith, l, apart)) a in omega (arith, m, b)
   ];
-  attained = h.attained;
-  limit = h.limit;
+  attained = λ near. elim (cases_lt chosen least) [
+    | inl less ↦ let c = is.other (omega (arith, m, near, less)) in let e = c.1 in record { place = n; within = omega arith; is = omega (arith, new, m, e, less); among = c.0 }
+    | inr more ↦ let at = h.attained (omega (arith, m, near, more)) in let to = at.within in let e = at.is in record { place = at.place; within = omega (arith, to); is = omega (arith, m, e, more); among = at.among }
+  ];
 }
 
-least_less : (label orders : List ℕ) (is_idle : Bool) (least n : ℕ) → IsLeast label orders is_idle least n → n < length label → IsAmong orders is_idle n → get_or label n 0 < least → IsLeast label orders is_idle (get_or label n 0) (n + 1)
-least_less label orders is_idle least n h l among less = record {
-  below = λ i li a. elim (cases_eq i n) [
-    | inl same ↦ let e : get_or label i 0 ≡ get_or label n 0 = ap (λ x. get_or label x 0) same in omega (arith, e)
-    | inr other ↦ let b = h.below i (omega (arith, li, other)) a in omega (arith, b, less)
-  ];
-  attained = λ _. record { place = n; within = l; is = refl; among = among };
-  limit = let m = h.limit in omega (arith, m, less);
+-- the least of what was written
+pub least_of : (f : ℕ → ℕ) (old label orders : List ℕ) (is_idle : Bool) (least n : ℕ) → IsLeast f orders is_idle least n → IsPassed f old label n → IsLeast (λ i. get_or label i 0) orders is_idle least n
+least_of f old label orders is_idle least n h p = record {
+  below = λ i l a. let b = h.below i l a in let w = p.written i l in omega (arith, b, w);
+  attained = λ near. let at = h.attained near in record { place = at.place; within = at.within; is = p.written at.place at.within ∙ at.is; among = at.among };
 }
 
--- one wagon more: it is meant, or its label doesn't count
-least_meant : (label orders : List ℕ) (is_idle : Bool) (least n next : ℕ) → IsLeast label orders is_idle least n → n < length label → IsAmong orders is_idle n → next ≡ min least (get_or label n 0) → IsLeast label orders is_idle next (n + 1)
-least_meant label orders is_idle least n next h l among is = elim (cases_lt (get_or label n 0) least) [
-  | inl less ↦ let e : next ≡ get_or label n 0 = omega (arith, is, less) in subst (λ (x : ℕ). IsLeast label orders is_idle x (n + 1)) (sym e) (least_less label orders is_idle least n h l among less)
-  | inr more ↦ let e : next ≡ least = omega (arith, is, more) in subst (λ (x : ℕ). IsLeast label orders is_idle x (n + 1)) (sym e) (least_same label orders is_idle least n h (λ a. more))
-]
-
-least_other : (label orders : List ℕ) (is_idle : Bool) (least n next : ℕ) → IsLeast label orders is_idle least n → (IsAmong orders is_idle n → ⊥) → next ≡ min least 4294967295 → IsLeast label orders is_idle next (n + 1)
-least_other label orders is_idle least n next h not is =
-    let m = h.limit in
-    let e : next ≡ least = omega (arith, is, m) in
-    subst (λ (x : ℕ). IsLeast label orders is_idle x (n + 1)) (sym e) (least_same label orders is_idle least n h (λ a. absurd (not a)))
-
-data Same (a b : Bool) : Type 0 where
-  same : a ≡ b → beq a b ≡ true → Same a b
-  other : (a ≡ b → ⊥) → beq a b ≡ false → Same a b
-
-compared : (a b : Bool) → Same a b
-compared true true = same refl refl
-compared false false = same refl refl
-compared true false = other (λ e. cc) refl
-compared false true = other (λ e. cc) refl
-
-chosen_as : (b v : Bool) (x y chosen : ℕ) → chosen ≡ cond b x y → b ≡ v → chosen ≡ cond v x y
-chosen_as b v x y chosen e is = e ∙ ap (λ w. cond w x y) is
-
-more_by : (label orders : List ℕ) (is_idle : Bool) (least n chosen next : ℕ) → Same (get_or orders n 0 == 4294967295) is_idle → IsLeast label orders is_idle least n → n < length label → chosen ≡ cond (beq (get_or orders n 0 == 4294967295) is_idle) (get_or label n 0) 4294967295 → next ≡ min least chosen → IsLeast label orders is_idle next (n + 1)
-more_by label orders is_idle least n chosen next (same is b) h l e m =
-    let c = chosen_as _ true (get_or label n 0) 4294967295 chosen e b in
-    least_meant label orders is_idle least n next h l is (m ∙ ap (min least) c)
-more_by label orders is_idle least n chosen next (other not b) h l e m =
-    let c = chosen_as _ false (get_or label n 0) 4294967295 chosen e b in
-    least_other label orders is_idle least n next h not (m ∙ ap (min least) c)
-
-pub least_more : (label orders : List ℕ) (is_idle : Bool) (least n chosen next : ℕ) → IsLeast label orders is_idle least n → n < length label → chosen ≡ cond (beq (get_or orders n 0 == 4294967295) is_idle) (get_or label n 0) 4294967295 → next ≡ min least chosen → IsLeast label orders is_idle next (n + 1)
-least_more label orders is_idle least n chosen next = more_by label orders is_idle least n chosen next (compared (get_or orders n 0 == 4294967295) is_idle)
+-- no wagon of a chunk has a label that isn't in it
+pub none_in_chunk : (label : List ℕ) (w least i : ℕ) → false ≡ list_any (λ x. x == least) (take ((w + 16) - w) (drop w label)) → w + 16 ≤ length label → w ≤ i → i < w + 16 → get_or label i 0 ≡ least → ⊥
+none_in_chunk label w least i none long from to is =
+    let rest = length-drop w label in
+    let count = length-take-le ((w + 16) - w) (drop w label) (omega (arith, rest, long)) in
+    let place : w + (i - w) ≡ i = omega (arith, from) in
+    let read = get_or-take ((w + 16) - w) (drop w label) (i - w) 0 (omega (arith, from, to)) ∙ get_or-drop w label (i - w) 0 ∙ ap (λ x. get_or label x 0) place ∙ is in
+    let some = list_any_at (λ x. x == least) (take ((w + 16) - w) (drop w label)) (i - w) 0 (omega (arith, count, from, to)) (eq-eqb _ _ read) in
+    cc

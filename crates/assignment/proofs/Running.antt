@@ -1,16 +1,16 @@
-use Rattle.std.proofs.Common.{◌≡◌, ◌≢◌, ◌<◌, ◌≤◌, ℕ, false, true, List, Some, None, length, get_or, refl, ◌∙◌, ap, arith, inl, inr, min, subst}
-use Rattle.std.specs.Prelude.{◌==◌}
-use Rattle.std.proofs.lemmas.Bool.{cases_eq, cases_lt}
-use Rattle.std.proofs.lemmas.Bool.Decides.{nat_tests}
+use Rattle.std.proofs.Common.{◌≡◌, ◌<◌, ◌≤◌, ℕ, false, true, List, Some, None, length, get_or, refl, ◌∙◌, ap, arith, inl, inr, min, subst}
+use Rattle.std.proofs.lemmas.Bool.{cases_lt, eqb-true, eqb-false, ne_eqb}
+use Rattle.std.proofs.lemmas.Bool.Decides.{eqb_tells}
 use Rattle.cost_table.specs.Table.{wagon_count, order_count}
+use Rattle.assignment.specs.declared.passes.Nearest.{Nearest}
 use Rattle.assignment.specs.declared.search.Search.{Search}
 use Rattle.assignment.specs.declared.search.Next.{Next}
 use Rattle.assignment.specs.declared.search.End.TheVariants.{Wagon, Refusal}
-use Rattle.assignment.specs.inner.Passes.{IsAmong}
+use Rattle.assignment.specs.inner.Passes.{IsAmong, IsLeast}
 use Rattle.assignment.specs.inner.State.{Kept, IsKept, order_at, orders_of}
 use Rattle.assignment.specs.inner.Search.{IsSearch, IsNext, IsFrom, IsPath, label_at, distance_at, settled_at}
 use Rattle.assignment.proofs.Limits.{held_order}
-use Rattle.assignment.proofs.Numbers.{orders_length, none_at}
+use Rattle.assignment.proofs.Numbers.{orders_length, some_at, none_at}
 use Rattle.assignment.proofs.Settle.{next_of}
 
 -- a search that began at order j, and settles an order next
@@ -20,39 +20,35 @@ pub record IsRunning (s : Kept) (f : Search) (j : ℕ) (next : Next) : Type 0 wh
   pub begins : length f.orders.items ≡ 0 → next.order ≡ j
   pub began : 0 < length f.orders.items → settled_at f 0 ≡ j
 
-same_test : (n : ℕ) → n ≡ 4294967295 → (n == 4294967295) ≡ true
-same_test n e = grind (arith, nat_tests, e)
-
-other_test : (n : ℕ) → n ≢ 4294967295 → (n == 4294967295) ≡ false
-other_test n e = grind (arith, nat_tests, e)
-
-idle_is : (n : ℕ) → (n == 4294967295) ≡ true → n ≡ 4294967295
-idle_is n e = elim (cases_eq n 4294967295) [
-  | inl same ↦ same
-  | inr other ↦ absurd (let f = other_test n other in cc)
-]
-
-leads_is : (n : ℕ) → (n == 4294967295) ≡ false → n ≢ 4294967295
-leads_is n e same = let t = same_test n same in cc
-
 -- a wagon that leads to an order that isn't settled is among those that lead on
 leads_among : (s : Kept) (f : Search) (i q : ℕ) → IsKept s → IsSearch s f (length f.orders.items) → i < wagon_count s.table → order_at s.order_of i ≡ Some q → 4294967295 ≤ distance_at f q → IsAmong f.target.items false i
 leads_among s f i q k h l is far =
     let to = (h.opens i l).stays q is far in
     let within = held_order s i q k is in
     let orders = k.table.orders in
-    other_test (get_or f.target.items i 0) (λ e. omega (arith, to, within, orders, e))
+    ne_eqb (get_or f.target.items i 0) 4294967295 (λ e. omega (arith, to, within, orders, e))
 
--- no wagon that leads on is nearer than the limit
-pub from_limit : (s : Kept) (f : Search) (limit least i : ℕ) → IsKept s → IsSearch s f (length f.orders.items) → limit ≤ least → ((i : ℕ) → i < wagon_count s.table → order_at s.order_of i ≡ None → limit ≤ label_at f i) → ((i : ℕ) → i < wagon_count s.table → IsAmong f.target.items false i → least ≤ label_at f i) → i < wagon_count s.table → IsFrom s f limit i
-from_limit s f limit least i k h le idle leads l = record {
-  idle = idle i l;
-  held = λ q is far. let m = leads i l (leads_among s f i q k h l is far) in omega (arith, m, le);
-}
+-- a wagon without an order is among those without one
+idle_among : (s : Kept) (numbers : List ℕ) (i : ℕ) → s.order_of ≡ orders_of numbers → i < length numbers → order_at s.order_of i ≡ None → IsAmong numbers true i
+idle_among s numbers i hs l none = elim (eqb_tells (get_or numbers i 0) 4294967295) [
+  | inl same ↦ same.0
+  | inr other ↦ absurd (let some = some_at numbers i l other.1 in let e = ap (λ x. order_at x i) hs in cc)
+]
 
-pub next_found : (s : Kept) (f : Search) (limit distance wagon : ℕ) → IsKept s → IsSearch s f (length f.orders.items) → 0 < length f.orders.items → distance < limit → limit ≤ f.refusal.distance → ((i : ℕ) → i < wagon_count s.table → order_at s.order_of i ≡ None → limit ≤ label_at f i) → ((i : ℕ) → i < wagon_count s.table → IsAmong f.target.items false i → distance ≤ label_at f i) → wagon < wagon_count s.table → label_at f wagon ≡ distance → IsAmong f.target.items false wagon → IsNext s f (next_of (get_or f.target.items wagon 0) distance wagon)
-next_found s f limit distance wagon k h some less refusal idle leads l at among =
-    let led = (h.opens wagon l).leads (leads_is (get_or f.target.items wagon 0) among) in
+-- no wagon that leads on or has no order is nearer than a distance that passes neither least label
+pub from_limit : (s : Kept) (numbers : List ℕ) (f : Search) (nearest : Nearest) (limit i : ℕ) → IsKept s → s.order_of ≡ orders_of numbers → IsSearch s f (length f.orders.items) → IsLeast (label_at f) f.target.items false nearest.onward (length f.label.items) → IsLeast (label_at f) numbers true nearest.idle (length f.label.items) → limit ≤ nearest.onward → limit ≤ nearest.idle → i < wagon_count s.table → IsFrom s f limit i
+from_limit s numbers f nearest limit i k hs h onward idle below_onward below_idle l =
+    let labels = h.room.labels in
+    let held = k.held.wagons in
+    let count = ap length hs ∙ orders_length numbers in
+    record {
+      idle = λ none. let m = idle.below i (omega (arith, l, labels)) (idle_among s numbers i hs (omega (arith, l, held, count)) none) in omega (arith, m, below_idle);
+      held = λ q is far. let m = onward.below i (omega (arith, l, labels)) (leads_among s f i q k h l is far) in omega (arith, m, below_onward);
+    }
+
+pub next_found : (s : Kept) (numbers : List ℕ) (f : Search) (nearest : Nearest) (wagon : ℕ) → IsKept s → s.order_of ≡ orders_of numbers → IsSearch s f (length f.orders.items) → 0 < length f.orders.items → IsLeast (label_at f) f.target.items false nearest.onward (length f.label.items) → IsLeast (label_at f) numbers true nearest.idle (length f.label.items) → nearest.onward < min nearest.idle f.refusal.distance → wagon < wagon_count s.table → label_at f wagon ≡ nearest.onward → IsAmong f.target.items false wagon → IsNext s f (next_of (get_or f.target.items wagon 0) nearest.onward wagon)
+next_found s numbers f nearest wagon k hs h some onward idle less l at among =
+    let led = (h.opens wagon l).leads (eqb-false (get_or f.target.items wagon 0) 4294967295 among) in
     let top = h.refusal.limit some in
     let far = led.1 in
     let beyond = (h.beyond wagon l).held (get_or f.target.items wagon 0) led.0 in
@@ -60,12 +56,12 @@ next_found s f limit distance wagon k h some less refusal idle leads l at among 
     record {
       within = held_order s wagon (get_or f.target.items wagon 0) k led.0;
       far = far;
-      limit = omega (arith, less, refusal, top);
+      limit = omega (arith, less, top);
       front = omega (arith, far, beyond, front, top, at);
-      refusal = omega (arith, less, refusal);
+      refusal = omega (arith, less);
       led = λ _. (l, led.0, at);
       first = λ none. absurd (omega (arith, none, some));
-      beyond = λ i li. from_limit s f distance distance i k h (omega arith) (λ x lx is. let m = idle x lx is in omega (arith, m, less)) leads li;
+      beyond = λ i li. from_limit s numbers f nearest nearest.onward i k hs h onward idle (omega arith) (omega (arith, less)) li;
     }
 
 -- the path ends at the nearest wagon without an order
@@ -73,9 +69,8 @@ pub path_to_wagon : (s : Kept) (numbers : List ℕ) (f : Search) (idle wagon : �
 path_to_wagon s numbers f idle wagon k hs h some beyond le l at among =
     let top = h.refusal.limit some in
     let held = k.held.wagons in
-    let count = ap length hs in
-    let long = orders_length numbers in
-    let none : order_at s.order_of wagon ≡ None = ap (λ x. order_at x wagon) hs ∙ none_at numbers wagon (omega (arith, l, held, count, long)) (idle_is (get_or numbers wagon 0) among) in
+    let count = ap length hs ∙ orders_length numbers in
+    let none : order_at s.order_of wagon ≡ None = ap (λ x. order_at x wagon) hs ∙ none_at numbers wagon (omega (arith, l, held, count)) (eqb-true (get_or numbers wagon 0) 4294967295 among) in
     let front = (h.beyond wagon l).idle none in
     let same : min idle f.refusal.distance ≡ idle = omega (arith, le) in
     record {

@@ -1,6 +1,6 @@
 //! Passes over all wagons, without a branch in their loops, so that the compiler makes vector code of them.
-ghost use Rattle.std.specs.Prelude.{◌≡◌, ◌<◌, ◌≤◌, ◌+◌, ◌-◌, ◌^◌, ◌==◌, ℕ, min, nat_lt, if◌then◌else◌, length, slice_index};
-ghost use Rattle.assignment.specs.inner.Passes.{IsAmong, HasLabel, through};
+ghost use Rattle.std.specs.Prelude.{◌≡◌, ◌<◌, ◌≤◌, ◌+◌, ◌-◌, ◌^◌, ◌==◌, ℕ, true, false, min, nat_lt, if◌then◌else◌, length, slice_index};
+ghost use Rattle.assignment.specs.inner.Passes.{IsAmong, HasLabel, IsLeast, through};
 
 use crate::state::NO_ORDER;
 
@@ -15,6 +15,13 @@ pub(crate) struct Front {
     pub(crate) price: u32,
 }
 
+/// The least labels, in kilometres: of the wagons that lead on, and of those without an order; `FAR` where there is none.
+#[derive(Clone, Copy)]
+pub(crate) struct Nearest {
+    pub(crate) onward: u32,
+    pub(crate) idle: u32,
+}
+
 /// One of two numbers, without a branch.
 fn choose(is: bool, yes: u32, no: u32) -> u32
     ensures { result ≡ (if is then yes else no) }
@@ -24,23 +31,41 @@ fn choose(is: bool, yes: u32, no: u32) -> u32
 }
 
 /// Relaxes all cells of the order at the front: a wagon that is nearer over its cell gets a new label, and is reached
-/// from that order.
+/// from that order. Answers what is nearest then.
 // In a function of its own, so that it is vector code whatever stands around it.
 #[inline(never)]
-pub(crate) fn relax(label: &mut [u32], from: &mut [u32], costs: &[u32], u: &[u32], front: Front)
+pub(crate) fn relax(
+    label: &mut [u32],
+    from: &mut [u32],
+    costs: &[u32],
+    u: &[u32],
+    target: &[u32],
+    order_of: &[u32],
+    front: Front,
+) -> Nearest
     requires places { length from.old ≡ length label.old }
     requires costs { length costs.now ≡ length label.old }
     requires prices { length u.now ≡ length label.old }
+    requires targets { length target.now ≡ length label.old }
+    requires orders { length order_of.now ≡ length label.old }
     requires no_gap { (i : ℕ) → i < length label.old → front.price ≤ slice_index costs.now i + slice_index u.now i }
     requires limit { (i : ℕ) → i < length label.old → slice_index costs.now i + slice_index u.now i + front.distance < 2 ^ 32 }
     ensures labels { (i : ℕ) → i < length label.old → slice_index label.new i ≡ min (slice_index label.old i) (through front (slice_index costs.now i) (slice_index u.now i)) }
     ensures places { (i : ℕ) → i < length label.old → slice_index from.new i ≡ (if nat_lt (through front (slice_index costs.now i) (slice_index u.now i)) (slice_index label.old i) then front.place else slice_index from.old i) }
+    ensures onward { IsLeast (slice_index label.new) target.now false result.onward (length label.new) }
+    ensures idle { IsLeast (slice_index label.new) order_of.now true result.idle (length label.new) }
 {
+    let mut onward = FAR;
+    let mut idle = FAR;
     for w in 0..label.len() {
         let distance = costs[w] + u[w] - front.price + front.distance;
         from[w] = choose(distance < label[w], front.place, from[w]);
-        label[w] = label[w].min(distance);
+        let nearer = label[w].min(distance);
+        label[w] = nearer;
+        onward = onward.min(choose(target[w] == NO_ORDER, FAR, nearer));
+        idle = idle.min(choose(order_of[w] == NO_ORDER, nearer, FAR));
     }
+    Nearest { onward, idle }
 }
 
 /// Closes an order: no wagon leads on to it any more.
@@ -53,31 +78,23 @@ pub(crate) fn close(target: &mut [u32], order: u32)
     }
 }
 
-/// The least label of a wagon without an order, or of one with an order; `FAR` where there is none.
-#[inline(never)]
-pub(crate) fn nearest(label: &[u32], orders: &[u32], is_idle: bool) -> u32
-    requires { length orders.now ≡ length label.now }
-    ensures least { (i : ℕ) → i < length label.now → IsAmong orders.now is_idle i → result ≤ slice_index label.now i }
-    ensures label { result < FAR → HasLabel label.now orders.now is_idle result }
-{
-    let mut least = FAR;
-    for w in 0..label.len() {
-        least = least.min(choose((orders[w] == NO_ORDER) == is_idle, label[w], FAR));
-    }
-    least
-}
-
 /// The first wagon without an order, or with an order, that has this label.
 pub(crate) fn find(label: &[u32], orders: &[u32], is_idle: bool, least: u32) -> usize
     requires orders { length orders.now ≡ length label.now }
-    requires label { HasLabel label.now orders.now is_idle least }
+    requires label { HasLabel (slice_index label.now) orders.now is_idle least (length label.now) }
     ensures within { result < length label.now }
     ensures label { slice_index label.now result ≡ least }
     ensures among { IsAmong orders.now is_idle result }
 {
-    for w in 0..label.len() {
-        if label[w] == least && (orders[w] == NO_ORDER) == is_idle {
+    let mut w = 0;
+    // Sixteen labels at a time, which is vector code, and one by one only where one of them is the label.
+    'wagons: while w < label.len() {
+        if w % 16 == 0 && label.len() - w >= 16 && !label[w..w + 16].contains(&least) {
+            w += 16;
+        } else if label[w] == least && (orders[w] == NO_ORDER) == is_idle {
             return w;
+        } else {
+            w += 1;
         }
     }
     unreachable!()

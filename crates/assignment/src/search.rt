@@ -1,11 +1,11 @@
 //! The search for the shortest path from an order.
-ghost use Rattle.std.specs.Prelude.{◌≡◌, ◌<◌, ◌≤◌, ◌+◌, ◌-◌, ℕ, true, min, nat_lt, if◌then◌else◌, length, slice_index, None, IfOk, IfSome, IfNone};
+ghost use Rattle.std.specs.Prelude.{◌≡◌, ◌<◌, ◌≤◌, ◌+◌, ◌-◌, ℕ, true, false, min, nat_lt, if◌then◌else◌, length, slice_index, IfOk, IfSome, IfNone};
 ghost use Rattle.cost_table.specs.Table.{Table, wagon_count, order_count};
-ghost use Rattle.assignment.specs.inner.State.{IsState, kept, order_at};
+ghost use Rattle.assignment.specs.inner.State.{IsState, kept};
 ghost use Rattle.assignment.specs.inner.Search.{HasRoom, IsSearch, IsPath, IsNext, IsFrom, label_at};
-ghost use Rattle.assignment.specs.inner.Passes.{HasLabel};
+ghost use Rattle.assignment.specs.inner.Passes.{IsLeast};
 
-use crate::passes::{FAR, Front, close, find, nearest, relax};
+use crate::passes::{FAR, Front, Nearest, close, find, relax};
 use crate::state::State;
 use std::alloc::{AllocError, Global};
 
@@ -125,13 +125,15 @@ impl Search {
         close(&mut self.target, next.order);
     }
 
-    /// Relaxes the cells of the order settled last.
-    fn relax_last(&mut self, state: &State)
+    /// Relaxes the cells of the order settled last, and answers what is nearest then.
+    fn relax_last(&mut self, state: &State) -> Nearest
         requires state { IsState state.now }
         requires some { 0 < length self.old.orders.items }
         requires search { IsSearch (kept state.now) self.old (length self.old.orders.items - 1) }
         ensures search { IsSearch (kept state.now) self.new (length self.new.orders.items) }
         ensures orders { self.new.orders.items ≡ self.old.orders.items }
+        ensures onward { IsLeast (label_at self.new) self.new.target.items false result.onward (length self.new.label.items) }
+        ensures idle { IsLeast (label_at self.new) state.now.order_of.items true result.idle (length self.new.label.items) }
     {
         let place = self.orders.len() - 1;
         let order = self.orders[place] as usize;
@@ -145,38 +147,29 @@ impl Search {
             &mut self.from,
             state.column(order),
             &state.u,
+            &self.target,
+            &state.order_of,
             front,
-        );
+        )
     }
 
-    /// The least label of a wagon without an order, `FAR` where each has one.
-    fn nearest_idle(&self, state: &State) -> u32
-        requires state { IsState state.now }
-        requires room { HasRoom state.now.cells.now self.now }
-        ensures least { (i : ℕ) → i < wagon_count state.now.cells.now → order_at (kept state.now).order_of i ≡ None → result ≤ label_at self.now i }
-        ensures label { result < FAR → HasLabel self.now.label.items state.now.order_of.items true result }
-    {
-        nearest(&self.label, &state.order_of, true)
-    }
-
-    /// The nearest order that isn't settled, if it is nearer than the limit.
-    fn next(&self, state: &State, limit: u32) -> Option<Next>
+    /// The nearest order that isn't settled, if it is nearer than each wagon without an order and each refusal.
+    fn next(&self, state: &State, nearest: Nearest) -> Option<Next>
         requires state { IsState state.now }
         requires search { IsSearch (kept state.now) self.now (length self.now.orders.items) }
         requires some { 0 < length self.now.orders.items }
-        requires idle { (i : ℕ) → i < wagon_count state.now.cells.now → order_at (kept state.now).order_of i ≡ None → limit ≤ label_at self.now i }
-        requires refusal { limit ≤ self.now.refusal.distance }
+        requires onward { IsLeast (label_at self.now) self.now.target.items false nearest.onward (length self.now.label.items) }
+        requires idle { IsLeast (label_at self.now) state.now.order_of.items true nearest.idle (length self.now.label.items) }
         ensures next { IfSome result (λ next. IsNext (kept state.now) self.now next) }
-        ensures none { IfNone result ((i : ℕ) → i < wagon_count state.now.cells.now → IsFrom (kept state.now) self.now limit i) }
+        ensures none { IfNone result ((i : ℕ) → i < wagon_count state.now.cells.now → IsFrom (kept state.now) self.now (min nearest.idle self.now.refusal.distance) i) }
     {
-        let distance = nearest(&self.label, &self.target, false);
-        if distance >= limit {
+        if nearest.onward >= nearest.idle.min(self.refusal.distance) {
             return None;
         }
-        let wagon = find(&self.label, &self.target, false, distance);
+        let wagon = find(&self.label, &self.target, false, nearest.onward);
         Some(Next {
             order: self.target[wagon],
-            distance,
+            distance: nearest.onward,
             wagon,
         })
     }
@@ -186,7 +179,7 @@ impl Search {
         requires state { IsState state.now }
         requires search { IsSearch (kept state.now) self.now (length self.now.orders.items) }
         requires some { 0 < length self.now.orders.items }
-        requires label { idle < FAR → HasLabel self.now.label.items state.now.order_of.items true idle }
+        requires least { IsLeast (label_at self.now) state.now.order_of.items true idle (length self.now.label.items) }
         requires beyond { (i : ℕ) → i < wagon_count state.now.cells.now → IsFrom (kept state.now) self.now (min idle self.now.refusal.distance) i }
         ensures { IsPath (kept state.now) self.now result }
     {
@@ -219,12 +212,11 @@ impl Search {
         };
         'settling: loop {
             self.settle(state, next);
-            self.relax_last(state);
-            let idle = self.nearest_idle(state);
-            let Some(nearest) = self.next(state, idle.min(self.refusal.distance)) else {
-                return self.path(state, idle);
+            let nearest = self.relax_last(state);
+            let Some(following) = self.next(state, nearest) else {
+                return self.path(state, nearest.idle);
             };
-            next = nearest;
+            next = following;
         }
     }
 }

@@ -1,6 +1,7 @@
 -- Passes over all wagons.
-use Rattle.std.specs.Prelude.{◌≡◌, ◌+◌, ◌-◌, ◌<◌, ◌==◌, ℕ, Bool, List, length, slice_index}
+use Rattle.std.specs.Prelude.{◌≡◌, ◌+◌, ◌-◌, ◌<◌, ◌≤◌, ◌==◌, ℕ, Bool, List, slice_index}
 use Rattle.assignment.specs.declared.state.TheConstants.{NO_ORDER}
+use Rattle.assignment.specs.declared.passes.TheConstants.{FAR}
 use Rattle.assignment.specs.declared.passes.Front.{Front}
 
 -- the distance of a wagon over its cell of the order at the front
@@ -11,9 +12,14 @@ through front cost price = ((cost + price) - front.price) + front.distance
 abbrev pub IsAmong : List ℕ → Bool → ℕ → Type 0
 IsAmong orders is_idle i = (slice_index orders i == NO_ORDER) ≡ is_idle
 
--- such a wagon has this label
-pub record HasLabel (label orders : List ℕ) (is_idle : Bool) (least : ℕ) : Type 0 where
+-- one of the first n wagons that are meant has this label
+pub record HasLabel (label : ℕ → ℕ) (orders : List ℕ) (is_idle : Bool) (least n : ℕ) : Type 0 where
   pub place : ℕ
-  pub within : place < length label
-  pub is : slice_index label place ≡ least
+  pub within : place < n
+  pub is : label place ≡ least
   pub among : IsAmong orders is_idle place
+
+-- the least label of such a wagon, FAR where there is none
+pub record IsLeast (label : ℕ → ℕ) (orders : List ℕ) (is_idle : Bool) (least n : ℕ) : Type 0 where
+  pub below : (i : ℕ) → i < n → IsAmong orders is_idle i → least ≤ label i
+  pub attained : least < FAR → HasLabel label orders is_idle least n
