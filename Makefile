@@ -25,7 +25,7 @@ run: build
 	@if command -v neato > /dev/null; then neato -Tsvg out/day.dot > docs/day.svg; else head -n 5 out/day.dot; fi
 
 build:
-	@echo "== proving and building wagons (the first time ten to twenty minutes, later seconds)"
+	@echo "== proving and building wagons (the first time up to three quarters of an hour, later seconds)"
 	@cd crates/wagons && rt run < /dev/null > /dev/null
 
 # Compares the manual of refusals with what `wagons explain` must print; then proves every crate from nothing, tries the
