@@ -47,13 +47,6 @@ least_more f orders is_idle least n number chosen next h new is m = record {
   ];
 }
 
--- the least of what was written
-pub least_of : (f : ℕ → ℕ) (old label orders : List ℕ) (is_idle : Bool) (least n : ℕ) → IsLeast f orders is_idle least n → IsPassed f old label n → IsLeast (λ i. get_or label i 0) orders is_idle least n
-least_of f old label orders is_idle least n h p = record {
-  below = λ i l a. let b = h.below i l a in let w = p.written i l in omega (arith, b, w);
-  attained = λ near. let at = h.attained near in record { place = at.place; within = at.within; is = p.written at.place at.within ∙ at.is; among = at.among };
-}
-
 -- no wagon of a chunk has a label that isn't in it
 pub none_in_chunk : (label : List ℕ) (w least i : ℕ) → false ≡ list_any (λ x. x == least) (take ((w + 16) - w) (drop w label)) → w + 16 ≤ length label → w ≤ i → i < w + 16 → get_or label i 0 ≡ least → ⊥
 none_in_chunk label w least i none long from to is =
