@@ -12,14 +12,14 @@ through front cost price = ((cost + price) - front.price) + front.distance
 abbrev pub IsAmong : List ℕ → Bool → ℕ → Type 0
 IsAmong orders is_idle i = (slice_index orders i == NO_ORDER) ≡ is_idle
 
--- one of the first n wagons that are meant has this label
+-- among the first n wagons, one without an order, or one with an order, has this label
 pub record HasLabel (label : ℕ → ℕ) (orders : List ℕ) (is_idle : Bool) (least n : ℕ) : Type 0 where
   pub place : ℕ
   pub within : place < n
   pub is : label place ≡ least
   pub among : IsAmong orders is_idle place
 
--- the least label of such a wagon, FAR where there is none
+-- the least label of such wagons, FAR where there is none
 pub record IsLeast (label : ℕ → ℕ) (orders : List ℕ) (is_idle : Bool) (least n : ℕ) : Type 0 where
   pub below : (i : ℕ) → i < n → IsAmong orders is_idle i → least ≤ label i
   pub attained : least < FAR → HasLabel label orders is_idle least n
