@@ -29,7 +29,7 @@ pub record IsHandingOn (f : Search) (old h : List (Option ℕ)) (first wagon pla
   pub handed_on : (i : ℕ) → (order_at h i ≡ order_at old i) ⊎ (IsOnWay f first i × (order_at h i ≡ Some (get_or f.orders.items (get_or f.from.items i 0) 0)))
   pub count : (k : ℕ) → served k h + one_if k (order_at old first) ≡ served k old + one_if k (order_at h wagon)
 
-some_same : (a b : ℕ) (o : Option ℕ) → o ≡ Some a → o ≡ Some b → a ≡ b
+pub some_same : (a b : ℕ) (o : Option ℕ) → o ≡ Some a → o ≡ Some b → a ≡ b
 some_same a b o p q = cc
 
 -- what holds of the wagons' orders once the wagon in hand has the order that it was reached from

@@ -20,3 +20,4 @@ pub mod Numbers
 pub mod FirstPrices
 pub mod Clearing
 pub mod TwoRows
+pub mod AtHand

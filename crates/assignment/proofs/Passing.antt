@@ -1,9 +1,7 @@
 use Rattle.std.proofs.Common.{◌≡◌, ◌+◌, ◌-◌, ◌<◌, ◌≤◌, ℕ, Bool, true, false, cond, List, length, take, drop, get_or, set, get_or-set_same, get_or-set_other, refl, sym, ◌∙◌, ap, arith, inl, inr, subst, min}
 use Rattle.std.specs.Prelude.{◌==◌}
-use Rattle.std.specs.List.{list_any}
-use Rattle.std.proofs.lemmas.Bool.{cases_eq, cases_lt, eq-eqb}
+use Rattle.std.proofs.lemmas.Bool.{cases_eq, cases_lt}
 use Rattle.std.proofs.lemmas.List.{get_or-take, get_or-drop, length-take-le, length-drop}
-use Rattle.std.proofs.lemmas.List.Folds.{list_any_at}
 use Rattle.assignment.specs.inner.Passes.{IsAmong, IsLeast}
 
 -- the first n items are written anew, each as `f` says
@@ -47,12 +45,11 @@ least_more f orders is_idle least n number chosen next h new is m = record {
   ];
 }
 
--- no wagon of a chunk has a label that isn't in it
-pub none_in_chunk : (label : List ℕ) (w least i : ℕ) → false ≡ list_any (λ x. x == least) (take ((w + 16) - w) (drop w label)) → w + 16 ≤ length label → w ≤ i → i < w + 16 → get_or label i 0 ≡ least → ⊥
-none_in_chunk label w least i none long from to is =
+-- no wagon of a block has a label that isn't in it
+pub none_in_block : (label orders : List ℕ) (is_idle : Bool) (w n least i : ℕ) → ((k : ℕ) → k < length (take ((w + n) - w) (drop w label)) → get_or (take ((w + n) - w) (drop w label)) k 0 ≡ least → IsAmong (take ((w + n) - w) (drop w orders)) is_idle k → ⊥) → w + n ≤ length label → w ≤ i → i < w + n → get_or label i 0 ≡ least → IsAmong orders is_idle i → ⊥
+none_in_block label orders is_idle w n least i none long from to is among =
     let rest = length-drop w label in
-    let count = length-take-le ((w + 16) - w) (drop w label) (omega (arith, rest, long)) in
+    let count = length-take-le ((w + n) - w) (drop w label) (omega (arith, rest, long)) in
     let place : w + (i - w) ≡ i = omega (arith, from) in
-    let read = get_or-take ((w + 16) - w) (drop w label) (i - w) 0 (omega (arith, from, to)) ∙ get_or-drop w label (i - w) 0 ∙ ap (λ x. get_or label x 0) place ∙ is in
-    let some = list_any_at (λ x. x == least) (take ((w + 16) - w) (drop w label)) (i - w) 0 (omega (arith, count, from, to)) (eq-eqb _ _ read) in
-    cc
+    let read : (xs : List ℕ) → get_or (take ((w + n) - w) (drop w xs)) (i - w) 0 ≡ get_or xs i 0 = λ xs. get_or-take ((w + n) - w) (drop w xs) (i - w) 0 (omega (arith, from, to)) ∙ get_or-drop w xs (i - w) 0 ∙ ap (λ x. get_or xs x 0) place in
+    none (i - w) (omega (arith, count, from, to)) (read label ∙ is) (subst (λ (x : ℕ). (x == 4294967295) ≡ is_idle) (sym (read orders)) among)

@@ -17,6 +17,13 @@ more-is j taken k = elim (cases_eq k j) [
   | inr other ↦ grind (arith, nat_tests, other)
 ]
 
+-- one unit more
+pub more-one : (j units : ℕ) (taken : ℕ → ℕ) (k : ℕ) → more j (units + 1) taken k ≡ more j units taken k + one_if k (Some j)
+more-one j units taken k = elim (cases_eq k j) [
+  | inl same ↦ grind (arith, nat_tests, same)
+  | inr other ↦ grind (arith, nat_tests, other)
+]
+
 one_if-same : (k q : ℕ) → 0 < one_if k (Some q) → q ≡ k
 one_if-same k q h = elim (cases_eq q k) [
   | inl same ↦ same

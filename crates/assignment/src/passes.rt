@@ -1,6 +1,6 @@
 //! Passes over all wagons, without a branch in their loops, so that the compiler makes vector code of them.
-ghost use Rattle.std.specs.Prelude.{◌≡◌, ◌<◌, ◌≤◌, ◌+◌, ◌-◌, ◌^◌, ◌==◌, ℕ, true, false, min, nat_lt, if◌then◌else◌, length, slice_index};
-ghost use Rattle.assignment.specs.inner.Passes.{IsAmong, HasLabel, IsLeast, through};
+ghost use Rattle.std.specs.Prelude.{◌≡◌, ◌<◌, ◌≤◌, ◌+◌, ◌-◌, ◌^◌, ◌==◌, ℕ, true, false, min, nat_lt, if◌then◌else◌, length, slice_index, IfSome, IfNone};
+ghost use Rattle.assignment.specs.inner.Passes.{IsAmong, IsFound, HasLabel, IsLeast, through};
 
 use crate::state::NO_ORDER;
 
@@ -78,6 +78,9 @@ pub(crate) fn close(target: &mut [u32], order: u32)
     }
 }
 
+/// How many wagons `find_from` looks at together.
+const BLOCK: usize = 32;
+
 /// The first wagon without an order, or with an order, that has this label.
 pub(crate) fn find(label: &[u32], orders: &[u32], is_idle: bool, least: u32) -> usize
     requires orders { length orders.now ≡ length label.now }
@@ -86,18 +89,51 @@ pub(crate) fn find(label: &[u32], orders: &[u32], is_idle: bool, least: u32) -> 
     ensures label { slice_index label.now result ≡ least }
     ensures among { IsAmong orders.now is_idle result }
 {
-    let mut w = 0;
-    // Sixteen labels at a time, which is vector code, and one by one only where one of them is the label.
+    match find_from(label, orders, is_idle, least, 0) {
+        Some(wagon) => wagon,
+        None => unreachable!(),
+    }
+}
+
+/// The first wagon from this one on, without an order, or with an order, that has this label.
+pub(crate) fn find_from(
+    label: &[u32],
+    orders: &[u32],
+    is_idle: bool,
+    least: u32,
+    start: usize,
+) -> Option<usize>
+    requires orders { length orders.now ≡ length label.now }
+    ensures found { IfSome result (λ i. IsFound (slice_index label.now) orders.now is_idle least (length label.now) i) }
+    ensures none { IfNone result ((i : ℕ) → start ≤ i → i < length label.now → slice_index label.now i ≡ least → IsAmong orders.now is_idle i → ⊥) }
+{
+    let mut w = start;
+    // A block at a time, and one by one only where a block has it.
     'wagons: while w < label.len() {
-        if w % 16 == 0 && label.len() - w >= 16 && !label[w..w + 16].contains(&least) {
-            w += 16;
+        if w % BLOCK == 0
+            && label.len() - w >= BLOCK
+            && !has(&label[w..w + BLOCK], &orders[w..w + BLOCK], is_idle, least)
+        {
+            w += BLOCK;
         } else if label[w] == least && (orders[w] == NO_ORDER) == is_idle {
-            return w;
+            return Some(w);
         } else {
             w += 1;
         }
     }
-    unreachable!()
+    None
+}
+
+/// Whether one of these wagons without an order, or with an order, has this label.
+fn has(label: &[u32], orders: &[u32], is_idle: bool, least: u32) -> bool
+    requires orders { length orders.now ≡ length label.now }
+    ensures { result ≡ false → (i : ℕ) → i < length label.now → slice_index label.now i ≡ least → IsAmong orders.now is_idle i → ⊥ }
+{
+    let mut found = false;
+    for w in 0..label.len() {
+        found |= (label[w] == least) & ((orders[w] == NO_ORDER) == is_idle);
+    }
+    found
 }
 
 /// Raises each price by how much nearer than the end its wagon or order is.

@@ -1,5 +1,5 @@
 //! The planner and what it answers.
-ghost use Rattle.std.specs.Prelude.{◌≡◌, ◌<◌, ℕ, IfOk};
+ghost use Rattle.std.specs.Prelude.{◌≡◌, ◌<◌, ◌≤◌, ℕ, IfOk};
 ghost use Rattle.cost_table.specs.Table.{order_count, lack_at};
 ghost use Rattle.cost_table.specs.Plan.{IsOptimal, cost_of};
 ghost use Rattle.price_checker.specs.Certificate.{IsCertificate};
@@ -108,9 +108,34 @@ fn serve_order(state: &mut State, search: &mut Search, j: usize)
     ensures counted { (taken : ℕ → ℕ) → AreCounted (kept state.old) taken → AreCounted (kept state.new) (more j (lack_at state.old.cells.now j) taken) }
     ensures table { state.new.cells.now ≡ state.old.cells.now }
 {
-    'units: for _unit in 0..state.cells.lack(j) {
+    let units = serve_at_hand(state, j);
+    'units: for _unit in units..state.cells.lack(j) {
         serve_unit(state, search, j);
     }
+}
+
+/// Serves units of order `j` by wagons without an order whose cost is the order's price, since no path is shorter, and
+/// says how many.
+fn serve_at_hand(state: &mut State, j: usize) -> u32
+    requires state { IsState state.old }
+    requires order { j < order_count state.old.cells.now }
+    ensures state { IsState state.new }
+    ensures counted { (taken : ℕ → ℕ) → AreCounted (kept state.old) taken → AreCounted (kept state.new) (more j result taken) }
+    ensures limit { result ≤ lack_at state.old.cells.now j }
+    ensures table { state.new.cells.now ≡ state.old.cells.now }
+{
+    let lack = state.cells.lack(j);
+    let mut units = 0;
+    let mut start = 0;
+    'units: while units < lack {
+        let Some(wagon) = state.at_hand(j, start) else {
+            return units;
+        };
+        state.order_of[wagon] = j as u32;
+        start = wagon + 1;
+        units += 1;
+    }
+    units
 }
 
 /// Takes in one more unit of order `j`: a wagon more serves it, or a unit is refused.

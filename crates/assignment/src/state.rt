@@ -1,10 +1,11 @@
 //! What is kept between searches.
-ghost use Rattle.std.specs.Prelude.{◌≡◌, ◌<◌, ◌≤◌, ℕ, IfOk, length, slice_index};
+ghost use Rattle.std.specs.Prelude.{◌≡◌, ◌<◌, ◌≤◌, ℕ, IfOk, IfSome, length, slice_index};
 ghost use Rattle.cost_table.specs.Table.{IsTable, order_count};
 ghost use Rattle.assignment.specs.inner.Costs.{AreCosts, IsColumn};
-ghost use Rattle.assignment.specs.inner.State.{IsState, AreCounted, IsFirstPrice, kept};
+ghost use Rattle.assignment.specs.inner.State.{IsState, AreCounted, IsFirstPrice, IsAtHand, kept};
 
 use crate::costs::{column_of, costs_by_order};
+use crate::passes::find_from;
 use cost_table::Cells;
 use std::alloc::{AllocError, Global};
 
@@ -47,6 +48,15 @@ impl<'a> State<'a> {
         ensures { IsColumn self.now.cells.now j result.now }
     {
         column_of(&self.costs, self.cells, j)
+    }
+
+    /// The first wagon from this one on that has no order and whose cost is the price of order `j`.
+    pub(crate) fn at_hand(&self, j: usize, start: usize) -> Option<usize>
+        requires state { IsState self.now }
+        requires order { j < order_count self.now.cells.now }
+        ensures { IfSome result (λ i. IsAtHand (kept self.now) j i) }
+    {
+        find_from(self.column(j), &self.order_of, true, self.v[j], start)
     }
 }
 

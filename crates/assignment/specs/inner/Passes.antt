@@ -12,6 +12,12 @@ through front cost price = ((cost + price) - front.price) + front.distance
 abbrev pub IsAmong : List ℕ → Bool → ℕ → Type 0
 IsAmong orders is_idle i = (slice_index orders i == NO_ORDER) ≡ is_idle
 
+-- this one of the first n wagons, without an order, or with an order, has this label
+pub record IsFound (label : ℕ → ℕ) (orders : List ℕ) (is_idle : Bool) (least n i : ℕ) : Type 0 where
+  pub within : i < n
+  pub is : label i ≡ least
+  pub among : IsAmong orders is_idle i
+
 -- among the first n wagons, one without an order, or one with an order, has this label
 pub record HasLabel (label : ℕ → ℕ) (orders : List ℕ) (is_idle : Bool) (least n : ℕ) : Type 0 where
   pub place : ℕ

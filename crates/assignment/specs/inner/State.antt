@@ -45,6 +45,12 @@ pub record IsTight (s : Kept) (i k : ℕ) : Type 0 where
   pub allowed : cost_at s.table i k ≡ Some cost
   pub tight : slice_index s.v k ≡ cost + slice_index s.u i
 
+-- a wagon without an order, whose cell of order k is tight
+pub record IsAtHand (s : Kept) (k i : ℕ) : Type 0 where
+  pub within : i < wagon_count s.table
+  pub none : order_at s.order_of i ≡ None
+  pub tight : IsTight s i k
+
 -- The cell of each wagon and its order is tight. A wagon without an order has the price 0.
 pub record AreHeld (s : Kept) : Type 0 where
   pub wagons : length s.order_of ≡ wagon_count s.table

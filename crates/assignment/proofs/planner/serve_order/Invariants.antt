@@ -7,6 +7,6 @@ abbrev pub invariant-units : goal.invariant-units
 invariant-units l = record {
   state : IsState l.state;
   room : HasRoom l.state.cells.now l.search;
-  counted : (taken : ℕ → ℕ) → AreCounted (kept l.initial.state) taken → AreCounted (kept l.state) (more l.j l._unit taken);
-  table : l.state.cells.now ≡ l.initial.state.cells.now;
+  counted : (taken : ℕ → ℕ) → AreCounted (kept l.fn.state) taken → AreCounted (kept l.state) (more l.j l._unit taken);
+  table : l.state.cells.now ≡ l.fn.state.cells.now;
 }
