@@ -6,7 +6,7 @@ use Rattle.std.proofs.lemmas.List.{take_more, take_all}
 use Rattle.std.proofs.lemmas.Nat.{mul-add-lt, div-mul-add, mod-mul-add}
 use Rattle.std.proofs.Math.Nat.{mul-le-mul_left}
 use Rattle.cost_table.specs.Table.{Table, IsTable, IsRow, cost_at, cost_in, row_at, wagon_count, order_count}
-use Rattle.assignment.specs.inner.Costs.{cell_cost, AreCostsOf, cost_before, cost_within}
+use Rattle.assignment.specs.inner.Costs.{cell_cost, AreCosts, AreCostsOf, cost_before, cost_within}
 use Rattle.assignment.proofs.Writes.{same_at, other_at, written_length}
 
 -- a cell of a row is of an order of the table, and within the limit
@@ -56,17 +56,24 @@ pub before_none : (t : Table) (n i j : ℕ) → n ≤ i → cost_before t n i j 
 before_none t n i j l = grind (arith, nat_tests, l)
 
 -- the same cells, told otherwise
-pub costs_same : (t : Table) (cell cell' : ℕ → ℕ → Option ℕ) (costs : List ℕ) → ((i j : ℕ) → i < wagon_count t → j < order_count t → cell' i j ≡ cell i j) → AreCostsOf t cell costs → AreCostsOf t cell' costs
+costs_same : (t : Table) (cell cell' : ℕ → ℕ → Option ℕ) (costs : List ℕ) → ((i j : ℕ) → i < wagon_count t → j < order_count t → cell' i j ≡ cell i j) → AreCostsOf t cell costs → AreCostsOf t cell' costs
 costs_same t cell cell' costs same h = record { count = h.count; each = λ i j li lj. h.each i j li lj ∙ ap cell_cost (sym (same i j li lj)) }
 
-pub costs_whole : (t : Table) (n m : ℕ) (costs : List ℕ) → length (row_at t n) ≤ m → AreCostsOf t (cost_within t n m) costs → AreCostsOf t (cost_before t (n + 1)) costs
-costs_whole t n m costs all = costs_same t (cost_within t n m) (cost_before t (n + 1)) costs (λ i j l lj. elim (cases_eq i n) [
+-- a whole row
+pub within_whole : (t : Table) (n m i j : ℕ) → length (row_at t n) ≤ m → cost_before t (n + 1) i j ≡ cost_within t n m i j
+within_whole t n m i j all = elim (cases_eq i n) [
   | inl same ↦ subst (λ (x : ℕ). cost_before t (n + 1) x j ≡ cost_within t n m x j) (sym same) (before_is t (n + 1) n j (omega arith) ∙ ap (λ r. cost_in r j) (sym (take_all m (row_at t n) all)) ∙ sym (within_here t n m j))
   | inr other ↦ elim (cases_lt i n) [
     | inl less ↦ before_is t (n + 1) i j (omega (arith, less)) ∙ sym (before_is t n i j less) ∙ sym (within_other t n m i j other)
     | inr more ↦ before_none t (n + 1) i j (omega (arith, more, other)) ∙ sym (before_none t n i j more) ∙ sym (within_other t n m i j other)
   ]
-])
+]
+
+pub costs_whole : (t : Table) (n m : ℕ) (costs : List ℕ) → length (row_at t n) ≤ m → AreCostsOf t (cost_within t n m) costs → AreCostsOf t (cost_before t (n + 1)) costs
+costs_whole t n m costs all = costs_same t (cost_within t n m) (cost_before t (n + 1)) costs (λ i j l lj. within_whole t n m i j all)
+
+pub costs_all : (t : Table) (n : ℕ) (costs : List ℕ) → wagon_count t ≤ n → AreCostsOf t (cost_before t n) costs → AreCosts t costs
+costs_all t n costs all = costs_same t (cost_before t n) (cost_at t) costs (λ i j li lj. sym (before_is t n i j (omega arith)))
 
 -- two places are the same only where wagons and orders are
 pub place_order : (w i j i' j' : ℕ) → i < w → i' < w → j * w + i ≡ j' * w + i' → j ≡ j'
@@ -74,6 +81,22 @@ place_order w i j i' j' l l' e = sym (div-mul-add j w i l) ∙ ap (λ x. x / w) 
 
 pub place_wagon : (w i j i' j' : ℕ) → i < w → i' < w → j * w + i ≡ j' * w + i' → i ≡ i'
 place_wagon w i j i' j' l l' e = sym (mod-mul-add j w i l) ∙ ap (λ x. x % w) e ∙ mod-mul-add j' w i' l'
+
+-- the next cell of a row, and what was there before
+pub within_new : (t : Table) (n m : ℕ) → IsRow (order_count t) 0 (row_at t n) → m < length (row_at t n) → cost_within t n (m + 1) n (get_or (row_at t n) m (0, 0)).0 ≡ Some (get_or (row_at t n) m (0, 0)).1
+within_new t n m is lm =
+    let row = row_at t n in
+    let cell = get_or row m (0, 0) in
+    within_here t n (m + 1) cell.0 ∙ ap (λ r. cost_in r cell.0) (take_more row m (0, 0) lm) ∙ push_here (take m row) cell (fresh (order_count t) 0 m row is lm)
+
+pub within_kept : (t : Table) (n m i j : ℕ) → m < length (row_at t n) → (i ≡ n → j ≢ (get_or (row_at t n) m (0, 0)).0) → cost_within t n (m + 1) i j ≡ cost_within t n m i j
+within_kept t n m i j lm other = elim (cases_eq i n) [
+  | inl same ↦
+      let row = row_at t n in
+      let here = ap (λ r. cost_in r j) (take_more row m (0, 0) lm) ∙ push_other (take m row) (get_or row m (0, 0)) j (λ q. other same (sym q)) in
+      subst (λ (x : ℕ). cost_within t n (m + 1) x j ≡ cost_within t n m x j) (sym same) (within_here t n (m + 1) j ∙ here ∙ sym (within_here t n m j))
+  | inr apart ↦ within_other t n (m + 1) i j apart ∙ sym (within_other t n m i j apart)
+]
 
 -- one cell more
 pub costs_more : (t : Table) (n m : ℕ) (costs costs' : List ℕ) → n < wagon_count t → IsRow (order_count t) 0 (row_at t n) → m < length (row_at t n) → AreCostsOf t (cost_within t n m) costs → costs' ≡ set costs ((get_or (row_at t n) m (0, 0)).0 * wagon_count t + n) (get_or (row_at t n) m (0, 0)).1 → AreCostsOf t (cost_within t n (m + 1)) costs'
@@ -87,15 +110,15 @@ costs_more t n m costs costs' ln is lm h e =
     let swap : order_count t * w ≡ w * order_count t = grind arith in
     let count = h.count in
     let inside : k * w + n < length costs = omega (arith, bound, swap, count) in
-    let next : take (m + 1) row ≡ take m row ++ cell ∷ [] = take_more row m (0, 0) lm in
     record {
       count = written_length costs costs' (k * w + n) cell.1 e ∙ count;
-      each = λ i j li lj. elim (cases_eq i n) [
-        | inl same ↦ subst (λ (x : ℕ). get_or costs' (j * w + x) 0 ≡ cell_cost (cost_within t n (m + 1) x j)) (sym same) (elim (cases_eq j k) [
-          | inl here ↦ subst (λ (y : ℕ). get_or costs' (y * w + n) 0 ≡ cell_cost (cost_within t n (m + 1) n y)) (sym here) (same_at costs costs' (k * w + n) cell.1 0 inside e ∙ ap cell_cost (sym (within_here t n (m + 1) k ∙ ap (λ r. cost_in r k) next ∙ push_here (take m row) cell (fresh (order_count t) 0 m row is lm))))
-          | inr there ↦ other_at costs costs' (k * w + n) cell.1 0 (j * w + n) e (λ q. there (place_order w n j n k ln ln q)) ∙ h.each n j ln lj ∙ ap cell_cost (within_here t n m j ∙ sym (within_here t n (m + 1) j ∙ ap (λ r. cost_in r j) next ∙ push_other (take m row) cell j (λ q. there (sym q))))
-        ])
-        | inr other ↦ other_at costs costs' (k * w + n) cell.1 0 (j * w + i) e (λ q. other (place_wagon w i j n k li ln q)) ∙ h.each i j li lj ∙ ap cell_cost (within_other t n m i j other ∙ sym (within_other t n (m + 1) i j other))
+      each = λ i j li lj. elim (cases_eq (j * w + i) (k * w + n)) [
+        | inl same ↦
+            let at : get_or costs' (k * w + n) 0 ≡ cell_cost (cost_within t n (m + 1) n k) = same_at costs costs' (k * w + n) cell.1 0 inside e ∙ ap cell_cost (sym (within_new t n m is lm)) in
+            let ei = place_wagon w i j n k li ln same in
+            let ej = place_order w i j n k li ln same in
+            ap (λ x. get_or costs' x 0) same ∙ at ∙ ap (λ x. cell_cost (cost_within t n (m + 1) x k)) (sym ei) ∙ ap (λ y. cell_cost (cost_within t n (m + 1) i y)) (sym ej)
+        | inr other ↦ other_at costs costs' (k * w + n) cell.1 0 (j * w + i) e other ∙ h.each i j li lj ∙ ap cell_cost (sym (within_kept t n m i j lm (λ ei ej. other (ap (λ x. j * w + x) ei ∙ ap (λ y. y * w + n) ej))))
       ];
     }
 

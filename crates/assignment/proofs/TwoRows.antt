@@ -1,11 +1,11 @@
-use Rattle.std.proofs.Common.{◌≡◌, ◌+◌, ◌*◌, ◌<◌, ◌≤◌, ℕ, zero, suc, List, [], ◌∷◌, Some, length, get_or, set, refl, sym, ◌∙◌, ap, arith, inl, inr, subst}
+use Rattle.std.proofs.Common.{◌≡◌, ◌≢◌, ◌+◌, ◌*◌, ◌<◌, ◌≤◌, ℕ, zero, suc, List, [], ◌∷◌, Some, length, get_or, set, refl, sym, ◌∙◌, ap, arith, inl, inr}
 use Rattle.std.proofs.lemmas.Bool.{cases_eq, cases_lt}
 use Rattle.std.proofs.lemmas.Bool.Decides.{nat_tests}
 use Rattle.std.proofs.lemmas.Nat.{mul-add-lt}
 use Rattle.cost_table.specs.Table.{Table, IsRow, cost_at, cost_in, row_at, wagon_count, order_count}
 use Rattle.cost_table.proofs.TableLemmas.{cost_later, cost_there}
 use Rattle.assignment.specs.inner.Costs.{cell_cost, AreCostsOf, cost_before, cost_two}
-use Rattle.assignment.proofs.CostSteps.{before_is, before_none, place_order}
+use Rattle.assignment.proofs.CostSteps.{before_is, before_none, place_order, place_wagon}
 use Rattle.assignment.proofs.Writes.{same_at, other_at, written_length}
 
 row_length : (orders low : ℕ) (row : List (ℕ × ℕ)) → IsRow orders low row → low ≤ orders → low + length row ≤ orders
@@ -45,6 +45,22 @@ two_below t n m i j l = grind (arith, nat_tests, l)
 two_above : (t : Table) (n m i j : ℕ) → m ≤ j → cost_two t n m i j ≡ cost_before t n i j
 two_above t n m i j l = grind (arith, nat_tests, l)
 
+-- the costs of two wagons for the next order, and what was there before
+pub two_new : (t : Table) (n m i : ℕ) → i < n + 2 → cost_two t n (m + 1) i m ≡ cost_at t i m
+two_new t n m i l = two_below t n (m + 1) i m (omega arith) ∙ before_is t (n + 2) i m l
+
+pub two_kept : (t : Table) (n m i j : ℕ) → (j ≡ m → (i ≢ n) × (i ≢ n + 1)) → cost_two t n (m + 1) i j ≡ cost_two t n m i j
+two_kept t n m i j other = elim (cases_lt j m) [
+  | inl less ↦ two_below t n (m + 1) i j (omega (arith, less)) ∙ sym (two_below t n m i j less)
+  | inr more ↦ elim (cases_eq j m) [
+    | inl same ↦ two_below t n (m + 1) i j (omega (arith, same)) ∙ elim (cases_lt i n) [
+      | inl before ↦ before_is t (n + 2) i j (omega (arith, before)) ∙ sym (before_is t n i j before)
+      | inr after ↦ let apart = other same in before_none t (n + 2) i j (omega (arith, after, apart.0, apart.1)) ∙ sym (before_none t n i j after)
+    ] ∙ sym (two_above t n m i j more)
+    | inr past ↦ two_above t n (m + 1) i j (omega (arith, more, past)) ∙ sym (two_above t n m i j more)
+  ]
+]
+
 -- both cells of one order more
 pub two_more : (t : Table) (n m w a b : ℕ) (costs costs' : List ℕ) → w ≡ wagon_count t → n + 1 < wagon_count t → m < order_count t → cost_at t n m ≡ Some a → cost_at t (n + 1) m ≡ Some b → AreCostsOf t (cost_two t n m) costs → costs' ≡ set (set costs (m * w + n) a) (m * w + n + 1) b → AreCostsOf t (cost_two t n (m + 1)) costs'
 two_more t n m w a b costs costs' we ln lm first second h e0 =
@@ -59,26 +75,21 @@ two_more t n m w a b costs costs' we ln lm first second h e0 =
     let next : m * k + (n + 1) ≡ place + 1 = omega arith in
     record {
       count = written_length inner costs' (place + 1) b e ∙ long ∙ count;
-      each = λ i j li lj. elim (cases_eq j m) [
-        | inl same ↦ subst (λ (y : ℕ). get_or costs' (y * k + i) 0 ≡ cell_cost (cost_two t n (m + 1) i y)) (sym same) (elim (cases_eq i n) [
-          | inl here ↦ subst (λ (x : ℕ). get_or costs' (m * k + x) 0 ≡ cell_cost (cost_two t n (m + 1) x m)) (sym here)
-              (other_at inner costs' (place + 1) b 0 place e (λ q. omega (arith, q)) ∙ same_at costs inner place a 0 (omega (arith, bound, swap, count, next)) refl ∙ ap cell_cost (sym (two_below t n (m + 1) n m (omega arith) ∙ before_is t (n + 2) n m (omega arith) ∙ first)))
-          | inr not_first ↦ elim (cases_eq i (n + 1)) [
-            | inl here ↦ subst (λ (x : ℕ). get_or costs' (m * k + x) 0 ≡ cell_cost (cost_two t n (m + 1) x m)) (sym here)
-                (ap (λ x. get_or costs' x 0) next ∙ same_at inner costs' (place + 1) b 0 (omega (arith, bound, swap, count, next, long)) e ∙ ap cell_cost (sym (two_below t n (m + 1) (n + 1) m (omega arith) ∙ before_is t (n + 2) (n + 1) m (omega arith) ∙ second)))
-            | inr not_second ↦
-                let stays : cost_before t n i m ≡ cost_before t (n + 2) i m = elim (cases_lt i n) [
-                  | inl less ↦ before_is t n i m less ∙ sym (before_is t (n + 2) i m (omega (arith, less)))
-                  | inr more ↦ before_none t n i m more ∙ sym (before_none t (n + 2) i m (omega (arith, more, not_first, not_second)))
-                ] in
-                other_at inner costs' (place + 1) b 0 (m * k + i) e (λ q. omega (arith, q, not_second)) ∙ other_at costs inner place a 0 (m * k + i) refl (λ q. omega (arith, q, not_first)) ∙ h.each i m li lm ∙ ap cell_cost (two_above t n m i m (omega arith) ∙ stays ∙ sym (two_below t n (m + 1) i m (omega arith)))
-          ]
-        ])
-        | inr other ↦
-            let stays : cost_two t n m i j ≡ cost_two t n (m + 1) i j = elim (cases_lt j m) [
-              | inl less ↦ two_below t n m i j less ∙ sym (two_below t n (m + 1) i j (omega (arith, less)))
-              | inr more ↦ two_above t n m i j more ∙ sym (two_above t n (m + 1) i j (omega (arith, more, other)))
-            ] in
-            other_at inner costs' (place + 1) b 0 (j * k + i) e (λ q. other (place_order k i j (n + 1) m li ln (q ∙ sym next))) ∙ other_at costs inner place a 0 (j * k + i) refl (λ q. other (place_order k i j n m li (omega (arith, ln)) q)) ∙ h.each i j li lj ∙ ap cell_cost stays
+      each = λ i j li lj. elim (cases_eq (j * k + i) place) [
+        | inl here ↦
+            let at : get_or costs' place 0 ≡ cell_cost (cost_two t n (m + 1) n m) = other_at inner costs' (place + 1) b 0 place e (λ q. omega (arith, q)) ∙ same_at costs inner place a 0 (omega (arith, bound, swap, count, next)) refl ∙ ap cell_cost (sym (two_new t n m n (omega arith) ∙ first)) in
+            let ei = place_wagon k i j n m li (omega (arith, ln)) here in
+            let ej = place_order k i j n m li (omega (arith, ln)) here in
+            ap (λ x. get_or costs' x 0) here ∙ at ∙ ap (λ x. cell_cost (cost_two t n (m + 1) x m)) (sym ei) ∙ ap (λ y. cell_cost (cost_two t n (m + 1) i y)) (sym ej)
+        | inr not_first ↦ elim (cases_eq (j * k + i) (place + 1)) [
+          | inl here ↦
+              let at : get_or costs' (place + 1) 0 ≡ cell_cost (cost_two t n (m + 1) (n + 1) m) = same_at inner costs' (place + 1) b 0 (omega (arith, bound, swap, count, next, long)) e ∙ ap cell_cost (sym (two_new t n m (n + 1) (omega arith) ∙ second)) in
+              let ei = place_wagon k i j (n + 1) m li ln (here ∙ sym next) in
+              let ej = place_order k i j (n + 1) m li ln (here ∙ sym next) in
+              ap (λ x. get_or costs' x 0) here ∙ at ∙ ap (λ x. cell_cost (cost_two t n (m + 1) x m)) (sym ei) ∙ ap (λ y. cell_cost (cost_two t n (m + 1) i y)) (sym ej)
+          | inr not_second ↦
+              let kept = two_kept t n m i j (λ ej. (λ ei. not_first (ap (λ x. j * k + x) ei ∙ ap (λ y. y * k + n) ej), λ ei. not_second (ap (λ x. j * k + x) ei ∙ ap (λ y. y * k + (n + 1)) ej ∙ next))) in
+              other_at inner costs' (place + 1) b 0 (j * k + i) e not_second ∙ other_at costs inner place a 0 (j * k + i) refl not_first ∙ h.each i j li lj ∙ ap cell_cost (sym kept)
+        ]
       ];
     }

@@ -1,7 +1,7 @@
-//! The costs of a table by order, in one flat array.
-ghost use Rattle.std.specs.Prelude.{◌≡◌, ◌<◌, ◌+◌, IfOk, length};
-ghost use Rattle.cost_table.specs.Table.{IsTable, row_at, wagon_count, order_count};
-ghost use Rattle.assignment.specs.inner.Costs.{AreCosts, AreCostsOf, IsColumn, cost_before};
+//! The costs of a table by order, in one flat array, and what is found while they are placed.
+ghost use Rattle.std.specs.Prelude.{◌≡◌, ◌<◌, ◌+◌, ℕ, min, IfOk, length, slice_index, slice_set};
+ghost use Rattle.cost_table.specs.Table.{IsTable, row_at, penalty_at, wagon_count, order_count};
+ghost use Rattle.assignment.specs.inner.Costs.{AreCosts, AreCostsOf, AreFirstPrices, ArePricesOf, IsColumn, cost_before};
 
 use cost_table::Cells;
 use std::alloc::{AllocError, Global};
@@ -10,48 +10,81 @@ use std::alloc::{AllocError, Global};
 /// 2^32, and no path pays it, since an order refuses a unit at 1,000,000,000 at most.
 pub(crate) const NO_CELL: u32 = 2_000_000_000;
 
-/// The costs of a table in kilometres: for each order one of each wagon.
-pub(crate) fn costs_by_order(alloc: Global, cells: &Cells) -> Result<Vec<u32>, AllocError>
-    ensures { IfOk result (λ costs. AreCosts cells.now costs.items) }
+/// For each order one cost of each wagon, its first price, and a hint at the wagon that has that cost: this wagon or
+/// the one before it, 0 where the first price is the penalty. Costs and prices are in kilometres.
+#[derive(Drop)]
+pub(crate) struct Columns {
+    pub(crate) costs: Vec<u32>,
+    pub(crate) v: Vec<u32>,
+    pub(crate) nearest: Vec<usize>,
+}
+
+impl Columns {
+    /// The columns of a table. An order's first price is its penalty, or its cheapest wagon's cost.
+    pub(crate) fn new(alloc: Global, cells: &Cells) -> Result<Columns, AllocError>
+        ensures costs { IfOk result (λ columns. AreCosts cells.now columns.costs.items) }
+        ensures prices { IfOk result (λ columns. AreFirstPrices cells.now columns.v.items) }
+        ensures hints { IfOk result (λ columns. length columns.nearest.items ≡ order_count cells.now) }
+    {
+        let wagons = cells.wagons();
+        let mut costs = Vec::from_elem(alloc, NO_CELL, cells.orders() * wagons)?;
+        let mut v = penalties(alloc, cells)?;
+        let mut nearest = Vec::from_elem(alloc, 0, cells.orders())?;
+        let mut i = 0;
+        'wagons: while i + 1 < wagons {
+            place_two(&mut costs, &mut v, &mut nearest, cells, i);
+            i += 2;
+        }
+        if i < wagons {
+            place_row(&mut costs, &mut v, &mut nearest, cells, i);
+        }
+        Ok(Columns { costs, v, nearest })
+    }
+}
+
+/// The penalty of each order, in kilometres.
+fn penalties(alloc: Global, cells: &Cells) -> Result<Vec<u32>, AllocError>
+    ensures count { IfOk result (λ penalties. length penalties.items ≡ order_count cells.now) }
+    ensures each { IfOk result (λ penalties. (j : ℕ) → j < order_count cells.now → slice_index penalties.items j ≡ penalty_at cells.now j) }
 {
-    let wagons = cells.wagons();
-    let mut costs = Vec::from_elem(alloc, NO_CELL, cells.orders() * wagons)?;
-    let mut i = 0;
-    'wagons: while i + 1 < wagons {
-        place_two(&mut costs, cells, i);
-        i += 2;
+    let mut penalties = Vec::from_elem(alloc, 0, cells.orders())?;
+    'orders: for j in 0..penalties.len() {
+        penalties[j] = cells.penalty(j) as u32;
     }
-    if i < wagons {
-        place_row(&mut costs, cells, i);
-    }
-    Ok(costs)
+    Ok(penalties)
 }
 
 /// Places the costs of two wagons more.
-fn place_two(costs: &mut [u32], cells: &Cells, i: usize)
+fn place_two(costs: &mut [u32], v: &mut [u32], nearest: &mut [usize], cells: &Cells, i: usize)
     requires table { IsTable cells.now }
     requires wagons { i + 1 < wagon_count cells.now }
     requires costs { AreCostsOf cells.now (cost_before cells.now i) costs.old }
-    ensures { AreCostsOf cells.now (cost_before cells.now (i + 2)) costs.new }
+    requires prices { ArePricesOf cells.now (cost_before cells.now i) v.old }
+    requires hints { length nearest.old ≡ order_count cells.now }
+    ensures costs { AreCostsOf cells.now (cost_before cells.now (i + 2)) costs.new }
+    ensures prices { ArePricesOf cells.now (cost_before cells.now (i + 2)) v.new }
 {
     let orders = cells.orders();
     if cells.row(i).len() == orders && cells.row(i + 1).len() == orders {
-        place_full_rows(costs, cells, i);
+        place_full_rows(costs, v, nearest, cells, i);
     } else {
-        place_row(costs, cells, i);
-        place_row(costs, cells, i + 1);
+        place_row(costs, v, nearest, cells, i);
+        place_row(costs, v, nearest, cells, i + 1);
     }
 }
 
 /// Places the costs of two wagons more that each have one for every order. Both go to an order at once, since each
 /// visit to an order's costs takes longer than what is written there.
-fn place_full_rows(costs: &mut [u32], cells: &Cells, i: usize)
+fn place_full_rows(costs: &mut [u32], v: &mut [u32], nearest: &mut [usize], cells: &Cells, i: usize)
     requires table { IsTable cells.now }
     requires wagons { i + 1 < wagon_count cells.now }
     requires first { length (row_at cells.now i) ≡ order_count cells.now }
     requires second { length (row_at cells.now (i + 1)) ≡ order_count cells.now }
     requires costs { AreCostsOf cells.now (cost_before cells.now i) costs.old }
-    ensures { AreCostsOf cells.now (cost_before cells.now (i + 2)) costs.new }
+    requires prices { ArePricesOf cells.now (cost_before cells.now i) v.old }
+    requires hints { length nearest.old ≡ order_count cells.now }
+    ensures costs { AreCostsOf cells.now (cost_before cells.now (i + 2)) costs.new }
+    ensures prices { ArePricesOf cells.now (cost_before cells.now (i + 2)) v.new }
 {
     let wagons = cells.wagons();
     let first = cells.row(i);
@@ -60,19 +93,37 @@ fn place_full_rows(costs: &mut [u32], cells: &Cells, i: usize)
         let place = j * wagons + i;
         costs[place] = first[j].1;
         costs[place + 1] = second[j].1;
+        lower(v, nearest, j, first[j].1.min(second[j].1), i);
     }
 }
 
 /// Places the costs of one wagon more.
-fn place_row(costs: &mut [u32], cells: &Cells, i: usize)
+fn place_row(costs: &mut [u32], v: &mut [u32], nearest: &mut [usize], cells: &Cells, i: usize)
     requires table { IsTable cells.now }
     requires wagon { i < wagon_count cells.now }
     requires costs { AreCostsOf cells.now (cost_before cells.now i) costs.old }
-    ensures { AreCostsOf cells.now (cost_before cells.now (i + 1)) costs.new }
+    requires prices { ArePricesOf cells.now (cost_before cells.now i) v.old }
+    requires hints { length nearest.old ≡ order_count cells.now }
+    ensures costs { AreCostsOf cells.now (cost_before cells.now (i + 1)) costs.new }
+    ensures prices { ArePricesOf cells.now (cost_before cells.now (i + 1)) v.new }
 {
     let wagons = cells.wagons();
     for cell in cells.row(i) {
-        costs[cell.0 as usize * wagons + i] = cell.1;
+        let j = cell.0 as usize;
+        costs[j * wagons + i] = cell.1;
+        lower(v, nearest, j, cell.1, i);
+    }
+}
+
+/// Lowers the price of order `j` to a cost in kilometres of wagon `i` or the next one, where that is less.
+fn lower(v: &mut [u32], nearest: &mut [usize], j: usize, cost: u32, i: usize)
+    requires order { j < length v.old }
+    requires hints { length nearest.old ≡ length v.old }
+    ensures { v.new ≡ slice_set v.old j (min (slice_index v.old j) cost) }
+{
+    if cost < v[j] {
+        v[j] = cost;
+        nearest[j] = i;
     }
 }
 

@@ -126,7 +126,7 @@ fn serve_at_hand(state: &mut State, j: usize) -> u32
 {
     let lack = state.cells.lack(j);
     let mut units = 0;
-    let mut start = 0;
+    let mut start = state.nearest[j];
     'units: while units < lack {
         let Some(wagon) = state.at_hand(j, start) else {
             return units;

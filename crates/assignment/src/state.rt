@@ -1,10 +1,10 @@
 //! What is kept between searches.
-ghost use Rattle.std.specs.Prelude.{◌≡◌, ◌<◌, ◌≤◌, ℕ, IfOk, IfSome, length, slice_index};
-ghost use Rattle.cost_table.specs.Table.{IsTable, order_count};
-ghost use Rattle.assignment.specs.inner.Costs.{AreCosts, IsColumn};
-ghost use Rattle.assignment.specs.inner.State.{IsState, AreCounted, IsFirstPrice, IsAtHand, kept};
+ghost use Rattle.std.specs.Prelude.{◌≡◌, ◌<◌, IfOk, IfSome};
+ghost use Rattle.cost_table.specs.Table.{order_count};
+ghost use Rattle.assignment.specs.inner.Costs.{IsColumn};
+ghost use Rattle.assignment.specs.inner.State.{IsState, AreCounted, IsAtHand, kept};
 
-use crate::costs::{column_of, costs_by_order};
+use crate::costs::{Columns, column_of};
 use crate::passes::find_from;
 use cost_table::Cells;
 use std::alloc::{AllocError, Global};
@@ -13,12 +13,15 @@ use std::alloc::{AllocError, Global};
 pub(crate) const NO_ORDER: u32 = u32::MAX;
 
 /// A table, its costs by order, the prices of its wagons and orders in kilometres, and the order of each wagon.
+/// `nearest` hints at the wagon of each order that has its first price: this wagon or the one before it, 0 where that
+/// price is the penalty.
 #[derive(Drop)]
 pub(crate) struct State<'a> {
     pub(crate) cells: &'a Cells,
     pub(crate) costs: Vec<u32>,
     pub(crate) u: Vec<u32>,
     pub(crate) v: Vec<u32>,
+    pub(crate) nearest: Vec<usize>,
     pub(crate) order_of: Vec<u32>,
 }
 
@@ -29,14 +32,13 @@ impl<'a> State<'a> {
         ensures counted { IfOk result (λ state. AreCounted (kept state) (λ k. 0)) }
         ensures table { IfOk result (λ state. state.cells.now ≡ cells.now) }
     {
-        let costs = costs_by_order(alloc, cells)?;
-        let mut v = Vec::from_elem(alloc, 0, cells.orders())?;
-        first_prices(&mut v, &costs, cells);
+        let Columns { costs, v, nearest } = Columns::new(alloc, cells)?;
         Ok(State {
             cells,
             costs,
             u: Vec::from_elem(alloc, 0, cells.wagons())?,
             v,
+            nearest,
             order_of: Vec::from_elem(alloc, NO_ORDER, cells.wagons())?,
         })
     }
@@ -58,29 +60,4 @@ impl<'a> State<'a> {
     {
         find_from(self.column(j), &self.order_of, true, self.v[j], start)
     }
-}
-
-/// Sets the first price of each order: its penalty, or its cheapest wagon's cost.
-fn first_prices(v: &mut [u32], costs: &[u32], cells: &Cells)
-    requires table { IsTable cells.now }
-    requires costs { AreCosts cells.now costs.now }
-    requires orders { length v.old ≡ order_count cells.now }
-    ensures { (j : ℕ) → j < order_count cells.now → IsFirstPrice cells.now j (slice_index v.new j) }
-{
-    'orders: for j in 0..v.len() {
-        let column = column_of(costs, cells, j);
-        v[j] = first_price(column, cells.penalty(j) as u32);
-    }
-}
-
-/// The first price of an order.
-fn first_price(column: &[u32], penalty: u32) -> u32
-    ensures below_penalty { result ≤ penalty }
-    ensures below_costs { (i : ℕ) → i < length column.now → result ≤ slice_index column.now i }
-{
-    let mut price = penalty;
-    for cost in column {
-        price = price.min(*cost);
-    }
-    price
 }

@@ -1,6 +1,6 @@
 -- The costs of a table by order, in one flat list.
-use Rattle.std.specs.Prelude.{◌≡◌, ◌+◌, ◌*◌, ◌<◌, ◌==◌, nat_lt, ℕ, if◌then◌else◌, List, length, take, Option, Some, None, slice_index}
-use Rattle.cost_table.specs.Table.{Table, cost_at, cost_in, row_at, wagon_count, order_count}
+use Rattle.std.specs.Prelude.{◌≡◌, ◌+◌, ◌*◌, ◌<◌, ◌≤◌, ◌==◌, nat_lt, ℕ, if◌then◌else◌, List, length, take, Option, Some, None, slice_index}
+use Rattle.cost_table.specs.Table.{Table, cost_at, cost_in, row_at, penalty_at, wagon_count, order_count}
 use Rattle.assignment.specs.declared.costs.TheConstants.{NO_CELL}
 
 -- the number that stands for a cell
@@ -16,6 +16,16 @@ pub record AreCostsOf (t : Table) (cell : ℕ → ℕ → Option ℕ) (costs : L
 -- the costs of a table by order
 abbrev pub AreCosts : Table → List ℕ → Type 0
 AreCosts t costs = AreCostsOf t (cost_at t) costs
+
+-- for each order a price that passes neither its penalty nor a cost that `cell` has for it
+pub record ArePricesOf (t : Table) (cell : ℕ → ℕ → Option ℕ) (v : List ℕ) : Type 0 where
+  pub count : length v ≡ order_count t
+  pub below_penalty : (j : ℕ) → j < order_count t → slice_index v j ≤ penalty_at t j
+  pub below_cells : (i j c : ℕ) → i < wagon_count t → j < order_count t → cell i j ≡ Some c → slice_index v j ≤ c
+
+-- prices that pass no penalty and no cost of a table
+abbrev pub AreFirstPrices : Table → List ℕ → Type 0
+AreFirstPrices t v = ArePricesOf t (cost_at t) v
 
 -- the cells of the first n wagons
 abbrev pub cost_before : Table → ℕ → ℕ → ℕ → Option ℕ

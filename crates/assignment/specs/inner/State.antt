@@ -69,6 +69,7 @@ kept state = record { table = state.cells.now; u = state.u.items; v = state.v.it
 pub record IsState (state : State) : Type 0 where
   pub keeps : IsKept (kept state)
   pub costs : AreCosts state.cells.now state.costs.items
+  pub hints : length state.nearest.items ≡ order_count state.cells.now
 
 -- Of the units taken in, those that no wagon serves are refused at the order's price.
 pub record AreCounted (s : Kept) (taken : ℕ → ℕ) : Type 0 where
@@ -78,8 +79,3 @@ pub record AreCounted (s : Kept) (taken : ℕ → ℕ) : Type 0 where
 -- so many units more of order j
 abbrev pub more : ℕ → ℕ → (ℕ → ℕ) → ℕ → ℕ
 more j units taken k = if k == j then taken k + units else taken k
-
--- a price that passes neither the penalty of order j nor a cost of it
-pub record IsFirstPrice (t : Table) (j price : ℕ) : Type 0 where
-  pub below_penalty : price ≤ penalty_at t j
-  pub below_cells : (i c : ℕ) → cost_at t i j ≡ Some c → price ≤ c

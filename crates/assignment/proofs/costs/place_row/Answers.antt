@@ -1,33 +1,51 @@
 use Rattle.std.proofs.Common.{refl, arith, length, subst, ◌≤◌, List, ℕ}
-use Rattle.assignment.proofs.CostSteps.{costs_limit, place_read, more_read, costs_whole}
+use Rattle.cost_table.specs.Table.{order_count}
+use Rattle.assignment.proofs.CostSteps.{costs_limit, row_from, place_read, more_read, costs_whole}
+use Rattle.assignment.proofs.FirstPrices.{prices_read, prices_whole}
 use Rattle.assignment.proofs.costs.place_row.Goals as goal
 
 pub overflow_mul-costs : goal.overflow_mul-costs
 overflow_mul-costs c =
-    let place = place_read c.args.cells.now c.args.i c.loop-cell.cell-index c.wagons-wagons.result c.row-cell-items.result.now c.loop-cell.costs c.row-cell-items.ensures.row c.wagons-wagons.ensures.count c.requires.wagon c.row-cell-items.ensures.cells c.loop-cell-test.true c.loop-cell.invariant.count in
+    let place = place_read c.args.cells.now c.args.i c.loop-cell.cell-index c.wagons-wagons.result c.row-cell-items.result.now c.loop-cell.costs c.row-cell-items.ensures.row c.wagons-wagons.ensures.count c.requires.wagon c.row-cell-items.ensures.cells c.loop-cell-test.true c.loop-cell.invariant.costs.count in
     let limit = costs_limit c.args.cells.now c.requires.table in
-    let count = c.loop-cell.invariant.count in
+    let count = c.loop-cell.invariant.costs.count in
     omega (arith, place, limit, count)
 
 pub overflow_add-costs : goal.overflow_add-costs
 overflow_add-costs c =
-    let place = place_read c.args.cells.now c.args.i c.loop-cell.cell-index c.wagons-wagons.result c.row-cell-items.result.now c.loop-cell.costs c.row-cell-items.ensures.row c.wagons-wagons.ensures.count c.requires.wagon c.row-cell-items.ensures.cells c.loop-cell-test.true c.loop-cell.invariant.count in
+    let place = place_read c.args.cells.now c.args.i c.loop-cell.cell-index c.wagons-wagons.result c.row-cell-items.result.now c.loop-cell.costs c.row-cell-items.ensures.row c.wagons-wagons.ensures.count c.requires.wagon c.row-cell-items.ensures.cells c.loop-cell-test.true c.loop-cell.invariant.costs.count in
     let limit = costs_limit c.args.cells.now c.requires.table in
-    let count = c.loop-cell.invariant.count in
+    let count = c.loop-cell.invariant.costs.count in
     omega (arith, place, limit, count)
 
-pub offset_bounds-costs-cell : goal.offset_bounds-costs-cell
-offset_bounds-costs-cell c =
-    let place = place_read c.args.cells.now c.args.i c.loop-cell.cell-index c.wagons-wagons.result c.row-cell-items.result.now c.loop-cell.costs c.row-cell-items.ensures.row c.wagons-wagons.ensures.count c.requires.wagon c.row-cell-items.ensures.cells c.loop-cell-test.true c.loop-cell.invariant.count in
+pub offset_bounds-costs-j : goal.offset_bounds-costs-j
+offset_bounds-costs-j c =
+    let place = place_read c.args.cells.now c.args.i c.loop-cell.cell-index c.wagons-wagons.result c.row-cell-items.result.now c.loop-cell.costs c.row-cell-items.ensures.row c.wagons-wagons.ensures.count c.requires.wagon c.row-cell-items.ensures.cells c.loop-cell-test.true c.loop-cell.invariant.costs.count in
     let limit = costs_limit c.args.cells.now c.requires.table in
-    let count = c.loop-cell.invariant.count in
+    let count = c.loop-cell.invariant.costs.count in
     omega (arith, place, limit, count)
 
-pub bounds-costs-cell : goal.bounds-costs-cell
-bounds-costs-cell c = place_read c.args.cells.now c.args.i c.loop-cell.cell-index c.wagons-wagons.result c.row-cell-items.result.now c.loop-cell.costs c.row-cell-items.ensures.row c.wagons-wagons.ensures.count c.requires.wagon c.row-cell-items.ensures.cells c.loop-cell-test.true c.loop-cell.invariant.count
+pub bounds-costs-j : goal.bounds-costs-j
+bounds-costs-j c = place_read c.args.cells.now c.args.i c.loop-cell.cell-index c.wagons-wagons.result c.row-cell-items.result.now c.loop-cell.costs c.row-cell-items.ensures.row c.wagons-wagons.ensures.count c.requires.wagon c.row-cell-items.ensures.cells c.loop-cell-test.true c.loop-cell.invariant.costs.count
+
+pub lower-requires-clause-order : goal.lower-requires-clause-order
+lower-requires-clause-order c =
+    let k = (row_from (order_count c.args.cells.now) 0 c.loop-cell.cell-index c.row-cell-items.result.now c.row-cell-items.ensures.cells c.loop-cell-test.true).1 in
+    let count = c.loop-cell.invariant.prices.count in
+    omega (arith, k, count)
 
 pub loop-cell-preserved : goal.loop-cell-preserved
-loop-cell-preserved c = more_read c.args.cells.now c.args.i c.loop-cell.cell-index c.wagons-wagons.result c.row-cell-items.result.now c.loop-cell.costs _ c.row-cell-items.ensures.row c.wagons-wagons.ensures.count c.requires.wagon c.row-cell-items.ensures.cells c.loop-cell-test.true c.loop-cell.invariant refl
+loop-cell-preserved c = record {
+  costs = more_read c.args.cells.now c.args.i c.loop-cell.cell-index c.wagons-wagons.result c.row-cell-items.result.now c.loop-cell.costs _ c.row-cell-items.ensures.row c.wagons-wagons.ensures.count c.requires.wagon c.row-cell-items.ensures.cells c.loop-cell-test.true c.loop-cell.invariant.costs refl;
+  prices = prices_read c.args.cells.now c.args.i c.loop-cell.cell-index c.row-cell-items.result.now c.loop-cell.v c.lower.new.v c.row-cell-items.ensures.row c.row-cell-items.ensures.cells c.loop-cell-test.true c.loop-cell.invariant.prices c.lower.ensures;
+}
 
 pub returns : goal.returns
-returns c = costs_whole c.args.cells.now c.args.i c.loop-cell.cell-index c.loop-cell.costs (subst (λ (r : List (ℕ × ℕ)). length r ≤ c.loop-cell.cell-index) c.row-cell-items.ensures.row c.loop-cell-test.false) c.loop-cell.invariant
+returns c =
+    let t = c.args.cells.now in
+    let m = c.loop-cell.cell-index in
+    let all = subst (λ (r : List (ℕ × ℕ)). length r ≤ m) c.row-cell-items.ensures.row c.loop-cell-test.false in
+    record {
+      costs = costs_whole t c.args.i m c.loop-cell.costs all c.loop-cell.invariant.costs;
+      prices = prices_whole t c.args.i m c.loop-cell.v all c.loop-cell.invariant.prices;
+    }

@@ -17,7 +17,7 @@ units-preserved c =
     let numbers = c.units.state.order_of.items in
     let written : orders_of (set numbers wagon c.args.j) ≡ set s.order_of wagon (Some c.args.j) = orders_set numbers wagon c.args.j (let same = ap order_count table in omega (arith, few, order, same)) in
     record {
-      state = record { keeps = kept_at_hand s (orders_of (set numbers wagon c.args.j)) c.args.j wagon keeps c.in-Some.ensures written; costs = h.state.costs };
+      state = record { keeps = kept_at_hand s (orders_of (set numbers wagon c.args.j)) c.args.j wagon keeps c.in-Some.ensures written; costs = h.state.costs; hints = h.state.hints };
       counted = λ taken counted. counted_at_hand s (orders_of (set numbers wagon c.args.j)) c.args.j wagon c.units.units taken keeps c.in-Some.ensures written (h.counted taken counted);
       limit = omega (arith, c.units-test.true);
       table = h.table;

@@ -43,7 +43,7 @@ returns-clause-state c =
       priced = priced_raised s f path u v h keeps c.run-path.ensures.path up;
       held = held_raised s f path u v h keeps c.run-path.ensures.path up same handed;
     } in
-    record { keeps = rw (eu, ev, eh) done; costs = c.requires.state.costs }
+    record { keeps = rw (eu, ev, eh) done; costs = c.requires.state.costs; hints = c.requires.state.hints }
 
 pub returns-clause-counted : goal.returns-clause-counted
 returns-clause-counted c = λ taken counted.

@@ -1,7 +1,5 @@
 use Rattle.std.proofs.Common.{◌≡◌, ℕ, None, length, get_or, replicate, sym, ◌∙◌, ap, rules}
-use Rattle.std.specs.Vec.{with_items}
-use Rattle.std.proofs.lemmas.List.{length-replicate, with_items_is}
-use Rattle.cost_table.specs.Table.{order_count}
+use Rattle.std.proofs.lemmas.List.{length-replicate}
 use Rattle.assignment.specs.inner.State.{IsKept, Kept, order_at, orders_of}
 use Rattle.assignment.proofs.Counting.{counted_begun}
 use Rattle.assignment.proofs.FirstPrices.{kept_first, no_orders, all_same}
@@ -12,14 +10,10 @@ pub returns-clause-state : goal.returns-clause-state
 returns-clause-state c =
     let u : c.in_ok-from_elem.field-0.items ≡ replicate c.wagons.result 0 = search rules in
     let h : c.in_ok-from_elem-2.field-0.items ≡ replicate c.wagons-2.result 4294967295 = search rules in
-    let lv : length c.in_ok-v.v.items ≡ c.orders.result = search rules in
-    let v = c.first_prices.new.v in
-    let ev : (with_items c.in_ok-v.v v).items ≡ v = with_items_is c.in_ok-v.v v (c.first_prices.auto.v ∙ c.deref_mut.ensures.len) in
-    let count : length v ≡ order_count c.args.cells.now = c.first_prices.auto.v ∙ ap length c.deref_mut.ensures.value ∙ lv ∙ c.orders.ensures.count in
     let none : (i : ℕ) → order_at (orders_of c.in_ok-from_elem-2.field-0.items) i ≡ None = λ i. ap (λ x. order_at (orders_of x) i) h ∙ no_orders c.wagons-2.result i in
-    let k : Kept = record { table = c.args.cells.now; u = c.in_ok-from_elem.field-0.items; v = v; order_of = orders_of c.in_ok-from_elem-2.field-0.items } in
-    let done : IsKept k = kept_first k c.orders.ensures.table (ap length u ∙ length-replicate c.wagons.result 0 ∙ c.wagons.ensures.count) count (orders_length c.in_ok-from_elem-2.field-0.items ∙ ap length h ∙ length-replicate c.wagons-2.result 4294967295 ∙ c.wagons-2.ensures.count) (λ i. ap (λ x. get_or x i 0) u ∙ all_same c.wagons.result i 0) (λ i q is. let e = sym (none i) ∙ is in cc) c.first_prices.ensures in
-    record { keeps = rw ev done; costs = c.in_ok-costs.ensures }
+    let k : Kept = record { table = c.args.cells.now; u = c.in_ok-from_elem.field-0.items; v = c.in_ok-costs.field-0.v.items; order_of = orders_of c.in_ok-from_elem-2.field-0.items } in
+    let done : IsKept k = kept_first k c.wagons.ensures.table (ap length u ∙ length-replicate c.wagons.result 0 ∙ c.wagons.ensures.count) (orders_length c.in_ok-from_elem-2.field-0.items ∙ ap length h ∙ length-replicate c.wagons-2.result 4294967295 ∙ c.wagons-2.ensures.count) (λ i. ap (λ x. get_or x i 0) u ∙ all_same c.wagons.result i 0) (λ i q is. let e = sym (none i) ∙ is in cc) c.in_ok-costs.ensures.prices in
+    record { keeps = done; costs = c.in_ok-costs.ensures.costs; hints = c.in_ok-costs.ensures.hints }
 
 pub returns-clause-counted : goal.returns-clause-counted
 returns-clause-counted c =
