@@ -11,7 +11,8 @@ use std::alloc::{AllocError, Global};
 /// Stands for the order of a wagon that has none.
 pub(crate) const NO_ORDER: u32 = u32::MAX;
 
-/// A table, its costs by order, the prices of its wagons and orders in kilometres, and the order of each wagon.
+/// A table, its costs by order, the prices of its wagons and orders in kilometres, the order of each wagon, and how many
+/// wagons each order has.
 #[derive(Drop)]
 pub(crate) struct State<'a> {
     pub(crate) cells: &'a Cells,
@@ -19,6 +20,7 @@ pub(crate) struct State<'a> {
     pub(crate) u: Vec<u32>,
     pub(crate) v: Vec<u32>,
     pub(crate) order_of: Vec<u32>,
+    pub(crate) served: Vec<u32>,
 }
 
 impl<'a> State<'a> {
@@ -37,6 +39,7 @@ impl<'a> State<'a> {
             u: Vec::from_elem(alloc, 0, cells.wagons())?,
             v,
             order_of: Vec::from_elem(alloc, NO_ORDER, cells.wagons())?,
+            served: Vec::from_elem(alloc, 0, cells.orders())?,
         })
     }
 
