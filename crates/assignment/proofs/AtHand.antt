@@ -1,8 +1,9 @@
-use Rattle.std.proofs.Common.{◌≡◌, ◌≢◌, ◌+◌, ◌<◌, ℕ, List, Option, Some, None, length, get_or, set, sym, ◌∙◌, ap, arith, inl, inr, subst}
+use Rattle.std.proofs.Common.{◌≡◌, ◌≢◌, ◌+◌, ◌<◌, ℕ, List, Option, Some, None, get_or, set, refl, sym, ◌∙◌, ap, arith, inl, inr, subst}
 use Rattle.std.proofs.lemmas.Bool.{cases_eq}
-use Rattle.cost_table.specs.Table.{cost_at, wagon_count, order_count}
+use Rattle.std.proofs.lemmas.Bool.Decides.{nat_tests}
+use Rattle.cost_table.specs.Table.{cost_at, order_count}
 use Rattle.assignment.specs.inner.Costs.{cell_cost}
-use Rattle.assignment.specs.inner.State.{Kept, IsKept, IsTight, IsAtHand, AreCounted, order_at, served, more}
+use Rattle.assignment.specs.inner.State.{Kept, IsKept, IsTight, IsAtHand, AreCounted, AreServed, order_at, served, more}
 use Rattle.assignment.specs.inner.Path.{one_if}
 use Rattle.assignment.proofs.Writes.{same_at, other_at, written_length}
 use Rattle.assignment.proofs.Limits.{order_limit}
@@ -43,6 +44,36 @@ kept_at_hand s h j i keeps at e =
           | inr other ↦ keeps.held.idle w (sym (there w other) ∙ none)
         ];
       };
+    }
+
+-- the order has a wagon more
+pub served_at_hand : (s : Kept) (h : List (Option ℕ)) (j i : ℕ) → IsKept s → IsAtHand s j i → h ≡ set s.order_of i (Some j) → (k : ℕ) → served k h ≡ served k s.order_of + one_if k (Some j)
+served_at_hand s h j i keeps at e k =
+    let len = keeps.held.wagons in
+    let within = at.within in
+    let step = served-set k s.order_of h i (Some j) (omega (arith, len, within)) e in
+    let none : one_if k (order_at s.order_of i) ≡ 0 = ap (one_if k) at.none in
+    omega (arith, step, none)
+
+-- so its number is one more
+pub numbers_at_hand : (orders : ℕ) (s : Kept) (h : List (Option ℕ)) (numbers : List ℕ) (j i : ℕ) → IsKept s → IsAtHand s j i → h ≡ set s.order_of i (Some j) → j < orders → AreServed orders s.order_of numbers → AreServed orders h (set numbers j (get_or numbers j 0 + 1))
+numbers_at_hand orders s h numbers j i keeps at e l was =
+    let len = was.count in
+    record {
+      count = written_length numbers _ j _ refl ∙ len;
+      each = λ k lk.
+          let now = served_at_hand s h j i keeps at e k in
+          let before = was.each k lk in
+          elim (cases_eq k j) [
+            | inl same ↦
+                let one : one_if k (Some j) ≡ 1 = grind (arith, nat_tests, same) in
+                let read : get_or (set numbers j (get_or numbers j 0 + 1)) k 0 ≡ get_or numbers k 0 + 1 = ap (λ x. get_or (set numbers j (get_or numbers j 0 + 1)) x 0) same ∙ same_at numbers _ j _ 0 (omega (arith, len, l)) refl ∙ ap (λ x. get_or numbers x 0 + 1) (sym same) in
+                omega (arith, now, before, one, read)
+            | inr other ↦
+                let none : one_if k (Some j) ≡ 0 = grind (arith, nat_tests, other) in
+                let read : get_or (set numbers j (get_or numbers j 0 + 1)) k 0 ≡ get_or numbers k 0 = other_at numbers _ j _ 0 k refl other in
+                omega (arith, now, before, none, read)
+          ];
     }
 
 pub counted_at_hand : (s : Kept) (h : List (Option ℕ)) (j i units : ℕ) (taken : ℕ → ℕ) → IsKept s → IsAtHand s j i → h ≡ set s.order_of i (Some j) → AreCounted s (more j units taken) → AreCounted (given s h) (more j (units + 1) taken)

@@ -9,7 +9,7 @@ use Rattle.std.proofs.lemmas.List.Sums.{sum_by-cons, sum_by-append}
 use Rattle.std.proofs.lemmas.List.Elements.{All-push, All-weaker}
 use Rattle.std.proofs.lemmas.List.Sorted.{All-permutation, sum_by-IsPermutation}
 use Rattle.cost_table.specs.Table.{Table, lack_at, order_count}
-use Rattle.assignment.specs.inner.State.{Kept, AreCounted, order_at, served, is_order, more}
+use Rattle.assignment.specs.inner.State.{Kept, AreCounted, AreServed, order_at, served, is_order, more}
 use Rattle.assignment.specs.inner.Sequence.{times, IsSequence, taken_in}
 use Rattle.assignment.proofs.Unit.{counted_same, more_none}
 
@@ -108,4 +108,10 @@ pub counted_begun : (s : Kept) → ((i : ℕ) → order_at s.order_of i ≡ None
 counted_begun s none = record {
   within = λ k lk. let z = served_none k s.order_of none in omega (arith, z);
   refused = λ k lk less. absurd (omega (arith, less));
+}
+
+pub served_begun : (orders : ℕ) (order_of : List (Option ℕ)) (numbers : List ℕ) → length numbers ≡ orders → ((k : ℕ) → get_or numbers k 0 ≡ 0) → ((i : ℕ) → order_at order_of i ≡ None) → AreServed orders order_of numbers
+served_begun orders order_of numbers count zeros none = record {
+  count = count;
+  each = λ k l. zeros k ∙ sym (served_none k order_of none);
 }

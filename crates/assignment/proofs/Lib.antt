@@ -11,6 +11,7 @@ pub mod Settle
 pub mod Raised
 pub mod Unit
 pub mod HandOn
+pub mod Served
 pub mod Final
 pub mod CostSteps
 pub mod Counting

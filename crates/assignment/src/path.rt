@@ -1,7 +1,7 @@
 //! The way back along a path.
-ghost use Rattle.std.specs.Prelude.{◌≡◌, ◌≢◌, ◌<◌, ◌≤◌, ◌+◌, ◌⊎◌, ℕ, None, Some, length, slice_index};
+ghost use Rattle.std.specs.Prelude.{◌≡◌, ◌≢◌, ◌<◌, ◌≤◌, ◌+◌, ◌^◌, ◌⊎◌, ℕ, None, Some, length, slice_index};
 ghost use Rattle.assignment.specs.inner.State.{order_at, orders_of, served};
-ghost use Rattle.assignment.specs.inner.Path.{AreWays, AreHandedOn, IsOnWay, IsPathEnd, one_if, given_up};
+ghost use Rattle.assignment.specs.inner.Path.{AreWays, AreHandedOn, IsOnWay, IsPathEnd, IsSettledEnd, one_if, given_up};
 
 use crate::search::{End, Search};
 
@@ -41,4 +41,19 @@ fn hand_on(order_of: &mut [u32], search: &Search, wagon: usize)
         place = search.from[wagon] as usize;
     }
     order_of[wagon] = search.orders[0];
+}
+
+/// Counts the unit that a path hands on: its first order has a wagon more, and one that gives a unit up has one fewer.
+pub(crate) fn count_unit(served: &mut [u32], search: &Search, end: End)
+    requires some { 0 < length search.now.orders.items }
+    requires end { IsSettledEnd search.now end }
+    requires orders { (x : ℕ) → x < length search.now.orders.items → slice_index search.now.orders.items x < length served.old }
+    requires limit { (k : ℕ) → k < length served.old → slice_index served.old k + 1 < 2 ^ 32 }
+    requires held { (k : ℕ) → k < length served.old → one_if k (given_up search.now end) ≤ slice_index served.old k + one_if k (Some (slice_index search.now.orders.items 0)) }
+    ensures { (k : ℕ) → k < length served.old → slice_index served.new k + one_if k (given_up search.now end) ≡ slice_index served.old k + one_if k (Some (slice_index search.now.orders.items 0)) }
+{
+    served[search.orders[0] as usize] += 1;
+    if let End::Refusal(place) = end {
+        served[search.orders[place] as usize] -= 1;
+    }
 }

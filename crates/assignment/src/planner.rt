@@ -8,7 +8,7 @@ ghost use Rattle.assignment.specs.inner.Search.{HasRoom};
 
 use crate::pair_list::write_pairs;
 use crate::passes::{raise, widen};
-use crate::path::walk_back;
+use crate::path::{count_unit, walk_back};
 use crate::search::Search;
 use crate::sequence::dearest_first;
 use crate::state::State;
@@ -132,6 +132,7 @@ fn serve_at_hand(state: &mut State, j: usize) -> u32
             return units;
         };
         state.order_of[wagon] = j as u32;
+        state.served[j] += 1;
         start = wagon + 1;
         units += 1;
     }
@@ -152,6 +153,7 @@ fn serve_unit(state: &mut State, search: &mut Search, j: usize)
     raise(&mut state.v, &search.order_distance, path.distance);
     raise(&mut state.u, &search.label, path.distance);
     walk_back(&mut state.order_of, search, path.end);
+    count_unit(&mut state.served, search, path.end);
 }
 
 /// A plan of a table at the lowest total cost, prices in kilometres that are a certificate of it, and what the checker

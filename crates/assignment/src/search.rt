@@ -1,12 +1,12 @@
 //! The search for the shortest path from an order.
-ghost use Rattle.std.specs.Prelude.{◌≡◌, ◌<◌, ◌≤◌, ◌+◌, ◌-◌, ℕ, true, false, min, nat_lt, if◌then◌else◌, length, slice_index, IfOk, IfSome, IfNone};
+ghost use Rattle.std.specs.Prelude.{◌≡◌, ◌≢◌, ◌<◌, ◌≤◌, ◌+◌, ◌-◌, ◌==◌, ◌↔◌, ℕ, true, false, min, nat_lt, if◌then◌else◌, length, slice_index, IfOk, IfSome, IfNone};
 ghost use Rattle.cost_table.specs.Table.{Table, wagon_count, order_count};
 ghost use Rattle.assignment.specs.inner.State.{IsState, kept};
 ghost use Rattle.assignment.specs.inner.Search.{HasRoom, IsSearch, IsPath, IsNext, IsFrom, label_at};
 ghost use Rattle.assignment.specs.inner.Passes.{IsLeast};
 
 use crate::passes::{FAR, Front, Nearest, close, find, relax};
-use crate::state::State;
+use crate::state::{NO_ORDER, State};
 use std::alloc::{AllocError, Global};
 
 /// How a path ends.
@@ -112,17 +112,18 @@ impl Search {
         ensures others { 0 < length self.old.orders.items → slice_index self.new.orders.items 0 ≡ slice_index self.old.orders.items 0 }
     {
         let order = next.order as usize;
+        let place = self.orders.len();
         let penalty = state.cells.penalty(order) as u32;
         let refusal = Refusal {
             distance: next.distance + (penalty - state.v[order]),
-            place: self.orders.len(),
+            place,
         };
         self.refusal = nearer(self.refusal, refusal);
         self.order_distance[order] = next.distance;
         self.orders.push_reserved(next.order);
         self.via.push_reserved(next.wagon);
         self.front = next.distance;
-        close(&mut self.target, next.order);
+        close_next(&mut self.target, next, state.served[order], place == 0);
     }
 
     /// Relaxes the cells of the order settled last, and answers what is nearest then.
@@ -229,5 +230,20 @@ fn nearer(refusal: Refusal, other: Refusal) -> Refusal
         other
     } else {
         refusal
+    }
+}
+
+/// Closes an order that so many wagons have: no wagon leads on to it any more. The only wagon of an order that isn't the
+/// first one settled is the wagon that led to it.
+fn close_next(target: &mut [u32], next: Next, served: u32, is_first: bool)
+    requires wagon { is_first ≡ false → next.wagon < length target.old }
+    requires none { served ≡ 0 → (i : ℕ) → i < length target.old → slice_index target.old i ≢ next.order }
+    requires one { served ≡ 1 → is_first ≡ false → (i : ℕ) → i < length target.old → (slice_index target.old i ≡ next.order) ↔ (i ≡ next.wagon) }
+    ensures { (i : ℕ) → i < length target.old → slice_index target.new i ≡ (if slice_index target.old i == next.order then NO_ORDER else slice_index target.old i) }
+{
+    if served == 1 && !is_first {
+        target[next.wagon] = NO_ORDER;
+    } else if served > 0 {
+        close(target, next.order);
     }
 }

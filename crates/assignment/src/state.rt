@@ -12,9 +12,9 @@ use std::alloc::{AllocError, Global};
 /// Stands for the order of a wagon that has none.
 pub(crate) const NO_ORDER: u32 = u32::MAX;
 
-/// A table, its costs by order, the prices of its wagons and orders in kilometres, and the order of each wagon.
-/// `nearest` hints at the wagon of each order that has its first price: this wagon or the one before it, 0 where that
-/// price is the penalty.
+/// A table, its costs by order, the prices of its wagons and orders in kilometres, the order of each wagon, and how many
+/// wagons each order has. `nearest` hints at the wagon of each order that has its first price: this wagon or the one
+/// before it, 0 where that price is the penalty.
 #[derive(Drop)]
 pub(crate) struct State<'a> {
     pub(crate) cells: &'a Cells,
@@ -23,6 +23,7 @@ pub(crate) struct State<'a> {
     pub(crate) v: Vec<u32>,
     pub(crate) nearest: Vec<usize>,
     pub(crate) order_of: Vec<u32>,
+    pub(crate) served: Vec<u32>,
 }
 
 impl<'a> State<'a> {
@@ -40,6 +41,7 @@ impl<'a> State<'a> {
             v,
             nearest,
             order_of: Vec::from_elem(alloc, NO_ORDER, cells.wagons())?,
+            served: Vec::from_elem(alloc, 0, cells.orders())?,
         })
     }
 

@@ -32,6 +32,11 @@ abbrev pub given_up : Search → End → Option ℕ
 given_up f (Wagon i) = None
 given_up f (Refusal x) = Some (slice_index f.orders.items x)
 
+-- an order that refuses a unit is a settled one
+abbrev pub IsSettledEnd : Search → End → Type 0
+IsSettledEnd f (Wagon i) = Unit {0}
+IsSettledEnd f (Refusal x) = x < length f.orders.items
+
 -- the wagon is the path's end, or one that led to an order
 abbrev pub IsOnWay : Search → ℕ → ℕ → Type 0
 IsOnWay f end i = (i ≡ end) ⊎ ((x : ℕ) × (0 < x) × (x < length f.orders.items) × (slice_index f.via.items x ≡ i))

@@ -66,10 +66,16 @@ pub record IsKept (s : Kept) : Type 0 where
 abbrev pub kept : State → Kept
 kept state = record { table = state.cells.now; u = state.u.items; v = state.v.items; order_of = orders_of state.order_of.items }
 
+-- each of so many orders has as many wagons as its number says
+pub record AreServed (orders : ℕ) (order_of : List (Option ℕ)) (numbers : List ℕ) : Type 0 where
+  pub count : length numbers ≡ orders
+  pub each : (k : ℕ) → k < orders → slice_index numbers k ≡ served k order_of
+
 pub record IsState (state : State) : Type 0 where
   pub keeps : IsKept (kept state)
   pub costs : AreCosts state.cells.now state.costs.items
   pub hints : length state.nearest.items ≡ order_count state.cells.now
+  pub served : AreServed (order_count state.cells.now) (orders_of state.order_of.items) state.served.items
 
 -- Of the units taken in, those that no wagon serves are refused at the order's price.
 pub record AreCounted (s : Kept) (taken : ℕ → ℕ) : Type 0 where

@@ -1,6 +1,7 @@
-use Rattle.std.proofs.Common.{◌≡◌, ℕ, List, Some, length, take, get_or, sym, ◌∙◌, ap, arith, subst}
+use Rattle.std.proofs.Common.{◌≡◌, ◌<◌, ℕ, List, Some, length, take, get_or, sym, ◌∙◌, ap, arith, subst}
 use Rattle.std.specs.Vec.{with_items}
 use Rattle.std.proofs.lemmas.List.{with_items_is}
+use Rattle.std.proofs.lemmas.List.Elements.{All-get_or}
 use Rattle.cost_table.specs.Table.{Table, order_count, lack_at}
 use Rattle.cost_table.specs.Plan.{IsPlanList}
 use Rattle.price_checker.specs.Certificate.{IsCertificate}
@@ -12,6 +13,13 @@ use Rattle.assignment.proofs.Limits.{held_order}
 use Rattle.assignment.proofs.Counting.{counted_entry, all_taken}
 use Rattle.assignment.proofs.Final.{plan_list, certificate_counted}
 use Rattle.assignment.proofs.planner.Planner.plan.Goals as goal
+
+pub serve_order-requires-clause-order : goal.serve_order-requires-clause-order
+serve_order-requires-clause-order c =
+    let same = c.orders.invariant.table in
+    let sequence = c.deref-entry-items.result.now in
+    let all : IsSequence (order_count c.orders.state.cells.now) sequence = subst (λ (xs : List (ℕ × ℕ)). IsSequence (order_count c.orders.state.cells.now) xs) (sym c.deref-entry-items.ensures.value) (subst (λ (x : Table). IsSequence (order_count x) c.self.inside.sequence.items) (sym same) c.self.invariant.sequence) in
+    All-get_or (λ (entry : ℕ × ℕ). entry.1 < order_count c.orders.state.cells.now) sequence c.orders.entry-index (0, 0) c.orders-test.true all.within
 
 pub orders-preserved : goal.orders-preserved
 orders-preserved c =
