@@ -59,8 +59,9 @@ pub(crate) fn relax(
     let mut idle = FAR;
     for w in 0..label.len() {
         let distance = costs[w] + u[w] - front.price + front.distance;
-        from[w] = choose(distance < label[w], front.place, from[w]);
-        let nearer = label[w].min(distance);
+        let old = label[w];
+        from[w] = choose(distance < old, front.place, from[w]);
+        let nearer = old.min(distance);
         label[w] = nearer;
         onward = onward.min(choose(target[w] == NO_ORDER, FAR, nearer));
         idle = idle.min(choose(order_of[w] == NO_ORDER, nearer, FAR));
@@ -82,6 +83,8 @@ pub(crate) fn close(target: &mut [u32], order: u32)
 const BLOCK: usize = 32;
 
 /// The first wagon without an order, or with an order, that has this label.
+// Inlined where `is_idle` is known, like what it calls, so that the passes don't look at it.
+#[inline(always)]
 pub(crate) fn find(label: &[u32], orders: &[u32], is_idle: bool, least: u32) -> usize
     requires orders { length orders.now ≡ length label.now }
     requires label { HasLabel (slice_index label.now) orders.now is_idle least (length label.now) }
@@ -96,6 +99,7 @@ pub(crate) fn find(label: &[u32], orders: &[u32], is_idle: bool, least: u32) -> 
 }
 
 /// The first wagon from this one on, without an order, or with an order, that has this label.
+#[inline(always)]
 pub(crate) fn find_from(
     label: &[u32],
     orders: &[u32],
@@ -125,6 +129,7 @@ pub(crate) fn find_from(
 }
 
 /// Whether one of these wagons without an order, or with an order, has this label.
+#[inline(always)]
 fn has(label: &[u32], orders: &[u32], is_idle: bool, least: u32) -> bool
     requires orders { length orders.now ≡ length label.now }
     ensures { result ≡ false → (i : ℕ) → i < length label.now → slice_index label.now i ≡ least → IsAmong orders.now is_idle i → ⊥ }

@@ -25,7 +25,6 @@ pub struct Planner<'a> {
     sequence: Vec<(u32, usize)>,
     prices: Prices,
     pairs: Vec<(usize, usize)>,
-    ends: Vec<usize>,
 }
 
 impl<'a> Model for Planner<'a> {
@@ -53,14 +52,12 @@ impl<'a> Planner<'a> {
             v: Vec::from_elem(alloc, 0, cells.orders())?,
         };
         let pairs = Vec::from_elem(alloc, (0, 0), cells.wagons())?;
-        let ends = Vec::from_elem(alloc, 0, cells.orders())?;
         Ok(Planner {
             state,
             search,
             sequence,
             prices,
             pairs,
-            ends,
         })
     }
 
@@ -76,12 +73,11 @@ impl<'a> Planner<'a> {
             sequence,
             mut prices,
             mut pairs,
-            mut ends,
         } = self;
         'orders: for entry in &sequence {
             serve_order(&mut state, &mut search, entry.1);
         }
-        let count = write_pairs(&mut pairs, &mut ends, &state.order_of);
+        let count = write_pairs(&mut pairs, &mut state);
         pairs.truncate(count);
         widen(&mut prices.u, &state.u);
         widen(&mut prices.v, &state.v);

@@ -1,5 +1,5 @@
 -- What a planner keeps before it plans.
-use Rattle.std.specs.Prelude.{◌≡◌, ℕ, length, slice_index}
+use Rattle.std.specs.Prelude.{◌≡◌, length}
 use Rattle.cost_table.specs.Table.{wagon_count, order_count}
 use Rattle.assignment.specs.declared.planner.Planner.TheInside.{Inside}
 use Rattle.assignment.specs.inner.State.{IsState, AreCounted, kept}
@@ -15,5 +15,3 @@ pub record IsReady (p : Inside) : Type 0 where
   pub wagon_prices : length p.prices.u.items ≡ wagon_count p.state.cells.now
   pub order_prices : length p.prices.v.items ≡ order_count p.state.cells.now
   pub room : length p.pairs.items ≡ wagon_count p.state.cells.now
-  pub order_ends : length p.ends.items ≡ order_count p.state.cells.now
-  pub zeros : (k : ℕ) → slice_index p.ends.items k ≡ 0

@@ -19,6 +19,4 @@ invariant_of-result c =
       wagon_prices = (let e : length c.in_ok-from_elem.field-0.items ≡ c.wagons-2.result = search rules in e ∙ c.wagons-2.ensures.count ∙ wagons);
       order_prices = (let e : length c.in_ok-from_elem-2.field-0.items ≡ c.orders-2.result = search rules in e ∙ c.orders-2.ensures.count ∙ orders);
       room = (let e : length c.in_ok-pairs.pairs.items ≡ c.wagons-3.result = search rules in e ∙ c.wagons-3.ensures.count ∙ wagons);
-      order_ends = (let e : length c.in_ok-ends.ends.items ≡ c.orders-3.result = search rules in e ∙ c.orders-3.ensures.count ∙ orders);
-      zeros = (let e : c.in_ok-ends.ends.items ≡ replicate c.orders-3.result 0 = search rules in λ k. ap (λ x. get_or x k 0) e ∙ all_same c.orders-3.result k 0);
     }

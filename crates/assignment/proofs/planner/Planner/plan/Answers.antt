@@ -1,4 +1,4 @@
-use Rattle.std.proofs.Common.{◌≡◌, ◌<◌, ℕ, List, Some, length, take, get_or, sym, ◌∙◌, ap, arith, subst}
+use Rattle.std.proofs.Common.{◌≡◌, ◌<◌, ℕ, List, take, get_or, sym, ◌∙◌, ap, arith, subst}
 use Rattle.std.specs.Vec.{with_items}
 use Rattle.std.proofs.lemmas.List.{with_items_is}
 use Rattle.std.proofs.lemmas.List.Elements.{All-get_or}
@@ -6,10 +6,9 @@ use Rattle.cost_table.specs.Table.{Table, order_count, lack_at}
 use Rattle.cost_table.specs.Plan.{IsPlanList}
 use Rattle.price_checker.specs.Certificate.{IsCertificate}
 use Rattle.price_checker.proofs.Duality.{certificates_optimal}
-use Rattle.assignment.specs.inner.State.{AreCounted, kept, more, order_at, orders_of}
+use Rattle.assignment.specs.inner.State.{Kept, AreCounted, kept, more}
 use Rattle.assignment.specs.inner.Sequence.{IsSequence, taken_in}
 use Rattle.assignment.specs.inner.Pairs.{pairs_below}
-use Rattle.assignment.proofs.Limits.{held_order}
 use Rattle.assignment.proofs.Counting.{counted_entry, all_taken}
 use Rattle.assignment.proofs.Final.{plan_list, certificate_counted}
 use Rattle.assignment.proofs.planner.Planner.plan.Goals as goal
@@ -36,32 +35,24 @@ orders-preserved c =
       table = table ∙ c.orders.invariant.table;
     }
 
-pub write_pairs-count-requires-clause-held : goal.write_pairs-count-requires-clause-held
-write_pairs-count-requires-clause-held c = λ i k is.
-    let s = kept c.orders.state in
-    let held : order_at s.order_of i ≡ Some k = ap (λ x. order_at (orders_of x) i) (sym c.deref.ensures.value) ∙ is in
-    let within = held_order s i k c.orders.invariant.state.keeps held in
-    let ends = ap length c.deref_mut-2.ensures.value ∙ c.self.invariant.order_ends ∙ ap order_count (sym c.orders.invariant.table) in
-    omega (arith, within, ends)
-
 pub new-requires : goal.new-requires
 new-requires c =
+    let s = kept c.orders.state in
     let ep : (with_items c.self.inside.pairs c.write_pairs-count.new.pairs).items ≡ c.write_pairs-count.new.pairs = with_items_is c.self.inside.pairs c.write_pairs-count.new.pairs (c.write_pairs-count.auto.pairs ∙ c.deref_mut.ensures.len) in
-    let items : c.truncate.new.self.items ≡ pairs_below (length c.deref_mut-2.result.now) (orders_of c.deref.result.now) = c.truncate.ensures.items ∙ ap (take c.write_pairs-count.result) ep ∙ c.write_pairs-count.ensures.pairs in
-    subst IsPlanList (sym items) (plan_list (length c.deref_mut-2.result.now) (orders_of c.deref.result.now))
+    let items : c.truncate.new.self.items ≡ pairs_below (order_count s.table) s.order_of = c.truncate.ensures.items ∙ ap (take c.write_pairs-count.result) ep ∙ c.write_pairs-count.ensures.pairs in
+    subst IsPlanList (sym items) (plan_list (order_count s.table) s.order_of)
 
 pub returns-clause-certificate : goal.returns-clause-certificate
 returns-clause-certificate c =
     let s = kept c.orders.state in
     let t = s.table in
-    let n = length c.deref_mut-2.result.now in
     let sequence = c.deref-entry-items.result.now in
     let same = c.orders.invariant.table in
+    let keeps = c.write_pairs-count.ensures.kept in
     let ep : (with_items c.self.inside.pairs c.write_pairs-count.new.pairs).items ≡ c.write_pairs-count.new.pairs = with_items_is c.self.inside.pairs c.write_pairs-count.new.pairs (c.write_pairs-count.auto.pairs ∙ c.deref_mut.ensures.len) in
-    let eu : (with_items c.self.inside.prices.u c.widen.new.wide).items ≡ s.u = with_items_is c.self.inside.prices.u c.widen.new.wide (c.widen.auto.wide ∙ c.deref_mut-3.ensures.len) ∙ c.widen.ensures ∙ c.deref-2.ensures.value in
-    let ev : (with_items c.self.inside.prices.v c.widen-2.new.wide).items ≡ s.v = with_items_is c.self.inside.prices.v c.widen-2.new.wide (c.widen-2.auto.wide ∙ c.deref_mut-4.ensures.len) ∙ c.widen-2.ensures ∙ c.deref-3.ensures.value in
-    let count : n ≡ order_count t = ap length c.deref_mut-2.ensures.value ∙ c.self.invariant.order_ends ∙ ap order_count (sym same) in
-    let items : c.new.result ≡ pairs_below (order_count t) s.order_of = c.new.ensures ∙ c.truncate.ensures.items ∙ ap (take c.write_pairs-count.result) ep ∙ c.write_pairs-count.ensures.pairs ∙ ap (λ x. pairs_below n (orders_of x)) c.deref.ensures.value ∙ ap (λ x. pairs_below x s.order_of) count in
+    let eu : (with_items c.self.inside.prices.u c.widen.new.wide).items ≡ s.u = with_items_is c.self.inside.prices.u c.widen.new.wide (c.widen.auto.wide ∙ c.deref_mut-2.ensures.len) ∙ c.widen.ensures ∙ c.deref.ensures.value ∙ ap (λ (k : Kept). k.u) keeps in
+    let ev : (with_items c.self.inside.prices.v c.widen-2.new.wide).items ≡ s.v = with_items_is c.self.inside.prices.v c.widen-2.new.wide (c.widen-2.auto.wide ∙ c.deref_mut-3.ensures.len) ∙ c.widen-2.ensures ∙ c.deref-2.ensures.value ∙ ap (λ (k : Kept). k.v) keeps in
+    let items : c.new.result ≡ pairs_below (order_count t) s.order_of = c.new.ensures ∙ c.truncate.ensures.items ∙ ap (take c.write_pairs-count.result) ep ∙ c.write_pairs-count.ensures.pairs in
     let all : IsSequence (order_count t) sequence = subst (λ (xs : List (ℕ × ℕ)). IsSequence (order_count t) xs) (sym c.deref-entry-items.ensures.value) (subst (λ (x : Table). IsSequence (order_count x) c.self.inside.sequence.items) (sym same) c.self.invariant.sequence) in
     let whole : IsCertificate t (pairs_below (order_count t) s.order_of) s.u s.v = certificate_counted s (taken_in t (take c.orders.entry-index sequence)) c.orders.invariant.state.keeps c.orders.invariant.counted (λ k l. all_taken t sequence c.orders.entry-index k all c.orders-test.false l) in
     let table : t ≡ c.args.self = same ∙ c.self.view_is in
