@@ -28,7 +28,6 @@ search_cleared s numbers f label target distances orders via k hs room le de te 
     record {
       room = record {
         labels = ap length le ∙ length-replicate (length f.label.items) 4294967295 ∙ wagons;
-        places = room.places;
         targets = ap length te ∙ ln;
         distances = ld;
         orders = oc ∙ room.orders;

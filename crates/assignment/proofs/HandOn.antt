@@ -1,9 +1,11 @@
-use Rattle.std.proofs.Common.{◌≡◌, ◌≢◌, ◌+◌, ◌<◌, ◌≤◌, ◌⊎◌, ℕ, List, Option, Some, None, cond, length, get_or, set, sym, ◌∙◌, ap, arith, inl, inr, subst}
+use Rattle.std.proofs.Common.{◌≡◌, ◌≢◌, ◌+◌, ◌<◌, ◌≤◌, ◌⊎◌, ℕ, List, Option, Some, None, cond, length, get_or, set, refl, sym, ◌∙◌, ap, arith, inl, inr, subst}
 use Rattle.std.proofs.lemmas.Bool.{cases_eq}
 use Rattle.std.proofs.lemmas.List.Sums.{sum_by-set}
 use Rattle.assignment.specs.declared.search.Search.{Search}
-use Rattle.assignment.specs.inner.State.{order_at, served, is_order}
-use Rattle.assignment.specs.inner.Path.{AreWays, IsOnWay, one_if}
+use Rattle.assignment.specs.declared.state.State.{State}
+use Rattle.assignment.specs.inner.State.{Kept, IsKept, IsState, kept, order_at, served, is_order}
+use Rattle.assignment.specs.inner.Search.{IsSearch, IsSearchOf, IsReached, IsReachedFrom}
+use Rattle.assignment.specs.inner.Path.{IsGiven, IsOnWay, one_if}
 use Rattle.assignment.proofs.Pairs.{one_if-test}
 use Rattle.assignment.proofs.Writes.{same_at, other_at, written_length}
 
@@ -18,66 +20,95 @@ served-set k h h' i o l e =
 
 -- The way is walked back to the wagon in hand. It was reached from the order at `place`, and it is none of the wagons
 -- that led to an order up to there, which have their orders still.
-pub record IsHandingOn (f : Search) (old h : List (Option ℕ)) (first wagon place : ℕ) : Type 0 where
-  pub wagons : length h ≡ length old
-  pub in_hand : wagon < length old
-  pub reached_from : get_or f.from.items wagon 0 ≡ place
-  pub within : place < length f.orders.items
+pub record IsHandingOn (s : Kept) (f : Search) (h : List (Option ℕ)) (first wagon place : ℕ) : Type 0 where
+  pub wagons : length h ≡ length s.order_of
+  pub in_hand : wagon < length s.order_of
+  pub from : IsReachedFrom s f wagon place
   pub on_way : IsOnWay f first wagon
   pub apart : (x : ℕ) → 0 < x → x ≤ place → get_or f.via.items x 0 ≢ wagon
   pub held : (x : ℕ) → 0 < x → x ≤ place → get_or h (get_or f.via.items x 0) None ≡ Some (get_or f.orders.items x 0)
-  pub handed_on : (i : ℕ) → (order_at h i ≡ order_at old i) ⊎ (IsOnWay f first i × (order_at h i ≡ Some (get_or f.orders.items (get_or f.from.items i 0) 0)))
-  pub count : (k : ℕ) → served k h + one_if k (order_at old first) ≡ served k old + one_if k (order_at h wagon)
+  pub handed_on : (i : ℕ) → (order_at h i ≡ order_at s.order_of i) ⊎ (IsOnWay f first i × IsGiven s f h i)
+  pub count : (k : ℕ) → served k h + one_if k (order_at s.order_of first) ≡ served k s.order_of + one_if k (order_at h wagon)
+
+-- the way begins at its end
+pub handing_none : (s : Kept) (f : Search) (wagon place end : ℕ) → IsSearch s f (length f.orders.items) → wagon < length s.order_of → ((x : ℕ) → 0 < x → x < end → get_or f.via.items x 0 ≢ wagon) → end ≤ length f.orders.items → place < end → IsReachedFrom s f wagon place → IsHandingOn s f s.order_of wagon wagon place
+handing_none s f wagon place end h inside apart limit before from = record {
+  wagons = refl;
+  in_hand = inside;
+  from = from;
+  on_way = inl refl;
+  apart = λ x p le. apart x p (omega (arith, le, before));
+  held = λ x p le. (h.settled.led x p (omega (arith, le, before, limit))).held;
+  handed_on = λ i. inl refl;
+  count = λ k. refl;
+}
 
 pub some_same : (a b : ℕ) (o : Option ℕ) → o ≡ Some a → o ≡ Some b → a ≡ b
 some_same a b o p q = cc
 
 -- what holds of the wagons' orders once the wagon in hand has the order that it was reached from
-handed_now : (f : Search) (old h h' : List (Option ℕ)) (first wagon place : ℕ) → IsHandingOn f old h first wagon place → h' ≡ set h wagon (Some (get_or f.orders.items place 0)) → (i : ℕ) → (order_at h' i ≡ order_at old i) ⊎ (IsOnWay f first i × (order_at h' i ≡ Some (get_or f.orders.items (get_or f.from.items i 0) 0)))
-handed_now f old h h' first wagon place s e i =
+handed_now : (s : Kept) (f : Search) (h h' : List (Option ℕ)) (first wagon place : ℕ) → IsHandingOn s f h first wagon place → h' ≡ set h wagon (Some (get_or f.orders.items place 0)) → (i : ℕ) → (order_at h' i ≡ order_at s.order_of i) ⊎ (IsOnWay f first i × IsGiven s f h' i)
+handed_now s f h h' first wagon place g e i =
     elim (cases_eq i wagon) [
       | inl same ↦
-          let len = s.wagons in
-          let inside = s.in_hand in
-          let here : get_or h' wagon None ≡ Some (get_or f.orders.items place 0) = same_at h h' wagon _ None (omega arith) e in
-          let is : get_or h' i None ≡ Some (get_or f.orders.items (get_or f.from.items i 0) 0) = ap (λ x. get_or h' x None) same ∙ here ∙ ap (λ x. Some (get_or f.orders.items x 0)) (sym s.reached_from ∙ ap (λ x. get_or f.from.items x 0) (sym same)) in
-          inr (subst (λ (x : ℕ). IsOnWay f first x) (sym same) s.on_way, is)
+          let len = g.wagons in
+          let inside = g.in_hand in
+          let here : order_at h' wagon ≡ Some (get_or f.orders.items place 0) = same_at h h' wagon _ None (omega (arith, len, inside)) e in
+          let given : IsGiven s f h' wagon = record { place = place; from = g.from; order = here } in
+          inr (subst (λ (x : ℕ). IsOnWay f first x) (sym same) g.on_way, subst (IsGiven s f h') (sym same) given)
       | inr other ↦
-          let there : get_or h' i None ≡ get_or h i None = other_at h h' wagon _ None i e other in
-          elim (s.handed_on i) [ inl was ↦ inl (there ∙ was) | inr new ↦ inr (new.0, there ∙ new.1) ]
+          let there : order_at h' i ≡ order_at h i = other_at h h' wagon _ None i e other in
+          elim (g.handed_on i) [
+            | inl was ↦ inl (there ∙ was)
+            | inr new ↦ inr (new.0, record { place = new.1.place; from = new.1.from; order = there ∙ new.1.order })
+          ]
     ]
 
-count_now : (f : Search) (old h h' : List (Option ℕ)) (first wagon place : ℕ) → IsHandingOn f old h first wagon place → h' ≡ set h wagon (Some (get_or f.orders.items place 0)) → (k : ℕ) → served k h' + one_if k (order_at old first) ≡ served k old + one_if k (Some (get_or f.orders.items place 0))
-count_now f old h h' first wagon place s e k =
-    let len = s.wagons in
-    let inside = s.in_hand in
-    let step = served-set k h h' wagon (Some (get_or f.orders.items place 0)) (omega arith) e in
-    let was = s.count k in
+count_now : (s : Kept) (f : Search) (h h' : List (Option ℕ)) (first wagon place : ℕ) → IsHandingOn s f h first wagon place → h' ≡ set h wagon (Some (get_or f.orders.items place 0)) → (k : ℕ) → served k h' + one_if k (order_at s.order_of first) ≡ served k s.order_of + one_if k (Some (get_or f.orders.items place 0))
+count_now s f h h' first wagon place g e k =
+    let len = g.wagons in
+    let inside = g.in_hand in
+    let step = served-set k h h' wagon (Some (get_or f.orders.items place 0)) (omega (arith, len, inside)) e in
+    let was = g.count k in
     omega (arith, step, was)
 
-pub handing_more : (f : Search) (old h h' : List (Option ℕ)) (first wagon place wagon' place' : ℕ) → AreWays old f → IsHandingOn f old h first wagon place → 0 < place → h' ≡ set h wagon (Some (get_or f.orders.items place 0)) → wagon' ≡ get_or f.via.items place 0 → place' ≡ get_or f.from.items wagon' 0 → IsHandingOn f old h' first wagon' place'
-handing_more f old h h' first wagon place wagon' place' ways s pos e we pe =
-    let len = s.wagons in
-    let step = ways.step place pos s.within in
-    let inside : wagon' < length old = omega (arith, step.wagon) in
-    let lower : place' < place = subst (λ (x : ℕ). x < place) (sym (pe ∙ ap (λ x. get_or f.from.items x 0) we)) step.before in
-    let keeps : (x : ℕ) → 0 < x → x ≤ place → get_or h' (get_or f.via.items x 0) None ≡ Some (get_or f.orders.items x 0) = λ x p le. other_at h h' wagon _ None (get_or f.via.items x 0) e (s.apart x p le) ∙ s.held x p le in
+pub handing_more : (s : Kept) (f : Search) (h h' : List (Option ℕ)) (first wagon place wagon' place' : ℕ) → IsKept s → IsSearch s f (length f.orders.items) → IsHandingOn s f h first wagon place → 0 < place → h' ≡ set h wagon (Some (get_or f.orders.items place 0)) → wagon' ≡ get_or f.via.items place 0 → place' < place → IsReachedFrom s f wagon' place' → IsHandingOn s f h' first wagon' place'
+handing_more s f h h' first wagon place wagon' place' k search g pos e we lower from =
+    let len = g.wagons in
+    let within = g.from.within in
+    let led = search.settled.led place pos within in
+    let held = k.held.wagons in
+    let inside : wagon' < length s.order_of = (let w = led.wagon in omega (arith, w, we, held)) in
+    let keeps : (x : ℕ) → 0 < x → x ≤ place → get_or h' (get_or f.via.items x 0) None ≡ Some (get_or f.orders.items x 0) = λ x p le. other_at h h' wagon _ None (get_or f.via.items x 0) e (g.apart x p le) ∙ g.held x p le in
     let here : get_or h' wagon' None ≡ Some (get_or f.orders.items place 0) = ap (λ x. get_or h' x None) we ∙ keeps place pos (omega arith) in
-    let bound = s.within in
     record {
       wagons = written_length h h' wagon _ e ∙ len;
       in_hand = inside;
-      reached_from = sym pe;
-      within = omega arith;
-      on_way = inr (place, pos, s.within, sym we);
-      apart = λ x p le same. ways.apart x place (omega arith) s.within (some_same (get_or f.orders.items x 0) (get_or f.orders.items place 0) (get_or h' wagon' None) (ap (λ y. get_or h' y None) (sym same) ∙ keeps x p (omega arith)) here);
-      held = λ x p le. keeps x p (omega arith);
-      handed_on = handed_now f old h h' first wagon place s e;
-      count = λ k. count_now f old h h' first wagon place s e k ∙ ap (λ o. served k old + one_if k o) (sym here);
+      from = from;
+      on_way = inr (place, pos, within, sym we);
+      apart = λ x p le same. search.settled.apart x place (omega (arith, le, lower)) within (some_same (get_or f.orders.items x 0) (get_or f.orders.items place 0) (get_or h' wagon' None) (ap (λ y. get_or h' y None) (sym same) ∙ keeps x p (omega (arith, le, lower))) here);
+      held = λ x p le. keeps x p (omega (arith, le, lower));
+      handed_on = handed_now s f h h' first wagon place g e;
+      count = λ q. count_now s f h h' first wagon place g e q ∙ ap (λ o. served q s.order_of + one_if q o) (sym here);
     }
 
 -- the wagon that is left gets the first order
-pub handing_all : (f : Search) (old h h' : List (Option ℕ)) (first wagon place : ℕ) → IsHandingOn f old h first wagon place → place ≡ 0 → h' ≡ set h wagon (Some (get_or f.orders.items 0 0)) → ((i : ℕ) → (order_at h' i ≡ order_at old i) ⊎ (IsOnWay f first i × (order_at h' i ≡ Some (get_or f.orders.items (get_or f.from.items i 0) 0)))) × ((k : ℕ) → served k h' + one_if k (order_at old first) ≡ served k old + one_if k (Some (get_or f.orders.items 0 0)))
-handing_all f old h h' first wagon place s zero_place e =
+pub handing_all : (s : Kept) (f : Search) (h h' : List (Option ℕ)) (first wagon place : ℕ) → IsHandingOn s f h first wagon place → place ≡ 0 → h' ≡ set h wagon (Some (get_or f.orders.items 0 0)) → ((i : ℕ) → (order_at h' i ≡ order_at s.order_of i) ⊎ (IsOnWay f first i × IsGiven s f h' i)) × ((k : ℕ) → served k h' + one_if k (order_at s.order_of first) ≡ served k s.order_of + one_if k (Some (get_or f.orders.items 0 0)))
+handing_all s f h h' first wagon place g zero_place e =
     let e' : h' ≡ set h wagon (Some (get_or f.orders.items place 0)) = e ∙ ap (λ x. set h wagon (Some (get_or f.orders.items x 0))) (sym zero_place) in
-    (handed_now f old h h' first wagon place s e', λ k. count_now f old h h' first wagon place s e' k ∙ ap (λ x. served k old + one_if k (Some (get_or f.orders.items x 0))) zero_place)
+    (handed_now s f h h' first wagon place g e', λ k. count_now s f h h' first wagon place g e' k ∙ ap (λ x. served k s.order_of + one_if k (Some (get_or f.orders.items x 0))) zero_place)
+
+-- another list of the wagons' orders changes nothing of the distances
+pub search_of : (state state' : State) (f : Search) → state' ≡ record state { order_of = state'.order_of } → IsSearchOf state f → IsSearchOf state' f
+search_of state state' f same h = subst (λ x. IsSearchOf x f) (sym same) (record { table = h.table; costs = h.costs; wagons = h.wagons; orders = h.orders; room = h.room; settled = h.settled })
+
+pub search_of_state : (state : State) (f : Search) (n : ℕ) → IsState state → IsSearch (kept state) f n → IsSearchOf state f
+search_of_state state f n k h = record { table = k.keeps.table; costs = k.costs; wagons = k.keeps.priced.wagons; orders = k.keeps.priced.orders; room = h.room; settled = h.settled.order }
+
+pub reached_then : (state state' : State) (f : Search) (n i : ℕ) → state' ≡ record state { order_of = state'.order_of } → IsReached (kept state) f n i → IsReached (kept state') f n i
+reached_then state state' f n i same r = subst (λ x. IsReached (kept x) f n i) (sym same) (record { place = r.place; before = r.before; from = record { within = r.from.within; exact = r.from.exact } })
+
+pub reached_before : (state state' : State) (f : Search) (i x : ℕ) → state' ≡ record state { order_of = state'.order_of } → IsReachedFrom (kept state') f i x → IsReachedFrom (kept state) f i x
+reached_before state state' f i x same r =
+    let there : IsReachedFrom (kept (record state { order_of = state'.order_of })) f i x = subst (λ y. IsReachedFrom (kept y) f i x) same r in
+    record { within = there.within; exact = there.exact }

@@ -22,3 +22,4 @@ pub mod FirstPrices
 pub mod Clearing
 pub mod TwoRows
 pub mod AtHand
+pub mod Tracing

@@ -8,7 +8,7 @@ use Rattle.assignment.specs.declared.search.End.{End}
 use Rattle.assignment.specs.declared.search.End.TheVariants.{Wagon, Refusal}
 use Rattle.assignment.specs.inner.Costs.{cell_cost}
 use Rattle.assignment.specs.inner.State.{Kept, IsKept, IsPriced, IsTight, AreHeld, order_at}
-use Rattle.assignment.specs.inner.Search.{IsPath, IsEnd, IsRelaxed, label_at, from_at, settled_at, distance_at}
+use Rattle.assignment.specs.inner.Search.{IsPath, IsEnd, IsReachedFrom, IsRelaxed, label_at, settled_at, distance_at}
 use Rattle.assignment.specs.inner.Path.{AreHandedOn, IsOnPath}
 use Rattle.assignment.proofs.Limits.{cell_wagon, cell_order, penalty_limit}
 
@@ -135,13 +135,10 @@ tight_cell : (s : Kept) (i q : ℕ) → Cell (cost_at s.table i q) → get_or s.
 tight_cell s i q (cell c is) tight = record { cost = c; allowed = is; tight = tight ∙ ap (λ o. cell_cost o + get_or s.u i 0) is }
 
 -- a wagon that gets the order that it was reached from gets it at a tight cell
-tight_new : (s : Kept) (f : Search) (path : Path) (u v : List ℕ) (order_of : List (Option ℕ)) (i k : ℕ) → IsKept s → IsPath s f path → AreRaised s f path.distance u v → IsPathWagon s f path i → k ≡ settled_at f (from_at f i) → IsTight (raised s u v order_of) i k
-tight_new s f path u v order_of i k keeps h r p is =
+tight_new : (s : Kept) (f : Search) (path : Path) (u v : List ℕ) (order_of : List (Option ℕ)) (i k x : ℕ) → IsKept s → IsPath s f path → AreRaised s f path.distance u v → IsPathWagon s f path i → IsReachedFrom s f i x → k ≡ settled_at f x → IsTight (raised s u v order_of) i k
+tight_new s f path u v order_of i k x keeps h r p label is =
     let li = p.wagon in
     let near = p.near in
-    let limit = h.limit in
-    let label = h.search.labels i li (omega (arith, near, limit)) in
-    let x = from_at f i in
     let q = settled_at f x in
     let lq : q < order_count s.table = h.search.settled.order x label.within in
     let below = h.search.settled.near x label.within in
@@ -160,7 +157,7 @@ tight_new s f path u v order_of i k keeps h r p is =
 some_inner : (a b : ℕ) (o : Option ℕ) → o ≡ Some a → o ≡ Some b → a ≡ b
 some_inner a b o p q = cc
 
-pub held_raised : (s : Kept) (f : Search) (path : Path) (u v : List ℕ) (order_of : List (Option ℕ)) → IsKept s → IsPath s f path → AreRaised s f path.distance u v → length order_of ≡ length s.order_of → AreHandedOn f path.end s.order_of order_of → AreHeld (raised s u v order_of)
+pub held_raised : (s : Kept) (f : Search) (path : Path) (u v : List ℕ) (order_of : List (Option ℕ)) → IsKept s → IsPath s f path → AreRaised s f path.distance u v → length order_of ≡ length s.order_of → AreHandedOn s f path.end order_of → AreHeld (raised s u v order_of)
 held_raised s f path u v order_of k h r len handed = record {
   wagons = len ∙ k.held.wagons;
   tight = λ i q is. elim (handed i) [
@@ -170,7 +167,7 @@ held_raised s f path u v order_of k h r len handed = record {
         let li = cell_wagon s.table i q tight.cost k.table tight.allowed in
         let lq = cell_order s.table i q tight.cost k.table tight.allowed in
         tight_raised s f path u v order_of i q k h r was tight li lq (reach_at s f path q h lq)
-    | inr moved ↦ tight_new s f path u v order_of i q k h r (path_near s f path path.end i h h.end moved.0) (some_inner _ _ (order_at order_of i) is moved.1)
+    | inr moved ↦ tight_new s f path u v order_of i q moved.1.place k h r (path_near s f path path.end i h h.end moved.0) moved.1.from (some_inner _ _ (order_at order_of i) is moved.1.order)
   ];
   idle = λ i none. elim (handed i) [
     | inl same ↦
@@ -180,6 +177,6 @@ held_raised s f path u v order_of k h r len handed = record {
           | inl li ↦ let a = r.wagons i (omega (arith, li, w)) in let b = (h.beyond i li).idle (sym same ∙ none) in omega (arith, was, a, b)
           | inr past ↦ get_or_past u i 0 (let a = r.wagons_count in omega (arith, a, w, past))
         ]
-    | inr moved ↦ absurd (let e = sym none ∙ moved.1 in cc)
+    | inr moved ↦ absurd (let e = sym none ∙ moved.1.order in cc)
   ];
 }

@@ -8,26 +8,17 @@ use Rattle.assignment.specs.declared.search.Search.{Search}
 use Rattle.assignment.specs.inner.Costs.{cell_cost, IsColumn}
 use Rattle.assignment.specs.inner.Passes.{through}
 use Rattle.assignment.specs.inner.State.{Kept, IsKept}
-use Rattle.assignment.specs.inner.Search.{IsSearch, label_at, from_at, settled_at, distance_at}
+use Rattle.assignment.specs.inner.Search.{IsSearch, label_at, settled_at, distance_at}
 use Rattle.assignment.proofs.Limits.{cell_gap}
 
-pub below_is : (a b x y : ℕ) → a < b → cond (ltb a b) x y ≡ x
-below_is a b x y h = grind (arith, nat_tests, h)
-
-pub not_below_is : (a b x y : ℕ) → b ≤ a → cond (ltb a b) x y ≡ y
-not_below_is a b x y h = grind (arith, nat_tests, h)
-
 -- each wagon took the nearer of its label and its distance over the order at the front
-pub record IsRelabelled (s : Kept) (f : Search) (front : Front) (scanned : ℕ) (costs label from : List ℕ) : Type 0 where
+pub record IsRelabelled (s : Kept) (f : Search) (front : Front) (scanned : ℕ) (costs label : List ℕ) : Type 0 where
   pub last : scanned + 1 ≡ length f.orders.items
-  pub place : front.place ≡ scanned
   pub distance : front.distance ≡ f.front
   pub price : front.price ≡ get_or s.v (settled_at f scanned) 0
   pub column : IsColumn s.table (settled_at f scanned) costs
   pub label_count : length label ≡ wagon_count s.table
-  pub from_count : length from ≡ wagon_count s.table
   pub labels : (i : ℕ) → i < wagon_count s.table → get_or label i 0 ≡ min (label_at f i) (through front (get_or costs i 0) (get_or s.u i 0))
-  pub places : (i : ℕ) → i < wagon_count s.table → get_or from i 0 ≡ cond (ltb (through front (get_or costs i 0) (get_or s.u i 0)) (label_at f i)) front.place (from_at f i)
 
 -- what a wagon's new label is
 record IsNew (s : Kept) (f : Search) (order i distance label : ℕ) : Type 0 where
@@ -35,8 +26,8 @@ record IsNew (s : Kept) (f : Search) (order i distance label : ℕ) : Type 0 whe
   beyond : f.front ≤ distance
   label_is : label ≡ min (label_at f i) distance
 
-new_label : (s : Kept) (f : Search) (front : Front) (scanned : ℕ) (costs label from : List ℕ) (i : ℕ) → IsKept s → IsSearch s f scanned → IsRelabelled s f front scanned costs label from → i < wagon_count s.table → IsNew s f (settled_at f scanned) i (through front (get_or costs i 0) (get_or s.u i 0)) (get_or label i 0)
-new_label s f front scanned costs label from i k h r l =
+new_label : (s : Kept) (f : Search) (front : Front) (scanned : ℕ) (costs label : List ℕ) (i : ℕ) → IsKept s → IsSearch s f scanned → IsRelabelled s f front scanned costs label → i < wagon_count s.table → IsNew s f (settled_at f scanned) i (through front (get_or costs i 0) (get_or s.u i 0)) (get_or label i 0)
+new_label s f front scanned costs label i k h r l =
     let last = r.last in
     let gap = cell_gap s i (settled_at f scanned) k (h.settled.order scanned (omega arith)) in
     let cost = r.column.each i l in
@@ -44,16 +35,15 @@ new_label s f front scanned costs label from i k h r l =
     let distance = r.distance in
     record { exact = omega (arith, gap, cost, price, distance); beyond = omega (arith, gap, cost, price, distance); label_is = r.labels i l }
 
-pub search_relaxed : (s : Kept) (f : Search) (front : Front) (scanned : ℕ) (costs : List ℕ) (label from : Vec ℕ Global) → IsKept s → IsSearch s f scanned → IsRelabelled s f front scanned costs label.items from.items → IsSearch s (record f { label = label; from = from }) (scanned + 1)
-search_relaxed s f front scanned costs label from k h r =
+pub search_relaxed : (s : Kept) (f : Search) (front : Front) (scanned : ℕ) (costs : List ℕ) (label : Vec ℕ Global) → IsKept s → IsSearch s f scanned → IsRelabelled s f front scanned costs label.items → IsSearch s (record f { label = label }) (scanned + 1)
+search_relaxed s f front scanned costs label k h r =
     let order = settled_at f scanned in
     let last = r.last in
     let far = h.settled.last scanned last in
-    let new = λ (i : ℕ) (l : i < wagon_count s.table). new_label s f front scanned costs label.items from.items i k h r l in
+    let new = λ (i : ℕ) (l : i < wagon_count s.table). new_label s f front scanned costs label.items i k h r l in
     record {
       room = record {
         labels = r.label_count;
-        places = r.from_count;
         targets = h.room.targets;
         distances = h.room.distances;
         orders = h.room.orders;
@@ -64,18 +54,12 @@ search_relaxed s f front scanned costs label from k h r =
             let n = new i l in
             let exact = n.exact in
             let is = n.label_is in
-            let place : get_or from.items i 0 ≡ scanned = r.places i l ∙ below_is (through front (get_or costs i 0) (get_or s.u i 0)) (label_at f i) front.place (from_at f i) less ∙ r.place in
-            record {
-              within = omega (arith, place);
-              exact = rw place (omega (arith, exact, is));
-            }
+            record { place = scanned; before = omega (arith, last); from = record { within = omega (arith, last); exact = omega (arith, exact, is, far, less) } }
         | inr more ↦
             let is = (new i l).label_is in
-            let place : get_or from.items i 0 ≡ from_at f i = r.places i l ∙ not_below_is (through front (get_or costs i 0) (get_or s.u i 0)) (label_at f i) front.place (from_at f i) more in
             let was = h.labels i l (omega (arith, is)) in
-            let within = was.within in
-            let exact = was.exact in
-            record { within = omega (arith, place); exact = rw place (omega (arith, exact, is)) }
+            let exact = was.from.exact in
+            record { place = was.place; before = was.before; from = record { within = was.from.within; exact = omega (arith, exact, is, more) } }
       ];
       relaxed = λ x lx i l.
           let n = new i l in
@@ -110,9 +94,14 @@ search_relaxed s f front scanned costs label from k h r =
             let n = new w led.wagon in
             let least = n.beyond in
             let is = n.label_is in
-            let place : get_or from.items w 0 ≡ from_at f w = r.places w led.wagon ∙ not_below_is (through front (get_or costs w 0) (get_or s.u w 0)) (label_at f w) front.place (from_at f w) (omega (arith, as_far, near, least)) in
-            let before = led.before in
-            record { wagon = led.wagon; held = led.held; as_far = omega (arith, as_far, near, least, is); before = omega (arith, place, before) };
+            let same : get_or label.items w 0 ≡ label_at f w = omega (arith, as_far, near, least, is) in
+            let exact = led.reached.from.exact in
+            record {
+              wagon = led.wagon;
+              held = led.held;
+              as_far = same ∙ as_far;
+              reached = record { place = led.reached.place; before = led.reached.before; from = record { within = led.reached.from.within; exact = omega (arith, exact, same) } };
+            };
       };
       refusal = record {
         beyond = h.refusal.beyond;

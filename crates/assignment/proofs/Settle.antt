@@ -10,7 +10,7 @@ use Rattle.assignment.specs.declared.search.Search.{Search}
 use Rattle.assignment.specs.declared.search.Refusal.{Refusal}
 use Rattle.assignment.specs.declared.search.Next.{Next}
 use Rattle.assignment.specs.inner.State.{Kept, IsKept, order_at}
-use Rattle.assignment.specs.inner.Search.{IsSearch, IsNext, IsOpen, IsBeyond, IsLed, AreSettled, IsRefusal, label_at, from_at, settled_at, distance_at}
+use Rattle.assignment.specs.inner.Search.{IsSearch, IsNext, IsOpen, IsBeyond, IsLed, IsReached, AreSettled, IsRefusal, label_at, settled_at, distance_at}
 use Rattle.assignment.proofs.Writes.{same_at, other_at, written_length}
 use Rattle.assignment.proofs.Limits.{held_order, penalty_limit}
 use Rattle.assignment.proofs.Nearness.{near_count_more, near_count_below}
@@ -121,9 +121,25 @@ beyond_settled s f f' order distance wagon n i k h next l front label here there
       idle = λ none. let m = from.idle none in omega (arith, m, front, label);
     }
 
+-- what was reached from an order settled before still is
+reached_kept : (s : Kept) (f f' : Search) (order distance n n' i i' : ℕ) → IsPushed s f order distance f'.order_distance.items f'.orders.items → f'.label.items ≡ f.label.items → n ≤ n' → i' ≡ i → IsReached s f n i → IsReached s f' n' i'
+reached_kept s f f' order distance n n' i i' p ls more is r =
+    let x = r.place in
+    let before = r.before in
+    let within = r.from.within in
+    let count = p.count in
+    let q : settled_at f' x ≡ settled_at f x = p.before x within in
+    let d : distance_at f' (settled_at f x) ≡ distance_at f (settled_at f x) = p.there (settled_at f x) (p.other x within) in
+    let label : label_at f' i ≡ label_at f i = ap (λ y. get_or y i 0) ls in
+    subst (IsReached s f' n') (sym is) (record {
+      place = x;
+      before = omega (arith, before, more);
+      from = record { within = omega (arith, within, count); exact = rw (q, d, label) r.from.exact };
+    })
+
 -- an order that was led to before, or the one settled last
-led_settled : (s : Kept) (f f' : Search) (order distance wagon n x : ℕ) → IsSearch s f n → IsNext s f (next_of order distance wagon) → IsPushed s f order distance f'.order_distance.items f'.orders.items → f'.via.items ≡ f.via.items ++ wagon ∷ [] → f'.label.items ≡ f.label.items → f'.from.items ≡ f.from.items → 0 < x → x < length f'.orders.items → IsLed s f' x
-led_settled s f f' order distance wagon n x h next p vs ls fs pos l =
+led_settled : (s : Kept) (f f' : Search) (order distance wagon n x : ℕ) → IsSearch s f n → IsNext s f (next_of order distance wagon) → IsPushed s f order distance f'.order_distance.items f'.orders.items → f'.via.items ≡ f.via.items ++ wagon ∷ [] → f'.label.items ≡ f.label.items → 0 < x → x < length f'.orders.items → IsLed s f' x
+led_settled s f f' order distance wagon n x h next p vs ls pos l =
     let count = p.count in
     let vias = h.settled.vias in
     elim (cases_eq x (length f.orders.items)) [
@@ -132,16 +148,13 @@ led_settled s f f' order distance wagon n x h next p vs ls fs pos l =
           let w : get_or f'.via.items x 0 ≡ wagon = ap (λ y. get_or y x 0) vs ∙ get_or_push f.via.items wagon 0 x (vias ∙ sym last) in
           let q : settled_at f' x ≡ order = ap (λ y. settled_at f' y) last ∙ p.at_end in
           let label : label_at f' (get_or f'.via.items x 0) ≡ label_at f wagon = ap (λ y. get_or y (get_or f'.via.items x 0) 0) ls ∙ ap (label_at f) w in
-          let from : from_at f' (get_or f'.via.items x 0) ≡ from_at f wagon = ap (λ y. get_or y (get_or f'.via.items x 0) 0) fs ∙ ap (from_at f) w in
           let limit = next.limit in
           let at = led.2 in
-          let is_label = h.labels wagon led.0 (omega (arith, at, limit)) in
-          let within = is_label.within in
           record {
             wagon = subst (λ (y : ℕ). y < wagon_count s.table) (sym w) led.0;
             held = ap (order_at s.order_of) w ∙ led.1 ∙ ap (λ y. Some y) (sym q);
             as_far = label ∙ at ∙ sym (ap (distance_at f') q ∙ p.here);
-            before = omega (arith, from, within, last);
+            reached = reached_kept s f f' order distance (length f.orders.items) x wagon _ p ls (omega (arith, last)) w (h.labels wagon led.0 (omega (arith, at, limit)));
           }
       | inr other ↦
           let lx : x < length f.orders.items = omega (arith, other, count) in
@@ -149,13 +162,11 @@ led_settled s f f' order distance wagon n x h next p vs ls fs pos l =
           let w : get_or f'.via.items x 0 ≡ get_or f.via.items x 0 = ap (λ y. get_or y x 0) vs ∙ get_or_append_left f.via.items (wagon ∷ []) 0 x (omega (arith, lx, vias)) in
           let q : settled_at f' x ≡ settled_at f x = p.before x lx in
           let label : label_at f' (get_or f'.via.items x 0) ≡ label_at f (get_or f.via.items x 0) = ap (λ y. get_or y (get_or f'.via.items x 0) 0) ls ∙ ap (label_at f) w in
-          let from : from_at f' (get_or f'.via.items x 0) ≡ from_at f (get_or f.via.items x 0) = ap (λ y. get_or y (get_or f'.via.items x 0) 0) fs ∙ ap (from_at f) w in
-          let before = led.before in
           record {
             wagon = subst (λ (y : ℕ). y < wagon_count s.table) (sym w) led.wagon;
             held = ap (order_at s.order_of) w ∙ led.held ∙ ap (λ y. Some y) (sym q);
             as_far = label ∙ led.as_far ∙ sym (ap (distance_at f') q ∙ p.there (settled_at f x) (p.other x lx));
-            before = omega (arith, from, before);
+            reached = reached_kept s f f' order distance x x (get_or f.via.items x 0) _ p ls (omega arith) w led.reached;
           }
     ]
 
@@ -168,8 +179,8 @@ at_place P s f order distance distances orders p before last x l =
       | inr other ↦ let lx : x < length f.orders.items = omega (arith, other, count) in subst (P x) (sym (p.before x lx)) (before x lx)
     ]
 
-settled_more : (s : Kept) (f f' : Search) (order distance wagon n : ℕ) → IsSearch s f n → IsNext s f (next_of order distance wagon) → IsPushed s f order distance f'.order_distance.items f'.orders.items → f'.order_distance.items ≡ set f.order_distance.items order distance → f'.via.items ≡ f.via.items ++ wagon ∷ [] → f'.label.items ≡ f.label.items → f'.from.items ≡ f.from.items → f'.front ≡ distance → AreSettled s f'
-settled_more s f f' order distance wagon n h next p ds vs ls fs front =
+settled_more : (s : Kept) (f f' : Search) (order distance wagon n : ℕ) → IsSearch s f n → IsNext s f (next_of order distance wagon) → IsPushed s f order distance f'.order_distance.items f'.orders.items → f'.order_distance.items ≡ set f.order_distance.items order distance → f'.via.items ≡ f.via.items ++ wagon ∷ [] → f'.label.items ≡ f.label.items → f'.front ≡ distance → AreSettled s f'
+settled_more s f f' order distance wagon n h next p ds vs ls front =
     let count = p.count in
     let vias = h.settled.vias in
     let room = h.room.distances in
@@ -199,7 +210,7 @@ settled_more s f f' order distance wagon n h next p ds vs ls fs front =
             | inl last ↦ p.other x lx (sym (p.before x lx) ∙ same ∙ ap (settled_at f') last ∙ p.at_end)
             | inr other ↦ let my : y < length f.orders.items = omega (arith, other, ly, count) in h.settled.apart x y lt my (sym (p.before x lx) ∙ same ∙ p.before y my)
           ];
-      led = λ x pos lx. led_settled s f f' order distance wagon n x h next p vs ls fs pos lx;
+      led = λ x pos lx. led_settled s f f' order distance wagon n x h next p vs ls pos lx;
     }
 
 -- the nearest of the refusals before and that of the order settled last
@@ -296,19 +307,12 @@ search_settled s f order distance wagon n refusal distances orders via target k 
     record {
       room = record {
         labels = h.room.labels;
-        places = h.room.places;
         targets = r.target_count;
         distances = written_length f.order_distance.items distances.items order distance r.distances_are ∙ h.room.distances;
         orders = co ∙ h.room.orders;
         vias = cv ∙ h.room.vias;
       };
-      labels = λ i l near.
-          let was = h.labels i l near in
-          let x = from_at f i in
-          let within = was.within in
-          let q : get_or orders.items x 0 ≡ settled_at f x = p.before x within in
-          let d : get_or distances.items (settled_at f x) 0 ≡ distance_at f (settled_at f x) = p.there (settled_at f x) (p.other x within) in
-          record { within = omega (arith, within, count); exact = rw (q, d) was.exact };
+      labels = λ i l near. reached_kept s f f' order distance (length f.orders.items) _ i i p refl (omega (arith, count)) refl (h.labels i l near);
       relaxed = λ x lx i l.
           let within : x < length f.orders.items = omega (arith, lx, below) in
           let q : get_or orders.items x 0 ≡ settled_at f x = p.before x within in
@@ -316,7 +320,7 @@ search_settled s f order distance wagon n refusal distances orders via target k 
           rw (q, d) (h.relaxed x lx i l);
       opens = λ i l. opened s f f' order distance i k (h.opens i l) next.within (omega (arith, limit)) (r.opens i l) p.here p.there;
       beyond = λ i l. beyond_settled s f f' order distance wagon n i k h next l refl refl p.here p.there;
-      settled = settled_more s f f' order distance wagon n h next p r.distances_are r.via_are refl refl refl;
+      settled = settled_more s f f' order distance wagon n h next p r.distances_are r.via_are refl refl;
       refusal = refusal_settled s f f' order distance wagon n k h next p refl choice;
     }
 

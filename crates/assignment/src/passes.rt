@@ -1,5 +1,5 @@
 //! Passes over all wagons, without a branch in their loops, so that the compiler makes vector code of them.
-ghost use Rattle.std.specs.Prelude.{◌≡◌, ◌<◌, ◌≤◌, ◌+◌, ◌-◌, ◌^◌, ◌==◌, ℕ, true, false, min, nat_lt, if◌then◌else◌, length, slice_index, IfSome, IfNone};
+ghost use Rattle.std.specs.Prelude.{◌≡◌, ◌<◌, ◌≤◌, ◌+◌, ◌-◌, ◌^◌, ◌==◌, ℕ, true, false, min, if◌then◌else◌, length, slice_index, IfSome, IfNone};
 ghost use Rattle.assignment.specs.inner.Passes.{IsAmong, IsFound, HasLabel, IsLeast, through};
 
 use crate::state::NO_ORDER;
@@ -7,10 +7,9 @@ use crate::state::NO_ORDER;
 /// The distance of what a search hasn't reached; distances are in kilometres.
 pub(crate) const FAR: u32 = u32::MAX;
 
-/// The order settled last: its place among the settled ones, its distance and its price in kilometres.
+/// The order settled last: its distance and its price in kilometres.
 #[derive(Clone, Copy)]
 pub(crate) struct Front {
-    pub(crate) place: u32,
     pub(crate) distance: u32,
     pub(crate) price: u32,
 }
@@ -30,20 +29,18 @@ fn choose(is: bool, yes: u32, no: u32) -> u32
     (yes & mask) | (no & !mask)
 }
 
-/// Relaxes all cells of the order at the front: a wagon that is nearer over its cell gets a new label, and is reached
-/// from that order. Answers what is nearest then.
+/// Relaxes all cells of the order at the front: a wagon that is nearer over its cell gets a new label. Answers what is
+/// nearest then.
 // In a function of its own, so that it is vector code whatever stands around it.
 #[inline(never)]
 pub(crate) fn relax(
     label: &mut [u32],
-    from: &mut [u32],
     costs: &[u32],
     u: &[u32],
     target: &[u32],
     order_of: &[u32],
     front: Front,
 ) -> Nearest
-    requires places { length from.old ≡ length label.old }
     requires costs { length costs.now ≡ length label.old }
     requires prices { length u.now ≡ length label.old }
     requires targets { length target.now ≡ length label.old }
@@ -51,7 +48,6 @@ pub(crate) fn relax(
     requires no_gap { (i : ℕ) → i < length label.old → front.price ≤ slice_index costs.now i + slice_index u.now i }
     requires limit { (i : ℕ) → i < length label.old → slice_index costs.now i + slice_index u.now i + front.distance < 2 ^ 32 }
     ensures labels { (i : ℕ) → i < length label.old → slice_index label.new i ≡ min (slice_index label.old i) (through front (slice_index costs.now i) (slice_index u.now i)) }
-    ensures places { (i : ℕ) → i < length label.old → slice_index from.new i ≡ (if nat_lt (through front (slice_index costs.now i) (slice_index u.now i)) (slice_index label.old i) then front.place else slice_index from.old i) }
     ensures onward { IsLeast (slice_index label.new) target.now false result.onward (length label.new) }
     ensures idle { IsLeast (slice_index label.new) order_of.now true result.idle (length label.new) }
 {
@@ -59,9 +55,7 @@ pub(crate) fn relax(
     let mut idle = FAR;
     for w in 0..label.len() {
         let distance = costs[w] + u[w] - front.price + front.distance;
-        let old = label[w];
-        from[w] = choose(distance < old, front.place, from[w]);
-        let nearer = old.min(distance);
+        let nearer = label[w].min(distance);
         label[w] = nearer;
         onward = onward.min(choose(target[w] == NO_ORDER, FAR, nearer));
         idle = idle.min(choose(order_of[w] == NO_ORDER, nearer, FAR));

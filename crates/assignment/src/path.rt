@@ -1,46 +1,54 @@
 //! The way back along a path.
 ghost use Rattle.std.specs.Prelude.{◌≡◌, ◌≢◌, ◌<◌, ◌≤◌, ◌+◌, ◌^◌, ◌⊎◌, ℕ, None, Some, length, slice_index};
-ghost use Rattle.assignment.specs.inner.State.{order_at, orders_of, served};
-ghost use Rattle.assignment.specs.inner.Path.{AreWays, AreHandedOn, IsOnWay, IsPathEnd, IsSettledEnd, one_if, given_up};
+ghost use Rattle.assignment.specs.inner.State.{IsState, kept, order_at, served};
+ghost use Rattle.assignment.specs.inner.Search.{IsSearch, IsPath, IsReached};
+ghost use Rattle.assignment.specs.inner.Path.{AreHandedOn, IsGiven, IsOnWay, IsSettledEnd, one_if, given_up};
 
-use crate::search::{End, Search};
+use crate::search::{End, Path, Search};
+use crate::state::State;
 
 /// Hands the orders on along the path to its end: the first order gets a wagon more, or an order of the path gives
 /// one up. Every other order has as many as it had.
-pub(crate) fn walk_back(order_of: &mut [u32], search: &Search, end: End)
-    requires ways { AreWays (orders_of order_of.old) search.now }
-    requires end { IsPathEnd (orders_of order_of.old) search.now end }
-    ensures handed_on { AreHandedOn search.now end (orders_of order_of.old) (orders_of order_of.new) }
-    ensures count { (k : ℕ) → served k (orders_of order_of.new) + one_if k (given_up search.now end) ≡ served k (orders_of order_of.old) + one_if k (Some (slice_index search.now.orders.items 0)) }
+pub(crate) fn walk_back(state: &mut State, search: &Search, path: Path)
+    requires state { IsState state.old }
+    requires path { IsPath (kept state.old) search.now path }
+    ensures handed_on { AreHandedOn (kept state.old) search.now path.end (kept state.new).order_of }
+    ensures count { (k : ℕ) → served k (kept state.new).order_of + one_if k (given_up search.now path.end) ≡ served k (kept state.old).order_of + one_if k (Some (slice_index search.now.orders.items 0)) }
+    ensures wagons { length (kept state.new).order_of ≡ length (kept state.old).order_of }
+    ensures same { state.new ≡ record state.old { order_of = state.new.order_of } }
 {
-    match end {
-        End::Wagon(wagon) => hand_on(order_of, search, wagon),
+    match path.end {
+        End::Wagon(wagon) => hand_on(state, search, wagon, search.orders.len()),
         End::Refusal(place) => {
             if place > 0 {
-                hand_on(order_of, search, search.via[place]);
+                hand_on(state, search, search.via[place], place);
             }
         }
     }
 }
 
-/// Gives the wagon to the order that it was reached from, that order's wagon to the one before, and so on to the
-/// first order.
-fn hand_on(order_of: &mut [u32], search: &Search, wagon: usize)
-    requires ways { AreWays (orders_of order_of.old) search.now }
-    requires wagon { wagon < length order_of.old }
-    requires place { slice_index search.now.from.items wagon < length search.now.orders.items }
-    requires apart { (x : ℕ) → 0 < x → x ≤ slice_index search.now.from.items wagon → slice_index search.now.via.items x ≢ wagon }
-    ensures handed_on { (i : ℕ) → (order_at (orders_of order_of.new) i ≡ order_at (orders_of order_of.old) i) ⊎ (IsOnWay search.now wagon i × (order_at (orders_of order_of.new) i ≡ Some (slice_index search.now.orders.items (slice_index search.now.from.items i)))) }
-    ensures count { (k : ℕ) → served k (orders_of order_of.new) + one_if k (order_at (orders_of order_of.old) wagon) ≡ served k (orders_of order_of.old) + one_if k (Some (slice_index search.now.orders.items 0)) }
+/// Gives the wagon to the order before place `end` that it was reached from, that order's wagon to the one before, and
+/// so on to the first order.
+fn hand_on(state: &mut State, search: &Search, wagon: usize, end: usize)
+    requires state { IsState state.old }
+    requires search { IsSearch (kept state.old) search.now (length search.now.orders.items) }
+    requires wagon { wagon < length state.old.order_of.items }
+    requires end { end ≤ length search.now.orders.items }
+    requires reached { IsReached (kept state.old) search.now end wagon }
+    requires apart { (x : ℕ) → 0 < x → x < end → slice_index search.now.via.items x ≢ wagon }
+    ensures handed_on { (i : ℕ) → (order_at (kept state.new).order_of i ≡ order_at (kept state.old).order_of i) ⊎ (IsOnWay search.now wagon i × IsGiven (kept state.old) search.now (kept state.new).order_of i) }
+    ensures count { (k : ℕ) → served k (kept state.new).order_of + one_if k (order_at (kept state.old).order_of wagon) ≡ served k (kept state.old).order_of + one_if k (Some (slice_index search.now.orders.items 0)) }
+    ensures wagons { length (kept state.new).order_of ≡ length (kept state.old).order_of }
+    ensures same { state.new ≡ record state.old { order_of = state.new.order_of } }
 {
     let mut wagon = wagon;
-    let mut place = search.from[wagon] as usize;
+    let mut place = search.place_of(state, wagon, end);
     while place > 0 {
-        order_of[wagon] = search.orders[place];
+        state.order_of[wagon] = search.orders[place];
         wagon = search.via[place];
-        place = search.from[wagon] as usize;
+        place = search.place_of(state, wagon, place);
     }
-    order_of[wagon] = search.orders[0];
+    state.order_of[wagon] = search.orders[0];
 }
 
 /// Counts the unit that a path hands on: its first order has a wagon more, and one that gives a unit up has one fewer.

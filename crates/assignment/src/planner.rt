@@ -146,9 +146,9 @@ fn serve_unit(state: &mut State, search: &mut Search, j: usize)
     ensures table { state.new.cells.now ≡ state.old.cells.now }
 {
     let path = search.run(state, j);
+    walk_back(state, search, path);
     raise(&mut state.v, &search.order_distance, path.distance);
     raise(&mut state.u, &search.label, path.distance);
-    walk_back(&mut state.order_of, search, path.end);
     count_unit(&mut state.served, search, path.end);
 }
 

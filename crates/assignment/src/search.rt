@@ -2,7 +2,7 @@
 ghost use Rattle.std.specs.Prelude.{◌≡◌, ◌≢◌, ◌<◌, ◌≤◌, ◌+◌, ◌-◌, ◌==◌, ◌↔◌, ℕ, true, false, min, nat_lt, if◌then◌else◌, length, slice_index, IfOk, IfSome, IfNone};
 ghost use Rattle.cost_table.specs.Table.{Table, wagon_count, order_count};
 ghost use Rattle.assignment.specs.inner.State.{IsState, kept};
-ghost use Rattle.assignment.specs.inner.Search.{HasRoom, IsSearch, IsPath, IsNext, IsFrom, label_at};
+ghost use Rattle.assignment.specs.inner.Search.{HasRoom, IsSearch, IsPath, IsNext, IsFrom, IsReached, IsReachedFrom, IsSearchOf, label_at};
 ghost use Rattle.assignment.specs.inner.Passes.{IsLeast};
 
 use crate::passes::{FAR, Front, Nearest, close, find, relax};
@@ -45,8 +45,6 @@ pub(crate) struct Next {
 pub(crate) struct Search {
     /// The distance of each wagon over the orders that are settled.
     pub(crate) label: Vec<u32>,
-    /// The place of the order that each wagon was reached from.
-    pub(crate) from: Vec<u32>,
     /// The order of each wagon, to which it leads on while that isn't settled.
     pub(crate) target: Vec<u32>,
     /// The distance of each order that is settled.
@@ -68,7 +66,6 @@ impl Search {
     {
         Ok(Search {
             label: Vec::from_elem(alloc, FAR, wagons)?,
-            from: Vec::from_elem(alloc, 0, wagons)?,
             target: Vec::from_elem(alloc, 0, wagons)?,
             order_distance: Vec::from_elem(alloc, FAR, orders)?,
             orders: Vec::with_capacity(alloc, orders)?,
@@ -136,16 +133,13 @@ impl Search {
         ensures onward { IsLeast (label_at self.new) self.new.target.items false result.onward (length self.new.label.items) }
         ensures idle { IsLeast (label_at self.new) state.now.order_of.items true result.idle (length self.new.label.items) }
     {
-        let place = self.orders.len() - 1;
-        let order = self.orders[place] as usize;
+        let order = self.orders[self.orders.len() - 1] as usize;
         let front = Front {
-            place: place as u32,
             distance: self.front,
             price: state.v[order],
         };
         relax(
             &mut self.label,
-            &mut self.from,
             state.column(order),
             &state.u,
             &self.target,
@@ -195,6 +189,28 @@ impl Search {
                 end: End::Refusal(self.refusal.place),
             }
         }
+    }
+
+    /// The place of the first order over whose cell the wagon is as far as its label says; it lies before `end`.
+    pub(crate) fn place_of(&self, state: &State, wagon: usize, end: usize) -> usize
+        requires search { IsSearchOf state.now self.now }
+        requires wagon { wagon < wagon_count state.now.cells.now }
+        requires end { end ≤ length self.now.orders.items }
+        requires reached { IsReached (kept state.now) self.now end wagon }
+        ensures before { result < end }
+        ensures from { IsReachedFrom (kept state.now) self.now wagon result }
+    {
+        let label = u64::from(self.label[wagon]);
+        let price = u64::from(state.u[wagon]);
+        'places: for place in 0..end {
+            let order = self.orders[place] as usize;
+            let cost = u64::from(state.costs[order * state.cells.wagons() + wagon]);
+            let distance = u64::from(self.order_distance[order]) + cost + price;
+            if label + u64::from(state.v[order]) == distance {
+                return place;
+            }
+        }
+        unreachable!()
     }
 
     /// The shortest path from order `j` to a wagon without an order or to a refusal.

@@ -2,7 +2,7 @@
 use Rattle.std.specs.Prelude.{◌≡◌, ◌≢◌, ◌+◌, ◌<◌, ◌≤◌, nat_lt, ℕ, Bool, length, min, Some, None, slice_index}
 use Rattle.std.specs.List.{count_by}
 use Rattle.std.specs.Vec.{vec_capacity}
-use Rattle.cost_table.specs.Table.{Table, cost_at, penalty_at, wagon_count, order_count}
+use Rattle.cost_table.specs.Table.{Table, IsTable, cost_at, penalty_at, wagon_count, order_count}
 use Rattle.cost_table.specs.TableLimits.{max_cost}
 use Rattle.assignment.specs.declared.passes.TheConstants.{FAR}
 use Rattle.assignment.specs.declared.state.TheConstants.{NO_ORDER}
@@ -11,13 +11,13 @@ use Rattle.assignment.specs.declared.search.Next.{Next}
 use Rattle.assignment.specs.declared.search.Path.{Path}
 use Rattle.assignment.specs.declared.search.End.{End}
 use Rattle.assignment.specs.declared.search.End.TheVariants.{Wagon, Refusal}
-use Rattle.assignment.specs.inner.Costs.{cell_cost}
+use Rattle.assignment.specs.declared.state.State.{State}
+use Rattle.assignment.specs.inner.Costs.{AreCosts, cell_cost}
 use Rattle.assignment.specs.inner.State.{Kept, order_at}
 
 -- there is room for each wagon and each order
 pub record HasRoom (t : Table) (f : Search) : Type 0 where
   pub labels : length f.label.items ≡ wagon_count t
-  pub places : length f.from.items ≡ wagon_count t
   pub targets : length f.target.items ≡ wagon_count t
   pub distances : length f.order_distance.items ≡ order_count t
   pub orders : vec_capacity f.orders ≡ order_count t
@@ -30,21 +30,24 @@ label_at f i = slice_index f.label.items i
 abbrev pub distance_at : Search → ℕ → ℕ
 distance_at f k = slice_index f.order_distance.items k
 
--- the order settled at place x; the place that wagon i was reached from
+-- the order settled at place x
 abbrev pub settled_at : Search → ℕ → ℕ
 settled_at f x = slice_index f.orders.items x
-
-abbrev pub from_at : Search → ℕ → ℕ
-from_at f i = slice_index f.from.items i
 
 -- how far wagon i is over its cell of order k, and the order's price more
 abbrev pub reach : Kept → Search → ℕ → ℕ → ℕ
 reach s f i k = distance_at f k + cell_cost (cost_at s.table i k) + slice_index s.u i
 
--- a reached wagon is as far as it is over its cell of the order that it was reached from
-pub record IsLabel (s : Kept) (f : Search) (i : ℕ) : Type 0 where
-  pub within : from_at f i < length f.orders.items
-  pub exact : label_at f i + slice_index s.v (settled_at f (from_at f i)) ≡ reach s f i (settled_at f (from_at f i))
+-- wagon i is as far as it is over its cell of the order at place x
+pub record IsReachedFrom (s : Kept) (f : Search) (i x : ℕ) : Type 0 where
+  pub within : x < length f.orders.items
+  pub exact : label_at f i + slice_index s.v (settled_at f x) ≡ reach s f i (settled_at f x)
+
+-- wagon i was reached from one of the first n orders settled
+pub record IsReached (s : Kept) (f : Search) (n i : ℕ) : Type 0 where
+  pub place : ℕ
+  pub before : place < n
+  pub from : IsReachedFrom s f i place
 
 -- no wagon is farther than over its cell of order k
 abbrev pub IsRelaxed : Kept → Search → ℕ → Type 0
@@ -56,7 +59,7 @@ pub record IsLed (s : Kept) (f : Search) (x : ℕ) : Type 0 where
   pub wagon : slice_index f.via.items x < wagon_count s.table
   pub held : order_at s.order_of (slice_index f.via.items x) ≡ Some (settled_at f x)
   pub as_far : label_at f (slice_index f.via.items x) ≡ distance_at f (settled_at f x)
-  pub before : from_at f (slice_index f.via.items x) < x
+  pub reached : IsReached s f x (slice_index f.via.items x)
 
 -- where an order stands among those settled
 pub record IsAt (f : Search) (k : ℕ) : Type 0 where
@@ -101,7 +104,7 @@ pub record IsRefusal (s : Kept) (f : Search) : Type 0 where
 -- A search of which the first `scanned` settled orders are relaxed.
 pub record IsSearch (s : Kept) (f : Search) (scanned : ℕ) : Type 0 where
   pub room : HasRoom s.table f
-  pub labels : (i : ℕ) → i < wagon_count s.table → label_at f i < FAR → IsLabel s f i
+  pub labels : (i : ℕ) → i < wagon_count s.table → label_at f i < FAR → IsReached s f (length f.orders.items) i
   pub relaxed : (x : ℕ) → x < scanned → IsRelaxed s f (settled_at f x)
   pub opens : (i : ℕ) → i < wagon_count s.table → IsOpen s f i
   pub beyond : (i : ℕ) → i < wagon_count s.table → IsBeyond s f i
@@ -129,6 +132,15 @@ pub record IsNext (s : Kept) (f : Search) (next : Next) : Type 0 where
 abbrev pub IsEnd : Kept → Search → ℕ → End → Type 0
 IsEnd s f distance (Wagon i) = (i < wagon_count s.table) × (order_at s.order_of i ≡ None) × (label_at f i ≡ distance)
 IsEnd s f distance (Refusal x) = (x < length f.orders.items) × (distance + slice_index s.v (settled_at f x) ≡ distance_at f (settled_at f x) + penalty_at s.table (settled_at f x))
+
+-- A search of a state's table, whose costs are placed by order.
+pub record IsSearchOf (state : State) (f : Search) : Type 0 where
+  pub table : IsTable state.cells.now
+  pub costs : AreCosts state.cells.now state.costs.items
+  pub wagons : length state.u.items ≡ wagon_count state.cells.now
+  pub orders : length state.v.items ≡ order_count state.cells.now
+  pub room : HasRoom state.cells.now f
+  pub settled : (x : ℕ) → x < length f.orders.items → settled_at f x < order_count state.cells.now
 
 -- A shortest path of a search that is done.
 pub record IsPath (s : Kept) (f : Search) (path : Path) : Type 0 where

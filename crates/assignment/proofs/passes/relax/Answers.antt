@@ -10,7 +10,6 @@ loop-w-preserved c =
     let new = rw label at c.min-nearer.ensures in
     record {
       labels = passed_more _ c.args.label.now c.loop-w.label w c.min-nearer.result h.labels (omega (arith, c.loop-w-test.true, c.loop-w.auto.label)) new;
-      places = passed_more _ c.args.from.now c.loop-w.from w c.choose.result h.places (omega (arith, c.loop-w-test.true, c.loop-w.auto.from, c.requires.places)) (rw (label, h.places.left w (omega arith)) at c.choose.ensures);
-      onward = least_more _ c.args.target.now false c.loop-w.onward w c.min-nearer.result c.choose-in-loop-w.result c.min-onward.result h.onward new (chosen_onward _ _ _ c.choose-in-loop-w.ensures) c.min-onward.ensures;
-      idle = least_more _ c.args.order_of.now true c.loop-w.idle w c.min-nearer.result c.choose-in-loop-w-2.result c.min-idle.result h.idle new (chosen_idle _ _ _ c.choose-in-loop-w-2.ensures) c.min-idle.ensures;
+      onward = least_more _ c.args.target.now false c.loop-w.onward w c.min-nearer.result c.choose.result c.min-onward.result h.onward new (chosen_onward _ _ _ c.choose.ensures) c.min-onward.ensures;
+      idle = least_more _ c.args.order_of.now true c.loop-w.idle w c.min-nearer.result c.choose-in-loop-w.result c.min-idle.result h.idle new (chosen_idle _ _ _ c.choose-in-loop-w.ensures) c.min-idle.ensures;
     }
