@@ -3,7 +3,6 @@ use Rattle.std.specs.declared.alloc.Global.{Global}
 use Rattle.std.proofs.lemmas.Bool.{cases_eq, cases_lt}
 use Rattle.std.proofs.lemmas.Bool.Decides.{nat_tests}
 use Rattle.cost_table.specs.Table.{cost_at, wagon_count}
-use Rattle.assignment.specs.declared.passes.Front.{Front}
 use Rattle.assignment.specs.declared.search.Search.{Search}
 use Rattle.assignment.specs.inner.Costs.{cell_cost, IsColumn}
 use Rattle.assignment.specs.inner.Passes.{through}
@@ -12,13 +11,11 @@ use Rattle.assignment.specs.inner.Search.{IsSearch, label_at, settled_at, distan
 use Rattle.assignment.proofs.Limits.{cell_gap}
 
 -- each wagon took the nearer of its label and its distance over the order at the front
-pub record IsRelabelled (s : Kept) (f : Search) (front : Front) (scanned : ℕ) (costs label : List ℕ) : Type 0 where
+pub record IsRelabelled (s : Kept) (f : Search) (scanned : ℕ) (costs label : List ℕ) : Type 0 where
   pub last : scanned + 1 ≡ length f.orders.items
-  pub distance : front.distance ≡ f.front
-  pub price : front.price ≡ get_or s.v (settled_at f scanned) 0
   pub column : IsColumn s.table (settled_at f scanned) costs
   pub label_count : length label ≡ wagon_count s.table
-  pub labels : (i : ℕ) → i < wagon_count s.table → get_or label i 0 ≡ min (label_at f i) (through front (get_or costs i 0) (get_or s.u i 0))
+  pub labels : (i : ℕ) → i < wagon_count s.table → get_or label i 0 ≡ min (label_at f i) (through f.front (get_or s.v (settled_at f scanned) 0) (get_or costs i 0) (get_or s.u i 0))
 
 -- what a wagon's new label is
 record IsNew (s : Kept) (f : Search) (order i distance label : ℕ) : Type 0 where
@@ -26,21 +23,19 @@ record IsNew (s : Kept) (f : Search) (order i distance label : ℕ) : Type 0 whe
   beyond : f.front ≤ distance
   label_is : label ≡ min (label_at f i) distance
 
-new_label : (s : Kept) (f : Search) (front : Front) (scanned : ℕ) (costs label : List ℕ) (i : ℕ) → IsKept s → IsSearch s f scanned → IsRelabelled s f front scanned costs label → i < wagon_count s.table → IsNew s f (settled_at f scanned) i (through front (get_or costs i 0) (get_or s.u i 0)) (get_or label i 0)
-new_label s f front scanned costs label i k h r l =
+new_label : (s : Kept) (f : Search) (scanned : ℕ) (costs label : List ℕ) (i : ℕ) → IsKept s → IsSearch s f scanned → IsRelabelled s f scanned costs label → i < wagon_count s.table → IsNew s f (settled_at f scanned) i (through f.front (get_or s.v (settled_at f scanned) 0) (get_or costs i 0) (get_or s.u i 0)) (get_or label i 0)
+new_label s f scanned costs label i k h r l =
     let last = r.last in
     let gap = cell_gap s i (settled_at f scanned) k (h.settled.order scanned (omega arith)) in
     let cost = r.column.each i l in
-    let price = r.price in
-    let distance = r.distance in
-    record { exact = omega (arith, gap, cost, price, distance); beyond = omega (arith, gap, cost, price, distance); label_is = r.labels i l }
+    record { exact = omega (arith, gap, cost); beyond = omega (arith, gap, cost); label_is = r.labels i l }
 
-pub search_relaxed : (s : Kept) (f : Search) (front : Front) (scanned : ℕ) (costs : List ℕ) (label : Vec ℕ Global) → IsKept s → IsSearch s f scanned → IsRelabelled s f front scanned costs label.items → IsSearch s (record f { label = label }) (scanned + 1)
-search_relaxed s f front scanned costs label k h r =
+pub search_relaxed : (s : Kept) (f : Search) (scanned : ℕ) (costs : List ℕ) (label : Vec ℕ Global) → IsKept s → IsSearch s f scanned → IsRelabelled s f scanned costs label.items → IsSearch s (record f { label = label }) (scanned + 1)
+search_relaxed s f scanned costs label k h r =
     let order = settled_at f scanned in
     let last = r.last in
     let far = h.settled.last scanned last in
-    let new = λ (i : ℕ) (l : i < wagon_count s.table). new_label s f front scanned costs label.items i k h r l in
+    let new = λ (i : ℕ) (l : i < wagon_count s.table). new_label s f scanned costs label.items i k h r l in
     record {
       room = record {
         labels = r.label_count;
@@ -49,7 +44,7 @@ search_relaxed s f front scanned costs label k h r =
         orders = h.room.orders;
         vias = h.room.vias;
       };
-      labels = λ i l near. elim (cases_lt (through front (get_or costs i 0) (get_or s.u i 0)) (label_at f i)) [
+      labels = λ i l near. elim (cases_lt (through f.front (get_or s.v (settled_at f scanned) 0) (get_or costs i 0) (get_or s.u i 0)) (label_at f i)) [
         | inl less ↦
             let n = new i l in
             let exact = n.exact in

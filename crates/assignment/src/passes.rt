@@ -1,18 +1,11 @@
 //! Passes over all wagons, without a branch in their loops, so that the compiler makes vector code of them.
 ghost use Rattle.std.specs.Prelude.{◌≡◌, ◌<◌, ◌≤◌, ◌+◌, ◌-◌, ◌^◌, ◌==◌, ℕ, true, false, min, if◌then◌else◌, length, slice_index, IfSome, IfNone};
-ghost use Rattle.assignment.specs.inner.Passes.{IsAmong, IsFound, HasLabel, IsLeast, through};
+ghost use Rattle.assignment.specs.inner.Passes.{AreNearest, IsAmong, IsFound, through};
 
 use crate::state::NO_ORDER;
 
 /// The distance of what a search hasn't reached; distances are in kilometres.
 pub(crate) const FAR: u32 = u32::MAX;
-
-/// The order settled last: its distance and its price in kilometres.
-#[derive(Clone, Copy)]
-pub(crate) struct Front {
-    pub(crate) distance: u32,
-    pub(crate) price: u32,
-}
 
 /// The least labels, in kilometres: of the wagons that lead on, and of those without an order; `FAR` where there is none.
 #[derive(Clone, Copy)]
@@ -29,8 +22,8 @@ fn choose(is: bool, yes: u32, no: u32) -> u32
     (yes & mask) | (no & !mask)
 }
 
-/// Relaxes all cells of the order at the front: a wagon that is nearer over its cell gets a new label. Answers what is
-/// nearest then.
+/// Relaxes all cells of an order at this distance and price, both in kilometres: a wagon that is nearer over its cell
+/// gets a new label. Answers what is nearest then.
 // In a function of its own, so that it is vector code whatever stands around it.
 #[inline(never)]
 pub(crate) fn relax(
@@ -39,23 +32,22 @@ pub(crate) fn relax(
     u: &[u32],
     target: &[u32],
     order_of: &[u32],
-    front: Front,
+    distance: u32,
+    price: u32,
 ) -> Nearest
     requires costs { length costs.now ≡ length label.old }
     requires prices { length u.now ≡ length label.old }
     requires targets { length target.now ≡ length label.old }
     requires orders { length order_of.now ≡ length label.old }
-    requires no_gap { (i : ℕ) → i < length label.old → front.price ≤ slice_index costs.now i + slice_index u.now i }
-    requires limit { (i : ℕ) → i < length label.old → slice_index costs.now i + slice_index u.now i + front.distance < 2 ^ 32 }
-    ensures labels { (i : ℕ) → i < length label.old → slice_index label.new i ≡ min (slice_index label.old i) (through front (slice_index costs.now i) (slice_index u.now i)) }
-    ensures onward { IsLeast (slice_index label.new) target.now false result.onward (length label.new) }
-    ensures idle { IsLeast (slice_index label.new) order_of.now true result.idle (length label.new) }
+    requires no_gap { (i : ℕ) → i < length label.old → price ≤ slice_index costs.now i + slice_index u.now i }
+    requires limit { (i : ℕ) → i < length label.old → slice_index costs.now i + slice_index u.now i + distance < 2 ^ 32 }
+    ensures labels { (i : ℕ) → i < length label.old → slice_index label.new i ≡ min (slice_index label.old i) (through distance price (slice_index costs.now i) (slice_index u.now i)) }
+    ensures nearest { AreNearest (slice_index label.new) target.now order_of.now result (length label.new) }
 {
     let mut onward = FAR;
     let mut idle = FAR;
     for w in 0..label.len() {
-        let distance = costs[w] + u[w] - front.price + front.distance;
-        let nearer = label[w].min(distance);
+        let nearer = label[w].min(costs[w] + u[w] - price + distance);
         label[w] = nearer;
         onward = onward.min(choose(target[w] == NO_ORDER, FAR, nearer));
         idle = idle.min(choose(order_of[w] == NO_ORDER, nearer, FAR));
@@ -73,28 +65,13 @@ pub(crate) fn close(target: &mut [u32], order: u32)
     }
 }
 
-/// How many wagons `find_from` looks at together.
+/// How many wagons `find` looks at together.
 const BLOCK: usize = 32;
 
-/// The first wagon without an order, or with an order, that has this label.
-// Inlined where `is_idle` is known, like what it calls, so that the passes don't look at it.
-#[inline(always)]
-pub(crate) fn find(label: &[u32], orders: &[u32], is_idle: bool, least: u32) -> usize
-    requires orders { length orders.now ≡ length label.now }
-    requires label { HasLabel (slice_index label.now) orders.now is_idle least (length label.now) }
-    ensures within { result < length label.now }
-    ensures label { slice_index label.now result ≡ least }
-    ensures among { IsAmong orders.now is_idle result }
-{
-    match find_from(label, orders, is_idle, least, 0) {
-        Some(wagon) => wagon,
-        None => unreachable!(),
-    }
-}
-
 /// The first wagon from this one on, without an order, or with an order, that has this label.
+// Inlined where `is_idle` is known, like what it calls, so that the pass doesn't look at it.
 #[inline(always)]
-pub(crate) fn find_from(
+pub(crate) fn find(
     label: &[u32],
     orders: &[u32],
     is_idle: bool,

@@ -3,9 +3,9 @@ ghost use Rattle.std.specs.Prelude.{◌≡◌, ◌≢◌, ◌<◌, ◌≤◌, �
 ghost use Rattle.cost_table.specs.Table.{Table, wagon_count, order_count};
 ghost use Rattle.assignment.specs.inner.State.{IsState, kept};
 ghost use Rattle.assignment.specs.inner.Search.{HasRoom, IsSearch, IsPath, IsNext, IsFrom, IsReached, IsReachedFrom, IsSearchOf, label_at};
-ghost use Rattle.assignment.specs.inner.Passes.{IsLeast};
+ghost use Rattle.assignment.specs.inner.Passes.{AreNearest, IsLeast};
 
-use crate::passes::{FAR, Front, Nearest, close, find, relax};
+use crate::passes::{FAR, Nearest, close, find, relax};
 use crate::state::{NO_ORDER, State};
 use std::alloc::{AllocError, Global};
 
@@ -130,21 +130,17 @@ impl Search {
         requires search { IsSearch (kept state.now) self.old (length self.old.orders.items - 1) }
         ensures search { IsSearch (kept state.now) self.new (length self.new.orders.items) }
         ensures orders { self.new.orders.items ≡ self.old.orders.items }
-        ensures onward { IsLeast (label_at self.new) self.new.target.items false result.onward (length self.new.label.items) }
-        ensures idle { IsLeast (label_at self.new) state.now.order_of.items true result.idle (length self.new.label.items) }
+        ensures nearest { AreNearest (label_at self.new) self.new.target.items state.now.order_of.items result (length self.new.label.items) }
     {
         let order = self.orders[self.orders.len() - 1] as usize;
-        let front = Front {
-            distance: self.front,
-            price: state.v[order],
-        };
         relax(
             &mut self.label,
             state.column(order),
             &state.u,
             &self.target,
             &state.order_of,
-            front,
+            self.front,
+            state.v[order],
         )
     }
 
@@ -153,15 +149,14 @@ impl Search {
         requires state { IsState state.now }
         requires search { IsSearch (kept state.now) self.now (length self.now.orders.items) }
         requires some { 0 < length self.now.orders.items }
-        requires onward { IsLeast (label_at self.now) self.now.target.items false nearest.onward (length self.now.label.items) }
-        requires idle { IsLeast (label_at self.now) state.now.order_of.items true nearest.idle (length self.now.label.items) }
+        requires nearest { AreNearest (label_at self.now) self.now.target.items state.now.order_of.items nearest (length self.now.label.items) }
         ensures next { IfSome result (λ next. IsNext (kept state.now) self.now next) }
         ensures none { IfNone result ((i : ℕ) → i < wagon_count state.now.cells.now → IsFrom (kept state.now) self.now (min nearest.idle self.now.refusal.distance) i) }
     {
         if nearest.onward >= nearest.idle.min(self.refusal.distance) {
             return None;
         }
-        let wagon = find(&self.label, &self.target, false, nearest.onward);
+        let wagon = find(&self.label, &self.target, false, nearest.onward, 0)?;
         Some(Next {
             order: self.target[wagon],
             distance: nearest.onward,
@@ -178,16 +173,18 @@ impl Search {
         requires beyond { (i : ℕ) → i < wagon_count state.now.cells.now → IsFrom (kept state.now) self.now (min idle self.now.refusal.distance) i }
         ensures { IsPath (kept state.now) self.now result }
     {
-        if idle <= self.refusal.distance {
-            Path {
-                distance: idle,
-                end: End::Wagon(find(&self.label, &state.order_of, true, idle)),
-            }
-        } else {
-            Path {
+        if idle > self.refusal.distance {
+            return Path {
                 distance: self.refusal.distance,
                 end: End::Refusal(self.refusal.place),
-            }
+            };
+        }
+        match find(&self.label, &state.order_of, true, idle, 0) {
+            Some(wagon) => Path {
+                distance: idle,
+                end: End::Wagon(wagon),
+            },
+            None => unreachable!(),
         }
     }
 

@@ -5,7 +5,7 @@ ghost use Rattle.assignment.specs.inner.Costs.{IsColumn};
 ghost use Rattle.assignment.specs.inner.State.{IsState, AreCounted, IsAtHand, kept};
 
 use crate::costs::{Columns, column_of};
-use crate::passes::find_from;
+use crate::passes::find;
 use cost_table::Cells;
 use std::alloc::{AllocError, Global};
 
@@ -60,6 +60,6 @@ impl<'a> State<'a> {
         requires order { j < order_count self.now.cells.now }
         ensures { IfSome result (λ i. IsAtHand (kept self.now) j i) }
     {
-        find_from(self.column(j), &self.order_of, true, self.v[j], start)
+        find(self.column(j), &self.order_of, true, self.v[j], start)
     }
 }

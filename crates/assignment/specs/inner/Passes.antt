@@ -1,12 +1,12 @@
 -- Passes over all wagons.
-use Rattle.std.specs.Prelude.{◌≡◌, ◌+◌, ◌-◌, ◌<◌, ◌≤◌, ◌==◌, ℕ, Bool, List, slice_index}
+use Rattle.std.specs.Prelude.{◌≡◌, ◌+◌, ◌-◌, ◌<◌, ◌≤◌, ◌==◌, ℕ, Bool, true, false, List, slice_index}
 use Rattle.assignment.specs.declared.state.TheConstants.{NO_ORDER}
 use Rattle.assignment.specs.declared.passes.TheConstants.{FAR}
-use Rattle.assignment.specs.declared.passes.Front.{Front}
+use Rattle.assignment.specs.declared.passes.Nearest.{Nearest}
 
--- the distance of a wagon over its cell of the order at the front
-abbrev pub through : Front → ℕ → ℕ → ℕ
-through front cost price = ((cost + price) - front.price) + front.distance
+-- the distance of a wagon at a price over its cell of an order at a distance and a price
+abbrev pub through : ℕ → ℕ → ℕ → ℕ → ℕ
+through distance order_price cost price = ((cost + price) - order_price) + distance
 
 -- a wagon without an order, or one with an order
 abbrev pub IsAmong : List ℕ → Bool → ℕ → Type 0
@@ -29,3 +29,8 @@ pub record HasLabel (label : ℕ → ℕ) (orders : List ℕ) (is_idle : Bool) (
 pub record IsLeast (label : ℕ → ℕ) (orders : List ℕ) (is_idle : Bool) (least n : ℕ) : Type 0 where
   pub below : (i : ℕ) → i < n → IsAmong orders is_idle i → least ≤ label i
   pub attained : least < FAR → HasLabel label orders is_idle least n
+
+-- the least labels of the wagons that lead on to a target, and of those without an order
+pub record AreNearest (label : ℕ → ℕ) (target orders : List ℕ) (nearest : Nearest) (n : ℕ) : Type 0 where
+  pub onward : IsLeast label target false nearest.onward n
+  pub idle : IsLeast label orders true nearest.idle n

@@ -5,7 +5,7 @@ use Rattle.assignment.proofs.passes.relax.Given as goal
 
 abbrev pub invariant-loop-w : goal.invariant-loop-w
 invariant-loop-w l =
-    let label : ℕ → ℕ = λ k. min (get_or l.initial.label k 0) (through l.front (get_or l.costs k 0) (get_or l.u k 0)) in
+    let label : ℕ → ℕ = λ k. min (get_or l.initial.label k 0) (through l.distance l.price (get_or l.costs k 0) (get_or l.u k 0)) in
     record {
       labels : IsPassed label l.initial.label l.label l.w;
       onward : IsLeast label l.target false l.onward l.w;

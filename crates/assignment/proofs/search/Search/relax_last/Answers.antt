@@ -1,7 +1,6 @@
 use Rattle.std.proofs.Common.{◌≡◌, ◌+◌, ◌-◌, ℕ, length, get_or, refl, ◌∙◌, ap, arith, subst}
 use Rattle.std.specs.Vec.{with_items}
 use Rattle.std.proofs.lemmas.List.{with_items_is, get_or_read}
-use Rattle.assignment.specs.declared.passes.Front.{Front}
 use Rattle.assignment.specs.inner.Costs.{IsColumn}
 use Rattle.assignment.specs.inner.State.{kept}
 use Rattle.assignment.specs.inner.Search.{IsSearch, settled_at}
@@ -39,18 +38,15 @@ returns-clause-search c =
     let within = h.settled.order place (omega (arith, some)) in
     let price : c.index-2.result.now ≡ get_or s.v (settled_at f place) 0 = get_or_read s.v c.index.result.now c.index-2.result.now (omega (arith, order, within, prices)) c.index-2.ensures 0 ∙ ap (λ x. get_or s.v x 0) order in
     let label = c.relax.new.label in
-    let front : Front = record { distance = f.front; price = c.index-2.result.now } in
     let label_value = ap length c.deref_mut.ensures.value in
     let labels = room.labels in
-    let relabelled : IsRelabelled s f front place c.column.result.now label = record {
+    let relabelled : IsRelabelled s f place c.column.result.now label = record {
       last = omega (arith, some);
-      distance = refl;
-      price = price;
       column = subst (λ (x : ℕ). IsColumn s.table x c.column.result.now) order c.column.ensures;
       label_count = c.relax.auto.label ∙ label_value ∙ labels;
-      labels = λ i l. rw (c.deref_mut.ensures.value, c.deref.ensures.value) at (c.relax.ensures.labels i (omega (arith, l, label_value, labels)));
+      labels = λ i l. rw (c.deref_mut.ensures.value, c.deref.ensures.value, price) at (c.relax.ensures.labels i (omega (arith, l, label_value, labels)));
     } in
     let label_is : (with_items f.label label).items ≡ label = with_items_is f.label label (c.relax.auto.label ∙ c.deref_mut.ensures.len) in
-    let done : IsSearch s (record f { label = with_items f.label label }) (place + 1) = search_relaxed s f front place c.column.result.now (with_items f.label label) c.requires.state.keeps h (rw label_is relabelled) in
+    let done : IsSearch s (record f { label = with_items f.label label }) (place + 1) = search_relaxed s f place c.column.result.now (with_items f.label label) c.requires.state.keeps h (rw label_is relabelled) in
     let all : place + 1 ≡ length f.orders.items = omega (arith, some) in
     subst (λ (n : ℕ). IsSearch s (record f { label = with_items f.label label }) n) all done
