@@ -1,7 +1,7 @@
 //! The costs of a table by order, in one flat array, and what is found while they are placed.
 ghost use Rattle.std.specs.Prelude.{◌≡◌, ◌<◌, ◌+◌, ℕ, min, IfOk, length, slice_index, slice_set};
 ghost use Rattle.cost_table.specs.Table.{IsTable, row_at, penalty_at, wagon_count, order_count};
-ghost use Rattle.assignment.specs.inner.Costs.{AreCosts, AreCostsOf, AreFirstPrices, ArePricesOf, IsColumn, cost_before};
+ghost use Rattle.assignment.specs.inner.Costs.{AreCosts, AreCostsOf, AreFirstPrices, ArePricesOf, cost_before};
 
 use cost_table::Cells;
 use std::alloc::{AllocError, Global};
@@ -125,15 +125,4 @@ fn lower(v: &mut [u32], nearest: &mut [usize], j: usize, cost: u32, i: usize)
         v[j] = cost;
         nearest[j] = i;
     }
-}
-
-/// The costs of order `j`, one of each wagon.
-pub(crate) fn column_of<'a>(costs: &'a [u32], cells: &Cells, j: usize) -> &'a [u32]
-    requires costs { AreCosts cells.now costs.now }
-    requires order { j < order_count cells.now }
-    ensures { IsColumn cells.now j result.now }
-{
-    let wagons = cells.wagons();
-    let start = j * wagons;
-    &costs[start..start + wagons]
 }
