@@ -1,7 +1,7 @@
 //! The costs of a table by order, in one flat array, and what is found while they are placed.
 ghost use Rattle.std.specs.Prelude.{◌≡◌, ◌<◌, ◌+◌, ℕ, min, IfOk, length, slice_index, slice_set};
-ghost use Rattle.cost_table.specs.Table.{IsTable, row_at, penalty_at, wagon_count, order_count};
-ghost use Rattle.assignment.specs.inner.Costs.{AreCosts, AreCostsOf, AreFirstPrices, ArePricesOf, cost_before};
+ghost use Rattle.cost_table.specs.Table.{IsTable, cost_at, penalty_at, wagon_count, order_count};
+ghost use Rattle.assignment.specs.inner.Costs.{AreColumnsOf, AreFullRows, cost_before};
 
 use cost_table::Cells;
 use std::alloc::{AllocError, Global};
@@ -22,9 +22,7 @@ pub(crate) struct Columns {
 impl Columns {
     /// The columns of a table. An order's first price is its penalty, or its cheapest wagon's cost.
     pub(crate) fn new(alloc: Global, cells: &Cells) -> Result<Columns, AllocError>
-        ensures costs { IfOk result (λ columns. AreCosts cells.now columns.costs.items) }
-        ensures prices { IfOk result (λ columns. AreFirstPrices cells.now columns.v.items) }
-        ensures hints { IfOk result (λ columns. length columns.nearest.items ≡ order_count cells.now) }
+        ensures { IfOk result (λ columns. AreColumnsOf cells.now (cost_at cells.now) columns.costs.items columns.v.items columns.nearest.items) }
     {
         let wagons = cells.wagons();
         let mut costs = Vec::from_elem(alloc, NO_CELL, cells.orders() * wagons)?;
@@ -58,11 +56,8 @@ fn penalties(alloc: Global, cells: &Cells) -> Result<Vec<u32>, AllocError>
 fn place_two(costs: &mut [u32], v: &mut [u32], nearest: &mut [usize], cells: &Cells, i: usize)
     requires table { IsTable cells.now }
     requires wagons { i + 1 < wagon_count cells.now }
-    requires costs { AreCostsOf cells.now (cost_before cells.now i) costs.old }
-    requires prices { ArePricesOf cells.now (cost_before cells.now i) v.old }
-    requires hints { length nearest.old ≡ order_count cells.now }
-    ensures costs { AreCostsOf cells.now (cost_before cells.now (i + 2)) costs.new }
-    ensures prices { ArePricesOf cells.now (cost_before cells.now (i + 2)) v.new }
+    requires columns { AreColumnsOf cells.now (cost_before cells.now i) costs.old v.old nearest.old }
+    ensures { AreColumnsOf cells.now (cost_before cells.now (i + 2)) costs.new v.new nearest.new }
 {
     let orders = cells.orders();
     if cells.row(i).len() == orders && cells.row(i + 1).len() == orders {
@@ -78,22 +73,19 @@ fn place_two(costs: &mut [u32], v: &mut [u32], nearest: &mut [usize], cells: &Ce
 fn place_full_rows(costs: &mut [u32], v: &mut [u32], nearest: &mut [usize], cells: &Cells, i: usize)
     requires table { IsTable cells.now }
     requires wagons { i + 1 < wagon_count cells.now }
-    requires first { length (row_at cells.now i) ≡ order_count cells.now }
-    requires second { length (row_at cells.now (i + 1)) ≡ order_count cells.now }
-    requires costs { AreCostsOf cells.now (cost_before cells.now i) costs.old }
-    requires prices { ArePricesOf cells.now (cost_before cells.now i) v.old }
-    requires hints { length nearest.old ≡ order_count cells.now }
-    ensures costs { AreCostsOf cells.now (cost_before cells.now (i + 2)) costs.new }
-    ensures prices { ArePricesOf cells.now (cost_before cells.now (i + 2)) v.new }
+    requires full { AreFullRows cells.now i }
+    requires columns { AreColumnsOf cells.now (cost_before cells.now i) costs.old v.old nearest.old }
+    ensures { AreColumnsOf cells.now (cost_before cells.now (i + 2)) costs.new v.new nearest.new }
 {
     let wagons = cells.wagons();
     let first = cells.row(i);
     let second = cells.row(i + 1);
     'orders: for j in 0..first.len() {
+        let (cost, next_cost) = (first[j].1, second[j].1);
         let place = j * wagons + i;
-        costs[place] = first[j].1;
-        costs[place + 1] = second[j].1;
-        lower(v, nearest, j, first[j].1.min(second[j].1), i);
+        costs[place] = cost;
+        costs[place + 1] = next_cost;
+        lower(v, nearest, j, cost.min(next_cost), i);
     }
 }
 
@@ -101,11 +93,8 @@ fn place_full_rows(costs: &mut [u32], v: &mut [u32], nearest: &mut [usize], cell
 fn place_row(costs: &mut [u32], v: &mut [u32], nearest: &mut [usize], cells: &Cells, i: usize)
     requires table { IsTable cells.now }
     requires wagon { i < wagon_count cells.now }
-    requires costs { AreCostsOf cells.now (cost_before cells.now i) costs.old }
-    requires prices { ArePricesOf cells.now (cost_before cells.now i) v.old }
-    requires hints { length nearest.old ≡ order_count cells.now }
-    ensures costs { AreCostsOf cells.now (cost_before cells.now (i + 1)) costs.new }
-    ensures prices { ArePricesOf cells.now (cost_before cells.now (i + 1)) v.new }
+    requires columns { AreColumnsOf cells.now (cost_before cells.now i) costs.old v.old nearest.old }
+    ensures { AreColumnsOf cells.now (cost_before cells.now (i + 1)) costs.new v.new nearest.new }
 {
     let wagons = cells.wagons();
     for cell in cells.row(i) {

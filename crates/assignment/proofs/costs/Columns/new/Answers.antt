@@ -1,22 +1,17 @@
 use Rattle.std.proofs.Common.{◌≡◌, ◌+◌, ◌∙◌, ap, arith}
 use Rattle.std.proofs.lemmas.List.{with_items_is}
-use Rattle.assignment.proofs.CostSteps.{costs_all}
-use Rattle.assignment.proofs.FirstPrices.{prices_all}
+use Rattle.assignment.proofs.FirstPrices.{columns_all}
 use Rattle.assignment.proofs.costs.Columns.new.Goals as goal
 use Rattle.assignment.proofs.costs.Columns.new.Goals.{then-i-wagons, else-i-wagons}
 
-pub returns-clause-costs : goal.returns-clause-costs
-returns-clause-costs c = elim c.if-i-wagons.branch [
+pub returns : goal.returns
+returns c = elim c.if-i-wagons.branch [
   | then-i-wagons w ↦
-      let e : c.if-i-wagons.costs.items ≡ w.place_row.new.costs = ap (λ x. x.items) w.costs-is ∙ with_items_is c.wagons.costs w.place_row.new.costs (w.place_row.auto.costs ∙ w.deref_mut-then-i-wagons.ensures.len) in
-      rw e (costs_all c.args.cells.now (c.wagons.i + 1) w.place_row.new.costs (omega arith) w.place_row.ensures.costs)
-  | else-i-wagons w ↦ rw w.costs-is (costs_all c.args.cells.now c.wagons.i c.wagons.costs.items (omega arith) c.wagons.invariant.costs)
-]
-
-pub returns-clause-prices : goal.returns-clause-prices
-returns-clause-prices c = elim c.if-i-wagons.branch [
-  | then-i-wagons w ↦
-      let e : c.if-i-wagons.v.items ≡ w.place_row.new.v = ap (λ x. x.items) w.v-is ∙ with_items_is c.wagons.v w.place_row.new.v (w.place_row.auto.v ∙ w.deref_mut-then-i-wagons-2.ensures.len) in
-      rw e (prices_all c.args.cells.now (c.wagons.i + 1) w.place_row.new.v (omega arith) w.place_row.ensures.prices)
-  | else-i-wagons w ↦ rw w.v-is (prices_all c.args.cells.now c.wagons.i c.wagons.v.items (omega arith) c.wagons.invariant.prices)
+      let new = w.place_row.new in
+      let same = w.place_row.auto in
+      let costs : c.if-i-wagons.costs.items ≡ new.costs = ap (λ x. x.items) w.costs-is ∙ with_items_is c.wagons.costs new.costs (same.costs ∙ w.deref_mut-then-i-wagons.ensures.len) in
+      let v : c.if-i-wagons.v.items ≡ new.v = ap (λ x. x.items) w.v-is ∙ with_items_is c.wagons.v new.v (same.v ∙ w.deref_mut-then-i-wagons-2.ensures.len) in
+      let nearest : c.if-i-wagons.nearest.items ≡ new.nearest = ap (λ x. x.items) w.nearest-is ∙ with_items_is c.wagons.nearest new.nearest (same.nearest ∙ w.deref_mut-then-i-wagons-3.ensures.len) in
+      rw (costs, v, nearest) (columns_all c.args.cells.now (c.wagons.i + 1) new.costs new.v new.nearest (omega arith) w.place_row.ensures)
+  | else-i-wagons w ↦ rw (w.costs-is, w.v-is, w.nearest-is) (columns_all c.args.cells.now c.wagons.i c.wagons.costs.items c.wagons.v.items c.wagons.nearest.items (omega arith) c.wagons.invariant.columns)
 ]
