@@ -24,17 +24,19 @@ impl Columns {
     pub(crate) fn new(alloc: Global, cells: &Cells) -> Result<Columns, AllocError>
         ensures { IfOk result (λ columns. AreColumnsOf cells.now (cost_at cells.now) columns.costs.items columns.v.items columns.nearest.items) }
     {
-        let wagons = cells.wagons();
-        let mut costs = Vec::from_elem(alloc, NO_CELL, cells.orders() * wagons)?;
+        let (orders, wagons) = (cells.orders(), cells.wagons());
+        let mut costs = Vec::from_elem(alloc, NO_CELL, orders * wagons)?;
         let mut v = penalties(alloc, cells)?;
-        let mut nearest = Vec::from_elem(alloc, 0, cells.orders())?;
+        let mut nearest = Vec::from_elem(alloc, 0, orders)?;
         let mut i = 0;
-        'wagons: while i + 1 < wagons {
-            place_two(&mut costs, &mut v, &mut nearest, cells, i);
-            i += 2;
-        }
-        if i < wagons {
-            place_row(&mut costs, &mut v, &mut nearest, cells, i);
+        'wagons: while i < wagons {
+            if i + 1 < wagons && cells.row(i).len() == orders && cells.row(i + 1).len() == orders {
+                place_full_rows(&mut costs, &mut v, &mut nearest, cells, i);
+                i += 2;
+            } else {
+                place_row(&mut costs, &mut v, &mut nearest, cells, i);
+                i += 1;
+            }
         }
         Ok(Columns { costs, v, nearest })
     }
@@ -50,22 +52,6 @@ fn penalties(alloc: Global, cells: &Cells) -> Result<Vec<u32>, AllocError>
         penalties[j] = cells.penalty(j) as u32;
     }
     Ok(penalties)
-}
-
-/// Places the costs of two wagons more.
-fn place_two(costs: &mut [u32], v: &mut [u32], nearest: &mut [usize], cells: &Cells, i: usize)
-    requires table { IsTable cells.now }
-    requires wagons { i + 1 < wagon_count cells.now }
-    requires columns { AreColumnsOf cells.now (cost_before cells.now i) costs.old v.old nearest.old }
-    ensures { AreColumnsOf cells.now (cost_before cells.now (i + 2)) costs.new v.new nearest.new }
-{
-    let orders = cells.orders();
-    if cells.row(i).len() == orders && cells.row(i + 1).len() == orders {
-        place_full_rows(costs, v, nearest, cells, i);
-    } else {
-        place_row(costs, v, nearest, cells, i);
-        place_row(costs, v, nearest, cells, i + 1);
-    }
 }
 
 /// Places the costs of two wagons more that each have one for every order. Both go to an order at once, since each
