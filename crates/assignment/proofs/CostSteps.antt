@@ -6,7 +6,7 @@ use Rattle.std.proofs.lemmas.List.{take_more, take_all}
 use Rattle.std.proofs.lemmas.Nat.{mul-add-lt, div-mul-add, mod-mul-add}
 use Rattle.std.proofs.Math.Nat.{mul-le-mul_left}
 use Rattle.cost_table.specs.Table.{Table, IsTable, IsRow, cost_at, cost_in, row_at, wagon_count, order_count}
-use Rattle.assignment.specs.inner.Costs.{cell_cost, AreCosts, AreCostsOf, cost_before, cost_within}
+use Rattle.assignment.specs.inner.Costs.{cell_cost, AreCostsOf, cost_before, cost_within}
 use Rattle.assignment.proofs.Writes.{same_at, other_at, written_length}
 
 -- a cell of a row is of an order of the table, and within the limit
@@ -55,10 +55,6 @@ before_is t n i j l = grind (arith, nat_tests, l)
 pub before_none : (t : Table) (n i j : ℕ) → n ≤ i → cost_before t n i j ≡ None
 before_none t n i j l = grind (arith, nat_tests, l)
 
--- the same cells, told otherwise
-costs_same : (t : Table) (cell cell' : ℕ → ℕ → Option ℕ) (costs : List ℕ) → ((i j : ℕ) → i < wagon_count t → j < order_count t → cell' i j ≡ cell i j) → AreCostsOf t cell costs → AreCostsOf t cell' costs
-costs_same t cell cell' costs same h = record { count = h.count; each = λ i j li lj. h.each i j li lj ∙ ap cell_cost (sym (same i j li lj)) }
-
 -- a whole row
 pub within_whole : (t : Table) (n m i j : ℕ) → length (row_at t n) ≤ m → cost_before t (n + 1) i j ≡ cost_within t n m i j
 within_whole t n m i j all = elim (cases_eq i n) [
@@ -68,12 +64,6 @@ within_whole t n m i j all = elim (cases_eq i n) [
     | inr more ↦ before_none t (n + 1) i j (omega (arith, more, other)) ∙ sym (before_none t n i j more) ∙ sym (within_other t n m i j other)
   ]
 ]
-
-pub costs_whole : (t : Table) (n m : ℕ) (costs : List ℕ) → length (row_at t n) ≤ m → AreCostsOf t (cost_within t n m) costs → AreCostsOf t (cost_before t (n + 1)) costs
-costs_whole t n m costs all = costs_same t (cost_within t n m) (cost_before t (n + 1)) costs (λ i j l lj. within_whole t n m i j all)
-
-pub costs_all : (t : Table) (n : ℕ) (costs : List ℕ) → wagon_count t ≤ n → AreCostsOf t (cost_before t n) costs → AreCosts t costs
-costs_all t n costs all = costs_same t (cost_before t n) (cost_at t) costs (λ i j li lj. sym (before_is t n i j (omega arith)))
 
 -- two places are the same only where wagons and orders are
 pub place_order : (w i j i' j' : ℕ) → i < w → i' < w → j * w + i ≡ j' * w + i' → j ≡ j'

@@ -1,7 +1,7 @@
 use Rattle.std.proofs.Common.{◌≡◌, ◌≢◌, ◌+◌, ◌<◌, ◌≤◌, ℕ, zero, suc, List, Option, Some, None, length, get_or, set, min, replicate, refl, sym, ◌∙◌, ap, arith, inl, inr, subst}
 use Rattle.std.proofs.lemmas.Bool.{cases_eq}
 use Rattle.cost_table.specs.Table.{Table, IsTable, IsRow, cost_at, row_at, wagon_count, order_count, penalty_at}
-use Rattle.assignment.specs.inner.Costs.{ArePricesOf, AreFirstPrices, cost_before, cost_within, cost_two}
+use Rattle.assignment.specs.inner.Costs.{cell_cost, ArePricesOf, AreColumnsOf, cost_before, cost_within, cost_two}
 use Rattle.assignment.specs.inner.State.{Kept, IsKept, order_at, orders_of}
 use Rattle.assignment.proofs.CostSteps.{before_is, within_new, within_kept, within_whole, row_from}
 use Rattle.assignment.proofs.TwoRows.{two_new, two_kept}
@@ -9,14 +9,18 @@ use Rattle.assignment.proofs.Writes.{same_at, other_at, written_length}
 use Rattle.assignment.proofs.Limits.{cell_order, cell_wagon}
 
 -- the same cells, told otherwise
-prices_same : (t : Table) (cell cell' : ℕ → ℕ → Option ℕ) (v : List ℕ) → ((i j : ℕ) → i < wagon_count t → j < order_count t → cell' i j ≡ cell i j) → ArePricesOf t cell v → ArePricesOf t cell' v
-prices_same t cell cell' v same h = record { count = h.count; below_penalty = h.below_penalty; below_cells = λ i j c li lj is. h.below_cells i j c li lj (sym (same i j li lj) ∙ is) }
+columns_same : (t : Table) (cell cell' : ℕ → ℕ → Option ℕ) (costs v nearest : List ℕ) → ((i j : ℕ) → i < wagon_count t → j < order_count t → cell' i j ≡ cell i j) → AreColumnsOf t cell costs v nearest → AreColumnsOf t cell' costs v nearest
+columns_same t cell cell' costs v nearest same h = record {
+  costs = record { count = h.costs.count; each = λ i j li lj. h.costs.each i j li lj ∙ ap cell_cost (sym (same i j li lj)) };
+  prices = record { count = h.prices.count; below_penalty = h.prices.below_penalty; below_cells = λ i j c li lj is. h.prices.below_cells i j c li lj (sym (same i j li lj) ∙ is) };
+  hints = h.hints;
+}
 
-pub prices_whole : (t : Table) (n m : ℕ) (v : List ℕ) → length (row_at t n) ≤ m → ArePricesOf t (cost_within t n m) v → ArePricesOf t (cost_before t (n + 1)) v
-prices_whole t n m v all = prices_same t (cost_within t n m) (cost_before t (n + 1)) v (λ i j li lj. within_whole t n m i j all)
+pub columns_whole : (t : Table) (n m : ℕ) (costs v nearest : List ℕ) → length (row_at t n) ≤ m → AreColumnsOf t (cost_within t n m) costs v nearest → AreColumnsOf t (cost_before t (n + 1)) costs v nearest
+columns_whole t n m costs v nearest all = columns_same t (cost_within t n m) (cost_before t (n + 1)) costs v nearest (λ i j li lj. within_whole t n m i j all)
 
-pub prices_all : (t : Table) (n : ℕ) (v : List ℕ) → wagon_count t ≤ n → ArePricesOf t (cost_before t n) v → AreFirstPrices t v
-prices_all t n v all = prices_same t (cost_before t n) (cost_at t) v (λ i j li lj. sym (before_is t n i j (omega arith)))
+pub columns_all : (t : Table) (n : ℕ) (costs v nearest : List ℕ) → wagon_count t ≤ n → AreColumnsOf t (cost_before t n) costs v nearest → AreColumnsOf t (cost_at t) costs v nearest
+columns_all t n costs v nearest all = columns_same t (cost_before t n) (cost_at t) costs v nearest (λ i j li lj. sym (before_is t n i j (omega arith)))
 
 -- one price is lowered
 prices_lowered : (t : Table) (cell cell' : ℕ → ℕ → Option ℕ) (v v' : List ℕ) (k price : ℕ) → k < order_count t → v' ≡ set v k price → price ≤ get_or v k 0 → ((i j : ℕ) → j ≢ k → cell' i j ≡ cell i j) → ((i c : ℕ) → i < wagon_count t → cell' i k ≡ Some c → price ≤ c) → ArePricesOf t cell v → ArePricesOf t cell' v'
@@ -71,7 +75,7 @@ prices_two t n m a b v v' lm first second h e =
     h
 
 -- what is kept before the first unit is taken in
-pub kept_first : (s : Kept) → IsTable s.table → length s.u ≡ wagon_count s.table → length s.order_of ≡ wagon_count s.table → ((i : ℕ) → get_or s.u i 0 ≡ 0) → ((i : ℕ) (k : ℕ) → order_at s.order_of i ≡ Some k → ⊥) → AreFirstPrices s.table s.v → IsKept s
+pub kept_first : (s : Kept) → IsTable s.table → length s.u ≡ wagon_count s.table → length s.order_of ≡ wagon_count s.table → ((i : ℕ) → get_or s.u i 0 ≡ 0) → ((i : ℕ) (k : ℕ) → order_at s.order_of i ≡ Some k → ⊥) → ArePricesOf s.table (cost_at s.table) s.v → IsKept s
 kept_first s legal lu lh unpriced none prices = record {
   table = legal;
   priced = record {

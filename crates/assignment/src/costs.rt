@@ -1,7 +1,7 @@
 //! The costs of a table by order, in one flat array, and what is found while they are placed.
 ghost use Rattle.std.specs.Prelude.{◌≡◌, ◌<◌, ◌+◌, ℕ, min, IfOk, length, slice_index, slice_set};
-ghost use Rattle.cost_table.specs.Table.{IsTable, row_at, penalty_at, wagon_count, order_count};
-ghost use Rattle.assignment.specs.inner.Costs.{AreCosts, AreCostsOf, AreFirstPrices, ArePricesOf, IsColumn, cost_before};
+ghost use Rattle.cost_table.specs.Table.{IsTable, cost_at, penalty_at, wagon_count, order_count};
+ghost use Rattle.assignment.specs.inner.Costs.{AreColumnsOf, AreFullRows, cost_before};
 
 use cost_table::Cells;
 use std::alloc::{AllocError, Global};
@@ -22,21 +22,21 @@ pub(crate) struct Columns {
 impl Columns {
     /// The columns of a table. An order's first price is its penalty, or its cheapest wagon's cost.
     pub(crate) fn new(alloc: Global, cells: &Cells) -> Result<Columns, AllocError>
-        ensures costs { IfOk result (λ columns. AreCosts cells.now columns.costs.items) }
-        ensures prices { IfOk result (λ columns. AreFirstPrices cells.now columns.v.items) }
-        ensures hints { IfOk result (λ columns. length columns.nearest.items ≡ order_count cells.now) }
+        ensures { IfOk result (λ columns. AreColumnsOf cells.now (cost_at cells.now) columns.costs.items columns.v.items columns.nearest.items) }
     {
-        let wagons = cells.wagons();
-        let mut costs = Vec::from_elem(alloc, NO_CELL, cells.orders() * wagons)?;
+        let (orders, wagons) = (cells.orders(), cells.wagons());
+        let mut costs = Vec::from_elem(alloc, NO_CELL, orders * wagons)?;
         let mut v = penalties(alloc, cells)?;
-        let mut nearest = Vec::from_elem(alloc, 0, cells.orders())?;
+        let mut nearest = Vec::from_elem(alloc, 0, orders)?;
         let mut i = 0;
-        'wagons: while i + 1 < wagons {
-            place_two(&mut costs, &mut v, &mut nearest, cells, i);
-            i += 2;
-        }
-        if i < wagons {
-            place_row(&mut costs, &mut v, &mut nearest, cells, i);
+        'wagons: while i < wagons {
+            if i + 1 < wagons && cells.row(i).len() == orders && cells.row(i + 1).len() == orders {
+                place_full_rows(&mut costs, &mut v, &mut nearest, cells, i);
+                i += 2;
+            } else {
+                place_row(&mut costs, &mut v, &mut nearest, cells, i);
+                i += 1;
+            }
         }
         Ok(Columns { costs, v, nearest })
     }
@@ -54,46 +54,24 @@ fn penalties(alloc: Global, cells: &Cells) -> Result<Vec<u32>, AllocError>
     Ok(penalties)
 }
 
-/// Places the costs of two wagons more.
-fn place_two(costs: &mut [u32], v: &mut [u32], nearest: &mut [usize], cells: &Cells, i: usize)
-    requires table { IsTable cells.now }
-    requires wagons { i + 1 < wagon_count cells.now }
-    requires costs { AreCostsOf cells.now (cost_before cells.now i) costs.old }
-    requires prices { ArePricesOf cells.now (cost_before cells.now i) v.old }
-    requires hints { length nearest.old ≡ order_count cells.now }
-    ensures costs { AreCostsOf cells.now (cost_before cells.now (i + 2)) costs.new }
-    ensures prices { ArePricesOf cells.now (cost_before cells.now (i + 2)) v.new }
-{
-    let orders = cells.orders();
-    if cells.row(i).len() == orders && cells.row(i + 1).len() == orders {
-        place_full_rows(costs, v, nearest, cells, i);
-    } else {
-        place_row(costs, v, nearest, cells, i);
-        place_row(costs, v, nearest, cells, i + 1);
-    }
-}
-
 /// Places the costs of two wagons more that each have one for every order. Both go to an order at once, since each
 /// visit to an order's costs takes longer than what is written there.
 fn place_full_rows(costs: &mut [u32], v: &mut [u32], nearest: &mut [usize], cells: &Cells, i: usize)
     requires table { IsTable cells.now }
     requires wagons { i + 1 < wagon_count cells.now }
-    requires first { length (row_at cells.now i) ≡ order_count cells.now }
-    requires second { length (row_at cells.now (i + 1)) ≡ order_count cells.now }
-    requires costs { AreCostsOf cells.now (cost_before cells.now i) costs.old }
-    requires prices { ArePricesOf cells.now (cost_before cells.now i) v.old }
-    requires hints { length nearest.old ≡ order_count cells.now }
-    ensures costs { AreCostsOf cells.now (cost_before cells.now (i + 2)) costs.new }
-    ensures prices { ArePricesOf cells.now (cost_before cells.now (i + 2)) v.new }
+    requires full { AreFullRows cells.now i }
+    requires columns { AreColumnsOf cells.now (cost_before cells.now i) costs.old v.old nearest.old }
+    ensures { AreColumnsOf cells.now (cost_before cells.now (i + 2)) costs.new v.new nearest.new }
 {
     let wagons = cells.wagons();
     let first = cells.row(i);
     let second = cells.row(i + 1);
     'orders: for j in 0..first.len() {
+        let (cost, next_cost) = (first[j].1, second[j].1);
         let place = j * wagons + i;
-        costs[place] = first[j].1;
-        costs[place + 1] = second[j].1;
-        lower(v, nearest, j, first[j].1.min(second[j].1), i);
+        costs[place] = cost;
+        costs[place + 1] = next_cost;
+        lower(v, nearest, j, cost.min(next_cost), i);
     }
 }
 
@@ -101,11 +79,8 @@ fn place_full_rows(costs: &mut [u32], v: &mut [u32], nearest: &mut [usize], cell
 fn place_row(costs: &mut [u32], v: &mut [u32], nearest: &mut [usize], cells: &Cells, i: usize)
     requires table { IsTable cells.now }
     requires wagon { i < wagon_count cells.now }
-    requires costs { AreCostsOf cells.now (cost_before cells.now i) costs.old }
-    requires prices { ArePricesOf cells.now (cost_before cells.now i) v.old }
-    requires hints { length nearest.old ≡ order_count cells.now }
-    ensures costs { AreCostsOf cells.now (cost_before cells.now (i + 1)) costs.new }
-    ensures prices { ArePricesOf cells.now (cost_before cells.now (i + 1)) v.new }
+    requires columns { AreColumnsOf cells.now (cost_before cells.now i) costs.old v.old nearest.old }
+    ensures { AreColumnsOf cells.now (cost_before cells.now (i + 1)) costs.new v.new nearest.new }
 {
     let wagons = cells.wagons();
     for cell in cells.row(i) {
@@ -125,15 +100,4 @@ fn lower(v: &mut [u32], nearest: &mut [usize], j: usize, cost: u32, i: usize)
         v[j] = cost;
         nearest[j] = i;
     }
-}
-
-/// The costs of order `j`, one of each wagon.
-pub(crate) fn column_of<'a>(costs: &'a [u32], cells: &Cells, j: usize) -> &'a [u32]
-    requires costs { AreCosts cells.now costs.now }
-    requires order { j < order_count cells.now }
-    ensures { IsColumn cells.now j result.now }
-{
-    let wagons = cells.wagons();
-    let start = j * wagons;
-    &costs[start..start + wagons]
 }

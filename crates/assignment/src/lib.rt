@@ -8,7 +8,6 @@ mod path;
 mod planner;
 mod search;
 mod sequence;
-mod starts;
 mod state;
 
 pub use planner::{Planner, certified_plan, plan};

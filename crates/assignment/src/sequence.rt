@@ -8,19 +8,11 @@ use std::alloc::{AllocError, Global};
 pub(crate) fn dearest_first(alloc: Global, v: &[u32]) -> Result<Vec<(u32, usize)>, AllocError>
     ensures { IfOk result (λ sequence. IsSequence (length v.now) sequence.items) }
 {
-    let mut sequence = all_orders(alloc, v)?;
-    sequence.sort()?;
-    sequence.reverse();
-    Ok(sequence)
-}
-
-/// All orders, each with its price.
-fn all_orders(alloc: Global, v: &[u32]) -> Result<Vec<(u32, usize)>, AllocError>
-    ensures { IfOk result (λ sequence. IsSequence (length v.now) sequence.items) }
-{
     let mut sequence = Vec::new(alloc);
     'orders: for j in 0..v.len() {
         sequence.push((v[j], j))?;
     }
+    sequence.sort()?;
+    sequence.reverse();
     Ok(sequence)
 }

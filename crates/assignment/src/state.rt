@@ -4,7 +4,7 @@ ghost use Rattle.cost_table.specs.Table.{order_count};
 ghost use Rattle.assignment.specs.inner.Costs.{IsColumn};
 ghost use Rattle.assignment.specs.inner.State.{IsState, AreCounted, IsAtHand, kept};
 
-use crate::costs::{Columns, column_of};
+use crate::costs::Columns;
 use crate::passes::find;
 use cost_table::Cells;
 use std::alloc::{AllocError, Global};
@@ -51,7 +51,9 @@ impl<'a> State<'a> {
         requires order { j < order_count self.now.cells.now }
         ensures { IsColumn self.now.cells.now j result.now }
     {
-        column_of(&self.costs, self.cells, j)
+        let wagons = self.cells.wagons();
+        let start = j * wagons;
+        &self.costs[start..start + wagons]
     }
 
     /// The first wagon from this one on that has no order and whose cost is the price of order `j`.

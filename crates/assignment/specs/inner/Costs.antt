@@ -23,9 +23,16 @@ pub record ArePricesOf (t : Table) (cell : ℕ → ℕ → Option ℕ) (v : List
   pub below_penalty : (j : ℕ) → j < order_count t → slice_index v j ≤ penalty_at t j
   pub below_cells : (i j c : ℕ) → i < wagon_count t → j < order_count t → cell i j ≡ Some c → slice_index v j ≤ c
 
--- prices that pass no penalty and no cost of a table
-abbrev pub AreFirstPrices : Table → List ℕ → Type 0
-AreFirstPrices t v = ArePricesOf t (cost_at t) v
+-- the costs and first prices of the cells that `cell` has, and a hint for each order
+pub record AreColumnsOf (t : Table) (cell : ℕ → ℕ → Option ℕ) (flat v nearest : List ℕ) : Type 0 where
+  pub costs : AreCostsOf t cell flat
+  pub prices : ArePricesOf t cell v
+  pub hints : length nearest ≡ order_count t
+
+-- each of the wagons n and n + 1 has a cost for every order
+pub record AreFullRows (t : Table) (n : ℕ) : Type 0 where
+  pub first : length (row_at t n) ≡ order_count t
+  pub second : length (row_at t (n + 1)) ≡ order_count t
 
 -- the cells of the first n wagons
 abbrev pub cost_before : Table → ℕ → ℕ → ℕ → Option ℕ

@@ -1,7 +1,7 @@
 use Rattle.std.proofs.Common.{refl, arith, length, subst, ◌≤◌, List, ℕ}
 use Rattle.cost_table.specs.Table.{order_count}
-use Rattle.assignment.proofs.CostSteps.{costs_limit, row_from, place_read, more_read, costs_whole}
-use Rattle.assignment.proofs.FirstPrices.{prices_read, prices_whole}
+use Rattle.assignment.proofs.CostSteps.{costs_limit, row_from, place_read, more_read}
+use Rattle.assignment.proofs.FirstPrices.{prices_read, columns_whole}
 use Rattle.assignment.proofs.costs.place_row.Goals as goal
 
 pub overflow_mul-costs : goal.overflow_mul-costs
@@ -38,14 +38,11 @@ pub loop-cell-preserved : goal.loop-cell-preserved
 loop-cell-preserved c = record {
   costs = more_read c.args.cells.now c.args.i c.loop-cell.cell-index c.wagons-wagons.result c.row-cell-items.result.now c.loop-cell.costs _ c.row-cell-items.ensures.row c.wagons-wagons.ensures.count c.requires.wagon c.row-cell-items.ensures.cells c.loop-cell-test.true c.loop-cell.invariant.costs refl;
   prices = prices_read c.args.cells.now c.args.i c.loop-cell.cell-index c.row-cell-items.result.now c.loop-cell.v c.lower.new.v c.row-cell-items.ensures.row c.row-cell-items.ensures.cells c.loop-cell-test.true c.loop-cell.invariant.prices c.lower.ensures;
+  hints = omega (arith, c.lower.auto.nearest, c.loop-cell.invariant.hints);
 }
 
 pub returns : goal.returns
 returns c =
-    let t = c.args.cells.now in
     let m = c.loop-cell.cell-index in
     let all = subst (λ (r : List (ℕ × ℕ)). length r ≤ m) c.row-cell-items.ensures.row c.loop-cell-test.false in
-    record {
-      costs = costs_whole t c.args.i m c.loop-cell.costs all c.loop-cell.invariant.costs;
-      prices = prices_whole t c.args.i m c.loop-cell.v all c.loop-cell.invariant.prices;
-    }
+    columns_whole c.args.cells.now c.args.i m c.loop-cell.costs c.loop-cell.v c.loop-cell.nearest all c.loop-cell.invariant
