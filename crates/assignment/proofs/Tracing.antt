@@ -1,4 +1,4 @@
-use Rattle.std.proofs.Common.{◌≡◌, ◌+◌, ◌*◌, ◌<◌, ◌≤◌, ℕ, length, get_or, sym, ◌∙◌, ap, arith, subst}
+use Rattle.std.proofs.Common.{◌≡◌, ◌+◌, ◌*◌, ◌<◌, ℕ, length, get_or, sym, ◌∙◌, arith, subst}
 use Rattle.std.proofs.lemmas.Nat.{mul-add-lt}
 use Rattle.cost_table.specs.Table.{cost_at, wagon_count, order_count}
 use Rattle.assignment.specs.declared.search.Search.{Search}

@@ -1,5 +1,5 @@
 -- The way back from the end of a path to its first order.
-use Rattle.std.specs.Prelude.{◌≡◌, ◌≢◌, ◌<◌, ◌⊎◌, ◌==◌, ℕ, if◌then◌else◌, List, length, Option, Some, None, slice_index}
+use Rattle.std.specs.Prelude.{◌≡◌, ◌<◌, ◌⊎◌, ◌==◌, ℕ, if◌then◌else◌, List, length, Option, Some, None, slice_index}
 use Rattle.assignment.specs.declared.search.Search.{Search}
 use Rattle.assignment.specs.declared.search.End.{End}
 use Rattle.assignment.specs.declared.search.End.TheVariants.{Wagon, Refusal}

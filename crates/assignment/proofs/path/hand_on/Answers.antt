@@ -1,4 +1,4 @@
-use Rattle.std.proofs.Common.{◌≡◌, ◌∙◌, ℕ, Some, ap, set, get_or, sym, arith, subst}
+use Rattle.std.proofs.Common.{◌∙◌, Some, ap, set, sym, arith, subst}
 use Rattle.std.specs.Vec.{with_item}
 use Rattle.std.proofs.lemmas.List.{get_or_read}
 use Rattle.assignment.specs.declared.state.State.{State}

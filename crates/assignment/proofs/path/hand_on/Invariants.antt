@@ -1,4 +1,4 @@
-use Rattle.std.proofs.Common.{◌≡◌, ℕ}
+use Rattle.std.proofs.Common.{◌≡◌}
 use Rattle.assignment.specs.inner.State.{kept, orders_of}
 use Rattle.assignment.proofs.HandOn.{IsHandingOn}
 use Rattle.assignment.proofs.path.hand_on.Given as goal

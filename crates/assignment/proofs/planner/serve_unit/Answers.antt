@@ -10,7 +10,7 @@ use Rattle.assignment.specs.inner.State.{IsKept, AreCounted, AreServed, is_order
 use Rattle.assignment.proofs.Limits.{wagon_limit}
 use Rattle.assignment.proofs.Raised.{AreRaised, raised, priced_raised, held_raised}
 use Rattle.assignment.proofs.Unit.{counted_more}
-use Rattle.assignment.proofs.Served.{served_more, settled_end}
+use Rattle.assignment.proofs.Served.{served_more}
 use Rattle.assignment.proofs.planner.serve_unit.Goals as goal
 
 pub raise-requires-2-clause-limit : goal.raise-requires-2-clause-limit

@@ -1,7 +1,6 @@
-use Rattle.std.proofs.Common.{◌≡◌, ℕ, length, get_or, replicate, sym, ◌∙◌, ap, rules, subst}
+use Rattle.std.proofs.Common.{◌≡◌, ℕ, length, sym, ◌∙◌, ap, rules, subst}
 use Rattle.cost_table.specs.Table.{wagon_count, order_count}
 use Rattle.assignment.specs.inner.Sequence.{IsSequence}
-use Rattle.assignment.proofs.FirstPrices.{all_same}
 use Rattle.assignment.proofs.planner.Planner.new.Goals as goal
 
 pub invariant_of-result : goal.invariant_of-result
