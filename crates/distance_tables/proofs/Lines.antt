@@ -1,5 +1,5 @@
 -- Lines in the order of their origins, and those that begin at a place.
-use Rattle.std.proofs.Common.{◌≡◌, ℕ, [], ◌∷◌, ◌++◌, true, false, ltb, subst, ◌+◌, ◌-◌, ◌<◌, ◌≤◌, List, length, take, drop, sym, ◌∙◌, arith, ap, inl, inr, get_or, map}
+use Rattle.std.proofs.Common.{◌≡◌, ℕ, [], ◌∷◌, ◌++◌, true, false, ltb, subst, ◌+◌, ◌-◌, ◌<◌, ◌≤◌, List, length, take, drop, refl, sym, ◌∙◌, arith, ap, inl, inr, get_or, map}
 use Rattle.std.specs.List.{All, AllWithin, Contains}
 use Rattle.std.specs.List.Sorted.{IsPartitionPoint}
 use Rattle.std.proofs.lemmas.Bool.{cases_lt, ltb-true, ltb-false}
@@ -8,7 +8,7 @@ use Rattle.std.proofs.lemmas.List.Elements.{All-map, All-same, All-weaker, Conta
 use Rattle.line_network.specs.declared.line.Line.{Line}
 use Rattle.distance_tables.specs.declared.step.Step.{Step}
 use Rattle.distance_tables.specs.inner.Starts.{AreStarts}
-use Rattle.distance_tables.specs.inner.Steps.{step_of, line_from}
+use Rattle.distance_tables.specs.inner.Steps.{step_of, IsStepFrom}
 
 some_line : Line
 some_line = record { from = 0; to = 0; km = 0; minutes = 0 }
@@ -79,13 +79,12 @@ module _ (lines : List Line) (starts : List ℕ) (k s e : ℕ) (h : AreStarts li
     pub end_of_steps : e ≤ length steps
     end_of_steps = omega (arith, end_within, ap length same, length-map lines step_of)
 
-    pub own_steps : All (λ x. Contains lines (line_from k x)) (take (e - s) (drop s steps))
+    pub own_steps : All (IsStepFrom lines k) (take (e - s) (drop s steps))
     own_steps =
-        let Own : Step → Type 0 = λ x. Contains lines (line_from k x) in
-        All-same Own _ _ part_of_steps
-        (All-map Own step_of (take (e - s) (drop s lines))
-        (All-weaker (λ line. Contains lines line × (line.from ≡ k)) (λ line. Contains lines (line_from k (step_of line)))
-        (λ line h. let P : ℕ → Type 0 = λ n. Contains lines (record { from = n; to = line.to; km = line.km; minutes = line.minutes }) in subst P h.1 h.0)
+        All-same (IsStepFrom lines k) _ _ part_of_steps
+        (All-map (IsStepFrom lines k) step_of (take (e - s) (drop s lines))
+        (All-weaker (λ line. Contains lines line × (line.from ≡ k)) (λ line. IsStepFrom lines k (step_of line))
+        (λ line h. record { line = line; has = h.0; from = h.1; same = refl })
         (take (e - s) (drop s lines)) own_lines))
 
     pub all_steps : (line : Line) → Contains lines line → line.from ≡ k → Contains (take (e - s) (drop s steps)) (step_of line)

@@ -3,7 +3,7 @@ use Rattle.std.proofs.Common.{◌≡◌, ℕ, ◌+◌, List, [], ◌∷◌, ◌+
 use Rattle.std.proofs.lemmas.List.Sums.{sum_by-cons, sum_by_push}
 use Rattle.std.specs.List.{Contains}
 use Rattle.line_network.specs.declared.line.Line.{Line}
-use Rattle.distance_tables.specs.declared.distance.Distance.{Distance}
+use Rattle.distance_tables.specs.inner.Lengths.{Distance}
 use Rattle.distance_tables.specs.Walk.{IsPath, km_of, minutes_of}
 use Rattle.distance_tables.specs.Distance.{AtMost}
 use Rattle.distance_tables.specs.inner.Rows.{IsPathPair, IsAnswer, IsNear, IsRow}

@@ -10,13 +10,14 @@ use Rattle.std.proofs.lemmas.List.Sorted.{All-permutation, Contains-permutation,
 use Rattle.std.proofs.lemmas.List.Sums.{sum_by-set, count_by-le-length}
 use Rattle.line_network.specs.declared.line.Line.{Line}
 use Rattle.line_network.specs.Network.{IsLine}
-use Rattle.distance_tables.specs.declared.distance.Distance.{Distance}
+use Rattle.distance_tables.specs.inner.Lengths.{Distance}
 use Rattle.distance_tables.specs.declared.step.Step.{Step}
-use Rattle.distance_tables.specs.inner.Steps.{line_from}
-use Rattle.distance_tables.specs.declared.waiting.Waiting.{Waiting}
+use Rattle.distance_tables.specs.inner.Steps.{IsStepFrom, line_from}
+use Rattle.distance_tables.specs.inner.Turns.{Waiting, entry}
 use Rattle.distance_tables.specs.inner.Rows.{IsPathPair}
-use Rattle.distance_tables.specs.inner.Search.{plus_line, label_at, LabelAtMost, LabelAbove, IsBelow, is_label_below, below_count, AreBounded, AreLabels, IsRelaxed, IsSettled, entry, label_weight, Relaxes, stays, falls, Improves}
+use Rattle.distance_tables.specs.inner.Search.{plus_line, label_at, LabelAtMost, LabelAbove, IsBelow, is_label_below, below_count, AreBounded, AreLabels, IsRelaxed, IsSettled, label_weight, Relaxes, stays, falls, Improves}
 use Rattle.distance_tables.proofs.Labels.{IsBelow-plus_line, not_below_itself, fallen_below, not_below, below_more, is_below_itself_more, not_above, LabelAtMost-fallen, LabelAtMost-itself, label_weight-falls}
+use Rattle.distance_tables.proofs.Numbering.{line_of_step}
 use Rattle.distance_tables.proofs.Paths.{IsPathPair-plus}
 use Rattle.distance_tables.proofs.Totals.{count_by-mono, count_by-more}
 
@@ -179,10 +180,11 @@ pub record IsLineFrom (lines : List Line) (places u : ℕ) (l : Line) : Type 0 w
   pub from : l.from ≡ u
   pub is : IsLine places l
 
-pub IsLineFrom-at : (lines : List Line) (part : List Step) (places u i : ℕ) (d : Step) → All (λ s. Contains lines (line_from u s)) part → All (IsLine places) lines → i < length part → IsLineFrom lines places u (line_from u (get_or part i d))
+pub IsLineFrom-at : (lines : List Line) (part : List Step) (places u i : ℕ) (d : Step) → All (IsStepFrom lines u) part → All (IsLine places) lines → i < length part → IsLineFrom lines places u (line_from u (get_or part i d))
 IsLineFrom-at lines part places u i d own all within =
     let here = own i d within in
-    record { has = here; from = refl; is = All-contains (IsLine places) lines (line_from u (get_or part i d)) all here }
+    let is = All-contains (IsLine places) lines here.line all here.has in
+    subst (IsLineFrom lines places u) (sym (line_of_step u (get_or part i d) here.line here.same here.from is.most_minutes)) (record { has = here.has; from = here.from; is = is })
 
 pub fits_km : (lines : List Line) (labels : List (Option Distance)) (places u : ℕ) (d : Distance) (l : Line) → AreBounded labels → label_at labels u ≡ Some d → length labels ≡ places → places ≤ 2000 → IsLineFrom lines places u l → d.km + l.km < 2 ^ 25
 fits_km lines labels places u d l bounded label same few line = omega (arith, few_km labels u d bounded label, line.is.most_km)

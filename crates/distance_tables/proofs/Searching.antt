@@ -9,10 +9,10 @@ use Rattle.std.proofs.lemmas.List.Elements.{All-cons, All-nil, All-tail}
 use Rattle.std.proofs.lemmas.List.Sorted.{All-permutation, Contains-permutation}
 use Rattle.std.proofs.lemmas.List.Sums.{count_by-le-length}
 use Rattle.line_network.specs.declared.line.Line.{Line}
-use Rattle.distance_tables.specs.declared.distance.Distance.{Distance}
-use Rattle.distance_tables.specs.declared.waiting.Waiting.{Waiting}
+use Rattle.distance_tables.specs.inner.Lengths.{Distance}
+use Rattle.distance_tables.specs.inner.Turns.{Waiting, entry}
 use Rattle.distance_tables.specs.inner.Rows.{IsPathPair, IsNear, IsRow}
-use Rattle.distance_tables.specs.inner.Search.{label_at, LabelAtMost, LabelAbove, is_label_below, below_count, AreBounded, AreLabels, IsRelaxed, IsSettled, AreInRange, entry, Improves}
+use Rattle.distance_tables.specs.inner.Search.{label_at, LabelAtMost, LabelAbove, is_label_below, below_count, AreBounded, AreLabels, IsRelaxed, IsSettled, AreInRange, Improves}
 use Rattle.distance_tables.proofs.Paths.{IsRow-relaxed}
 use Rattle.distance_tables.proofs.Relaxing.{each_label, fallen}
 

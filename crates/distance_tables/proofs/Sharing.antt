@@ -10,9 +10,9 @@ use Rattle.std.proofs.lemmas.List.{append-nil, map_push, get_or-set_same, get_or
 use Rattle.std.proofs.lemmas.List.Elements.{All-nil, All-cons, All-head, All-tail, All-weaker, All-push, All-filter, Contains-append_right, filter-append}
 use Rattle.std.proofs.lemmas.Nat.{mod_below}
 use Rattle.line_network.specs.declared.line.Line.{Line}
-use Rattle.distance_tables.specs.declared.label.Label.{Label}
+use Rattle.distance_tables.specs.declared.length.Length.{Length}
 use Rattle.distance_tables.specs.declared.share.OriginRow.{OriginRow}
-use Rattle.distance_tables.specs.inner.Numbers.{known}
+use Rattle.distance_tables.specs.inner.Lengths.{known}
 use Rattle.distance_tables.specs.inner.Rows.{IsRow, AreRows}
 use Rattle.distance_tables.specs.inner.Shares.{origins_of, IsShare, AreShares, put_rows}
 use Rattle.distance_tables.proofs.Searching.{Contains-nil, Contains-cons_cases}
@@ -87,7 +87,7 @@ module _ (lines : List Line) (places workers worker count : ℕ) (rows : List Or
     append-none : origins_of count workers worker ++ [] ≡ origins_of count workers worker
     append-none = append-nil (origins_of count workers worker)
 
-  pub IsFirstShare-push : (row : Vec Label Global) → count % workers ≡ worker → IsRow lines places count (known row.items) → IsFirstShare lines places workers worker (count + 1) (rows ++ record { origin = count; row = row } ∷ [])
+  pub IsFirstShare-push : (row : Vec Length Global) → count % workers ≡ worker → IsRow lines places count (known row.items) → IsFirstShare lines places workers worker (count + 1) (rows ++ record { origin = count; row = row } ∷ [])
   IsFirstShare-push row own is = record {
     origins = map_push (λ (r : OriginRow). r.origin) rows (record { origin = count; row = row }) ∙ (ap (λ xs. xs ++ count ∷ []) h.origins
         ∙ sym (origins_more count workers worker ∙ ap (λ xs. origins_of count workers worker ++ xs) (cond-true (count % workers == worker) (count ∷ []) [] (eq-eqb (count % workers) worker own))));
@@ -95,39 +95,39 @@ module _ (lines : List Line) (places workers worker count : ℕ) (rows : List Or
   }
 
 -- one row is put, and the others are left
-pub put_next : (rows : List (Vec Label Global)) (r : OriginRow) (left rest : List OriginRow) (all : List (Vec Label Global)) → left ≡ r ∷ rest → put_rows rows left ≡ all → put_rows (set rows r.origin r.row) rest ≡ all
+pub put_next : (rows : List (Vec Length Global)) (r : OriginRow) (left rest : List OriginRow) (all : List (Vec Length Global)) → left ≡ r ∷ rest → put_rows rows left ≡ all → put_rows (set rows r.origin r.row) rest ≡ all
 put_next rows r left rest all same h = let P : List OriginRow → Type 0 = λ xs. put_rows rows xs ≡ all in subst P same h
 
-pub length-put_rows : (rows : List (Vec Label Global)) (share : List OriginRow) → length (put_rows rows share) ≡ length rows
+pub length-put_rows : (rows : List (Vec Length Global)) (share : List OriginRow) → length (put_rows rows share) ≡ length rows
 length-put_rows rows [] = refl
 length-put_rows rows (r ∷ share) = length-put_rows (set rows r.origin r.row) share ∙ length-set rows r.origin r.row
 
 -- putting rows in their places
 module _ (lines : List Line) (places : ℕ) where
   -- a place has its row
-  abbrev pub HasRow : List (Vec Label Global) → ℕ → Type 0
-  HasRow rows a = (d : Vec Label Global) → IsRow lines places a (known (get_or rows a d).items)
+  abbrev pub HasRow : List (Vec Length Global) → ℕ → Type 0
+  HasRow rows a = (d : Vec Length Global) → IsRow lines places a (known (get_or rows a d).items)
 
-  set_own : (rows : List (Vec Label Global)) (r : OriginRow) (a : ℕ) → a < length rows → r.origin ≡ a → IsRow lines places r.origin (known r.row.items) → HasRow (set rows r.origin r.row) a
+  set_own : (rows : List (Vec Length Global)) (r : OriginRow) (a : ℕ) → a < length rows → r.origin ≡ a → IsRow lines places r.origin (known r.row.items) → HasRow (set rows r.origin r.row) a
   set_own rows r a within same is =
       let P : ℕ → Type 0 = λ n. HasRow (set rows r.origin r.row) n in
-      let Q : Vec Label Global → Type 0 = λ row. IsRow lines places r.origin (known row.items) in
+      let Q : Vec Length Global → Type 0 = λ row. IsRow lines places r.origin (known row.items) in
       subst P same (λ d. subst Q (sym (get_or-set_same rows r.origin r.row d (omega arith))) is)
 
-  set_keeps : (rows : List (Vec Label Global)) (r : OriginRow) (a : ℕ) → a < length rows → IsRow lines places r.origin (known r.row.items) → HasRow rows a → HasRow (set rows r.origin r.row) a
+  set_keeps : (rows : List (Vec Length Global)) (r : OriginRow) (a : ℕ) → a < length rows → IsRow lines places r.origin (known r.row.items) → HasRow rows a → HasRow (set rows r.origin r.row) a
   set_keeps rows r a within is has = elim (cases_eq r.origin a) [
     | inl same ↦ set_own rows r a within same is
-    | inr other ↦ (λ d. let Q : Vec Label Global → Type 0 = λ row. IsRow lines places a (known row.items) in
+    | inr other ↦ (λ d. let Q : Vec Length Global → Type 0 = λ row. IsRow lines places a (known row.items) in
         subst Q (sym (get_or-set_other rows r.origin a r.row d (λ e. other (sym e)))) (has d))
   ]
 
-  put_keeps : (rows : List (Vec Label Global)) (share : List OriginRow) (a : ℕ) → a < length rows → All (λ r. IsRow lines places r.origin (known r.row.items)) share → HasRow rows a → HasRow (put_rows rows share) a
+  put_keeps : (rows : List (Vec Length Global)) (share : List OriginRow) (a : ℕ) → a < length rows → All (λ r. IsRow lines places r.origin (known r.row.items)) share → HasRow rows a → HasRow (put_rows rows share) a
   put_keeps rows [] a within are has = has
   put_keeps rows (r ∷ share) a within are has =
       put_keeps (set rows r.origin r.row) share a (omega (arith, length-set rows r.origin r.row)) (All-tail (λ x. IsRow lines places x.origin (known x.row.items)) r share are)
       (set_keeps rows r a within (All-head (λ x. IsRow lines places x.origin (known x.row.items)) r share are) has)
 
-  put_gives : (rows : List (Vec Label Global)) (share : List OriginRow) (a : ℕ) → a < length rows → All (λ r. IsRow lines places r.origin (known r.row.items)) share → Contains (map (λ r. r.origin) share) a → HasRow (put_rows rows share) a
+  put_gives : (rows : List (Vec Length Global)) (share : List OriginRow) (a : ℕ) → a < length rows → All (λ r. IsRow lines places r.origin (known r.row.items)) share → Contains (map (λ r. r.origin) share) a → HasRow (put_rows rows share) a
   put_gives rows [] a within are among = absurd (Contains-nil a among)
   put_gives rows (r ∷ share) a within are among =
       let later = All-tail (λ x. IsRow lines places x.origin (known x.row.items)) r share are in
@@ -138,14 +138,14 @@ module _ (lines : List Line) (places : ℕ) where
       ]
 
   -- the rows of the first workers are in their places, and the answers of the others are left
-  pub record IsGathered (workers : ℕ) (left : List (Result (Vec OriginRow Global) AllocError)) (rows : List (Vec Label Global)) : Type 0 where
+  pub record IsGathered (workers : ℕ) (left : List (Result (Vec OriginRow Global) AllocError)) (rows : List (Vec Length Global)) : Type 0 where
     pub done : ℕ
     pub count : done + length left ≡ workers
     pub shares : (k : ℕ) (d : Result (Vec OriginRow Global) AllocError) → k < length left → IfOk (get_or left k d) (λ share. IsShare lines places workers (done + k) share.items)
     pub full : length rows ≡ places
     pub has : (a : ℕ) → a < places → a % workers < done → HasRow rows a
 
-  pub IsGathered-start : (workers : ℕ) (answers : List (Result (Vec OriginRow Global) AllocError)) (rows : List (Vec Label Global)) → AreShares lines places workers answers → length rows ≡ places → IsGathered workers answers rows
+  pub IsGathered-start : (workers : ℕ) (answers : List (Result (Vec OriginRow Global) AllocError)) (rows : List (Vec Length Global)) → AreShares lines places workers answers → length rows ≡ places → IsGathered workers answers rows
   IsGathered-start workers answers rows h full = record {
     done = 0;
     count = omega (arith, h.full);
@@ -156,17 +156,17 @@ module _ (lines : List Line) (places : ℕ) where
     has = λ a below none. absurd (omega arith);
   }
 
-  next_share : (workers : ℕ) (share : Vec OriginRow Global) (left : List (Result (Vec OriginRow Global) AllocError)) (rows : List (Vec Label Global)) (h : IsGathered workers (Ok share ∷ left) rows) → IsShare lines places workers h.done share.items
+  next_share : (workers : ℕ) (share : Vec OriginRow Global) (left : List (Result (Vec OriginRow Global) AllocError)) (rows : List (Vec Length Global)) (h : IsGathered workers (Ok share ∷ left) rows) → IsShare lines places workers h.done share.items
   next_share workers share left rows h =
       let P : ℕ → Type 0 = λ n. IsShare lines places workers n share.items in
       let at : h.done + 0 ≡ h.done = omega arith in
       subst P at (h.shares 0 (Ok share) (omega arith))
 
-  pub next_known : (workers : ℕ) (share : Vec OriginRow Global) (left : List (Result (Vec OriginRow Global) AllocError)) (rows : List (Vec Label Global)) → IsGathered workers (Ok share ∷ left) rows → All (λ r. r.origin < length rows) share.items
+  pub next_known : (workers : ℕ) (share : Vec OriginRow Global) (left : List (Result (Vec OriginRow Global) AllocError)) (rows : List (Vec Length Global)) → IsGathered workers (Ok share ∷ left) rows → All (λ r. r.origin < length rows) share.items
   next_known workers share left rows h =
       All-weaker (λ r. r.origin < places) (λ r. r.origin < length rows) (λ r l. omega (arith, h.full)) share.items (origins_known lines places workers h.done share.items (next_share workers share left rows h))
 
-  pub IsGathered-more : (workers : ℕ) (share : Vec OriginRow Global) (left : List (Result (Vec OriginRow Global) AllocError)) (rows : List (Vec Label Global)) → IsGathered workers (Ok share ∷ left) rows → IsGathered workers left (put_rows rows share.items)
+  pub IsGathered-more : (workers : ℕ) (share : Vec OriginRow Global) (left : List (Result (Vec OriginRow Global) AllocError)) (rows : List (Vec Length Global)) → IsGathered workers (Ok share ∷ left) rows → IsGathered workers left (put_rows rows share.items)
   IsGathered-more workers share left rows h =
       let next = next_share workers share left rows h in record {
         done = h.done + 1;
@@ -182,7 +182,7 @@ module _ (lines : List Line) (places : ℕ) where
         ];
       }
 
-  pub IsGathered-end : (workers : ℕ) (left : List (Result (Vec OriginRow Global) AllocError)) (rows : List (Vec Label Global)) → length left ≡ 0 → 0 < workers → IsGathered workers left rows → AreRows lines places rows
+  pub IsGathered-end : (workers : ℕ) (left : List (Result (Vec OriginRow Global) AllocError)) (rows : List (Vec Length Global)) → length left ≡ 0 → 0 < workers → IsGathered workers left rows → AreRows lines places rows
   IsGathered-end workers left rows none some h = record {
     full = h.full;
     each = λ a d below. h.has a below (omega (arith, mod_below a workers some, h.count)) d;

@@ -1,5 +1,5 @@
 -- Walks between places: the triangle law, and the rows of tables as distances.
-use Rattle.std.proofs.Common.{◌≡◌, ℕ, ◌+◌, ◌<◌, List, [], ◌∷◌, ◌++◌, length, sym, ◌∙◌, ap, subst, arith, inl, inr, get_or, Some, None, Option}
+use Rattle.std.proofs.Common.{◌≡◌, ℕ, ◌+◌, ◌^◌, ◌<◌, ◌≤◌, List, [], ◌∷◌, ◌++◌, length, sym, ◌∙◌, ap, subst, arith, inl, inr, get_or, IfSome, Some, None, Option}
 use Rattle.std.specs.List.{Contains}
 use Rattle.std.specs.declared.alloc.Global.{Global}
 use Rattle.std.specs.declared.vec.Vec.{Vec}
@@ -11,11 +11,10 @@ use Rattle.std.proofs.lemmas.List.Sums.{sum_by-append}
 use Rattle.std.proofs.lemmas.Option.{same_Some}
 use Rattle.line_network.specs.declared.line.Line.{Line}
 use Rattle.line_network.specs.Network.{NetworkValue, place_index}
-use Rattle.distance_tables.specs.declared.distance.Distance.{Distance}
-use Rattle.distance_tables.specs.declared.label.Label.{Label}
+use Rattle.distance_tables.specs.declared.length.Length.{Length}
 use Rattle.distance_tables.specs.Walk.{IsPath, IsWalk, km_of, minutes_of}
-use Rattle.distance_tables.specs.Distance.{AtMost, IsDistance, IsAnswered}
-use Rattle.distance_tables.specs.inner.Numbers.{distance_of, known}
+use Rattle.distance_tables.specs.Distance.{AtMost, IsDistance, IsAnswered, max_distance}
+use Rattle.distance_tables.specs.inner.Lengths.{Distance, label_of, known, pair_of}
 use Rattle.distance_tables.specs.inner.Rows.{IsLeast, IsAnswer, IsNear, IsRow, AreRows}
 use Rattle.distance_tables.specs.Laws.{TriangleHolds}
 use Rattle.distance_tables.proofs.Numbering.{length_known, known_read}
@@ -70,7 +69,7 @@ IsAnswer-same xs ys a b (Some d) there back h = record {
 }
 
 -- rows don't depend on the order of the lines
-pub AreRows-permutation : (xs ys : List Line) (places : ℕ) (rows : List (Vec Label Global)) → IsPermutation xs ys → AreRows ys places rows → AreRows xs places rows
+pub AreRows-permutation : (xs ys : List Line) (places : ℕ) (rows : List (Vec Length Global)) → IsPermutation xs ys → AreRows ys places rows → AreRows xs places rows
 AreRows-permutation xs ys places rows moved h = record {
   full = h.full;
   each = λ a d within. record {
@@ -81,31 +80,35 @@ AreRows-permutation xs ys places rows moved h = record {
 }
 
 -- the rows of the first so many places
-abbrev pub AreFirstRows : List Line → ℕ → ℕ → List (Vec Label Global) → Type 0
-AreFirstRows lines places count rows = (a : ℕ) (d : Vec Label Global) → a < count → IsRow lines places a (known (get_or rows a d).items)
+abbrev pub AreFirstRows : List Line → ℕ → ℕ → List (Vec Length Global) → Type 0
+AreFirstRows lines places count rows = (a : ℕ) (d : Vec Length Global) → a < count → IsRow lines places a (known (get_or rows a d).items)
 
 -- one row more
-pub AreFirstRows-push : (lines : List Line) (places count : ℕ) (rows : List (Vec Label Global)) (row : Vec Label Global) → length rows ≡ count → AreFirstRows lines places count rows → IsRow lines places count (known row.items) → AreFirstRows lines places (count + 1) (rows ++ row ∷ [])
+pub AreFirstRows-push : (lines : List Line) (places count : ℕ) (rows : List (Vec Length Global)) (row : Vec Length Global) → length rows ≡ count → AreFirstRows lines places count rows → IsRow lines places count (known row.items) → AreFirstRows lines places (count + 1) (rows ++ row ∷ [])
 AreFirstRows-push lines places count rows row same each last a d below = elim (cases_lt a count) [
-  | inl before ↦ (let P : Vec Label Global → Type 0 = λ r. IsRow lines places a (known r.items) in subst P (sym (get_or_append_left rows (row ∷ []) d a (omega arith))) (each a d before))
+  | inl before ↦ (let P : Vec Length Global → Type 0 = λ r. IsRow lines places a (known r.items) in subst P (sym (get_or_append_left rows (row ∷ []) d a (omega arith))) (each a d before))
   | inr past ↦ (let here : a ≡ count = omega arith in
-      let P : Vec Label Global → Type 0 = λ r. IsRow lines places count (known r.items) in
+      let P : Vec Length Global → Type 0 = λ r. IsRow lines places count (known r.items) in
       let Q : ℕ → Type 0 = λ n. IsRow lines places n (known (get_or (rows ++ row ∷ []) n d).items) in
       subst Q (sym here) (subst P (sym (get_or_push rows row d count same)) last))
 ]
 
 -- what a row has for a place, as it is read
-pub answer_read : (lines : List Line) (places a b : ℕ) (rows : List (Vec Label Global)) (row : Vec Label Global) (l : Label) (o : Option Distance) → AreRows lines places rows → a < places → b < places → row ≡ get_or rows a row → l ≡ get_or row.items b l → o ≡ distance_of l → IsAnswer lines a b o × IsNear places o
-answer_read lines places a b rows row l o h from to at here read =
-    let P : Vec Label Global → Type 0 = λ r. IsRow lines places a (known r.items) in
+pub answer_read : (lines : List Line) (places a b : ℕ) (rows : List (Vec Length Global)) (row : Vec Length Global) (l : Length) → AreRows lines places rows → a < places → b < places → row ≡ get_or rows a row → l ≡ get_or row.items b l → IsAnswer lines a b (label_of l) × IsNear places (label_of l)
+answer_read lines places a b rows row l h from to at here =
+    let P : Vec Length Global → Type 0 = λ r. IsRow lines places a (known r.items) in
     let is : IsRow lines places a (known row.items) = subst P (sym at) (h.each a row from) in
-    let same = sym (read ∙ known_read row.items b l (omega (arith, is.full, length_known row.items)) here) in
+    let same = sym (known_read row.items b l (omega (arith, is.full, length_known row.items)) here) in
     (subst (IsAnswer lines a b) same (is.answers b to), subst (IsNear places) same (is.near b to))
 
--- as kilometres and minutes
-abbrev pub pair_of : Option Distance → Option (ℕ × ℕ)
-pair_of None = None
-pair_of (Some d) = Some (d.km, d.minutes)
+-- what is near is of few kilometres and minutes
+pub few_km : (places : ℕ) (o : Option Distance) → places ≤ 2000 → IsNear places o → IfSome o (λ d. d.km < 2 ^ 25)
+few_km places None few near = tt
+few_km places (Some d) few near = omega (arith, near)
+
+pub within_limit : (places : ℕ) (o : Option Distance) → places ≤ 2000 → IsNear places o → IfSome (pair_of o) (λ d. (d.0 ≤ max_distance) × (d.1 ≤ max_distance))
+within_limit places None few near = tt
+within_limit places (Some d) few near = (omega (arith, near), omega (arith, near))
 
 -- what a row has for a place is what is to be answered
 pub IsAnswered-answer : (net : NetworkValue) (a b : List ℕ) (i j : ℕ) (o : Option Distance) → place_index net.places a ≡ Some i → place_index net.places b ≡ Some j → IsAnswer net.lines i j o → IsAnswered net a b (pair_of o)

@@ -1,4 +1,4 @@
-pub mod Numbers
+pub mod Lengths
 pub mod Rows
 pub mod Search
 pub mod Shares

@@ -3,7 +3,7 @@ ghost use Rattle.std.specs.Prelude.{◌≡◌, ◌<◌, ◌≤◌, ℕ, List, So
 ghost use Rattle.line_network.specs.Network.{place_index};
 ghost use Rattle.distance_tables.specs.Distance.{IsDistance, HasNoWalk, IsAnswered, max_distance};
 
-use crate::label::Label;
+use crate::length::Length;
 use line_network::Network;
 use rail_codes::Place;
 use std::marker::Model;
@@ -13,7 +13,7 @@ use std::marker::Model;
 pub struct Tables {
     pub(crate) network: Network,
     // by the number of the place where a walk begins, then by that of the place where it ends
-    pub(crate) rows: Vec<Vec<Label>>,
+    pub(crate) rows: Vec<Vec<Length>>,
 }
 
 impl Model for Tables {
@@ -56,7 +56,6 @@ impl Tables {
         ensures meaning { (a b : List ℕ) → place_index self.now.places a ≡ Some from → place_index self.now.places b ≡ Some to → IsAnswered self.now a b result }
         ensures limit { IfSome result (λ d. (d.0 ≤ max_distance) × (d.1 ≤ max_distance)) }
     {
-        let distance = self.rows[from][to].distance()?;
-        Some((distance.km, distance.minutes))
+        self.rows[from][to].pair()
     }
 }

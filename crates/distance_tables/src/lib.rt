@@ -1,11 +1,10 @@
 //! The distances between the places of a rail network.
 #![tactic(auto)]
 
-mod distance;
 mod distances;
 mod gate;
-mod label;
 mod laws;
+mod length;
 mod lines_by_origin;
 mod many_threads;
 mod networks;
@@ -16,7 +15,6 @@ mod search;
 mod share;
 mod step;
 mod turn;
-mod waiting;
 mod work_fault;
 
 pub use distances::Tables;

@@ -2,7 +2,7 @@
 ghost use Rattle.std.specs.Prelude.{◌≡◌, ◌+◌, ◌^◌, ◌<◌, IfOk, All, Contains, length, map, vec_len};
 ghost use Rattle.std.specs.List.Sorted.{IsPermutation, IsNonDecreasingBy};
 ghost use Rattle.distance_tables.specs.inner.Starts.{AreStarts};
-ghost use Rattle.distance_tables.specs.inner.Steps.{step_of, line_from};
+ghost use Rattle.distance_tables.specs.inner.Steps.{step_of, IsStepFrom};
 
 use crate::step::Step;
 use line_network::Line;
@@ -45,7 +45,7 @@ impl LinesByOrigin {
     /// The lines from a place, without it.
     pub(crate) fn from_place(&self, place: usize) -> &[Step]
         requires { place + 1 < vec_len self.now.starts }
-        ensures own { All (λ s. Contains self.now.lines.items (line_from place s)) result.now }
+        ensures own { All (IsStepFrom self.now.lines.items place) result.now }
         ensures complete { (l : Line) → Contains self.now.lines.items l → l.from ≡ place → Contains result.now (step_of l) }
     {
         let start = self.starts[place];

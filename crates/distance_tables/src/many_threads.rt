@@ -4,7 +4,7 @@ ghost use Rattle.distance_tables.specs.Workers.{IsBadWorkerCount};
 ghost use Rattle.distance_tables.specs.inner.Rows.{AreRows};
 ghost use Rattle.distance_tables.specs.inner.Shares.{AreShares, IsShare, IsWork, put_rows};
 
-use crate::label::Label;
+use crate::length::Length;
 use crate::lines_by_origin::LinesByOrigin;
 use crate::share::{Answer, OriginRow, Share, Work};
 use crate::{Gate, Tables, WorkFault};
@@ -149,7 +149,7 @@ fn rows_of_answers(
     alloc: Global,
     work: Work<'_>,
     answers: Vec<Answer>,
-) -> Result<Vec<Vec<Label>>, AllocError>
+) -> Result<Vec<Vec<Length>>, AllocError>
     requires shares { AreShares work.lines.now.lines.items work.places work.workers answers.items }
     requires some { 0 < work.workers }
     ensures { IfOk result (λ rows. AreRows work.entry.lines.now.lines.items work.entry.places rows.items) }
@@ -165,7 +165,7 @@ fn rows_of_answers(
 }
 
 /// A row for each place, with nothing in it yet.
-fn no_rows(alloc: Global, places: usize) -> Result<Vec<Vec<Label>>, AllocError>
+fn no_rows(alloc: Global, places: usize) -> Result<Vec<Vec<Length>>, AllocError>
     ensures { IfOk result (λ rows. vec_len rows ≡ places) }
 {
     let mut rows = Vec::with_capacity(alloc, places)?;
@@ -176,7 +176,7 @@ fn no_rows(alloc: Global, places: usize) -> Result<Vec<Vec<Label>>, AllocError>
 }
 
 /// Puts the rows of a worker in their places.
-fn put_rows(rows: &mut [Vec<Label>], share: Vec<OriginRow>)
+fn put_rows(rows: &mut [Vec<Length>], share: Vec<OriginRow>)
     requires { All (λ r. r.origin < length rows.old) share.items }
     ensures { rows.new ≡ put_rows rows.old share.items }
 {

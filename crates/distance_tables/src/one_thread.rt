@@ -4,7 +4,7 @@ ghost use Rattle.line_network.specs.Network.{IsLine, max_places};
 ghost use Rattle.distance_tables.specs.inner.Rows.{AreRows};
 
 use crate::Tables;
-use crate::label::Label;
+use crate::length::Length;
 use crate::lines_by_origin::LinesByOrigin;
 use crate::search::row_of_origin;
 use line_network::Network;
@@ -26,7 +26,7 @@ fn rows_of_origins(
     alloc: Global,
     lines: &LinesByOrigin,
     places: usize,
-) -> Result<Vec<Vec<Label>>, AllocError>
+) -> Result<Vec<Vec<Length>>, AllocError>
     requires few { places ≤ max_places }
     requires indexed { vec_len lines.now.starts ≡ places + 1 }
     requires lines { All (IsLine places) lines.now.lines.items }

@@ -1,10 +1,9 @@
 //! The places that wait, the nearest first.
 ghost use Rattle.std.specs.Prelude.{◌≡◌, ◌+◌, ◌∷◌, [], IfOk, IfNone, IfSome, OnOk, OnSome, length};
 ghost use Rattle.std.specs.List.Sorted.{IsPermutation};
-ghost use Rattle.distance_tables.specs.inner.Turns.{IsShort, waits};
+ghost use Rattle.distance_tables.specs.inner.Turns.{waiting_of, waits};
 
 use crate::turn::Turn;
-use crate::waiting::Waiting;
 use std::alloc::{AllocError, Global};
 use std::cmp::Reverse;
 use std::collections::BinaryHeap;
@@ -25,21 +24,20 @@ impl Queue {
     }
 
     /// Adds a place that waits.
-    pub(crate) fn push(&mut self, next: Waiting) -> Result<(), AllocError>
-        requires { IsShort next }
-        ensures { OnOk result (IsPermutation (next ∷ waits self.old) (waits self.new)) }
+    pub(crate) fn push(&mut self, next: Turn) -> Result<(), AllocError>
+        ensures { OnOk result (IsPermutation (waiting_of next ∷ waits self.old) (waits self.new)) }
     {
-        self.turns.push(Reverse(Turn::of(next)))?;
+        self.turns.push(Reverse(next))?;
         Ok(())
     }
 
     /// The place whose turn comes; it waits no longer.
-    pub(crate) fn pop(&mut self) -> Option<Waiting>
-        ensures next { IfSome result (λ next. IsPermutation (waits self.old) (next ∷ waits self.new)) }
+    pub(crate) fn pop(&mut self) -> Option<Turn>
+        ensures next { IfSome result (λ next. IsPermutation (waits self.old) (waiting_of next ∷ waits self.new)) }
         ensures len { OnSome result (length (waits self.new) + 1 ≡ length (waits self.old)) }
         ensures none { IfNone result (length (waits self.old) ≡ 0) }
     {
-        let Reverse(turn) = self.turns.pop()?;
-        Some(turn.waiting())
+        let Reverse(next) = self.turns.pop()?;
+        Some(next)
     }
 }

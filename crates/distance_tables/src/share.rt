@@ -3,7 +3,7 @@ ghost use Rattle.std.specs.Prelude.{◌≡◌, IfOk};
 ghost use Rattle.distance_tables.specs.inner.Shares.{IsShare, IsWork};
 
 use crate::Gate;
-use crate::label::Label;
+use crate::length::Length;
 use crate::lines_by_origin::LinesByOrigin;
 use crate::search::row_of_origin;
 use std::alloc::{AllocError, Global};
@@ -13,7 +13,7 @@ use std::thread::Promise;
 #[derive(Drop)]
 pub(crate) struct OriginRow {
     pub(crate) origin: usize,
-    pub(crate) row: Vec<Label>,
+    pub(crate) row: Vec<Length>,
 }
 
 /// What all workers do together: the lines, between so many places, and how many workers there are.

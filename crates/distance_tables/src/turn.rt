@@ -1,48 +1,45 @@
 //! The order in which places that wait have their turns.
-ghost use Rattle.std.specs.Prelude.{◌≡◌};
-ghost use Rattle.distance_tables.specs.inner.Turns.{IsShort, waiting_of};
+ghost use Rattle.std.specs.Prelude.{◌≡◌, ◌^◌, ◌<◌};
+ghost use Rattle.distance_tables.specs.inner.Lengths.{distance_of};
+ghost use Rattle.distance_tables.specs.inner.Turns.{entry, waiting_of, way_of};
 
-use crate::distance::Distance;
-use crate::waiting::Waiting;
-
-/// More than the minutes of any label.
-const TURN_MINUTES: u64 = 33_554_432;
+use crate::length::Length;
 
 /// More than the number of any place.
-const TURN_PLACES: u64 = 2_048;
+const PLACES: u64 = 2_048;
 
-/// A place that waits, as one number: its kilometres, then its minutes, then its own number, as digits. A search
-/// spends half of its time on comparing turns, and one comparison in place of three takes a fifth off the whole.
+/// A place whose lines are still to be relaxed, and its label when it was put there, as one number: the label, then
+/// the number of the place, as digits. So one comparison finds which of two is nearer.
 #[derive(Clone, Copy, Debug, PartialEq, Eq, PartialOrd, Ord)]
 pub(crate) struct Turn {
     number: u64,
 }
 
 impl Turn {
-    /// The turn of a place that waits.
-    pub(crate) fn of(waiting: Waiting) -> Turn
-        requires { IsShort waiting }
-        ensures { waiting_of result ≡ waiting }
+    /// The turn of a place.
+    pub(crate) fn new(place: usize, label: Length) -> Turn
+        requires place { place < 2 ^ 11 }
+        requires km { (distance_of label).km < 2 ^ 25 }
+        ensures { waiting_of result ≡ entry (distance_of label) place }
     {
-        let km = u64::from(waiting.distance.km);
-        let minutes = u64::from(waiting.distance.minutes);
-        let place = waiting.place as u64;
         Turn {
-            number: (km * TURN_MINUTES + minutes) * TURN_PLACES + place,
+            number: label.number * PLACES + place as u64,
         }
     }
 
-    /// The place that waits.
-    pub(crate) fn waiting(self) -> Waiting
-        ensures { result ≡ waiting_of self }
+    /// The place.
+    pub(crate) fn place(self) -> usize
+        ensures { result ≡ (waiting_of self).place }
     {
-        let length = self.number / TURN_PLACES;
-        let km = (length / TURN_MINUTES) as u32;
-        let minutes = (length % TURN_MINUTES) as u32;
-        let place = (self.number % TURN_PLACES) as usize;
-        Waiting {
-            distance: Distance { km, minutes },
-            place,
+        (self.number % PLACES) as usize
+    }
+
+    /// Its label when it was put there.
+    pub(crate) fn label(self) -> Length
+        ensures { result ≡ way_of self }
+    {
+        Length {
+            number: self.number / PLACES,
         }
     }
 }

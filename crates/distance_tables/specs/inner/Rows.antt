@@ -4,11 +4,10 @@ use Rattle.std.specs.declared.alloc.Global.{Global}
 use Rattle.std.specs.declared.vec.Vec.{Vec}
 use Rattle.line_network.specs.Network.{max_line_km, max_line_minutes}
 use Rattle.line_network.specs.declared.line.Line.{Line}
-use Rattle.distance_tables.specs.declared.distance.Distance.{Distance}
-use Rattle.distance_tables.specs.declared.label.Label.{Label}
+use Rattle.distance_tables.specs.declared.length.Length.{Length}
 use Rattle.distance_tables.specs.Walk.{IsPath, km_of, minutes_of}
 use Rattle.distance_tables.specs.Distance.{AtMost}
-use Rattle.distance_tables.specs.inner.Numbers.{known}
+use Rattle.distance_tables.specs.inner.Lengths.{Distance, known}
 
 -- the pair of a path between two places, by their numbers
 pub record IsPathPair (lines : List Line) (a b : ℕ) (d : Distance) : Type 0 where
@@ -39,6 +38,6 @@ pub record IsRow (lines : List Line) (places a : ℕ) (row : List (Option Distan
   pub near : (b : ℕ) → b < places → IsNear places (slice_index_or row b None)
 
 -- a row for each of so many places, as its labels
-pub record AreRows (lines : List Line) (places : ℕ) (rows : List (Vec Label Global)) : Type 0 where
+pub record AreRows (lines : List Line) (places : ℕ) (rows : List (Vec Length Global)) : Type 0 where
   pub full : length rows ≡ places
-  pub each : (a : ℕ) (d : Vec Label Global) → a < places → IsRow lines places a (known (slice_index_or rows a d).items)
+  pub each : (a : ℕ) (d : Vec Length Global) → a < places → IsRow lines places a (known (slice_index_or rows a d).items)

@@ -3,10 +3,10 @@ use Rattle.std.specs.Prelude.{◌≡◌, ℕ, ◌+◌, ◌*◌, ◌^◌, ◌<◌
 use Rattle.std.specs.List.Sorted.{IsPermutation}
 use Rattle.line_network.specs.Network.{max_line_km, max_line_minutes}
 use Rattle.line_network.specs.declared.line.Line.{Line}
-use Rattle.distance_tables.specs.declared.distance.Distance.{Distance}
-use Rattle.distance_tables.specs.declared.waiting.Waiting.{Waiting}
+use Rattle.distance_tables.specs.inner.Lengths.{Distance}
 use Rattle.distance_tables.specs.Distance.{AtMost}
 use Rattle.distance_tables.specs.inner.Rows.{IsPathPair}
+use Rattle.distance_tables.specs.inner.Turns.{Waiting, entry}
 
 -- the label of a place, `None` where it isn't reached
 abbrev pub label_at : List (Option Distance) → ℕ → Option Distance
@@ -47,9 +47,6 @@ pub record AreLabels (lines : List Line) (origin : ℕ) (labels : List (Option D
 -- no line from a place leads below a label
 abbrev pub IsRelaxed : List Line → List (Option Distance) → ℕ → Distance → Type 0
 IsRelaxed lines labels k d = (l : Line) → Contains lines l → l.from ≡ k → LabelAtMost (label_at labels l.to) (plus_line d l)
-
-abbrev pub entry : Distance → ℕ → Waiting
-entry d k = record { distance = d; place = k }
 
 -- a place that is reached waits, or its lines are relaxed
 abbrev pub IsSettled : List Line → List (Option Distance) → List Waiting → ℕ → Type 0

@@ -6,9 +6,9 @@ use Rattle.std.specs.declared.alloc.Global.{Global}
 use Rattle.std.specs.declared.vec.Vec.{Vec}
 use Rattle.line_network.specs.Network.{IsLine, max_places}
 use Rattle.line_network.specs.declared.line.Line.{Line}
-use Rattle.distance_tables.specs.declared.label.Label.{Label}
+use Rattle.distance_tables.specs.declared.length.Length.{Length}
 use Rattle.distance_tables.specs.declared.share.OriginRow.{OriginRow}
-use Rattle.distance_tables.specs.inner.Numbers.{known}
+use Rattle.distance_tables.specs.inner.Lengths.{known}
 use Rattle.distance_tables.specs.inner.Rows.{IsRow}
 
 -- lines between so many places, indexed by their origins, and a worker at least
@@ -33,5 +33,5 @@ pub record AreShares (lines : List Line) (places workers : ℕ) (answers : List 
   pub each : (k : ℕ) (d : Result (Vec OriginRow Global) AllocError) → k < workers → IfOk (slice_index_or answers k d) (λ rows. IsShare lines places workers k rows.items)
 
 -- the rows after those of a worker are put in their places
-abbrev pub put_rows : List (Vec Label Global) → List OriginRow → List (Vec Label Global)
+abbrev pub put_rows : List (Vec Length Global) → List OriginRow → List (Vec Length Global)
 put_rows rows share = fold (λ before r. slice_set before r.origin r.row) rows share

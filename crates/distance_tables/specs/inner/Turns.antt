@@ -1,22 +1,26 @@
 -- How a turn's number stands for a place that waits.
-use Rattle.std.specs.Prelude.{◌^◌, ◌<◌, ◌/◌, ◌%◌, List, map}
+use Rattle.std.specs.Prelude.{ℕ, ◌/◌, ◌%◌, List, map}
 use Rattle.std.specs.BinaryHeap.{heap_items}
 use Rattle.std.specs.declared.cmp.Reverse.{Reverse}
+use Rattle.distance_tables.specs.declared.length.Length.{Length}
 use Rattle.distance_tables.specs.declared.queue.Queue.{Queue}
 use Rattle.distance_tables.specs.declared.turn.Turn.{Turn}
-use Rattle.distance_tables.specs.declared.waiting.Waiting.{Waiting}
+use Rattle.distance_tables.specs.inner.Lengths.{Distance, distance_of}
 
--- within the digits of a turn's number
-pub record IsShort (w : Waiting) : Type 0 where
-  pub km : w.distance.km < 2 ^ 25
-  pub minutes : w.distance.minutes < 2 ^ 25
-  pub place : w.place < 2 ^ 11
+-- a place whose lines are still to be relaxed, and its label when it was put there
+pub record Waiting : Type 0 where
+  pub distance : Distance
+  pub place : ℕ
+
+abbrev pub entry : Distance → ℕ → Waiting
+entry d k = record { distance = d; place = k }
+
+-- the length with which the place of a turn waits
+abbrev pub way_of : Turn → Length
+way_of t = record { number = t.number / 2048 }
 
 abbrev pub waiting_of : Turn → Waiting
-waiting_of t = record {
-  distance = record { km = t.number / 2048 / 33554432; minutes = t.number / 2048 % 33554432 };
-  place = t.number % 2048;
-}
+waiting_of t = record { distance = distance_of (way_of t); place = t.number % 2048 }
 
 -- the places that wait
 abbrev pub waits : Queue → List Waiting

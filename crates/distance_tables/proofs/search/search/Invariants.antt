@@ -1,5 +1,5 @@
 use Rattle.std.proofs.Common.{length}
-use Rattle.distance_tables.specs.inner.Numbers.{known}
+use Rattle.distance_tables.specs.inner.Lengths.{known}
 use Rattle.distance_tables.specs.inner.Turns.{waits}
 use Rattle.distance_tables.specs.inner.Search.{work_left}
 use Rattle.distance_tables.proofs.Searching.{IsSearch}

@@ -1,6 +1,6 @@
 use Rattle.std.proofs.Common.{◌≡◌, ◌∙◌, ap, replicate, rules, IfOk, None}
 use Rattle.std.proofs.lemmas.Result.{IfOk-weaker}
-use Rattle.distance_tables.specs.inner.Numbers.{known}
+use Rattle.distance_tables.specs.inner.Lengths.{known}
 use Rattle.distance_tables.proofs.Numbering.{known_replicate}
 use Rattle.distance_tables.proofs.search.unreached.Goals as goal
 

@@ -5,4 +5,4 @@ use Rattle.distance_tables.specs.inner.Turns.{waiting_of}
 use Rattle.distance_tables.proofs.queue.Queue.pop.Goals as goal
 
 pub returns-clause-next : goal.returns-clause-next
-returns-clause-next c = rw c.waiting.ensures (IsPermutation-map (λ (t : Reverse Turn). waiting_of t.0) _ _ c.in_ok-turn.ensures.permutation)
+returns-clause-next c = IsPermutation-map (λ (t : Reverse Turn). waiting_of t.0) _ _ c.in_ok-next.ensures.permutation
