@@ -3,6 +3,8 @@ import json
 import random
 import sys
 
+from table_numbers import numbers_of
+
 FOLDER = sys.argv[1]
 MOST = 1_000_000
 
@@ -45,10 +47,8 @@ def write(name, rows, penalty=1_000_000_000, lack=1, orders=None):
     }
     with open(f"{FOLDER}/{name}.json", "w") as file:
         json.dump(line, file, separators=(",", ":"))
-    cells = [(i, j, cost) for i, row in enumerate(rows) for j, cost in enumerate(row) if cost is not None]
     with open(f"{FOLDER}/{name}.txt", "w") as file:
-        print(len(rows), orders, len(cells), *line["penalties"], *line["lacks"], file=file)
-        file.writelines(f"{i} {j} {cost}\n" for i, j, cost in cells)
+        file.write(numbers_of(line))
 
 
 random.seed(20_260_301)
