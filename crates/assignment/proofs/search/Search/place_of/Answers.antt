@@ -1,32 +1,27 @@
-use Rattle.std.proofs.Common.{◌≡◌, ◌+◌, ◌*◌, ◌<◌, length, get_or, ◌∙◌, ap, arith, inl, inr, subst}
+use Rattle.std.proofs.Common.{◌≡◌, ◌<◌, length, arith, inl, inr, subst}
 use Rattle.std.proofs.lemmas.Bool.{cases_eq}
 use Rattle.std.proofs.lemmas.List.{get_or_read}
 use Rattle.assignment.specs.inner.State.{kept}
 use Rattle.assignment.specs.inner.Search.{IsReachedFrom, settled_at}
-use Rattle.assignment.proofs.Tracing.{IsRead, cost_within, sums_agree, reached_agrees}
+use Rattle.assignment.proofs.Tracing.{cost_within, read_of, sums_agree, reached_agrees}
 use Rattle.assignment.proofs.search.Search.place_of.Goals as goal
 
 pub index-requires-in-places-2 : goal.index-requires-in-places-2
 index-requires-in-places-2 c =
     let f = c.args.self.now in
-    let state = c.args.state.now in
     let h = c.requires.search in
-    let wagon = c.args.wagon in
     let place = c.places.place in
     let order = c.index-in-places.result.now in
     let lp : place < length f.orders.items = (let end = c.requires.end in let test = c.places-test.true in omega (arith, end, test)) in
     let order_is : order ≡ settled_at f place = get_or_read f.orders.items place order lp c.index-in-places.ensures 0 in
-    let within = h.settled place lp in
-    let cell = cost_within state f wagon place order c.wagons.result h c.requires.wagon lp order_is c.wagons.ensures.count in
-    let len = state.costs.ok.0 in
+    let cell = cost_within c.args.state.now f c.args.wagon place order c.wagons.result h c.requires.wagon lp order_is c.wagons.ensures.count in
+    let len = c.args.state.now.costs.ok.0 in
     omega (arith, cell, len)
 
 pub index-requires-in-places-3 : goal.index-requires-in-places-3
 index-requires-in-places-3 c =
     let f = c.args.self.now in
-    let state = c.args.state.now in
     let h = c.requires.search in
-    let wagon = c.args.wagon in
     let place = c.places.place in
     let order = c.index-in-places.result.now in
     let lp : place < length f.orders.items = (let end = c.requires.end in let test = c.places-test.true in omega (arith, end, test)) in
@@ -38,9 +33,7 @@ index-requires-in-places-3 c =
 pub index-requires-in-places-4 : goal.index-requires-in-places-4
 index-requires-in-places-4 c =
     let f = c.args.self.now in
-    let state = c.args.state.now in
     let h = c.requires.search in
-    let wagon = c.args.wagon in
     let place = c.places.place in
     let order = c.index-in-places.result.now in
     let lp : place < length f.orders.items = (let end = c.requires.end in let test = c.places-test.true in omega (arith, end, test)) in
@@ -56,29 +49,20 @@ returns-then-label-from-clause-from c =
     let h = c.requires.search in
     let wagon = c.args.wagon in
     let place = c.places.place in
-    let order = c.index-in-places.result.now in
     let lp : place < length f.orders.items = (let end = c.requires.end in let test = c.places-test.true in omega (arith, end, test)) in
-    let order_is : order ≡ settled_at f place = get_or_read f.orders.items place order lp c.index-in-places.ensures 0 in
-    let within = h.settled place lp in
-    let orders = h.orders in
-    let room = h.room.distances in
-    let labels = h.room.labels in
     let lw = c.requires.wagon in
+    let read = read_of state f wagon place _ _ _ _ _ h lw lp c.wagons.ensures.count c.index-in-places.ensures c.index-in-places-2.ensures c.index-in-places-3.ensures c.index-in-places-4.ensures in
+    let labels = h.room.labels in
     let wagons = h.wagons in
     let label = get_or_read f.label.items wagon c.index.result.now (omega (arith, lw, labels)) c.index.ensures 0 in
     let price = get_or_read state.u.items wagon c.index-2.result.now (omega (arith, lw, wagons)) c.index-2.ensures 0 in
-    let cell = cost_within state f wagon place order c.wagons.result h lw lp order_is c.wagons.ensures.count in
-    let cost = get_or_read state.costs.items (order * c.wagons.result + wagon) c.index-in-places-2.result.now cell c.index-in-places-2.ensures 0 ∙ ap (λ w. get_or state.costs.items (order * w + wagon) 0) c.wagons.ensures.count in
-    let distance = get_or_read f.order_distance.items order c.index-in-places-3.result.now (omega (arith, order_is, within, room)) c.index-in-places-3.ensures 0 in
-    let order_price = get_or_read state.v.items order c.index-in-places-4.result.now (omega (arith, order_is, within, orders)) c.index-in-places-4.ensures 0 in
-    let read : IsRead state f wagon place order c.index-in-places-2.result.now c.index-in-places-3.result.now c.index-in-places-4.result.now = record { order_is = order_is; cost_is = cost; distance_is = distance; price_is = order_price } in
     let a = c.from-label.ensures in
     let b = c.from-price.ensures in
     let d = c.from-cost.ensures in
     let e = c.from.ensures in
     let g = c.from-in-places.ensures in
     let same = c.if-label-from.true in
-    sums_agree state f wagon place order c.index-in-places-2.result.now c.index-in-places-3.result.now c.index-in-places-4.result.now h lw lp read (omega (arith, same, a, b, d, e, g, label, price))
+    sums_agree state f wagon place _ _ _ _ h lw lp read (omega (arith, same, a, b, d, e, g, label, price))
 
 pub places-preserved : goal.places-preserved
 places-preserved c =
@@ -87,22 +71,13 @@ places-preserved c =
     let h = c.requires.search in
     let wagon = c.args.wagon in
     let place = c.places.place in
-    let order = c.index-in-places.result.now in
     let lp : place < length f.orders.items = (let end = c.requires.end in let test = c.places-test.true in omega (arith, end, test)) in
-    let order_is : order ≡ settled_at f place = get_or_read f.orders.items place order lp c.index-in-places.ensures 0 in
-    let within = h.settled place lp in
-    let orders = h.orders in
-    let room = h.room.distances in
-    let labels = h.room.labels in
     let lw = c.requires.wagon in
+    let read = read_of state f wagon place _ _ _ _ _ h lw lp c.wagons.ensures.count c.index-in-places.ensures c.index-in-places-2.ensures c.index-in-places-3.ensures c.index-in-places-4.ensures in
+    let labels = h.room.labels in
     let wagons = h.wagons in
     let label = get_or_read f.label.items wagon c.index.result.now (omega (arith, lw, labels)) c.index.ensures 0 in
     let price = get_or_read state.u.items wagon c.index-2.result.now (omega (arith, lw, wagons)) c.index-2.ensures 0 in
-    let cell = cost_within state f wagon place order c.wagons.result h lw lp order_is c.wagons.ensures.count in
-    let cost = get_or_read state.costs.items (order * c.wagons.result + wagon) c.index-in-places-2.result.now cell c.index-in-places-2.ensures 0 ∙ ap (λ w. get_or state.costs.items (order * w + wagon) 0) c.wagons.ensures.count in
-    let distance = get_or_read f.order_distance.items order c.index-in-places-3.result.now (omega (arith, order_is, within, room)) c.index-in-places-3.ensures 0 in
-    let order_price = get_or_read state.v.items order c.index-in-places-4.result.now (omega (arith, order_is, within, orders)) c.index-in-places-4.ensures 0 in
-    let read : IsRead state f wagon place order c.index-in-places-2.result.now c.index-in-places-3.result.now c.index-in-places-4.result.now = record { order_is = order_is; cost_is = cost; distance_is = distance; price_is = order_price } in
     let a = c.from-label.ensures in
     let b = c.from-price.ensures in
     let d = c.from-cost.ensures in
@@ -111,8 +86,7 @@ places-preserved c =
     let other = c.if-label-from.false in
     λ x lx from. elim (cases_eq x place) [
       | inl same ↦
-          let here : IsReachedFrom (kept state) f wagon place = subst (IsReachedFrom (kept state) f wagon) same from in
-          let sums = reached_agrees state f wagon place order c.index-in-places-2.result.now c.index-in-places-3.result.now c.index-in-places-4.result.now h lw lp read here in
+          let sums = reached_agrees state f wagon place _ _ _ _ h lw lp read (subst (IsReachedFrom (kept state) f wagon) same from) in
           other (omega (arith, sums, a, b, d, e, g, label, price))
       | inr apart ↦ c.places.invariant x (omega (arith, lx, apart)) from
     ]
