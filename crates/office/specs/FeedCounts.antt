@@ -5,23 +5,25 @@ use Rattle.json_fields.specs.declared.fault.LineFault.{LineFault}
 use Rattle.line_engine.specs.Lines.{is_blank, lines_of, max_input_lines, max_line_bytes}
 use Rattle.move_messages.specs.Commands.{command_of}
 use Rattle.move_messages.specs.declared.command.Command.{Command}
-use Rattle.move_messages.specs.declared.command.Command.TheVariants as command
+use Rattle.commit_book.specs.Requests.{request_of}
+use Rattle.commit_book.specs.declared.request.Request.{Request}
+use Rattle.commit_book.specs.declared.request.Request.TheVariants as request
 use Rattle.office.specs.declared.feed_report.FileCount.{FileCount}
 
 -- the most files
 abbrev pub max_files : ℕ
 max_files = 16
 
--- whether a line that is read so must be counted: any but a begin and a sheet
+-- whether what is asked for must be counted: an event and a plan, but no begin and no sheet
+abbrev pub is_request_counted : Request → Bool
+is_request_counted (request.Event event) = true
+is_request_counted (request.Plan at) = true
+is_request_counted (request.Begin at) = false
+is_request_counted request.Sheet = false
+
+-- the same of a line that is read so; one that is no command must be counted
 abbrev pub is_counted : Result Command LineFault → Bool
-is_counted (Ok (command.Begin at)) = false
-is_counted (Ok command.Sheet) = false
-is_counted (Ok (command.Message message)) = true
-is_counted (Ok (command.Place text)) = true
-is_counted (Ok (command.Withdraw id)) = true
-is_counted (Ok (command.Plan at)) = true
-is_counted (Ok (command.Commit commit)) = true
-is_counted (Ok (command.Revise network)) = true
+is_counted (Ok command) = is_request_counted (request_of command)
 is_counted (Err fault) = true
 
 -- a line that is neither blank nor a begin nor a sheet

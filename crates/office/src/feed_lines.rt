@@ -1,13 +1,14 @@
 //! What a file's lines do at the file's seat.
-ghost use Rattle.std.specs.Prelude.{◌≡◌, ◌≢◌, None, Ok, Some, false};
+ghost use Rattle.std.specs.Prelude.{◌≡◌, ◌≢◌, None, Some, false};
 ghost use Rattle.sessions.specs.Seat.{count_of};
-ghost use Rattle.office.specs.FeedCounts.{is_counted};
+ghost use Rattle.office.specs.FeedCounts.{is_request_counted};
 ghost use Rattle.office.specs.inner.FeedLines.{AddsCounted, CountsLine, IsAnsweredAs, counted_by, tally};
 
-use commit_book::{Refusal, Reply, Snap};
+use commit_book::{Refusal, Reply, Request, Snap};
 use distance_tables::Networks;
 use line_engine::{DeviceFailed, Handler, Outcome, ReplyText, Sink};
-use move_messages::{Command, CommitText, read_line};
+use move_messages::{CommitText, read_line};
+use operating_db::Event;
 use rail_codes::Moment;
 use sessions::{Office, Seat, work};
 use std::alloc::{AllocError, Global};
@@ -73,25 +74,28 @@ impl<'a, W: Wait, L: Ledger> Drop for FeedLines<'a, W, L> {
 }
 
 impl<'a, W: Wait, L: Ledger> FeedLines<'a, W, L> {
-    /// Does at a seat what a command asks for.
-    fn take_in(&self, alloc: Global, seat: &mut Seat<L>, command: &Command) -> Counted
+    /// Does at a seat what is asked for.
+    fn take_in(&self, alloc: Global, seat: &mut Seat<L>, request: Request) -> Counted
         ensures seat { IsAnsweredAs (count_of seat.old) (count_of seat.new) result }
-        ensures nowhere { result ≡ Counted.Nowhere → is_counted (Ok command.now) ≡ false }
+        ensures nowhere { result ≡ Counted.Nowhere → is_request_counted request ≡ false }
     {
-        let (rt, office) = (self.rt, self.office);
-        match command {
-            Command::Message(message) => counted_as(office.send(rt, alloc, seat, message)),
-            Command::Place(text) => counted_as(office.place(rt, alloc, seat, text)),
-            Command::Withdraw(id) => counted_as(office.withdraw(rt, alloc, seat, *id)),
-            Command::Revise(network) => counted_as(office.revise(rt, alloc, seat, *network)),
-            Command::Commit(commit) => counted_as(office.commit(rt, alloc, seat, commit)),
-            Command::Begin(at) => match office.begin(rt, alloc, seat, *at) {
+        match request {
+            Request::Event(event) => self.submit(alloc, seat, event),
+            Request::Begin(at) => match self.office.begin(self.rt, alloc, seat, at) {
                 Ok(_) => Counted::Nowhere,
                 Err(_) => Counted::Refused,
             },
-            Command::Plan(at) => self.plan(alloc, seat, *at),
-            Command::Sheet => Counted::Nowhere,
+            Request::Plan(at) => self.plan(alloc, seat, at),
+            Request::Sheet => Counted::Nowhere,
         }
+    }
+
+    /// Submits an event at a seat.
+    fn submit(&self, alloc: Global, seat: &mut Seat<L>, event: Event) -> Counted
+        ensures seat { IsAnsweredAs (count_of seat.old) (count_of seat.new) result }
+        ensures somewhere { result ≢ Counted.Nowhere }
+    {
+        counted_as(self.office.submit(self.rt, alloc, seat, event))
     }
 
     /// Begins at a moment, plans with no lock held, and commits what was planned. It counts as the commit's answer, or as
@@ -104,7 +108,7 @@ impl<'a, W: Wait, L: Ledger> FeedLines<'a, W, L> {
             return Counted::Refused;
         };
         match planned_commit(alloc, &snap, self.networks) {
-            Some(commit) => counted_as(self.office.commit(self.rt, alloc, seat, &commit)),
+            Some(commit) => self.submit(alloc, seat, Event::Commit(commit)),
             None => Counted::Refused,
         }
     }
@@ -133,7 +137,7 @@ impl<'a, W: Wait, L: Ledger> Handler for FeedLines<'a, W, L> {
         _reply: &mut ReplyText,
     ) -> Result<Outcome, AllocError> {
         let counted = match read_line(alloc, line) {
-            Ok(command) => self.take_in(alloc, &mut file.seat, &command),
+            Ok(command) => self.take_in(alloc, &mut file.seat, Request::from(command)),
             Err(_) => Counted::Refused,
         };
         file.count(counted);
