@@ -1,11 +1,13 @@
 use Rattle.std.proofs.Common.{◌≡◌, ◌≢◌, ◌+◌, ◌<◌, ◌≤◌, ◌⊎◌, ℕ, List, Option, Some, None, cond, length, get_or, set, refl, sym, ◌∙◌, ap, arith, inl, inr, subst}
 use Rattle.std.proofs.lemmas.Bool.{cases_eq}
+use Rattle.std.proofs.lemmas.List.{get_or_read}
 use Rattle.std.proofs.lemmas.List.Sums.{sum_by-set}
 use Rattle.assignment.specs.declared.search.Search.{Search}
 use Rattle.assignment.specs.declared.state.State.{State}
-use Rattle.assignment.specs.inner.State.{Kept, IsKept, IsState, kept, order_at, served, is_order}
+use Rattle.assignment.specs.inner.State.{Kept, IsKept, IsState, kept, order_at, orders_of, served, is_order}
 use Rattle.assignment.specs.inner.Search.{IsSearch, IsSearchOf, IsReached, IsReachedFrom}
 use Rattle.assignment.specs.inner.Path.{IsGiven, IsOnWay, one_if}
+use Rattle.assignment.proofs.Numbers.{orders_set}
 use Rattle.assignment.proofs.Pairs.{one_if-test}
 use Rattle.assignment.proofs.Writes.{same_at, other_at, written_length}
 
@@ -92,11 +94,34 @@ handing_more s f h h' first wagon place wagon' place' k search g pos e we lower 
       count = λ q. count_now s f h h' first wagon place g e q ∙ ap (λ o. served q s.order_of + one_if q o) (sym here);
     }
 
+-- an order that is read at a place, and written for a wagon
+pub order_written : (s : Kept) (f : Search) (n : ℕ) (numbers : List ℕ) (wagon place order : ℕ) → IsKept s → IsSearch s f n → place < length f.orders.items → order ≡ get_or f.orders.items place order
+    → orders_of (set numbers wagon order) ≡ set (orders_of numbers) wagon (Some (get_or f.orders.items place 0))
+order_written s f n numbers wagon place order keeps search within read =
+    let is : order ≡ get_or f.orders.items place 0 = get_or_read f.orders.items place order within read 0 in
+    let number = search.settled.order place within in
+    let few = keeps.table.orders in
+    orders_set numbers wagon order (omega (arith, is, number, few)) ∙ ap (λ y. set (orders_of numbers) wagon (Some y)) is
+
+-- all of the way has its orders
+pub record IsHandedOn (s : Kept) (f : Search) (h : List (Option ℕ)) (first : ℕ) : Type 0 where
+  pub wagons : length h ≡ length s.order_of
+  pub handed_on : (i : ℕ) → (order_at h i ≡ order_at s.order_of i) ⊎ (IsOnWay f first i × IsGiven s f h i)
+  pub count : (k : ℕ) → served k h + one_if k (order_at s.order_of first) ≡ served k s.order_of + one_if k (Some (get_or f.orders.items 0 0))
+
 -- the wagon that is left gets the first order
-pub handing_all : (s : Kept) (f : Search) (h h' : List (Option ℕ)) (first wagon place : ℕ) → IsHandingOn s f h first wagon place → place ≡ 0 → h' ≡ set h wagon (Some (get_or f.orders.items 0 0)) → ((i : ℕ) → (order_at h' i ≡ order_at s.order_of i) ⊎ (IsOnWay f first i × IsGiven s f h' i)) × ((k : ℕ) → served k h' + one_if k (order_at s.order_of first) ≡ served k s.order_of + one_if k (Some (get_or f.orders.items 0 0)))
-handing_all s f h h' first wagon place g zero_place e =
-    let e' : h' ≡ set h wagon (Some (get_or f.orders.items place 0)) = e ∙ ap (λ x. set h wagon (Some (get_or f.orders.items x 0))) (sym zero_place) in
-    (handed_now s f h h' first wagon place g e', λ k. count_now s f h h' first wagon place g e' k ∙ ap (λ x. served k s.order_of + one_if k (Some (get_or f.orders.items x 0))) zero_place)
+pub handing_all : (s : Kept) (f : Search) (n : ℕ) (numbers : List ℕ) (first wagon place order : ℕ) → IsKept s → IsSearch s f n → IsHandingOn s f (orders_of numbers) first wagon place → place ≡ 0
+    → order ≡ get_or f.orders.items 0 order → IsHandedOn s f (orders_of (set numbers wagon order)) first
+handing_all s f n numbers first wagon place order keeps search g zero_place read =
+    let h = orders_of numbers in
+    let within : 0 < length f.orders.items = subst (λ (x : ℕ). x < length f.orders.items) zero_place g.from.within in
+    let e = order_written s f n numbers wagon 0 order keeps search within read in
+    let e' : orders_of (set numbers wagon order) ≡ set h wagon (Some (get_or f.orders.items place 0)) = e ∙ ap (λ x. set h wagon (Some (get_or f.orders.items x 0))) (sym zero_place) in
+    record {
+      wagons = written_length h _ wagon _ e ∙ g.wagons;
+      handed_on = handed_now s f h _ first wagon place g e';
+      count = λ k. count_now s f h _ first wagon place g e' k ∙ ap (λ x. served k s.order_of + one_if k (Some (get_or f.orders.items x 0))) zero_place;
+    }
 
 -- another list of the wagons' orders changes nothing of the distances
 pub search_of : (state state' : State) (f : Search) → state' ≡ record state { order_of = state'.order_of } → IsSearchOf state f → IsSearchOf state' f

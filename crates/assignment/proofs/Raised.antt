@@ -1,13 +1,16 @@
 use Rattle.std.proofs.Common.{◌≡◌, ◌+◌, ◌-◌, ◌<◌, ◌≤◌, ℕ, List, Option, Some, None, length, get_or, sym, ◌∙◌, ap, arith, inl, inr, subst, refl}
+use Rattle.std.specs.Prelude.{vec_len}
+use Rattle.std.specs.Vec.{with_items}
 use Rattle.std.proofs.lemmas.Bool.{cases_lt}
-use Rattle.std.proofs.lemmas.List.{get_or_past}
+use Rattle.std.proofs.lemmas.List.{get_or_past, with_items_is}
 use Rattle.cost_table.specs.Table.{cost_at, penalty_at, wagon_count, order_count}
 use Rattle.assignment.specs.declared.search.Search.{Search}
+use Rattle.assignment.specs.declared.state.State.{State}
 use Rattle.assignment.specs.declared.search.Path.{Path}
 use Rattle.assignment.specs.declared.search.End.{End}
 use Rattle.assignment.specs.declared.search.End.TheVariants.{Wagon, Refusal}
 use Rattle.assignment.specs.inner.Costs.{cell_cost}
-use Rattle.assignment.specs.inner.State.{Kept, IsKept, IsPriced, IsTight, AreHeld, order_at}
+use Rattle.assignment.specs.inner.State.{Kept, IsKept, IsPriced, IsTight, AreHeld, kept, order_at}
 use Rattle.assignment.specs.inner.Search.{IsPath, IsEnd, IsReachedFrom, IsRelaxed, label_at, settled_at, distance_at}
 use Rattle.assignment.specs.inner.Path.{AreHandedOn, IsOnPath}
 use Rattle.assignment.proofs.Limits.{cell_wagon, cell_order, penalty_limit}
@@ -18,6 +21,34 @@ pub record AreRaised (s : Kept) (f : Search) (end : ℕ) (u v : List ℕ) : Type
   pub orders_count : length v ≡ length s.v
   pub wagons : (i : ℕ) → i < length s.u → get_or u i 0 ≡ get_or s.u i 0 + (end - label_at f i)
   pub orders : (k : ℕ) → k < length s.v → get_or v k 0 ≡ get_or s.v k 0 + (end - distance_at f k)
+
+-- both prices of a state are raised, and nothing else that they belong to has changed
+pub record HasRaised (s : Kept) (f : Search) (end : ℕ) (state : State) (u v : List ℕ) : Type 0 where
+  pub prices : AreRaised s f end u v
+  pub table : state.cells.now ≡ s.table
+  pub wagon_prices : (with_items state.u u).items ≡ u
+  pub order_prices : (with_items state.v v).items ≡ v
+
+-- where only the wagons' orders were written before
+pub has_raised : (old state : State) (f : Search) (end : ℕ) (u v from_u from_v labels distances : List ℕ) → state ≡ record old { order_of = state.order_of }
+    → from_u ≡ state.u.items → from_v ≡ state.v.items → labels ≡ f.label.items → distances ≡ f.order_distance.items → length u ≡ length from_u → length v ≡ length from_v
+    → length from_u ≡ vec_len state.u → length from_v ≡ vec_len state.v
+    → ((i : ℕ) → i < length from_u → get_or u i 0 ≡ get_or from_u i 0 + (end - get_or labels i 0)) → ((k : ℕ) → k < length from_v → get_or v k 0 ≡ get_or from_v k 0 + (end - get_or distances k 0))
+    → HasRaised (kept old) f end state u v
+has_raised old state f end u v from_u from_v labels distances same is_u is_v are_labels are_distances len_u len_v vec_u vec_v wagons orders =
+    let lu : from_u ≡ old.u.items = is_u ∙ ap (λ (x : State). x.u.items) same in
+    let lv : from_v ≡ old.v.items = is_v ∙ ap (λ (x : State). x.v.items) same in
+    record {
+      prices = record {
+        wagons_count = len_u ∙ ap length lu;
+        orders_count = len_v ∙ ap length lv;
+        wagons = λ i li. rw (lu, are_labels) at (wagons i (let b = ap length lu in omega (arith, li, b)));
+        orders = λ k lk. rw (lv, are_distances) at (orders k (let b = ap length lv in omega (arith, lk, b)));
+      };
+      table = ap (λ (x : State). x.cells.now) same;
+      wagon_prices = with_items_is state.u u (len_u ∙ vec_u);
+      order_prices = with_items_is state.v v (len_v ∙ vec_v);
+    }
 
 -- what is kept once the prices are raised and the orders handed on
 abbrev pub raised : Kept → List ℕ → List ℕ → List (Option ℕ) → Kept

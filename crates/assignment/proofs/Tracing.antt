@@ -1,3 +1,4 @@
+-- How the place from which a wagon was reached is told by what is read there.
 use Rattle.std.proofs.Common.{◌≡◌, ◌+◌, ◌*◌, ◌<◌, ℕ, length, get_or, sym, ◌∙◌, ap, arith, subst}
 use Rattle.std.proofs.lemmas.Nat.{mul-add-lt}
 use Rattle.std.proofs.lemmas.List.{get_or_read}
@@ -8,51 +9,51 @@ use Rattle.assignment.specs.inner.Costs.{cell_cost}
 use Rattle.assignment.specs.inner.State.{kept}
 use Rattle.assignment.specs.inner.Search.{IsSearchOf, IsReachedFrom, label_at, settled_at, distance_at, reach}
 
--- what is read of the order settled at a place, to see whether a wagon was reached from it
-pub record IsRead (state : State) (f : Search) (wagon place order cost distance price : ℕ) : Type 0 where
-  pub order_is : order ≡ settled_at f place
-  pub cost_is : cost ≡ get_or state.costs.items (order * wagon_count state.cells.now + wagon) 0
-  pub distance_is : distance ≡ distance_at f order
-  pub price_is : price ≡ get_or state.v.items order 0
+-- an order that is read at a place is the one settled there, and the table has it
+pub record IsSettled (state : State) (f : Search) (place order : ℕ) : Type 0 where
+  pub is : order ≡ settled_at f place
+  pub within : order < order_count state.cells.now
 
-pub cost_within : (state : State) (f : Search) (wagon place order wagons : ℕ) → IsSearchOf state f → wagon < wagon_count state.cells.now → place < length f.orders.items → order ≡ settled_at f place → wagons ≡ wagon_count state.cells.now → order * wagons + wagon < length state.costs.items
-cost_within state f wagon place order wagons h lw lp is count =
-    let within = h.settled place lp in
+pub settled_of : (state : State) (f : Search) (place order : ℕ) → IsSearchOf state f → place < length f.orders.items → order ≡ get_or f.orders.items place order → IsSettled state f place order
+settled_of state f place order h lp read =
+    let is : order ≡ settled_at f place = get_or_read f.orders.items place order lp read 0 in
+    record { is = is; within = omega (arith, is, h.settled place lp) }
+
+pub cost_within : (state : State) (f : Search) (wagon order wagons : ℕ) → IsSearchOf state f → wagon < wagon_count state.cells.now → order < order_count state.cells.now → wagons ≡ wagon_count state.cells.now → order * wagons + wagon < length state.costs.items
+cost_within state f wagon order wagons h lw lo count =
     let all = h.costs.count in
-    let last = mul-add-lt order (wagon_count state.cells.now) wagon (order_count state.cells.now) (omega (arith, within, is)) lw in
+    let last = mul-add-lt order (wagon_count state.cells.now) wagon (order_count state.cells.now) lo lw in
     let swap : order_count state.cells.now * wagon_count state.cells.now ≡ wagon_count state.cells.now * order_count state.cells.now = grind arith in
     subst (λ (w : ℕ). order * w + wagon < length state.costs.items) (sym count) (omega (arith, all, last, swap))
 
-pub read_of : (state : State) (f : Search) (wagon place wagons order cost distance price : ℕ) → IsSearchOf state f → wagon < wagon_count state.cells.now → place < length f.orders.items → wagons ≡ wagon_count state.cells.now → order ≡ get_or f.orders.items place order → cost ≡ get_or state.costs.items (order * wagons + wagon) cost → distance ≡ get_or f.order_distance.items order distance → price ≡ get_or state.v.items order price → IsRead state f wagon place order cost distance price
-read_of state f wagon place wagons order cost distance price h lw lp count eo ec ed ep =
-    let order_is : order ≡ settled_at f place = get_or_read f.orders.items place order lp eo 0 in
-    let within = h.settled place lp in
+-- two sums agree just where a wagon was reached from a place
+pub record AgreeWhereReached (state : State) (f : Search) (wagon place label price distance cost wagon_price : ℕ) : Type 0 where
+  pub reached : label + price ≡ distance + cost + wagon_price → IsReachedFrom (kept state) f wagon place
+  pub agree : IsReachedFrom (kept state) f wagon place → label + price ≡ distance + cost + wagon_price
+
+-- so do those of what is read of a wagon, and of the order that was settled at a place
+pub agree_where_reached : (state : State) (f : Search) (wagon place wagons order cost distance price label wagon_price : ℕ) → IsSearchOf state f → wagon < wagon_count state.cells.now → place < length f.orders.items → wagons ≡ wagon_count state.cells.now
+    → order ≡ get_or f.orders.items place order → cost ≡ get_or state.costs.items (order * wagons + wagon) cost → distance ≡ get_or f.order_distance.items order distance → price ≡ get_or state.v.items order price
+    → label ≡ get_or f.label.items wagon label → wagon_price ≡ get_or state.u.items wagon wagon_price → AgreeWhereReached state f wagon place label price distance cost wagon_price
+agree_where_reached state f wagon place wagons order cost distance price label wagon_price h lw lp count eo ec ed ep el eu =
+    let settled = settled_of state f place order h lp eo in
+    let lo = settled.within in
     let orders = h.orders in
-    let room = h.room.distances in
+    let rooms = h.room.distances in
+    let labels = h.room.labels in
+    let wagons_priced = h.wagons in
+    let c : cost ≡ cell_cost (cost_at state.cells.now wagon order) =
+    get_or_read state.costs.items (order * wagons + wagon) cost (cost_within state f wagon order wagons h lw lo count) ec 0
+    ∙ ap (λ w. get_or state.costs.items (order * w + wagon) 0) count ∙ h.costs.each wagon order lw lo in
+    let d : distance ≡ distance_at f order = get_or_read f.order_distance.items order distance (omega (arith, lo, rooms)) ed 0 in
+    let p : price ≡ get_or state.v.items order 0 = get_or_read state.v.items order price (omega (arith, lo, orders)) ep 0 in
+    let l : label ≡ label_at f wagon = get_or_read f.label.items wagon label (omega (arith, lw, labels)) el 0 in
+    let u : wagon_price ≡ get_or state.u.items wagon 0 = get_or_read state.u.items wagon wagon_price (omega (arith, lw, wagons_priced)) eu 0 in
     record {
-      order_is = order_is;
-      cost_is = get_or_read state.costs.items (order * wagons + wagon) cost (cost_within state f wagon place order wagons h lw lp order_is count) ec 0 ∙ ap (λ w. get_or state.costs.items (order * w + wagon) 0) count;
-      distance_is = get_or_read f.order_distance.items order distance (omega (arith, order_is, within, room)) ed 0;
-      price_is = get_or_read state.v.items order price (omega (arith, order_is, within, orders)) ep 0;
+      reached = λ same.
+          let here : label_at f wagon + get_or state.v.items order 0 ≡ reach (kept state) f wagon order = omega (arith, same, c, p, d, l, u) in
+          record { within = lp; exact = subst (λ (k : ℕ). label_at f wagon + get_or state.v.items k 0 ≡ reach (kept state) f wagon k) settled.is here };
+      agree = λ from.
+          let here : label_at f wagon + get_or state.v.items order 0 ≡ reach (kept state) f wagon order = subst (λ (k : ℕ). label_at f wagon + get_or state.v.items k 0 ≡ reach (kept state) f wagon k) (sym settled.is) from.exact in
+          omega (arith, here, c, p, d, l, u);
     }
-
--- the sums agree just where the wagon was reached from there
-pub sums_agree : (state : State) (f : Search) (wagon place order cost distance price : ℕ) → IsSearchOf state f → wagon < wagon_count state.cells.now → place < length f.orders.items → IsRead state f wagon place order cost distance price → label_at f wagon + price ≡ distance + cost + get_or state.u.items wagon 0 → IsReachedFrom (kept state) f wagon place
-sums_agree state f wagon place order cost distance price h lw lp r same =
-    let within = h.settled place lp in
-    let e = r.order_is in
-    let c : cost ≡ cell_cost (cost_at state.cells.now wagon order) = r.cost_is ∙ h.costs.each wagon order lw (omega (arith, within, e)) in
-    let p = r.price_is in
-    let d = r.distance_is in
-    let here : label_at f wagon + get_or state.v.items order 0 ≡ reach (kept state) f wagon order = omega (arith, same, c, p, d) in
-    record { within = lp; exact = subst (λ (k : ℕ). label_at f wagon + get_or state.v.items k 0 ≡ reach (kept state) f wagon k) e here }
-
-pub reached_agrees : (state : State) (f : Search) (wagon place order cost distance price : ℕ) → IsSearchOf state f → wagon < wagon_count state.cells.now → place < length f.orders.items → IsRead state f wagon place order cost distance price → IsReachedFrom (kept state) f wagon place → label_at f wagon + price ≡ distance + cost + get_or state.u.items wagon 0
-reached_agrees state f wagon place order cost distance price h lw lp r from =
-    let within = h.settled place lp in
-    let e = r.order_is in
-    let c : cost ≡ cell_cost (cost_at state.cells.now wagon order) = r.cost_is ∙ h.costs.each wagon order lw (omega (arith, within, e)) in
-    let p = r.price_is in
-    let d = r.distance_is in
-    let here : label_at f wagon + get_or state.v.items order 0 ≡ reach (kept state) f wagon order = subst (λ (k : ℕ). label_at f wagon + get_or state.v.items k 0 ≡ reach (kept state) f wagon k) (sym e) from.exact in
-    omega (arith, here, c, p, d)

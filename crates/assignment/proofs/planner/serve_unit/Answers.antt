@@ -8,7 +8,7 @@ use Rattle.assignment.specs.inner.Costs.{AreCosts}
 use Rattle.assignment.specs.inner.Path.{given_up, one_if}
 use Rattle.assignment.specs.inner.State.{IsKept, AreCounted, AreServed, is_order, kept, orders_of, more}
 use Rattle.assignment.proofs.Limits.{wagon_limit}
-use Rattle.assignment.proofs.Raised.{AreRaised, raised, priced_raised, held_raised}
+use Rattle.assignment.proofs.Raised.{raised, priced_raised, held_raised, has_raised}
 use Rattle.assignment.proofs.Unit.{counted_more}
 use Rattle.assignment.proofs.Served.{served_more}
 use Rattle.assignment.proofs.planner.serve_unit.Goals as goal
@@ -44,21 +44,12 @@ returns-clause-state c =
     let v = c.raise.new.prices in
     let h = orders_of state.order_of.items in
     let keeps = c.requires.state.keeps in
-    let lu : c.deref_mut-2.result.now ≡ s.u = c.deref_mut-2.ensures.value ∙ ap (λ (x : State). x.u.items) same in
-    let lv : c.deref_mut.result.now ≡ s.v = c.deref_mut.ensures.value ∙ ap (λ (x : State). x.v.items) same in
-    let up : AreRaised s f path.distance u v = record {
-      wagons_count = c.raise-2.auto.prices ∙ ap length lu;
-      orders_count = c.raise.auto.prices ∙ ap length lv;
-      wagons = λ i li. rw (lu, c.deref-2.ensures.value) at (c.raise-2.ensures i (let b = ap length lu in omega (arith, li, b)));
-      orders = λ k lk. rw (lv, c.deref.ensures.value) at (c.raise.ensures k (let b = ap length lv in omega (arith, lk, b)));
-    } in
-    let table : state.cells.now ≡ s.table = ap (λ (x : State). x.cells.now) same in
-    let eu : (with_items state.u u).items ≡ u = with_items_is state.u u (c.raise-2.auto.prices ∙ c.deref_mut-2.ensures.len) in
-    let ev : (with_items state.v v).items ≡ v = with_items_is state.v v (c.raise.auto.prices ∙ c.deref_mut.ensures.len) in
+    let up = has_raised c.args.state.now state f path.distance u v _ _ _ _ c.walk_back.ensures.same c.deref_mut-2.ensures.value c.deref_mut.ensures.value c.deref-2.ensures.value c.deref.ensures.value
+    c.raise-2.auto.prices c.raise.auto.prices c.deref_mut-2.ensures.len c.deref_mut.ensures.len c.raise-2.ensures c.raise.ensures in
     let done : IsKept (raised s u v h) = record {
       table = keeps.table;
-      priced = priced_raised s f path u v h keeps c.run-path.ensures.path up;
-      held = held_raised s f path u v h keeps c.run-path.ensures.path up c.walk_back.ensures.wagons c.walk_back.ensures.handed_on;
+      priced = priced_raised s f path u v h keeps c.run-path.ensures.path up.prices;
+      held = held_raised s f path u v h keeps c.run-path.ensures.path up.prices c.walk_back.ensures.wagons c.walk_back.ensures.handed_on;
     } in
     let ln : c.deref_mut-3.result.now ≡ c.args.state.now.served.items = c.deref_mut-3.ensures.value ∙ ap (λ (x : State). x.served.items) same in
     let n = c.count_unit.new.served in
@@ -67,10 +58,10 @@ returns-clause-state c =
     let step : (k : ℕ) → k < order_count s.table → get_or n k 0 + one_if k (given_up f path.end) ≡ get_or c.args.state.now.served.items k 0 + one_if k (Some (get_or f.orders.items 0 0)) = λ k l. rw ln at (c.count_unit.ensures k (let b = ap length ln in omega (arith, l, b, counts))) in
     let served_now : AreServed (order_count s.table) h n = served_more (order_count s.table) s.order_of h c.args.state.now.served.items n _ _ c.requires.state.served (c.count_unit.auto.served ∙ ap length ln ∙ counts) c.walk_back.ensures.count step in
     record {
-      keeps = rw (table, eu, ev) done;
+      keeps = rw (up.table, up.wagon_prices, up.order_prices) done;
       costs = subst (λ (x : State). AreCosts x.cells.now x.costs.items) (sym same) c.requires.state.costs;
       hints = subst (λ (x : State). length x.nearest.items ≡ order_count x.cells.now) (sym same) c.requires.state.hints;
-      served = rw (table, en) served_now;
+      served = rw (up.table, en) served_now;
     }
 
 pub returns-clause-counted : goal.returns-clause-counted
@@ -79,21 +70,10 @@ returns-clause-counted c = λ taken counted.
     let f = c.run-path.new.self in
     let path = c.run-path.result in
     let state = c.walk_back.new.state in
-    let same = c.walk_back.ensures.same in
     let u = c.raise-2.new.prices in
     let v = c.raise.new.prices in
     let h = orders_of state.order_of.items in
-    let keeps = c.requires.state.keeps in
-    let lu : c.deref_mut-2.result.now ≡ s.u = c.deref_mut-2.ensures.value ∙ ap (λ (x : State). x.u.items) same in
-    let lv : c.deref_mut.result.now ≡ s.v = c.deref_mut.ensures.value ∙ ap (λ (x : State). x.v.items) same in
-    let up : AreRaised s f path.distance u v = record {
-      wagons_count = c.raise-2.auto.prices ∙ ap length lu;
-      orders_count = c.raise.auto.prices ∙ ap length lv;
-      wagons = λ i li. rw (lu, c.deref-2.ensures.value) at (c.raise-2.ensures i (let b = ap length lu in omega (arith, li, b)));
-      orders = λ k lk. rw (lv, c.deref.ensures.value) at (c.raise.ensures k (let b = ap length lv in omega (arith, lk, b)));
-    } in
-    let table : state.cells.now ≡ s.table = ap (λ (x : State). x.cells.now) same in
-    let eu : (with_items state.u u).items ≡ u = with_items_is state.u u (c.raise-2.auto.prices ∙ c.deref_mut-2.ensures.len) in
-    let ev : (with_items state.v v).items ≡ v = with_items_is state.v v (c.raise.auto.prices ∙ c.deref_mut.ensures.len) in
-    let done : AreCounted (raised s u v h) (more c.args.j 1 taken) = counted_more s f path u v h c.args.j taken keeps c.run-path.ensures.path up c.run-path.ensures.first c.walk_back.ensures.count counted in
-    rw (table, eu, ev) done
+    let up = has_raised c.args.state.now state f path.distance u v _ _ _ _ c.walk_back.ensures.same c.deref_mut-2.ensures.value c.deref_mut.ensures.value c.deref-2.ensures.value c.deref.ensures.value
+    c.raise-2.auto.prices c.raise.auto.prices c.deref_mut-2.ensures.len c.deref_mut.ensures.len c.raise-2.ensures c.raise.ensures in
+    let done : AreCounted (raised s u v h) (more c.args.j 1 taken) = counted_more s f path u v h c.args.j taken c.requires.state.keeps c.run-path.ensures.path up.prices c.run-path.ensures.first c.walk_back.ensures.count counted in
+    rw (up.table, up.wagon_prices, up.order_prices) done
