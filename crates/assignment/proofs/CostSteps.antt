@@ -133,6 +133,14 @@ place_read t n m w row costs re we ln is lm count =
     subst (λ (r : List (ℕ × ℕ)). IsRow (order_count t) 0 r → m < length r → (get_or r m (0, 0)).0 * w + n < length costs) (sym re)
     (λ is' lm'. subst (λ (x : ℕ). (get_or (row_at t n) m (0, 0)).0 * x + n < length costs) (sym we) (cost_place t n m costs ln is' lm' count)) is lm
 
+-- and it is a small number
+pub place_low : (t : Table) (n m w : ℕ) (row : List (ℕ × ℕ)) (costs : List ℕ) → IsTable t → row ≡ row_at t n → w ≡ wagon_count t → n < wagon_count t → IsRow (order_count t) 0 row → m < length row → length costs ≡ order_count t * wagon_count t
+    → (get_or row m (0, 0)).0 * w + n < 500000
+place_low t n m w row costs table re we ln is lm count =
+    let place = place_read t n m w row costs re we ln is lm count in
+    let limit = costs_limit t table in
+    omega (arith, place, limit, count)
+
 pub more_read : (t : Table) (n m w : ℕ) (row : List (ℕ × ℕ)) (costs costs' : List ℕ) → row ≡ row_at t n → w ≡ wagon_count t → n < wagon_count t → IsRow (order_count t) 0 row → m < length row → AreCostsOf t (cost_within t n m) costs → costs' ≡ set costs ((get_or row m (0, 0)).0 * w + n) (get_or row m (0, 0)).1 → AreCostsOf t (cost_within t n (m + 1)) costs'
 more_read t n m w row costs costs' re we ln is lm h e =
     subst (λ (r : List (ℕ × ℕ)). IsRow (order_count t) 0 r → m < length r → costs' ≡ set costs ((get_or r m (0, 0)).0 * w + n) (get_or r m (0, 0)).1 → AreCostsOf t (cost_within t n (m + 1)) costs') (sym re)

@@ -7,6 +7,7 @@ pub mod Beginning
 pub mod PairSteps
 pub mod Nearness
 pub mod Relabel
+pub mod Taking
 pub mod Settle
 pub mod Raised
 pub mod Unit

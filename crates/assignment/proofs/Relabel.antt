@@ -6,7 +6,7 @@ use Rattle.assignment.specs.declared.search.Search.{Search}
 use Rattle.assignment.specs.inner.Costs.{cell_cost, IsColumn}
 use Rattle.assignment.specs.inner.Passes.{through}
 use Rattle.assignment.specs.inner.State.{Kept, IsKept}
-use Rattle.assignment.specs.inner.Search.{IsSearch, label_at, settled_at, distance_at}
+use Rattle.assignment.specs.inner.Search.{IsRefusal, IsSearch, label_at, settled_at, distance_at}
 use Rattle.assignment.proofs.Limits.{cell_gap}
 
 -- each wagon took the nearer of its label and its distance over the order at the front
@@ -28,6 +28,10 @@ new_label s f scanned costs label i k h r l =
     let gap = cell_gap s i (settled_at f scanned) k (h.settled.order scanned (omega arith)) in
     let cost = r.column.each i l in
     record { exact = omega (arith, gap, cost); beyond = omega (arith, gap, cost); label_is = r.labels i l }
+
+-- the refusal has nothing to do with the labels
+refusal_relabelled : (s : Kept) (f : Search) (label : Vec ℕ Global) → IsRefusal s f → IsRefusal s (record f { label = label })
+refusal_relabelled s f label h = record { beyond = h.beyond; none = h.none; limit = h.limit; within = h.within; exact = h.exact; least = h.least }
 
 pub search_relaxed : (s : Kept) (f : Search) (scanned : ℕ) (costs : List ℕ) (label : Vec ℕ Global) → IsKept s → IsSearch s f scanned → IsRelabelled s f scanned costs label.items → IsSearch s (record f { label = label }) (scanned + 1)
 search_relaxed s f scanned costs label k h r =
@@ -97,12 +101,5 @@ search_relaxed s f scanned costs label k h r =
               reached = record { place = led.reached.place; before = led.reached.before; from = record { within = led.reached.from.within; exact = omega (arith, exact, same) } };
             };
       };
-      refusal = record {
-        beyond = h.refusal.beyond;
-        none = h.refusal.none;
-        limit = h.refusal.limit;
-        within = h.refusal.within;
-        exact = h.refusal.exact;
-        least = h.refusal.least;
-      };
+      refusal = refusal_relabelled s f label h.refusal;
     }

@@ -8,3 +8,4 @@ pub mod Path
 pub mod Pairs
 pub mod Sequence
 pub mod Planner
+pub mod Taken

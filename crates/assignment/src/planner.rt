@@ -1,9 +1,10 @@
 //! The planner and what it answers.
-ghost use Rattle.std.specs.Prelude.{◌≡◌, ◌<◌, ◌≤◌, ℕ, IfOk};
+ghost use Rattle.std.specs.Prelude.{◌≡◌, ◌<◌, ◌≤◌, IfOk};
 ghost use Rattle.cost_table.specs.Table.{order_count, lack_at};
 ghost use Rattle.cost_table.specs.Plan.{IsOptimal, cost_of};
 ghost use Rattle.price_checker.specs.Certificate.{IsCertificate};
-ghost use Rattle.assignment.specs.inner.State.{IsState, AreCounted, kept, more};
+ghost use Rattle.assignment.specs.inner.State.{IsState};
+ghost use Rattle.assignment.specs.inner.Taken.{HasTaken};
 ghost use Rattle.assignment.specs.inner.Search.{HasRoom};
 
 use crate::pair_list::write_pairs;
@@ -99,10 +100,8 @@ fn serve_order(state: &mut State, search: &mut Search, j: usize)
     requires state { IsState state.old }
     requires room { HasRoom state.old.cells.now search.old }
     requires order { j < order_count state.old.cells.now }
-    ensures state { IsState state.new }
+    ensures taken { HasTaken state.old state.new j (lack_at state.old.cells.now j) }
     ensures room { HasRoom state.new.cells.now search.new }
-    ensures counted { (taken : ℕ → ℕ) → AreCounted (kept state.old) taken → AreCounted (kept state.new) (more j (lack_at state.old.cells.now j) taken) }
-    ensures table { state.new.cells.now ≡ state.old.cells.now }
 {
     let units = serve_at_hand(state, j);
     'units: for _unit in units..state.cells.lack(j) {
@@ -115,10 +114,8 @@ fn serve_order(state: &mut State, search: &mut Search, j: usize)
 fn serve_at_hand(state: &mut State, j: usize) -> u32
     requires state { IsState state.old }
     requires order { j < order_count state.old.cells.now }
-    ensures state { IsState state.new }
-    ensures counted { (taken : ℕ → ℕ) → AreCounted (kept state.old) taken → AreCounted (kept state.new) (more j result taken) }
+    ensures taken { HasTaken state.old state.new j result }
     ensures limit { result ≤ lack_at state.old.cells.now j }
-    ensures table { state.new.cells.now ≡ state.old.cells.now }
 {
     let lack = state.cells.lack(j);
     let mut units = 0;
@@ -140,10 +137,8 @@ fn serve_unit(state: &mut State, search: &mut Search, j: usize)
     requires state { IsState state.old }
     requires room { HasRoom state.old.cells.now search.old }
     requires order { j < order_count state.old.cells.now }
-    ensures state { IsState state.new }
+    ensures taken { HasTaken state.old state.new j 1 }
     ensures room { HasRoom state.new.cells.now search.new }
-    ensures counted { (taken : ℕ → ℕ) → AreCounted (kept state.old) taken → AreCounted (kept state.new) (more j 1 taken) }
-    ensures table { state.new.cells.now ≡ state.old.cells.now }
 {
     let path = search.run(state, j);
     walk_back(state, search, path);

@@ -168,6 +168,19 @@ pub record AreParts (R : FreeWagon → WantedOrder → ℕ → Type 0) (problem 
   pub lack_list : lacks ≡ lacks_of problem.orders
   pub lack_limit : All IsLack lacks
 
+-- lists that were made of the problem's orders are such parts
+pub AreParts-of : (R : FreeWagon → WantedOrder → ℕ → Type 0) (problem : ProblemValue) (orders : List WantedOrder) (entries : List (ℕ × ℕ)) (ends penalties lacks : List ℕ) → orders ≡ problem.orders → IsProblem problem
+    → AreRowsOf R problem.wagons problem.orders entries ends → penalties ≡ penalties_of orders → All (λ penalty. penalty ≤ max_cost) penalties → lacks ≡ lacks_of orders → All IsLack lacks
+    → AreParts R problem entries ends penalties lacks
+AreParts-of R problem orders entries ends penalties lacks same kept rows penalty_list penalty_limit lack_list lack_limit = record {
+  rows = rows;
+  kept = kept;
+  penalty_list = rw same at penalty_list;
+  penalty_limit = penalty_limit;
+  lack_list = rw same at lack_list;
+  lack_limit = lack_limit;
+}
+
 module _ (R : FreeWagon → WantedOrder → ℕ → Type 0) (problem : ProblemValue) (entries : List (ℕ × ℕ)) (ends penalties lacks : List ℕ) (h : AreParts R problem entries ends penalties lacks) where
   lack_count : length lacks ≡ length problem.orders
   lack_count = ap length h.lack_list ∙ length-map problem.orders (λ (o : WantedOrder). o.lack)

@@ -7,26 +7,27 @@ use Rattle.std.proofs.lemmas.List.Sums.{position_or_len_is}
 use Rattle.std.proofs.lemmas.List.Quantifiers.{position-Some}
 use Rattle.std.proofs.lemmas.Option.{slice_get_within, get_or_from_slice_get, slice_get-get_or}
 use Rattle.std.proofs.lemmas.Bool.Decides.{nat_tests}
-use Rattle.cost_table.specs.Names.{NameLists, is_name, is_among, repeated_after, first_repeated, both, pair_of}
+use Rattle.cost_table.specs.Names.{NameLists, is_name, is_among, repeated_after, repeated_from, first_repeated, both, pair_of}
 
-one_repeated : (before rest : List (List ℕ)) (x : List ℕ) (b : Bool) → is_among before x ≡ b → repeated_after before (x ∷ rest) ≡ cond b (Some x) (repeated_after (before ++ x ∷ []) rest)
-one_repeated before rest x b h = ap (λ t. cond t (Some x) (repeated_after (before ++ x ∷ []) rest)) h
+module _ {A : Type 0} (same : A → A → Bool) where
+  one_repeated : (before rest : List A) (x : A) (b : Bool) → list_any (λ y. same y x) before ≡ b → repeated_from same before (x ∷ rest) ≡ cond b (Some x) (repeated_from same (before ++ x ∷ []) rest)
+  one_repeated before rest x b h = ap (λ t. cond t (Some x) (repeated_from same (before ++ x ∷ []) rest)) h
 
--- the name at k stands before it too
-pub repeated_here : (names : List (List ℕ)) (k : ℕ) (x : List ℕ) → k < length names → x ≡ get_or names k x → is_among (take k names) x ≡ true → repeated_after (take k names) (drop k names) ≡ Some x
-repeated_here names k x l is h =
-    let rest : drop k names ≡ get_or names k x ∷ drop (k + 1) names = drop_more names k x l in
-    let here : drop k names ≡ x ∷ drop (k + 1) names = rest ∙ ap (λ y. y ∷ drop (k + 1) names) (sym is) in
-    rw here (one_repeated (take k names) (drop (k + 1) names) x true h)
+  -- the value at k stands before it too
+  pub repeated_here : (xs : List A) (k : ℕ) (x : A) → k < length xs → x ≡ get_or xs k x → list_any (λ y. same y x) (take k xs) ≡ true → repeated_from same (take k xs) (drop k xs) ≡ Some x
+  repeated_here xs k x l is h =
+      let rest : drop k xs ≡ get_or xs k x ∷ drop (k + 1) xs = drop_more xs k x l in
+      let here : drop k xs ≡ x ∷ drop (k + 1) xs = rest ∙ ap (λ y. y ∷ drop (k + 1) xs) (sym is) in
+      rw here (one_repeated (take k xs) (drop (k + 1) xs) x true h)
 
--- the name at k does not stand before it
-pub repeated_later : (names : List (List ℕ)) (k : ℕ) (x : List ℕ) → k < length names → x ≡ get_or names k x → is_among (take k names) x ≡ false → repeated_after (take (k + 1) names) (drop (k + 1) names) ≡ repeated_after (take k names) (drop k names)
-repeated_later names k x l is h =
-    let rest : drop k names ≡ get_or names k x ∷ drop (k + 1) names = drop_more names k x l in
-    let here : drop k names ≡ x ∷ drop (k + 1) names = rest ∙ ap (λ y. y ∷ drop (k + 1) names) (sym is) in
-    let front : take (k + 1) names ≡ take k names ++ get_or names k x ∷ [] = take_more names k x l in
-    let more : take (k + 1) names ≡ take k names ++ x ∷ [] = front ∙ ap (λ y. take k names ++ y ∷ []) (sym is) in
-    rw (here, more) (sym (one_repeated (take k names) (drop (k + 1) names) x false h))
+  -- the value at k does not stand before it
+  pub repeated_later : (xs : List A) (k : ℕ) (x : A) → k < length xs → x ≡ get_or xs k x → list_any (λ y. same y x) (take k xs) ≡ false → repeated_from same (take (k + 1) xs) (drop (k + 1) xs) ≡ repeated_from same (take k xs) (drop k xs)
+  repeated_later xs k x l is h =
+      let rest : drop k xs ≡ get_or xs k x ∷ drop (k + 1) xs = drop_more xs k x l in
+      let here : drop k xs ≡ x ∷ drop (k + 1) xs = rest ∙ ap (λ y. y ∷ drop (k + 1) xs) (sym is) in
+      let front : take (k + 1) xs ≡ take k xs ++ get_or xs k x ∷ [] = take_more xs k x l in
+      let more : take (k + 1) xs ≡ take k xs ++ x ∷ [] = front ∙ ap (λ y. take k xs ++ y ∷ []) (sym is) in
+      rw (here, more) (sym (one_repeated (take k xs) (drop (k + 1) xs) x false h))
 
 unrepeated_tail : (b : Bool) (rest : Option (List ℕ)) (x : List ℕ) → cond b (Some x) rest ≡ None → (b ≡ false) × (rest ≡ None)
 unrepeated_tail true rest x h = cc

@@ -1,5 +1,6 @@
 use Rattle.std.proofs.Common.{◌≡◌, ◌+◌, ◌<◌, ℕ, Bool, true, false, Some, cond, List, [], ◌∷◌, length, get_or, take, drop, map, refl, sym, ap, ◌∙◌, arith}
-use Rattle.std.specs.Prelude.{position, ◌||◌}
+use Rattle.std.specs.Prelude.{nat_eq, position, ◌||◌}
+use Rattle.std.specs.Cmp.Lexicographic.{pointwise}
 use Rattle.std.specs.List.{list_any, position_or_len}
 use Rattle.std.proofs.lemmas.List.{length-map, get_or-map, take-map}
 use Rattle.std.proofs.lemmas.List.Recursion.{is_position_or_len}
@@ -30,12 +31,12 @@ named_at f xs k x name l is named = named ∙ (ap f is ∙ sym (get_or-map f xs 
 -- the name of what stands at k stands before it too
 pub named_before : {X : Type 0} (f : X → List ℕ) (xs : List X) (k : ℕ) (x : X) (name : List ℕ) → k < length xs → x ≡ get_or xs k x → name ≡ f x → list_any (λ y. is_name name (f y)) (take k xs) ≡ true → repeated_after (take k (map f xs)) (drop k (map f xs)) ≡ Some name
 named_before f xs k x name l is named h =
-    repeated_here (map f xs) k name (omega (arith, length-map xs f)) (named_at f xs k x name l is named)
+    repeated_here (λ name other. pointwise nat_eq name other) (map f xs) k name (omega (arith, length-map xs f)) (named_at f xs k x name l is named)
     (ap (λ names. is_among names name) (take-map f k xs) ∙ (list_any-map (is_name name) f (take k xs) ∙ h))
 
 pub named_later : {X : Type 0} (f : X → List ℕ) (xs : List X) (k : ℕ) (x : X) (name : List ℕ) → k < length xs → x ≡ get_or xs k x → name ≡ f x → list_any (λ y. is_name name (f y)) (take k xs) ≡ false → repeated_after (take (k + 1) (map f xs)) (drop (k + 1) (map f xs)) ≡ repeated_after (take k (map f xs)) (drop k (map f xs))
 named_later f xs k x name l is named h =
-    repeated_later (map f xs) k name (omega (arith, length-map xs f)) (named_at f xs k x name l is named)
+    repeated_later (λ name other. pointwise nat_eq name other) (map f xs) k name (omega (arith, length-map xs f)) (named_at f xs k x name l is named)
     (ap (λ names. is_among names name) (take-map f k xs) ∙ (list_any-map (is_name name) f (take k xs) ∙ h))
 
 -- where a pair stands, by the lists themselves

@@ -17,11 +17,14 @@ is_name name other = pointwise nat_eq other name
 abbrev pub is_among : List (List ℕ) → List ℕ → Bool
 is_among names name = list_any (is_name name) names
 
+-- the first of some values that is the same as an earlier one, where those of `before` are earlier than all
+abbrev pub repeated_from : {A : Type 0} → (A → A → Bool) → List A → List A → Option A
+repeated_from same before [] = None
+repeated_from same before (x ∷ xs) = if list_any (λ y. same y x) before then Some x else repeated_from same (before ++ x ∷ []) xs
+
 -- the first of the names that repeats an earlier one, where those of `before` are earlier than all
 abbrev pub repeated_after : List (List ℕ) → List (List ℕ) → Option (List ℕ)
-repeated_after before [] = None
-repeated_after before (name ∷ names) =
-    if is_among before name then Some name else repeated_after (before ++ name ∷ []) names
+repeated_after before names = repeated_from (λ name other. pointwise nat_eq name other) before names
 
 abbrev pub first_repeated : List (List ℕ) → Option (List ℕ)
 first_repeated names = repeated_after [] names

@@ -1,6 +1,6 @@
 //! The names of a table's wagons and orders.
-ghost use Rattle.std.specs.Prelude.{◌≡◌, ℕ, Some, IfSome, position, slice_get};
-ghost use Rattle.cost_table.specs.Names.{is_name, first_repeated, names_of, pair_of};
+ghost use Rattle.std.specs.Prelude.{◌≡◌, ℕ, [], Some, IfSome, position, slice_get};
+ghost use Rattle.cost_table.specs.Names.{is_name, names_of, pair_of, repeated_from};
 
 use crate::limits::{MAX_TABLE_ORDERS, MAX_TABLE_WAGONS};
 use crate::pair_names::PairNames;
@@ -36,10 +36,10 @@ impl Names {
         if wagons.len() > MAX_TABLE_WAGONS || orders.len() > MAX_TABLE_ORDERS {
             return Err(TableFault::TooLarge);
         }
-        if let Some(number) = repeated_wagon(&wagons) {
+        if let Some(number) = repeated(&wagons) {
             return Err(TableFault::DuplicateWagon(number));
         }
-        if let Some(id) = repeated_order(&orders) {
+        if let Some(id) = repeated(&orders) {
             return Err(TableFault::DuplicateOrder(id));
         }
         Ok(Names { wagons, orders })
@@ -87,25 +87,13 @@ impl PairNames for Names {
     }
 }
 
-/// The first wagon that repeats an earlier one.
-fn repeated_wagon(wagons: &[WagonNumber]) -> Option<WagonNumber>
-    ensures { result ≡ first_repeated wagons.now }
+/// The first value that equals an earlier one.
+fn repeated<T: Copy + PartialEq>(values: &[T]) -> Option<T>
+    ensures { result ≡ repeated_from T.eq [] values.now }
 {
-    for (k, wagon) in wagons.iter().enumerate() {
-        if wagons[..k].contains(wagon) {
-            return Some(*wagon);
-        }
-    }
-    None
-}
-
-/// The first order that repeats an earlier one.
-fn repeated_order(orders: &[OrderId]) -> Option<OrderId>
-    ensures { result ≡ first_repeated orders.now }
-{
-    for (k, id) in orders.iter().enumerate() {
-        if orders[..k].contains(id) {
-            return Some(*id);
+    for (k, value) in values.iter().enumerate() {
+        if values[..k].contains(value) {
+            return Some(*value);
         }
     }
     None

@@ -4,7 +4,7 @@ use Rattle.csv.specs.declared.reader.Reader.{Reader}
 use Rattle.csv_records.specs.inner.Requests.{IsRequest, AreRequests, none_yet, one_more, AsksAtMost}
 
 module _ {R : Type 0} (remaining : R → Option (List ℕ)) (before : Reader R) where
-  pub asks_none : (most : ℕ) → AsksAtMost remaining before most before
+  asks_none : (most : ℕ) → AsksAtMost remaining before most before
   asks_none most = record { count = 0; few = omega arith; requests = none_yet }
 
   -- one request more
@@ -14,6 +14,10 @@ module _ {R : Type 0} (remaining : R → Option (List ℕ)) (before : Reader R) 
     few = omega (arith, h.few);
     requests = one_more h.count between after h.requests asked;
   }
+
+  -- the first request
+  pub asks_once : (more : ℕ) (after : Reader R) → 1 ≤ more → IsRequest remaining before after → AsksAtMost remaining before more after
+  asks_once more after enough asked = asks_more 0 more before after enough (asks_none 0) asked
 
 -- requests that follow one request
 requests_after : {R : Type 0} (remaining : R → Option (List ℕ)) (before first : Reader R) (count : ℕ) (after : Reader R) → IsRequest remaining before first → AreRequests remaining first count after → AreRequests remaining before (count + 1) after

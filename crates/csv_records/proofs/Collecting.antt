@@ -1,6 +1,8 @@
 -- What reading answers, from what each record gives: records so far, a fault at one, the end, and a failure.
 use Rattle.std.proofs.Common.{◌≡◌, ℕ, ◌+◌, true, false, List, [], ◌∷◌, ◌++◌, length, Option, Result, Ok, Err, refl, arith, length-append}
 use Rattle.std.proofs.lemmas.List.{append-nil, append_assoc}
+use Rattle.std.proofs.lemmas.Result.{err_from_is_err_and}
+use Rattle.std.specs.Result.{IsErrAnd}
 use Rattle.csv.specs.Reading.{ReadRecord, source_of}
 use Rattle.csv.specs.declared.reader.Reader.{Reader}
 use Rattle.csv_records.proofs.Remaining.{Between, between_more, between_start, left_after, none_left, records_left}
@@ -36,11 +38,12 @@ module _ {R T F : Type 0} (remaining : R → Option (List ℕ)) (made_of : T →
     counted = omega (arith, h.counted, length-append h.done (fields ∷ []));
   }
 
-  -- a failure of memory or of the reader may come at any record
-  pub Answers-failure : (result : Result T F) (fault : F) → result ≡ Err fault → ((records : List Record) → refuses fault records) → Answers result
-  Answers-failure result fault e any =
+  -- a failure of memory or of the reader, as a `?` hands it on, may come at any record
+  pub Answers-failure : {Q : F → Type 0} (result : Result T F) → IsErrAnd result Q → ((fault : F) (records : List Record) → Q fault → refuses fault records) → Answers result
+  Answers-failure result failed any =
+      let (fault, is, from) = err_from_is_err_and result failed in
       let (rest, left) = records_left remaining start in
-      (rest, left, rw e (any rest))
+      (rest, left, rw is (any fault rest from))
 
   -- there is no record
   pub Answers-none : (b : Reader R) (fields : Record) (fault : F) → IsSetUp start → ReadRecord remaining start b false fields → refuses fault [] → Answers (Err fault)

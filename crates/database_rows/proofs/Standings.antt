@@ -1,12 +1,13 @@
 -- Where the empty wagons stand.
-use Rattle.std.proofs.Common.{◌≡◌, ◌∙◌, ℕ, zero, suc, ◌+◌, ◌<◌, ◌≤◌, Bool, true, false, cond, not, ◌&&◌, ◌||◌, nat_eq, nat_lt, List, [], ◌∷◌, length, refl, ap, sym, subst, inl, inr, arith, true≢false}
+use Rattle.std.proofs.Common.{◌≡◌, ◌∙◌, ℕ, zero, suc, ◌+◌, Bool, true, false, cond, not, ◌&&◌, ◌||◌, nat_eq, nat_lt, List, [], ◌∷◌, length, refl, ap, sym, subst, inl, inr, arith, true≢false}
 use Rattle.std.specs.Prelude.{Option, Some, None, IfSome, IsSome, OnErr, Result, Ok, Err, slice_get}
-use Rattle.std.specs.Cmp.{IsTotalOrder}
+use Rattle.std.specs.Cmp.{IsTotalOrder, unsigned_ties}
 use Rattle.std.specs.Cmp.Lexicographic.{bytes_decides, slice_cmp, texts_ties}
 use Rattle.std.specs.List.{slice_set}
 use Rattle.std.specs.Ordering.{is_eq, nat_cmp, ordering_then}
 use Rattle.std.specs.declared.cmp.Ordering.{Ordering}
 use Rattle.std.specs.declared.cmp.Ordering.TheVariants.{Less, Equal, Greater}
+use Rattle.std.proofs.Math.Bool.{and-false, and-true}
 use Rattle.std.proofs.lemmas.Bool.{cases_lt, le-ltb, lt-ltb}
 use Rattle.std.proofs.lemmas.Bool.Decides.{nat_tests}
 use Rattle.std.proofs.lemmas.Cmp.{nat_cmp_total, nat_list_cmp_total, on_total, then_total}
@@ -26,9 +27,6 @@ equal_first Less q = refl
 equal_first Equal q = refl
 equal_first Greater q = refl
 
-nat_ties : (a b : ℕ) → is_eq (nat_cmp a b) ≡ nat_eq a b
-nat_ties a b = grind (arith, nat_tests)
-
 both_true : (a b : Bool) → (a && b) ≡ true → (a ≡ true) × (b ≡ true)
 both_true true b h = (refl, h)
 both_true false b h = absurd cc
@@ -45,7 +43,7 @@ pub ties : (a b : Standing) → is_eq (compare_standings a b) ≡ is_one a b
 ties a b =
     let later : is_eq (ordering_then (slice_cmp nat_cmp a.place b.place) (nat_cmp a.row b.row)) ≡ (is_same a.place b.place && nat_eq a.row b.row) =
     equal_first (slice_cmp nat_cmp a.place b.place) (nat_cmp a.row b.row)
-    ∙ (ap (λ t. t && is_eq (nat_cmp a.row b.row)) (sym (texts_ties a.place b.place)) ∙ ap (λ t. is_same a.place b.place && t) (nat_ties a.row b.row)) in
+    ∙ (ap (λ t. t && is_eq (nat_cmp a.row b.row)) (sym (texts_ties a.place b.place)) ∙ ap (λ t. is_same a.place b.place && t) (sym (unsigned_ties a.row b.row))) in
     equal_first (slice_cmp nat_cmp a.class b.class) (ordering_then (slice_cmp nat_cmp a.place b.place) (nat_cmp a.row b.row))
     ∙ (ap (λ t. t && is_eq (ordering_then (slice_cmp nat_cmp a.place b.place) (nat_cmp a.row b.row))) (sym (texts_ties a.class b.class)) ∙ ap (λ t. is_same a.class b.class && t) later)
 
@@ -120,14 +118,7 @@ here_now false true = refl
 here_now false false = refl
 
 as_before : (n o h : Bool) → ((n && false) || (h && not (o && false))) ≡ h
-as_before true true true = refl
-as_before true true false = refl
-as_before true false true = refl
-as_before true false false = refl
-as_before false true true = refl
-as_before false true false = refl
-as_before false false true = refl
-as_before false false false = refl
+as_before n o h = rw (and-false n, and-false o, and-true h) refl
 
 put_at : (rows : List WagonRow) (k : ℕ) (old new : WagonRow) (q : Standing) (had b : Bool) → slice_get rows k ≡ Some old → had ≡ stands_at rows q → nat_eq k q.row ≡ b
     → ((is_empty_at q.class q.place new && b) || (had && not (is_empty_at q.class q.place old && b))) ≡ stands_at (slice_set rows k new) q
@@ -190,12 +181,7 @@ comes true s h = h
 comes false s h = h
 
 others_stay : (n b s : Bool) → ((n && false) || ((b && s) && true)) ≡ (b && s)
-others_stay true true true = refl
-others_stay true true false = refl
-others_stay true false s = refl
-others_stay false true true = refl
-others_stay false true false = refl
-others_stay false false s = refl
+others_stay n b s = rw (and-false n, and-true (b && s)) refl
 
 more_at : (rows : List WagonRow) (k : ℕ) (row : WagonRow) (q : Standing) (b : Bool) → slice_get rows k ≡ Some row → nat_eq k q.row ≡ b
     → ((is_empty_at q.class q.place row && b) || ((nat_lt q.row k && stands_at rows q) && true)) ≡ (nat_lt q.row (k + 1) && stands_at rows q)

@@ -1,5 +1,5 @@
 -- The places of the rows that wait.
-use Rattle.std.proofs.Common.{◌≡◌, ◌∙◌, ℕ, zero, suc, ◌+◌, ◌-◌, ◌<◌, ◌≤◌, Bool, true, false, cond, not, ◌&&◌, nat_eq, nat_lt, List, [], ◌∷◌, ◌++◌, length, count_by, refl, ap, sym, subst, arith}
+use Rattle.std.proofs.Common.{◌≡◌, ◌∙◌, ℕ, zero, suc, ◌+◌, ◌-◌, ◌<◌, ◌≤◌, Bool, true, false, cond, not, ◌&&◌, nat_eq, nat_lt, List, [], ◌∷◌, ◌++◌, length, get_or, count_by, refl, ap, sym, subst, arith}
 use Rattle.std.specs.Prelude.{Option, Some, position}
 use Rattle.std.specs.BTreeMap.{BTreeMap, get}
 use Rattle.std.specs.Cmp.Lexicographic.{slice_cmp}
@@ -8,12 +8,11 @@ use Rattle.std.specs.Ordering.{nat_cmp}
 use Rattle.std.proofs.lemmas.Bool.Decides.{nat_tests}
 use Rattle.std.proofs.lemmas.List.Sums.{sum_by-cons}
 use Rattle.load_orders.specs.Lack.{is_waiting}
-use Rattle.load_orders.specs.OrderRow.{OrderRowValue}
+use Rattle.load_orders.specs.OrderRow.{IsOrderRow, OrderRowValue}
 use Rattle.database_rows.specs.Kept.{IsOrderRows}
-use Rattle.database_rows.specs.Rows.{is_order, max_open_wagons, open_wagons, waiting_from, wanted_open}
+use Rattle.database_rows.specs.Rows.{at_order, is_order, max_open_wagons, open_wagons, order_in, waiting_from, wanted_open}
 use Rattle.database_rows.specs.inner.Indexed.{IsIndexed, IsStored, IsWaitingList, noted, without_place}
-use Rattle.database_rows.proofs.Named.{found_at_place}
-use Rattle.database_rows.proofs.Orders.{IsRowAt, indexed_new}
+use Rattle.database_rows.proofs.Orders.{IsRowAt, changed_is, indexed_new, indexed_with, row_at, wanted_within}
 
 abbrev AllFrom : ℕ → List ℕ → Type 0
 AllFrom least places = AllByRecursion (λ place. least ≤ place) places
@@ -129,12 +128,6 @@ room_left rows waiting room kept waits some =
 pub room_at : (rows : List OrderRowValue) (index : List ℕ → Option ℕ) (n : ℕ) (waiting : List ℕ) (room k : ℕ) → IsStored rows index n waiting room → k < length rows → length waiting < room
 room_at rows index n waiting room k h within = room_left rows waiting room h.rows_kept.kept h.waits (omega (arith, within))
 
-pub room_there : (rows : List OrderRowValue) (index : List ℕ → Option ℕ) (n : ℕ) (waiting : List ℕ) (room : ℕ) (id : List ℕ) (r : Option ℕ) (k : ℕ)
-    → IsStored rows index n waiting room → r ≡ position (is_order id) rows → r ≡ Some k → length waiting < room
-room_there rows index n waiting room id r k h place is =
-    let within = (found_at_place (is_order id) rows k (sym place ∙ is)).1 in
-    room_left rows waiting room h.rows_kept.kept h.waits (omega (arith, within))
-
 -- ---- what is stored after a change
 
 pub stored_new : (rows : List OrderRowValue) (places : BTreeMap (List ℕ) ℕ) (waiting : List ℕ) (room : ℕ) → rows ≡ [] → places.entries ≡ [] → waiting ≡ [] → IsStored rows (get (slice_cmp nat_cmp) places) 0 waiting room
@@ -158,16 +151,38 @@ stored_room rows index index' n waiting waiting' room room' h same_index same mo
 }
 
 -- another row of the same order
-pub stored_with : (rows : List OrderRowValue) (index : List ℕ → Option ℕ) (n m : ℕ) (waiting waiting' : List ℕ) (room room' : ℕ) (id : List ℕ) (k : ℕ) (row new : OrderRowValue) (waits : Bool)
-    → IsStored rows index n waiting room → IsRowAt rows id k row → IsIndexed (slice_set rows k new) index m → waits ≡ is_waiting new → waiting' ≡ noted k waits waiting → room' ≡ room
-    → IsStored (slice_set rows k new) index m waiting' room'
-stored_with rows index n m waiting waiting' room room' id k row new waits h at indexed is changed same = record {
-  rows_kept = indexed;
+pub stored_with : {rows : List OrderRowValue} {index : List ℕ → Option ℕ} {n m : ℕ} {waiting waiting' : List ℕ} {room room' : ℕ} (id : List ℕ) (k : ℕ) (row new : OrderRowValue) {waits : Bool}
+    → IsStored rows index n waiting room → IsRowAt rows id k row → new.text.id ≡ row.text.id → IsOrderRow new → m + wanted_open row ≡ n + wanted_open new → m ≤ n
+    → waits ≡ is_waiting new → waiting' ≡ noted k waits waiting → room' ≡ room → IsStored (slice_set rows k new) index m waiting' room'
+stored_with {rows = rows} {index = index} {n = n} {m = m} {waiting = waiting} {room = room} id k row new h at named valid count fewer is changed same = record {
+  rows_kept = indexed_with rows index n m id k row new h.rows_kept at named valid count fewer;
   waits = record {
     places = changed ∙ ap (λ (b : Bool). noted k b waiting) is ∙ ap (noted k (is_waiting new)) h.waits.places ∙ sym (waiting-set 0 k k rows new at.within (omega arith));
     room_for_all = λ some. let within = at.within in let most : max_open_wagons < room = h.waits.room_for_all (omega (arith, within)) in omega (arith, most, same);
   };
 }
+
+-- the row of an order that was found by its name among the rows as a contract sees them, and read at its place
+module _ {rows view : List OrderRowValue} {index : List ℕ → Option ℕ} {n : ℕ} {waiting : List ℕ} {room : ℕ} (id : List ℕ) {r : Option ℕ} {k : ℕ} {row : OrderRowValue}
+    (h : IsStored rows index n waiting room) (same : rows ≡ view) (place : r ≡ position (is_order id) view) (is : r ≡ Some k) (read : row ≡ get_or rows k row) where
+  found_row : IsRowAt rows id k row
+  found_row = row_at rows id r k row h.rows_kept.kept (place ∙ ap (position (is_order id)) (sym same)) is read
+
+  pub seen_row : order_in view id ≡ Some row
+  seen_row = ap (λ rows. order_in rows id) (sym same) ∙ found_row.found
+
+  pub wanted_there : wanted_open row ≤ n
+  wanted_there = wanted_within rows index n id k row h.rows_kept found_row
+
+  pub room_there : length waiting < room
+  room_there = room_at rows index n waiting room k h found_row.within
+
+  pub stored_there : {m : ℕ} {waiting' : List ℕ} {room' : ℕ} (new : OrderRowValue) {waits : Bool} → new.text.id ≡ row.text.id → (order_in view id ≡ Some row → IsOrderRow row → IsOrderRow new)
+      → m + wanted_open row ≡ n + wanted_open new → m ≤ n → waits ≡ is_waiting new → waiting' ≡ noted k waits waiting → room' ≡ room → IsStored (slice_set rows k new) index m waiting' room'
+  stored_there new named valid = stored_with id k row new h found_row named (valid seen_row found_row.valid)
+
+  pub changed_there : (change : OrderRowValue → OrderRowValue) → slice_set rows k (change row) ≡ at_order id change view
+  changed_there change = changed_is rows id k row change h.rows_kept.kept found_row ∙ ap (at_order id change) same
 
 -- one more row
 pub stored_push : (rows : List OrderRowValue) (index : List ℕ → Option ℕ) (n m : ℕ) (waiting waiting' : List ℕ) (room room' place : ℕ) (new : OrderRowValue) (waits : Bool)

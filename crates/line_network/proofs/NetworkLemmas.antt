@@ -106,7 +106,7 @@ few_by_way from to r One = omega arith
 few_by_way from to r Both = omega arith
 
 -- a network with one more record is one
-pub IsNetwork-after : (network : NetworkValue) (r : LineRecord) → IsNetwork network → HasLengths r → length network.lines + 2 ≤ max_network_lines
+IsNetwork-after : (network : NetworkValue) (r : LineRecord) → IsNetwork network → HasLengths r → length network.lines + 2 ≤ max_network_lines
     → length (with_ends network.places r) ≤ max_places → IsNetwork (after_record network r)
 IsNetwork-after network r kept h few fewer =
     let first = with_place network.places r.from in
@@ -123,22 +123,32 @@ IsNetwork-after network r kept h few fewer =
           (lines_by_way-are (length all) (number_of all r.from) (number_of all r.to) r r.way from to h);
     }
 
--- what naming both places and adding the lines makes
-pub after_record-made : (network : NetworkValue) (r : LineRecord) (first places : List (List ℕ)) (lines : List Line) (from to : ℕ)
+-- this network is another with one more record, and its places are few
+pub record IsMade (network : NetworkValue) (r : LineRecord) (made : NetworkValue) : Type 0 where
+  pub is : made ≡ after_record network r
+  pub few : length made.places ≤ max_places
+
+-- what is made of a record by naming its ends in turn
+pub made_in_turn : (network : NetworkValue) (r : LineRecord) (first places : List (List ℕ)) (lines : List Line) (from to : ℕ)
     → first ≡ with_place network.places r.from → places ≡ with_place first r.to → from ≡ number_of first r.from → to ≡ number_of places r.to
-    → lines ≡ network.lines ++ lines_between from to r → (let made : NetworkValue = record { places = places; lines = lines } in made ≡ after_record network r)
-after_record-made network r first places lines from to one both f t l =
+    → lines ≡ network.lines ++ lines_between from to r → length places ≤ max_places → IsMade network r (record { places = places; lines = lines })
+made_in_turn network r first places lines from to one both f t l few =
     let same : number_of (with_ends network.places r) r.from ≡ number_of (with_place network.places r.from) r.from =
     same_number (with_place network.places r.from) r.from r.to (named network.places r.from) in
-    rw (l, f, t, both, one, ← same) refl
+    record { is = rw (l, f, t, both, one, ← same) refl; few = few }
 
--- and with few places it is the network with the record
-pub with_record-made : (network self : NetworkValue) (r : LineRecord) (made : NetworkValue) → network ≡ self → made ≡ after_record network r
-    → length made.places ≤ max_places → with_record self r ≡ Ok made
-with_record-made network self r made view after few =
+-- it keeps what a network keeps
+pub IsNetwork-made : (network : NetworkValue) (r : LineRecord) (made : NetworkValue) → IsMade network r made → IsNetwork network → HasLengths r
+    → length network.lines + 2 ≤ max_network_lines → IsNetwork made
+IsNetwork-made network r made h kept lengths room =
+    subst IsNetwork (sym h.is) (IsNetwork-after network r kept lengths room (subst (λ (n : NetworkValue). length n.places ≤ max_places) h.is h.few))
+
+-- and it is the network with the record
+pub with_record-made : (network self : NetworkValue) (r : LineRecord) (made : NetworkValue) → network ≡ self → IsMade network r made → with_record self r ≡ Ok made
+with_record-made network self r made view h =
     let fits : length (with_ends self.places r) ≤ max_places =
-    subst (λ (n : NetworkValue). length (with_ends n.places r) ≤ max_places) view (subst (λ (n : NetworkValue). length n.places ≤ max_places) after few) in
-    let same : after_record self r ≡ made = ap (λ (n : NetworkValue). after_record n r) (sym view) ∙ sym after in
+    subst (λ (n : NetworkValue). length (with_ends n.places r) ≤ max_places) view (subst (λ (n : NetworkValue). length n.places ≤ max_places) h.is h.few) in
+    let same : after_record self r ≡ made = ap (λ (n : NetworkValue). after_record n r) (sym view) ∙ sym h.is in
     rw (le-ltb max_places (length (with_ends self.places r)) fits) (ap Ok same)
 
 -- the number of a place is where it stands

@@ -1,14 +1,15 @@
 -- The network that is read record by record is the network of the records.
-use Rattle.std.proofs.Common.{◌≡◌, ◌∙◌, ℕ, ◌+◌, ◌≤◌, true, List, [], ◌∷◌, ◌++◌, length, Option, Some, None, IfOk, Result, Ok, Err, map, fold, refl, ap, sym, subst, inl, inr, arith, nat_lt, le-ltb, lit≤, ltb-false}
+use Rattle.std.proofs.Common.{◌≡◌, ◌∙◌, ℕ, ◌+◌, ◌≤◌, true, List, [], ◌∷◌, ◌++◌, length, Option, Some, None, IfOk, IfSome, Result, Ok, Err, map, fold, refl, ap, sym, subst, inl, inr, arith, nat_lt, le-ltb, lit≤, ltb-false}
 use Rattle.std.proofs.lemmas.Bool.{cases_Bool}
 use Rattle.std.proofs.lemmas.List.{append-nil, append_assoc}
 use Rattle.std.specs.List.{flat_map, list_any}
 use Rattle.line_network.proofs.NetworkLemmas.{named, no_fewer, same_number, still_named}
 use Rattle.line_network.specs.Network.{NetworkValue, is_same_place, max_places}
-use Rattle.line_network.specs.NetworkOf.{IsNetworkOf, ends_of}
+use Rattle.line_network.specs.NetworkOf.{IsNetworkOf, IsReadFrom, ends_of}
 use Rattle.line_network.specs.Reading.{◌>>=◌, Gives, after_record, lines_between, lines_of, max_line_records, network_of, no_network, number_of, with_ends, with_place, with_read, with_row, with_rows}
 use Rattle.line_network.specs.Records.{is_header, line_record}
 use Rattle.csv_records.specs.Fields.{Record}
+use Rattle.csv_records.specs.Files.{AreRecordsOf}
 use Rattle.line_network.specs.declared.line.Line.{Line}
 use Rattle.line_network.specs.declared.line_record.LineRecord.{LineRecord}
 use Rattle.line_network.specs.declared.network_fault.NetworkFault.{NetworkFault}
@@ -165,10 +166,16 @@ IsNetworkOf-is_read rows network h =
     rw (h.file.header_first, h.file.header_right)
     (rows_are_read 2 no_network h.file.below h.records network h.file.each_read (omega (arith, h.file.few_records)) (h.places ∙ ends_in_turn [] h.records) h.few_places h.lines)
 
-pub exact_from : (rows : List Record) (result : Result NetworkValue NetworkFault) → Gives result (network_of rows) → IfOk result (IsNetworkOf rows)
+exact_from : (rows : List Record) (result : Result NetworkValue NetworkFault) → Gives result (network_of rows) → IfOk result (IsNetworkOf rows)
 exact_from rows (Ok network) gives = IsNetworkOf-read rows network gives
 exact_from rows (Err fault) gives = tt
 
-pub complete_from : (rows : List Record) (result : Result NetworkValue NetworkFault) → Gives result (network_of rows)
+complete_from : (rows : List Record) (result : Result NetworkValue NetworkFault) → Gives result (network_of rows)
     → (network : NetworkValue) → IsNetworkOf rows network → Gives result (Ok network)
 complete_from rows result gives network h = rw (IsNetworkOf-is_read rows network h) at gives
+
+-- what is answered of a file's records is a network that is read from them
+pub IsReadFrom-gives : (known : Option (List ℕ)) (rows : List Record) (result : Result NetworkValue NetworkFault) → IfSome known (λ bytes. AreRecordsOf bytes rows) → Gives result (network_of rows)
+    → IsReadFrom known result
+IsReadFrom-gives known rows result all gives =
+    record { rows = rows; all_rows = all; first_fault = gives; exact = exact_from rows result gives; complete = complete_from rows result gives }

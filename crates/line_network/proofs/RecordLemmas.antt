@@ -18,25 +18,22 @@ five (v ∷ w ∷ x ∷ []) a b c d e n p q r s t = absurd (omega arith)
 five (v ∷ w ∷ x ∷ y ∷ []) a b c d e n p q r s t = absurd (omega arith)
 five (v ∷ w ∷ x ∷ y ∷ z ∷ more ∷ rest) a b c d e n p q r s t = absurd (omega arith)
 
+pub ruleset of_five = (field_at-known, five)
+
 -- a record of another count of fields says no line, and is no header
+of_other_count : (fields : Record) → length fields ≢ 5 → (line_record fields ≡ None) × (is_header fields ≡ false)
+of_other_count (v ∷ w ∷ x ∷ y ∷ z ∷ []) n = absurd (n (omega arith))
+of_other_count [] n = (refl, refl)
+of_other_count (v ∷ []) n = (refl, refl)
+of_other_count (v ∷ w ∷ []) n = (refl, refl)
+of_other_count (v ∷ w ∷ x ∷ []) n = (refl, refl)
+of_other_count (v ∷ w ∷ x ∷ y ∷ []) n = (refl, refl)
+of_other_count (v ∷ w ∷ x ∷ y ∷ z ∷ more ∷ rest) n = (refl, refl)
+
 pub line_record-none : (fields : Record) → length fields ≢ 5 → line_record fields ≡ None
-line_record-none (v ∷ w ∷ x ∷ y ∷ z ∷ []) n = absurd (n (omega arith))
-line_record-none [] n = refl
-line_record-none (v ∷ []) n = refl
-line_record-none (v ∷ w ∷ []) n = refl
-line_record-none (v ∷ w ∷ x ∷ []) n = refl
-line_record-none (v ∷ w ∷ x ∷ y ∷ []) n = refl
-line_record-none (v ∷ w ∷ x ∷ y ∷ z ∷ more ∷ rest) n = refl
+line_record-none fields n = (of_other_count fields n).0
 
 pub is_header-false : (fields : Record) → length fields ≢ 5 → is_header fields ≡ false
-is_header-false (v ∷ w ∷ x ∷ y ∷ z ∷ []) n = absurd (n (omega arith))
-is_header-false [] n = refl
-is_header-false (v ∷ []) n = refl
-is_header-false (v ∷ w ∷ []) n = refl
-is_header-false (v ∷ w ∷ x ∷ []) n = refl
-is_header-false (v ∷ w ∷ x ∷ y ∷ []) n = refl
-is_header-false (v ∷ w ∷ x ∷ y ∷ z ∷ more ∷ rest) n = refl
-
-pub ruleset of_five = (field_at-known, five)
+is_header-false fields n = (of_other_count fields n).1
 
 pub ruleset of_other = (line_record-none, is_header-false)

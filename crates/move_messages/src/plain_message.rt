@@ -5,7 +5,7 @@ ghost use Rattle.std.specs.Prelude.{◌≡◌, ℕ, List, Ok, IfSome, codes, tru
 ghost use Rattle.json_fields.specs.Line.{object_of};
 ghost use Rattle.move_messages.specs.Commands.{command_of};
 ghost use Rattle.move_messages.specs.declared.command.Command.TheVariants as command;
-ghost use Rattle.move_messages.specs.inner.PlainMessage.{IsTypeOf, plain_object};
+ghost use Rattle.move_messages.specs.inner.PlainMessage.{IsKindOf, IsTypeOf, plain_object};
 
 use crate::line_type::LineType;
 use crate::message::{Message, MessageKind};
@@ -97,13 +97,22 @@ fn message_of(fields: &PlainMessage<'_>) -> Option<Message>
     })
 }
 
-/// What has happened by a message of this type, `None` where a message of it has a field more or it is no message.
+/// What has happened by a message of the type of this name, `None` where a message of it has a field more or it is no
+/// message.
 fn kind_named(name: &str) -> Option<MessageKind>
     ensures { IfSome result (IsTypeOf name.now) }
 {
     let Ok(line_type) = LineType::named(name) else {
         return None;
     };
+    kind_of(line_type)
+}
+
+/// What has happened by a message of this type, `None` where a message of it has a field more or it is no message.
+#[tactic(auto, unfolding(crate::specs::Commands::command_of_type))]
+fn kind_of(line_type: LineType) -> Option<MessageKind>
+    ensures { IfSome result (IsKindOf line_type) }
+{
     match line_type {
         LineType::Release => Some(MessageKind::Release),
         LineType::Departure => Some(MessageKind::Departure),

@@ -1,22 +1,21 @@
 -- What the calls of the rows make of them.
-use Rattle.std.proofs.Common.{◌≡◌, ◌∙◌, ℕ, ◌+◌, ◌<◌, Bool, true, false, cond, ◌||◌, List, [], ◌∷◌, ◌++◌, length, map, take, get_or, refl, ap, sym, subst}
+use Rattle.std.proofs.Common.{◌≡◌, ◌∙◌, ℕ, ◌+◌, ◌<◌, Bool, true, false, cond, ◌||◌, List, [], ◌∷◌, ◌++◌, length, map, take, get_or, refl, ap, sym}
 use Rattle.std.specs.Prelude.{Option, Some, None, IsSome, IfSome, All}
-use Rattle.std.specs.List.{AllByRecursion, Contains, IsDistinct, slice_index_or}
+use Rattle.std.specs.List.{Contains, slice_index_or}
 use Rattle.std.proofs.lemmas.List.{take_more}
 use Rattle.std.proofs.lemmas.List.Elements.{All-head, All-tail}
 use Rattle.std.proofs.lemmas.List.Folds.{list_any-append}
-use Rattle.std.proofs.lemmas.Map.Keys.{IsDistinct-head, IsDistinct-tail}
 use Rattle.std.proofs.lemmas.Option.{slice_get-get_or}
 use Rattle.wagon_state.specs.declared.wagon_row.WagonRow.{WagonRow}
 use Rattle.load_orders.specs.OrderRow.{OrderRowValue}
 use Rattle.database_rows.specs.Kept.{IsWagonRows}
 use Rattle.database_rows.specs.Rows.{wagon_in, order_in, at_wagon, with_promise}
-use Rattle.database_rows.proofs.Wagons.{number-wagon_in, numbers_distinct, wagon_in-there}
+use Rattle.database_rows.proofs.Wagons.{wagon_in-there}
 use Rattle.operating_db.specs.After.{unpromised}
 use Rattle.operating_db.specs.inner.EventParts.{unpromised_among}
 use Rattle.operating_db.specs.Office.{Office}
 use Rattle.operating_db.specs.Promises.{is_among, is_promise_to, promise_of, promised_of, SidesAgree}
-use Rattle.operating_db.proofs.Names.{same, same_is, same_self, same_sym, among_contains}
+use Rattle.operating_db.proofs.Names.{same, same_self, same_sym, among_contains}
 
 -- ---- wagons that lose their promises one after the other
 

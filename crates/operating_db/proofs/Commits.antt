@@ -1,8 +1,8 @@
 -- Pairs that can be promised together can be promised one after the other.
 use Rattle.std.proofs.Common.{◌≡◌, ◌∙◌, ℕ, ◌+◌, ◌-◌, ◌<◌, ◌≤◌, Bool, true, false, cond, List, [], ◌∷◌, ◌++◌, length, take, drop, get_or, ◌&&◌, refl, ap, sym, subst, arith, zero, suc}
 use Rattle.std.specs.Prelude.{◌↔◌, IsTrue, nat_le, Option, Some, None, option_map, is_some, IsSome, IfSome, All}
-use Rattle.std.specs.List.{Contains, list_all, slice_index_or}
-use Rattle.std.proofs.lemmas.List.Elements.{All-head, All-tail}
+use Rattle.std.specs.List.{Contains, list_all, slice_index_or, sum_by}
+use Rattle.std.proofs.lemmas.List.Elements.{All-head, All-tail, All-weaker}
 use Rattle.std.proofs.lemmas.Bool.Decides.{nat_tests}
 use Rattle.std.proofs.lemmas.List.{drop_more, take_more}
 use Rattle.std.proofs.lemmas.List.Sums.{AllPass-from_list_all, list_all-from_AllPass, sum_by-cons}
@@ -42,33 +42,33 @@ order-cons id p ps = sum_by-cons (λ (q : Pair). cond (same id q.1) 1 0) p ps
 
 -- ---- from each pair to each name
 
+-- what holds of the name in each pair holds of each name that stands in one
+module _ (name_in : Pair → List ℕ) (P : List ℕ → Type 0) where
+  among_step : (n m : List ℕ) (b : Bool) (count : ℕ) → same n m ≡ b → P m → (0 < count → P n) → 0 < cond b 1 0 + count → P n
+  among_step n m true count is h rest more = subst P (sym (same_is n m is)) h
+  among_step n m false count is h rest more = rest (omega (arith, more))
+
+  among : (pairs : List Pair) → All (λ pair. P (name_in pair)) pairs → (n : List ℕ) → 0 < sum_by (λ pair. cond (same n (name_in pair)) 1 0) pairs → P n
+  among [] all n more = absurd (omega (arith, more))
+  among (p ∷ ps) all n more =
+      let count = λ (q : Pair). cond (same n (name_in q)) 1 0 in
+      let head = All-head (λ (q : Pair). P (name_in q)) p ps all in
+      let tail = All-tail (λ (q : Pair). P (name_in q)) p ps all in
+      among_step n (name_in p) (same n (name_in p)) (sum_by count ps) refl head (among ps tail n) (subst (λ (k : ℕ). 0 < k) (sum_by-cons count p ps) more)
+
 abbrev OfWagon : Office → List Pair → List ℕ → Type 0
 OfWagon office pairs n = (times_of_wagon n pairs ≤ 1) × (is_free_row (wagon_in office.wagons n) ≡ true)
 
-wagon_step : (office : Office) (pairs : List Pair) (n m : List ℕ) (b : Bool) (count : ℕ) → same n m ≡ b → OfWagon office pairs m → (0 < count → OfWagon office pairs n) → 0 < cond b 1 0 + count → OfWagon office pairs n
-wagon_step office pairs n m true count is h rest more = subst (OfWagon office pairs) (sym (same_is n m is)) h
-wagon_step office pairs n m false count is h rest more = rest (omega (arith, more))
-
-wagon_among : (office : Office) (pairs qs : List Pair) → All (IsPromisable office pairs) qs → (n : List ℕ) → 0 < times_of_wagon n qs → OfWagon office pairs n
-wagon_among office pairs [] all n more = absurd (omega (arith, more))
-wagon_among office pairs (p ∷ ps) all n more =
-    let head = All-head (IsPromisable office pairs) p ps all in
-    let tail = All-tail (IsPromisable office pairs) p ps all in
-    wagon_step office pairs n p.0 (same n p.0) (times_of_wagon n ps) refl (head.once, head.free) (wagon_among office pairs ps tail n) (subst (λ (k : ℕ). 0 < k) (wagon-cons n p ps) more)
+wagon_among : (office : Office) (pairs : List Pair) → CanPromise office pairs → (n : List ℕ) → 0 < times_of_wagon n pairs → OfWagon office pairs n
+wagon_among office pairs can =
+    among (λ p. p.0) (OfWagon office pairs) pairs (All-weaker (IsPromisable office pairs) (λ (p : Pair). OfWagon office pairs p.0) (λ p h. (h.once, h.free)) pairs can)
 
 abbrev OfOrder : Office → List Pair → List ℕ → Type 0
 OfOrder office pairs id = times_of_order id pairs ≤ lack_in (order_in office.orders id)
 
-order_step : (office : Office) (pairs : List Pair) (n m : List ℕ) (b : Bool) (count : ℕ) → same n m ≡ b → OfOrder office pairs m → (0 < count → OfOrder office pairs n) → 0 < cond b 1 0 + count → OfOrder office pairs n
-order_step office pairs n m true count is h rest more = subst (OfOrder office pairs) (sym (same_is n m is)) h
-order_step office pairs n m false count is h rest more = rest (omega (arith, more))
-
-order_among : (office : Office) (pairs qs : List Pair) → All (IsPromisable office pairs) qs → (id : List ℕ) → 0 < times_of_order id qs → OfOrder office pairs id
-order_among office pairs [] all id more = absurd (omega (arith, more))
-order_among office pairs (p ∷ ps) all id more =
-    let head = All-head (IsPromisable office pairs) p ps all in
-    let tail = All-tail (IsPromisable office pairs) p ps all in
-    order_step office pairs id p.1 (same id p.1) (times_of_order id ps) refl head.lacking (order_among office pairs ps tail id) (subst (λ (k : ℕ). 0 < k) (order-cons id p ps) more)
+order_among : (office : Office) (pairs : List Pair) → CanPromise office pairs → (id : List ℕ) → 0 < times_of_order id pairs → OfOrder office pairs id
+order_among office pairs can =
+    among (λ p. p.1) (OfOrder office pairs) pairs (All-weaker (IsPromisable office pairs) (λ (p : Pair). OfOrder office pairs p.1) (λ p h. h.lacking) pairs can)
 
 none_or_some : (n m : ℕ) → (0 < n → n ≤ m) → n ≤ m
 none_or_some zero m h = omega arith
@@ -76,9 +76,9 @@ none_or_some (suc n) m h = h (omega arith)
 
 each_of : (office : Office) (pairs : List Pair) → CanPromise office pairs → Each office pairs
 each_of office pairs can = record {
-  once = λ n. none_or_some (times_of_wagon n pairs) 1 (λ more. (wagon_among office pairs pairs can n more).0);
-  free = λ n more. (wagon_among office pairs pairs can n more).1;
-  lacking = λ id. none_or_some (times_of_order id pairs) (lack_in (order_in office.orders id)) (λ more. order_among office pairs pairs can id more);
+  once = λ n. none_or_some (times_of_wagon n pairs) 1 (λ more. (wagon_among office pairs can n more).0);
+  free = λ n more. (wagon_among office pairs can n more).1;
+  lacking = λ id. none_or_some (times_of_order id pairs) (lack_in (order_in office.orders id)) (λ more. order_among office pairs can id more);
 }
 
 -- ---- a pair is promised

@@ -26,7 +26,7 @@ use Rattle.operating_db.specs.State.{IsState}
 use Rattle.operating_db.proofs.Changes.{among_known, order_known, withdrawn_wagons}
 use Rattle.operating_db.proofs.Events.{change_kept, not_there, placed_kept, rosters_agree, step_keeps, withdrawn_kept}
 use Rattle.operating_db.proofs.KeptOrders.{next_keeps}
-use Rattle.operating_db.proofs.Names.{same, same_self}
+use Rattle.operating_db.proofs.Names.{same_self}
 
 -- the state with other rows
 abbrev pub with_rows : StateValue → List WagonRow → List OrderRowValue → StateValue

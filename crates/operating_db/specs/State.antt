@@ -1,5 +1,5 @@
 -- What the state of an office keeps.
-use Rattle.std.specs.Prelude.{ℕ, ◌≤◌}
+use Rattle.std.specs.Prelude.{◌≤◌}
 use Rattle.operating_db.specs.Office.{StateValue}
 use Rattle.operating_db.specs.Promises.{PromisesAgree}
 use Rattle.distance_tables.specs.Networks.{max_networks}

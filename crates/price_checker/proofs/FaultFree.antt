@@ -1,5 +1,6 @@
 use Rattle.std.proofs.Common.{◌≡◌, ◌+◌, ◌<◌, ◌≤◌, ℕ, Bool, true, false, cond, List, [], ◌∷◌, ◌++◌, length, refl, sym, arith, subst, append_assoc, append-nil, ap}
 use Rattle.std.specs.Prelude.{◌==◌, ◌&&◌, nat_lt, Option, Some, None, is_some, slice_index, sum}
+use Rattle.std.specs.List.{sum_by}
 use Rattle.std.proofs.lemmas.List.Sums.{sum_by_push, sum_by-append, sum_by-cons}
 use Rattle.std.proofs.lemmas.Bool.Decides.{nat_tests}
 use Rattle.price_checker.specs.declared.check_fault.CheckFault.TheVariants.{WrongLengths, NotAllowed, UsedTwice, PriceGap, OverPenalty, SumsDiffer}
@@ -107,19 +108,14 @@ in_range_plan t ps range h k =
 pub plan_of_pairs : (t : Table) (ps : List (ℕ × ℕ)) → IsTable t → not_allowed t ps ≡ None → used_twice t [] ps ≡ None → IsPlan t ps
 plan_of_pairs t ps legal h k = in_range_plan t ps (all_in_range t ps legal h) h k
 
+count_split : (f : ℕ × ℕ → ℕ) (before ps : List (ℕ × ℕ)) (p : ℕ × ℕ) → sum_by f (before ++ p ∷ ps) ≡ sum_by f before + (f p + sum_by f ps)
+count_split f before ps p = omega (arith, sum_by-append f before (p ∷ ps), sum_by-cons f p ps)
+
 uses_split : (i : ℕ) (before ps : List (ℕ × ℕ)) (p : ℕ × ℕ) → uses i (before ++ p ∷ ps) ≡ uses i before + (cond (p.0 == i) 1 0 + uses i ps)
-uses_split i before ps p =
-    let f = λ (q : ℕ × ℕ). cond (q.0 == i) 1 0 in
-    let whole = sum_by-append f before (p ∷ ps) in
-    let one = sum_by-cons f p ps in
-    omega (arith, whole, one)
+uses_split i before ps p = count_split (λ q. cond (q.0 == i) 1 0) before ps p
 
 serves_split : (j : ℕ) (before ps : List (ℕ × ℕ)) (p : ℕ × ℕ) → serves j (before ++ p ∷ ps) ≡ serves j before + (cond (p.1 == j) 1 0 + serves j ps)
-serves_split j before ps p =
-    let f = λ (q : ℕ × ℕ). cond (q.1 == j) 1 0 in
-    let whole = sum_by-append f before (p ∷ ps) in
-    let one = sum_by-cons f p ps in
-    omega (arith, whole, one)
+serves_split j before ps p = count_split (λ q. cond (q.1 == j) 1 0) before ps p
 
 not_spent : (t : Table) (before ps : List (ℕ × ℕ)) (p : ℕ × ℕ) → uses p.0 (before ++ p ∷ ps) ≤ 1 → serves p.1 (before ++ p ∷ ps) ≤ lack_at t p.1 → is_spent t before p ≡ false
 not_spent t before ps p once within =

@@ -69,11 +69,12 @@ row_walk i n row u v h =
     let walk : first_from 0 n (gap_at_order i row u v) ≡ gap_of_row i row u v = walk_from i 0 n row u v (subst (λ (m : ℕ). IsRow m 0 row) (sym zero_n) h) in
     ap (λ m. first_below m (gap_at_order i row u v)) (sym zero_n) ∙ from ∙ walk
 
--- a row of the table, walked
-pub gap_of_row-wagon : (t : Table) (i u : ℕ) (row : List (ℕ × ℕ)) (v : List ℕ) → IsRow (order_count t) 0 row → row ≡ row_at t i → gap_of_row i row u v ≡ gap_of_wagon t i u v
-gap_of_row-wagon t i u row v h is =
+-- what a walk along a wagon's row finds is the wagon's gap
+pub gap_of_wagon-walked : (t : Table) (i u : ℕ) (row : List (ℕ × ℕ)) (v : List ℕ) (found : Option CheckFault) → IsRow (order_count t) 0 row → row ≡ row_at t i → found ≡ gap_of_row i row u v
+    → gap_of_wagon t i u v ≡ found
+gap_of_wagon-walked t i u row v found h is walked =
     let walk : first_below (order_count t) (gap_at_order i row u v) ≡ gap_of_row i row u v = row_walk i (order_count t) row u v h in
-    sym walk ∙ ap (λ r. first_below (order_count t) (gap_at_order i r u v)) is
+    sym (walked ∙ sym walk ∙ ap (λ r. first_below (order_count t) (gap_at_order i r u v)) is)
 
 row_orders : (n low : ℕ) (row : List (ℕ × ℕ)) → IsRow n low row → AllByRecursion (λ (cell : ℕ × ℕ). cell.0 < n) row
 row_orders n low [] h = tt

@@ -28,20 +28,21 @@ pub fn check(
     ensures optimal { OnOk result (IsOptimal cells.now pairs.now) }
     ensures cost { IfOk result (λ c. c ≡ cost_of cells.now pairs.now) }
 {
-    check_in_order(cells, pairs, &prices.u, &prices.v)
+    check_in_order(cells, pairs, prices)
 }
 
 /// Each test in its order.
 fn check_in_order(
     cells: &Cells,
     pairs: &[(usize, usize)],
-    u: &[u64],
-    v: &[u64],
+    prices: &Prices,
 ) -> Result<Certified, CheckFault>
     ensures table { IsTable cells.now }
-    ensures fault { result_err result ≡ first_fault cells.now pairs.now u.now v.now }
+    ensures fault { result_err result ≡ first_fault cells.now pairs.now prices.now.u.items prices.now.v.items }
     ensures cost { IfOk result (λ c. c ≡ cost_of cells.now pairs.now) }
 {
+    let u = prices.u.as_slice();
+    let v = prices.v.as_slice();
     check_lengths(cells, u, v)?;
     check_allowed(cells, pairs)?;
     check_used(cells, pairs)?;

@@ -19,27 +19,23 @@ six (u ∷ v ∷ w ∷ x ∷ []) a b c d e f n p q r s t o = absurd (omega arith
 six (u ∷ v ∷ w ∷ x ∷ y ∷ []) a b c d e f n p q r s t o = absurd (omega arith)
 six (u ∷ v ∷ w ∷ x ∷ y ∷ z ∷ more ∷ rest) a b c d e f n p q r s t o = absurd (omega arith)
 
+pub ruleset of_six = (field_at-known, six)
+
 -- a record of another count of fields says no wagon, and is no header
+of_other_count : (fields : Record) → length fields ≢ 6 → (wagon_record fields ≡ None) × (is_header fields ≡ false)
+of_other_count (u ∷ v ∷ w ∷ x ∷ y ∷ z ∷ []) n = absurd (n (omega arith))
+of_other_count [] n = (refl, refl)
+of_other_count (u ∷ []) n = (refl, refl)
+of_other_count (u ∷ v ∷ []) n = (refl, refl)
+of_other_count (u ∷ v ∷ w ∷ []) n = (refl, refl)
+of_other_count (u ∷ v ∷ w ∷ x ∷ []) n = (refl, refl)
+of_other_count (u ∷ v ∷ w ∷ x ∷ y ∷ []) n = (refl, refl)
+of_other_count (u ∷ v ∷ w ∷ x ∷ y ∷ z ∷ more ∷ rest) n = (refl, refl)
+
 pub wagon_record-none : (fields : Record) → length fields ≢ 6 → wagon_record fields ≡ None
-wagon_record-none (u ∷ v ∷ w ∷ x ∷ y ∷ z ∷ []) n = absurd (n (omega arith))
-wagon_record-none [] n = refl
-wagon_record-none (u ∷ []) n = refl
-wagon_record-none (u ∷ v ∷ []) n = refl
-wagon_record-none (u ∷ v ∷ w ∷ []) n = refl
-wagon_record-none (u ∷ v ∷ w ∷ x ∷ []) n = refl
-wagon_record-none (u ∷ v ∷ w ∷ x ∷ y ∷ []) n = refl
-wagon_record-none (u ∷ v ∷ w ∷ x ∷ y ∷ z ∷ more ∷ rest) n = refl
+wagon_record-none fields n = (of_other_count fields n).0
 
 pub is_header-false : (fields : Record) → length fields ≢ 6 → is_header fields ≡ false
-is_header-false (u ∷ v ∷ w ∷ x ∷ y ∷ z ∷ []) n = absurd (n (omega arith))
-is_header-false [] n = refl
-is_header-false (u ∷ []) n = refl
-is_header-false (u ∷ v ∷ []) n = refl
-is_header-false (u ∷ v ∷ w ∷ []) n = refl
-is_header-false (u ∷ v ∷ w ∷ x ∷ []) n = refl
-is_header-false (u ∷ v ∷ w ∷ x ∷ y ∷ []) n = refl
-is_header-false (u ∷ v ∷ w ∷ x ∷ y ∷ z ∷ more ∷ rest) n = refl
-
-pub ruleset of_six = (field_at-known, six)
+is_header-false fields n = (of_other_count fields n).1
 
 pub ruleset of_other = (wagon_record-none, is_header-false)

@@ -1,5 +1,5 @@
 -- The rows that are read record by record are those of the records, and their roster is the only one.
-use Rattle.std.proofs.Common.{◌≡◌, ◌∙◌, ℕ, ◌+◌, ◌≤◌, false, List, [], ◌∷◌, ◌++◌, length, Option, Some, None, IfOk, IsTrue, Result, Ok, Err, map, refl, ap, sym, subst, inl, inr, arith, nat_lt, le-ltb, lit≤, ltb-false}
+use Rattle.std.proofs.Common.{◌≡◌, ◌∙◌, ℕ, ◌+◌, ◌≤◌, false, List, [], ◌∷◌, ◌++◌, length, Option, Some, None, IfOk, IfSome, IsTrue, Result, Ok, Err, map, refl, ap, sym, subst, inl, inr, arith, nat_lt, le-ltb, lit≤, ltb-false}
 use Rattle.std.proofs.lemmas.Bool.{cases_Bool}
 use Rattle.std.proofs.lemmas.Cmp.{nat_eq_equiv, lists_equiv, on_equiv}
 use Rattle.std.proofs.lemmas.List.{append-nil, append_assoc}
@@ -9,12 +9,13 @@ use Rattle.std.specs.Cmp.{IsEquivalence}
 use Rattle.std.specs.List.{AllByRecursion, IsDistinct}
 use Rattle.std.specs.List.Sorted.{IsPermutation}
 use Rattle.csv_records.specs.Fields.{Record}
+use Rattle.csv_records.specs.Files.{AreRecordsOf}
 use Rattle.wagon_state.specs.declared.wagon_row.WagonRow.{WagonRow}
 use Rattle.wagon_roster.proofs.RosterLemmas.{by_number_total, same_order}
 use Rattle.wagon_roster.specs.Reading.{◌>>=◌, Gives, Stops, is_failure, rows_of, with_read, with_record, with_records}
 use Rattle.wagon_roster.specs.Records.{is_header, wagon_record}
 use Rattle.wagon_roster.specs.Roster.{IsRoster, has_wagon, is_same_wagon, max_roster_wagons}
-use Rattle.wagon_roster.specs.RosterOf.{IsAnswered, IsRosterOf}
+use Rattle.wagon_roster.specs.RosterOf.{IsAnswered, IsReadFrom, IsRosterOf}
 use Rattle.wagon_roster.specs.declared.roster_fault.RosterFault.{RosterFault}
 use Rattle.wagon_roster.specs.declared.roster_fault.RosterFault.TheVariants.{OutOfMemory, DuplicateWagon, TooLarge, BadRosterRow, ReadFailed}
 
@@ -145,7 +146,7 @@ IsRosterOf-is_read : (records : List Record) (roster : List WagonRow) (h : IsRos
 IsRosterOf-is_read records roster h =
     rw (h.file.header_first, h.file.header_right) (rows_are_read 2 [] h.file.below h.rows h.file.each_read (omega (arith, h.file.few_records)) h.no_wagon_twice)
 
-pub exact_from : (records : List Record) (result : Result (List WagonRow) RosterFault) → Gives result (rows_of records) → IfOk result IsRoster → IfOk result (IsRosterOf records)
+exact_from : (records : List Record) (result : Result (List WagonRow) RosterFault) → Gives result (rows_of records) → IfOk result IsRoster → IfOk result (IsRosterOf records)
 exact_from records (Ok roster) gives kept = IsRosterOf-read records gives.rows roster gives.are_read gives.same kept
 exact_from records (Err fault) gives kept = tt
 
@@ -156,7 +157,7 @@ no_fault rows read (DuplicateWagon number) e stops = cc (e, stops)
 no_fault rows read TooLarge e stops = cc (e, stops)
 no_fault rows read (BadRosterRow n) e stops = cc (e, stops)
 
-pub complete_from : (records : List Record) (result : Result (List WagonRow) RosterFault) → Gives result (rows_of records) → IfOk result IsRoster
+complete_from : (records : List Record) (result : Result (List WagonRow) RosterFault) → Gives result (rows_of records) → IfOk result IsRoster
     → (roster : List WagonRow) → IsRosterOf records roster → IsAnswered roster result
 complete_from records (Err fault) gives kept roster h = no_fault h.rows (rows_of records) fault (IsRosterOf-is_read records roster h) gives
 complete_from records (Ok answer) gives kept roster h =
@@ -164,3 +165,9 @@ complete_from records (Ok answer) gives kept roster h =
     let moved : IsPermutation h.rows answer = subst (λ rows. IsPermutation rows answer) rows gives.same in
     let same = IsPermutation-trans answer h.rows roster (IsPermutation-sym h.rows answer moved) h.same_rows in
     same_order by_number_total answer roster kept.ascending h.in_order.ascending same
+
+-- what is answered of a file's records is a roster that is read from them
+pub IsReadFrom-gives : (known : Option (List ℕ)) (records : List Record) (result : Result (List WagonRow) RosterFault) → IfSome known (λ bytes. AreRecordsOf bytes records) → Gives result (rows_of records)
+    → IfOk result IsRoster → IsReadFrom known result
+IsReadFrom-gives known records result all gives kept =
+    record { records = records; all_records = all; first_fault = gives; exact = exact_from records result gives kept; complete = complete_from records result gives kept }

@@ -1,7 +1,7 @@
 //! One record of a roster: the wagon that it says.
 ghost use Rattle.std.specs.Prelude.{◌≡◌, ◌≢◌, ◌≤◌, [], ◌∷◌, length, option_map, IfSome, IfNone};
 ghost use Rattle.csv.specs.Records.{fields_of};
-ghost use Rattle.wagon_roster.specs.Records.{class_in, is_header, load_in, moment_in, number_in, status_in, wagon_record};
+ghost use Rattle.wagon_roster.specs.Records.{is_header, load_in, status_in, wagon_record};
 ghost use Rattle.move_messages.specs.Order.{max_load};
 ghost use Rattle.wagon_roster.specs.Roster.{IsRosterRow};
 
@@ -30,10 +30,10 @@ pub fn read_wagon(row: &ByteRecord) -> Option<WagonRow>
 {
     let fields = six_fields(row)?;
     let place = place_of(fields.place)?;
-    let last = read_moment(fields.moment)?;
+    let last = Moment::read(text_of(fields.moment)?).ok()?;
     Some(WagonRow {
-        number: read_number(fields.wagon)?,
-        class: read_class(fields.class)?,
+        number: WagonNumber::read(text_of(fields.wagon)?).ok()?,
+        class: ClassCode::read(text_of(fields.class)?).ok()?,
         load_limit: read_load(fields.load)?,
         status: read_status(fields.status, place, last)?,
         held: false,
@@ -75,27 +75,6 @@ fn six_fields(row: &ByteRecord) -> Option<Fields<'_>>
         place: row.get(4)?,
         moment: row.get(5)?,
     })
-}
-
-/// The wagon number that a field says.
-fn read_number(field: &[u8]) -> Option<WagonNumber>
-    ensures { result ≡ number_in field.now }
-{
-    WagonNumber::read(text_of(field)?).ok()
-}
-
-/// The class that a field says.
-fn read_class(field: &[u8]) -> Option<ClassCode>
-    ensures { result ≡ class_in field.now }
-{
-    ClassCode::read(text_of(field)?).ok()
-}
-
-/// The moment that a field says.
-fn read_moment(field: &[u8]) -> Option<Moment>
-    ensures { result ≡ moment_in field.now }
-{
-    Moment::read(text_of(field)?).ok()
 }
 
 /// The kg that a field says, in 1 to 7 digits, at most 200,000.

@@ -24,8 +24,10 @@ plain_object m =
     (member (codes "number") (number (unsigned m.number)) (member (codes "place") (string m.place.now)
     (member (codes "type") (string m.type_name.now) (member (codes "wagon") (string m.wagon.now) no_members))))))
 
--- lines of the type of that name are messages of this kind
+-- lines of this type are messages of this kind
+abbrev pub IsKindOf : LineType → MessageKind → Type 0
+IsKindOf line_type kind = (d : Data) → command_of_type line_type d ≡ (message_of kind d >>= λ message. Ok (Message message))
+
+-- and so are lines of the type of that name
 abbrev pub IsTypeOf : List ℕ → MessageKind → Type 0
-IsTypeOf name kind =
-    (line_type : LineType) × (line_type_of name ≡ Ok line_type)
-    × ((d : Data) → command_of_type line_type d ≡ (message_of kind d >>= λ message. Ok (Message message)))
+IsTypeOf name kind = (line_type : LineType) × (line_type_of name ≡ Ok line_type) × IsKindOf line_type kind

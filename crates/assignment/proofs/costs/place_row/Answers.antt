@@ -1,29 +1,17 @@
 use Rattle.std.proofs.Common.{refl, arith, length, subst, ◌≤◌, List, ℕ}
 use Rattle.cost_table.specs.Table.{order_count}
-use Rattle.assignment.proofs.CostSteps.{costs_limit, row_from, place_read, more_read}
+use Rattle.assignment.proofs.CostSteps.{more_read, place_low, place_read, row_from}
 use Rattle.assignment.proofs.FirstPrices.{prices_read, columns_whole}
 use Rattle.assignment.proofs.costs.place_row.Goals as goal
 
 pub overflow_mul-costs : goal.overflow_mul-costs
-overflow_mul-costs c =
-    let place = place_read c.args.cells.now c.args.i c.loop-cell.cell-index c.wagons-wagons.result c.row-cell-items.result.now c.loop-cell.costs c.row-cell-items.ensures.row c.wagons-wagons.ensures.count c.requires.wagon c.row-cell-items.ensures.cells c.loop-cell-test.true c.loop-cell.invariant.costs.count in
-    let limit = costs_limit c.args.cells.now c.requires.table in
-    let count = c.loop-cell.invariant.costs.count in
-    omega (arith, place, limit, count)
+overflow_mul-costs c = omega (arith, place_low c.args.cells.now c.args.i c.loop-cell.cell-index c.wagons-wagons.result c.row-cell-items.result.now c.loop-cell.costs c.requires.table c.row-cell-items.ensures.row c.wagons-wagons.ensures.count c.requires.wagon c.row-cell-items.ensures.cells c.loop-cell-test.true c.loop-cell.invariant.costs.count)
 
 pub overflow_add-costs : goal.overflow_add-costs
-overflow_add-costs c =
-    let place = place_read c.args.cells.now c.args.i c.loop-cell.cell-index c.wagons-wagons.result c.row-cell-items.result.now c.loop-cell.costs c.row-cell-items.ensures.row c.wagons-wagons.ensures.count c.requires.wagon c.row-cell-items.ensures.cells c.loop-cell-test.true c.loop-cell.invariant.costs.count in
-    let limit = costs_limit c.args.cells.now c.requires.table in
-    let count = c.loop-cell.invariant.costs.count in
-    omega (arith, place, limit, count)
+overflow_add-costs c = omega (arith, place_low c.args.cells.now c.args.i c.loop-cell.cell-index c.wagons-wagons.result c.row-cell-items.result.now c.loop-cell.costs c.requires.table c.row-cell-items.ensures.row c.wagons-wagons.ensures.count c.requires.wagon c.row-cell-items.ensures.cells c.loop-cell-test.true c.loop-cell.invariant.costs.count)
 
 pub offset_bounds-costs-j : goal.offset_bounds-costs-j
-offset_bounds-costs-j c =
-    let place = place_read c.args.cells.now c.args.i c.loop-cell.cell-index c.wagons-wagons.result c.row-cell-items.result.now c.loop-cell.costs c.row-cell-items.ensures.row c.wagons-wagons.ensures.count c.requires.wagon c.row-cell-items.ensures.cells c.loop-cell-test.true c.loop-cell.invariant.costs.count in
-    let limit = costs_limit c.args.cells.now c.requires.table in
-    let count = c.loop-cell.invariant.costs.count in
-    omega (arith, place, limit, count)
+offset_bounds-costs-j c = omega (arith, place_low c.args.cells.now c.args.i c.loop-cell.cell-index c.wagons-wagons.result c.row-cell-items.result.now c.loop-cell.costs c.requires.table c.row-cell-items.ensures.row c.wagons-wagons.ensures.count c.requires.wagon c.row-cell-items.ensures.cells c.loop-cell-test.true c.loop-cell.invariant.costs.count)
 
 pub bounds-costs-j : goal.bounds-costs-j
 bounds-costs-j c = place_read c.args.cells.now c.args.i c.loop-cell.cell-index c.wagons-wagons.result c.row-cell-items.result.now c.loop-cell.costs c.row-cell-items.ensures.row c.wagons-wagons.ensures.count c.requires.wagon c.row-cell-items.ensures.cells c.loop-cell-test.true c.loop-cell.invariant.costs.count

@@ -5,11 +5,15 @@ use Rattle.cost_table.specs.Table.{order_count}
 use Rattle.assignment.specs.inner.State.{AreServed, is_order, kept, orders_of}
 use Rattle.assignment.proofs.Numbers.{orders_set}
 use Rattle.assignment.proofs.AtHand.{kept_at_hand, counted_at_hand, numbers_at_hand}
+use Rattle.assignment.proofs.Taking.{HasTaken-none}
 use Rattle.assignment.proofs.planner.serve_at_hand.Goals as goal
+
+pub units-init : goal.units-init
+units-init c = record { taken = HasTaken-none c.args.state.now c.args.j c.requires.state; limit = omega arith }
 
 pub overflow_add-index_mut : goal.overflow_add-index_mut
 overflow_add-index_mut c =
-    let h = c.units.invariant in
+    let h = c.units.invariant.taken in
     let s = kept c.units.state in
     let j = c.args.j in
     let order = c.requires.order in
@@ -24,7 +28,7 @@ overflow_add-index_mut c =
 
 pub units-preserved : goal.units-preserved
 units-preserved c =
-    let h = c.units.invariant in
+    let h = c.units.invariant.taken in
     let s = kept c.units.state in
     let j = c.args.j in
     let wagon = c.in-Some.wagon in
@@ -41,8 +45,10 @@ units-preserved c =
     let read = get_or_read numbers j c.index_mut-in-units.result.now (omega (arith, order, same, counts)) c.index_mut-in-units.ensures.value 0 in
     let served : AreServed (order_count s.table) now (set numbers j (c.index_mut-in-units.result.now + 1)) = subst (λ x. AreServed (order_count s.table) now (set numbers j (x + 1))) (sym read) (numbers_at_hand (order_count s.table) s now numbers j wagon keeps at written (omega (arith, order, same)) h.state.served) in
     record {
-      state = record { keeps = kept_at_hand s now j wagon keeps at written; costs = h.state.costs; hints = h.state.hints; served = served };
-      counted = λ taken counted. counted_at_hand s now j wagon c.units.units taken keeps at written (h.counted taken counted);
+      taken = record {
+        state = record { keeps = kept_at_hand s now j wagon keeps at written; costs = h.state.costs; hints = h.state.hints; served = served };
+        counted = λ taken counted. counted_at_hand s now j wagon c.units.units taken keeps at written (h.counted taken counted);
+        table = h.table;
+      };
       limit = omega (arith, c.units-test.true);
-      table = h.table;
     }

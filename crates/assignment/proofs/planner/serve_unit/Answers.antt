@@ -33,8 +33,8 @@ count_unit-requires-clause-limit c = λ k l.
     let few = c.requires.state.keeps.table.wagons in
     omega (arith, read, is, most, wagons, few)
 
-pub returns-clause-state : goal.returns-clause-state
-returns-clause-state c =
+pub returns-clause-taken : goal.returns-clause-taken
+returns-clause-taken c =
     let s = kept c.args.state.now in
     let f = c.run-path.new.self in
     let path = c.run-path.result in
@@ -58,22 +58,14 @@ returns-clause-state c =
     let step : (k : ℕ) → k < order_count s.table → get_or n k 0 + one_if k (given_up f path.end) ≡ get_or c.args.state.now.served.items k 0 + one_if k (Some (get_or f.orders.items 0 0)) = λ k l. rw ln at (c.count_unit.ensures k (let b = ap length ln in omega (arith, l, b, counts))) in
     let served_now : AreServed (order_count s.table) h n = served_more (order_count s.table) s.order_of h c.args.state.now.served.items n _ _ c.requires.state.served (c.count_unit.auto.served ∙ ap length ln ∙ counts) c.walk_back.ensures.count step in
     record {
-      keeps = rw (up.table, up.wagon_prices, up.order_prices) done;
-      costs = subst (λ (x : State). AreCosts x.cells.now x.costs.items) (sym same) c.requires.state.costs;
-      hints = subst (λ (x : State). length x.nearest.items ≡ order_count x.cells.now) (sym same) c.requires.state.hints;
-      served = rw (up.table, en) served_now;
+      state = record {
+        keeps = rw (up.table, up.wagon_prices, up.order_prices) done;
+        costs = subst (λ (x : State). AreCosts x.cells.now x.costs.items) (sym same) c.requires.state.costs;
+        hints = subst (λ (x : State). length x.nearest.items ≡ order_count x.cells.now) (sym same) c.requires.state.hints;
+        served = rw (up.table, en) served_now;
+      };
+      counted = λ taken counted.
+          let more_counted : AreCounted (raised s u v h) (more c.args.j 1 taken) = counted_more s f path u v h c.args.j taken keeps c.run-path.ensures.path up.prices c.run-path.ensures.first c.walk_back.ensures.count counted in
+          rw (up.table, up.wagon_prices, up.order_prices) more_counted;
+      table = ap (λ (x : State). x.cells.now) same;
     }
-
-pub returns-clause-counted : goal.returns-clause-counted
-returns-clause-counted c = λ taken counted.
-    let s = kept c.args.state.now in
-    let f = c.run-path.new.self in
-    let path = c.run-path.result in
-    let state = c.walk_back.new.state in
-    let u = c.raise-2.new.prices in
-    let v = c.raise.new.prices in
-    let h = orders_of state.order_of.items in
-    let up = has_raised c.args.state.now state f path.distance u v _ _ _ _ c.walk_back.ensures.same c.deref_mut-2.ensures.value c.deref_mut.ensures.value c.deref-2.ensures.value c.deref.ensures.value
-    c.raise-2.auto.prices c.raise.auto.prices c.deref_mut-2.ensures.len c.deref_mut.ensures.len c.raise-2.ensures c.raise.ensures in
-    let done : AreCounted (raised s u v h) (more c.args.j 1 taken) = counted_more s f path u v h c.args.j taken c.requires.state.keeps c.run-path.ensures.path up.prices c.run-path.ensures.first c.walk_back.ensures.count counted in
-    rw (up.table, up.wagon_prices, up.order_prices) done

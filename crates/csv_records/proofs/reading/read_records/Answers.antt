@@ -1,20 +1,18 @@
 use Rattle.std.proofs.Common.{◌+◌, ◌-◌, arith, refl}
 use Rattle.std.proofs.lemmas.Result.{err_from_is_err_and}
 use Rattle.csv.specs.Records.{fields_of}
-use Rattle.csv_records.proofs.Asking.{asks_none, asks_more}
+use Rattle.csv_records.proofs.Asking.{asks_more, asks_once}
 use Rattle.csv_records.proofs.Collecting.{Answers-end, Answers-failure, Answers-first, Answers-later, Answers-none, HasRead-first, HasRead-more}
 use Rattle.csv_records.proofs.reading.read_records.Goals as goal
 
 -- the first record
 pub returns-in_err-next_record-clause-meaning : goal.returns-in_err-next_record-clause-meaning
 returns-in_err-next_record-clause-meaning g c =
-    let p = err_from_is_err_and c.from_residual.result c.from_residual.ensures.1 in
-    Answers-failure g.R.Read.remaining g.T.FromRecords.made_of g.T.FromRecords.refuses c.args.reader.now c.from_residual.result p.0 p.1 (λ records. g.met.T.FromRecords.failures c.in_err-next_record.field-0.0 p.0 records p.2)
+    Answers-failure g.R.Read.remaining g.T.FromRecords.made_of g.T.FromRecords.refuses c.args.reader.now c.from_residual.result c.from_residual.ensures.1 (g.met.T.FromRecords.failures c.in_err-next_record.field-0.0)
 
 pub returns-in_err-next_record-clause-asked : goal.returns-in_err-next_record-clause-asked
 returns-in_err-next_record-clause-asked g c =
-    asks_more g.R.Read.remaining c.args.reader.now 0 (g.T.FromRecords.MOST_RECORDS + 2) c.args.reader.now c.next_record.new.reader (omega arith)
-    (asks_none g.R.Read.remaining c.args.reader.now 0) c.next_record.ensures.asked
+    asks_once g.R.Read.remaining c.args.reader.now (g.T.FromRecords.MOST_RECORDS + 2) c.next_record.new.reader (omega arith) c.next_record.ensures.asked
 
 pub returns-then-not-branch-clause-meaning : goal.returns-then-not-branch-clause-meaning
 returns-then-not-branch-clause-meaning g c =
@@ -23,8 +21,7 @@ returns-then-not-branch-clause-meaning g c =
 
 pub returns-then-not-branch-clause-asked : goal.returns-then-not-branch-clause-asked
 returns-then-not-branch-clause-asked g c =
-    asks_more g.R.Read.remaining c.args.reader.now 0 (g.T.FromRecords.MOST_RECORDS + 2) c.args.reader.now c.next_record.new.reader (omega arith)
-    (asks_none g.R.Read.remaining c.args.reader.now 0) c.next_record.ensures.asked
+    asks_once g.R.Read.remaining c.args.reader.now (g.T.FromRecords.MOST_RECORDS + 2) c.next_record.new.reader (omega arith) c.next_record.ensures.asked
 
 pub returns-in_err-made-clause-meaning : goal.returns-in_err-made-clause-meaning
 returns-in_err-made-clause-meaning g c =
@@ -34,16 +31,14 @@ returns-in_err-made-clause-meaning g c =
 
 pub returns-in_err-made-clause-asked : goal.returns-in_err-made-clause-asked
 returns-in_err-made-clause-asked g c =
-    asks_more g.R.Read.remaining c.args.reader.now 0 (g.T.FromRecords.MOST_RECORDS + 2) c.args.reader.now c.next_record.new.reader (omega arith)
-    (asks_none g.R.Read.remaining c.args.reader.now 0) c.next_record.ensures.asked
+    asks_once g.R.Read.remaining c.args.reader.now (g.T.FromRecords.MOST_RECORDS + 2) c.next_record.new.reader (omega arith) c.next_record.ensures.asked
 
 pub loop-number-init : goal.loop-number-init
 loop-number-init g c = record {
   set_up = c.in_ok-next_record.ensures.still;
   read = HasRead-first g.R.Read.remaining g.T.FromRecords.made_of g.T.FromRecords.refuses c.args.reader.now c.next_record.new.reader (fields_of c.next_record.new.fields) c.in_ok-made.made
       c.requires (rw c.if-not-branch.false at c.in_ok-next_record.ensures.reads) c.in_ok-made.ensures.made;
-  asked = asks_more g.R.Read.remaining c.args.reader.now 0 1 c.args.reader.now c.next_record.new.reader (omega arith)
-      (asks_none g.R.Read.remaining c.args.reader.now 0) c.next_record.ensures.asked;
+  asked = asks_once g.R.Read.remaining c.args.reader.now 1 c.next_record.new.reader (omega arith) c.next_record.ensures.asked;
 }
 
 pub next_record-requires-in-loop-number : goal.next_record-requires-in-loop-number
@@ -52,8 +47,7 @@ next_record-requires-in-loop-number g c = c.loop-number.invariant.set_up
 -- a record below the header
 pub returns-in_err-next_record-2-clause-meaning : goal.returns-in_err-next_record-2-clause-meaning
 returns-in_err-next_record-2-clause-meaning g c =
-    let p = err_from_is_err_and c.from_residual-in_err-next_record-2.result c.from_residual-in_err-next_record-2.ensures.1 in
-    Answers-failure g.R.Read.remaining g.T.FromRecords.made_of g.T.FromRecords.refuses c.args.reader.now c.from_residual-in_err-next_record-2.result p.0 p.1 (λ records. g.met.T.FromRecords.failures c.in_err-next_record-2.field-0.0 p.0 records p.2)
+    Answers-failure g.R.Read.remaining g.T.FromRecords.made_of g.T.FromRecords.refuses c.args.reader.now c.from_residual-in_err-next_record-2.result c.from_residual-in_err-next_record-2.ensures.1 (g.met.T.FromRecords.failures c.in_err-next_record-2.field-0.0)
 
 pub returns-in_err-next_record-2-clause-asked : goal.returns-in_err-next_record-2-clause-asked
 returns-in_err-next_record-2-clause-asked g c =
@@ -104,8 +98,7 @@ next_record-requires-2 g c = c.loop-number.invariant.set_up
 
 pub returns-in_err-next_record-3-clause-meaning : goal.returns-in_err-next_record-3-clause-meaning
 returns-in_err-next_record-3-clause-meaning g c =
-    let p = err_from_is_err_and c.from_residual-in_err-next_record-3.result c.from_residual-in_err-next_record-3.ensures.1 in
-    Answers-failure g.R.Read.remaining g.T.FromRecords.made_of g.T.FromRecords.refuses c.args.reader.now c.from_residual-in_err-next_record-3.result p.0 p.1 (λ records. g.met.T.FromRecords.failures c.in_err-next_record-3.field-0.0 p.0 records p.2)
+    Answers-failure g.R.Read.remaining g.T.FromRecords.made_of g.T.FromRecords.refuses c.args.reader.now c.from_residual-in_err-next_record-3.result c.from_residual-in_err-next_record-3.ensures.1 (g.met.T.FromRecords.failures c.in_err-next_record-3.field-0.0)
 
 pub returns-in_err-next_record-3-clause-asked : goal.returns-in_err-next_record-3-clause-asked
 returns-in_err-next_record-3-clause-asked g c =

@@ -26,13 +26,13 @@ orders-preserved c =
     let x = c.orders.entry-index in
     let j = (get_or sequence x (0, 0)).1 in
     let s = kept c.serve_order.new.state in
-    let table = c.serve_order.ensures.table in
-    let next = c.serve_order.ensures.counted (taken_in c.orders.state.cells.now (take x sequence)) c.orders.invariant.counted in
+    let after = c.serve_order.ensures.taken in
+    let next = after.counted (taken_in c.orders.state.cells.now (take x sequence)) c.orders.invariant.counted in
     record {
-      state = c.serve_order.ensures.state;
+      state = after.state;
       room = c.serve_order.ensures.room;
-      counted = counted_entry s sequence x c.orders-test.true (subst (λ (t : Table). AreCounted s (more j (lack_at t j) (taken_in t (take x sequence)))) (sym table) next);
-      table = table ∙ c.orders.invariant.table;
+      counted = counted_entry s sequence x c.orders-test.true (subst (λ (t : Table). AreCounted s (more j (lack_at t j) (taken_in t (take x sequence)))) (sym after.table) next);
+      table = after.table ∙ c.orders.invariant.table;
     }
 
 pub new-requires : goal.new-requires

@@ -5,7 +5,7 @@ use Rattle.std.specs.Ordering.{nat_cmp}
 use Rattle.load_orders.specs.Lack.{is_waiting}
 use Rattle.load_orders.proofs.Rows.{row_withdrawn}
 use Rattle.database_rows.specs.Rows.{taken_back, wanted_open}
-use Rattle.database_rows.proofs.Orders.{IsRowAt, indexed_with, less_all, row_there, set_at, wanted_within}
+use Rattle.database_rows.proofs.Orders.{IsRowAt, less_all, row_there, set_at, wanted_within}
 use Rattle.database_rows.proofs.Waiting.{room_at, stored_with}
 use Rattle.database_rows.proofs.order_rows.OrderRows.withdraw.Goals as goal
 
@@ -18,10 +18,9 @@ note-requires c =
 
 pub invariant_of-self : goal.invariant_of-self
 invariant_of-self c =
-    let indexed = indexed_with c.self.inside.rows.items (get (slice_cmp nat_cmp) c.self.inside.places) c.self.inside.open_wagons _ c.index_mut-row.result.now.text.id c.args.place c.index_mut-row.result.now (taken_back c.index_mut-row.result.now) c.self.invariant.rows_kept (at c) refl
+    rw c.withdraw.ensures (stored_with c.index_mut-row.result.now.text.id c.args.place c.index_mut-row.result.now (taken_back c.index_mut-row.result.now) c.self.invariant (at c) refl
     (row_withdrawn c.index_mut-row.result.now (at c).valid) (less_all c.self.inside.open_wagons c.wanted_open.result (wanted_open c.index_mut-row.result.now) c.wanted_open.ensures
-    (wanted_within c.self.inside.rows.items (get (slice_cmp nat_cmp) c.self.inside.places) c.self.inside.open_wagons c.index_mut-row.result.now.text.id c.args.place c.index_mut-row.result.now c.self.invariant.rows_kept (at c))) (omega arith) in
-    rw c.withdraw.ensures (stored_with c.self.inside.rows.items (get (slice_cmp nat_cmp) c.self.inside.places) c.self.inside.open_wagons _ c.self.inside.waiting.items _ _ _ c.index_mut-row.result.now.text.id c.args.place c.index_mut-row.result.now (taken_back c.index_mut-row.result.now) c.is_waiting.result c.self.invariant (at c) indexed
+    (wanted_within c.self.inside.rows.items (get (slice_cmp nat_cmp) c.self.inside.places) c.self.inside.open_wagons c.index_mut-row.result.now.text.id c.args.place c.index_mut-row.result.now c.self.invariant.rows_kept (at c))) (omega arith)
     (c.is_waiting.ensures.value ∙ ap is_waiting c.withdraw.ensures) c.note.ensures.items c.note.ensures.room)
 
 pub returns : goal.returns

@@ -1,6 +1,0 @@
-use Rattle.std.proofs.Common.{◌≡◌, take, drop}
-use Rattle.cost_table.specs.Names.{first_repeated, repeated_after}
-use Rattle.cost_table.proofs.names.repeated_order.Given as goal
-
-abbrev pub invariant-loop-k : goal.invariant-loop-k
-invariant-loop-k l = repeated_after (take l.k l.orders) (drop l.k l.orders) ≡ first_repeated l.orders
