@@ -1,10 +1,9 @@
 -- What the index of the messages finds.
 use Rattle.std.proofs.Common.{◌≡◌, ◌∙◌, ℕ, zero, suc, ◌+◌, Bool, true, false, cond, List, [], ◌∷◌, ◌++◌, length, Option, Some, None, refl, sym, ap, arith, position, true≢false}
-use Rattle.std.specs.Prelude.{◌&&◌, nat_eq, slice_get}
+use Rattle.std.specs.Prelude.{◌&&◌, IfNone, IfSome, nat_eq, slice_get}
 use Rattle.std.specs.BTreeMap.{BTreeMap, get}
 use Rattle.std.specs.Cmp.Lexicographic.{pointwise, bytes_decides, slice_cmp, texts_ties}
 use Rattle.std.specs.List.{position_from}
-use Rattle.std.specs.Option.{option_and_then}
 use Rattle.std.specs.Ordering.{is_eq, nat_cmp, ordering_then}
 use Rattle.std.specs.declared.cmp.Ordering.{Ordering}
 use Rattle.std.specs.declared.cmp.Ordering.TheVariants.{Less, Equal, Greater}
@@ -16,7 +15,7 @@ use Rattle.database_rows.proofs.Named.{position-new, position-push}
 use Rattle.operating_db.specs.declared.event.Event.{Event}
 use Rattle.operating_db.specs.declared.event.Event.TheVariants.{Message, Place, Withdraw, Commit, Revise}
 use Rattle.commit_book.specs.History.{IsFresh}
-use Rattle.commit_book.specs.inner.Ledger.{IsIndexOf, compare_ids, is_id, is_message_of, message_at, message_of}
+use Rattle.commit_book.specs.inner.Ledger.{HasNoted, IsIndexOf, IsMessageAt, IsNoMessage, compare_ids, is_id, is_message_of}
 
 -- ---- ids compared
 
@@ -87,9 +86,6 @@ found_from id (Withdraw other ∷ events) first place h = later id (Withdraw oth
 found_from id (Commit commit ∷ events) first place h = later id (Commit commit) events first place (found_from id events (first + 1) place h)
 found_from id (Revise network ∷ events) first place h = later id (Revise network) events first place (found_from id events (first + 1) place h)
 
-pub found_id : (id : MessageId) (events : List Event) (place : ℕ) → position (is_message_of id) events ≡ Some place → IsAt id events 0 place
-found_id id events place h = found_from id events 0 place (sym (position_from-zero (is_message_of id) events) ∙ h)
-
 none_here : (b : Bool) (first : ℕ) (rest : Option ℕ) → cond b (Some first) rest ≡ None → (b ≡ false) × (rest ≡ None)
 none_here true first rest h = absurd cc
 none_here false first rest h = (refl, h)
@@ -141,20 +137,20 @@ place_in events m q old true is fresh h =
 place_in events m q old false is fresh h = h ∙ sym (position-push (is_message_of q) events (Message m) (is_id-sym q m.id ∙ is))
 
 -- the index with one more message
-pub index_push : (events : List Event) (m : movement.Message) (old new : MessageId → Option ℕ) → IsFresh m.id events → IsIndexOf events old
+index_push : (events : List Event) (m : movement.Message) (old new : MessageId → Option ℕ) → IsFresh m.id events → IsIndexOf events old
     → ((q : MessageId) → new q ≡ cond (is_eq (compare_ids m.id q)) (Some (length events)) (old q)) → IsIndexOf (events ++ Message m ∷ []) new
 index_push events m old new fresh h with_m q =
     with_m q ∙ (ap (λ (b : Bool). cond b (Some (length events)) (old q)) (id_ties m.id q) ∙ place_in events m q (old q) (is_id m.id q) refl fresh (h q))
 
 -- an event that is no message has no id
-no_message : (event : Event) (q : MessageId) → ((m : movement.Message) → event ≡ Message m → ⊥) → is_message_of q event ≡ false
-no_message (Message m) q h = absurd (h m refl)
+no_message : (event : Event) (q : MessageId) → IsNoMessage event → is_message_of q event ≡ false
+no_message (Message m) q h = absurd h
 no_message (Place text) q h = refl
 no_message (Withdraw id) q h = refl
 no_message (Commit commit) q h = refl
 no_message (Revise network) q h = refl
 
-pub index_stays : (events : List Event) (event : Event) (index : MessageId → Option ℕ) → ((m : movement.Message) → event ≡ Message m → ⊥) → IsIndexOf events index → IsIndexOf (events ++ event ∷ []) index
+pub index_stays : (events : List Event) (event : Event) (index : MessageId → Option ℕ) → IsNoMessage event → IsIndexOf events index → IsIndexOf (events ++ event ∷ []) index
 index_stays events event index other h q = h q ∙ sym (position-push (is_message_of q) events event (no_message event q other))
 
 -- the index of no event
@@ -170,36 +166,56 @@ back_in events m q old true is fresh h =
     sym (ap (λ (x : MessageId). position (is_message_of x) events) (sym same) ∙ unfound_by m.id events fresh)
 back_in events m q old false is fresh h = h ∙ position-push (is_message_of q) events (Message m) (is_id-sym q m.id ∙ is)
 
-pub index_back : (events : List Event) (m : movement.Message) (old new : MessageId → Option ℕ) → ((q : MessageId) → new q ≡ cond (is_eq (compare_ids m.id q)) None (old q)) → IsFresh m.id events → IsIndexOf (events ++ Message m ∷ []) old
+index_back : (events : List Event) (m : movement.Message) (old new : MessageId → Option ℕ) → ((q : MessageId) → new q ≡ cond (is_eq (compare_ids m.id q)) None (old q)) → IsFresh m.id events → IsIndexOf (events ++ Message m ∷ []) old
     → IsIndexOf events new
 index_back events m old new without fresh h q =
     without q ∙ (ap (λ (b : Bool). cond b None (old q)) (id_ties m.id q) ∙ back_in events m q (old q) (is_id m.id q) refl fresh (h q))
 
-pub index_was : (events : List Event) (event : Event) (index : MessageId → Option ℕ) → ((m : movement.Message) → event ≡ Message m → ⊥) → IsIndexOf (events ++ event ∷ []) index → IsIndexOf events index
-index_was events event index other h q = h q ∙ position-push (is_message_of q) events event (no_message event q other)
+-- ---- a message of a noted id
 
--- the message that an index finds stands at its place
-pub found_message : (id : MessageId) (events : List Event) (place : ℕ) → IsAt id events 0 place → (m : movement.Message) × (message_at events place ≡ Some m) × (slice_get events place ≡ Some (Message m)) × (m.id ≡ id)
-found_message id events place at =
+-- the place that an index has for an id is that of a message of it
+pub message_found : (id : MessageId) (events : List Event) (place : ℕ) → position (is_message_of id) events ≡ Some place → IsMessageAt events id place
+message_found id events place h =
+    let at = found_from id events 0 place (sym (position_from-zero (is_message_of id) events) ∙ h) in
     let same : at.n ≡ place = let from = at.from_first in omega (arith, from) in
-    let there : slice_get events place ≡ Some (Message at.its_message) = ap (λ (k : ℕ). slice_get events k) (sym same) ∙ at.there in
-    (at.its_message, ap (λ o. option_and_then message_of o) there, there, sym (id_same id at.its_message.id at.passes))
+    record {
+      message = at.its_message;
+      there = ap (λ (k : ℕ). slice_get events k) (sym same) ∙ at.there;
+      its_id = sym (id_same id at.its_message.id at.passes);
+    }
 
-some_message : (a b : movement.Message) → let o : Option movement.Message = Some a in o ≡ Some b → a ≡ b
-some_message a b h = cc
+again_in : (id q : MessageId) (was next : Option ℕ) (old : MessageId → Option ℕ) (b : Bool) → is_id id q ≡ b → old id ≡ was → cond b was (cond b next (old q)) ≡ old q
+again_in id q was next old true is h = sym (ap old (sym (id_same id q is)) ∙ h)
+again_in id q was next old false is h = refl
 
-none_some : (a : movement.Message) → let o : Option movement.Message = Some a in None ≡ o → ⊥
-none_some a h = cc
+-- an index that was changed at one id, and then back there
+pub index_again : (events : List Event) (id : MessageId) (was next : Option ℕ) (old mid new : MessageId → Option ℕ) → IsIndexOf events old → old id ≡ was → ((q : MessageId) → mid q ≡ cond (is_eq (compare_ids id q)) next (old q))
+    → ((q : MessageId) → new q ≡ cond (is_eq (compare_ids id q)) was (mid q)) → IsIndexOf events new
+index_again events id was next old mid new h known changed back q =
+    back q ∙ ap (cond (is_eq (compare_ids id q)) was) (changed q) ∙ ap (λ (b : Bool). cond b was (cond b next (old q))) (id_ties id q) ∙ again_in id q was next old (is_id id q) refl known ∙ h q
 
-pub record IsFoundMessage (id : MessageId) (events : List Event) (place : ℕ) (m : movement.Message) : Type 0 where
-  pub there : slice_get events place ≡ Some (Message m)
-  pub its_id : m.id ≡ id
+-- an id that no message has was noted behind the events
+pub index_noted : (events : List Event) (id : MessageId) (old new : MessageId → Option ℕ) → IsIndexOf events old → old id ≡ None → ((q : MessageId) → new q ≡ cond (is_eq (compare_ids id q)) (Some (length events)) (old q)) → HasNoted events id new
+index_noted events id old new h none noted =
+    let fresh = fresh_by id events (sym (h id) ∙ none) in
+    record { fresh = fresh; behind = λ m same. index_push events m old new (rw same fresh) h (λ q. rw same (noted q)) }
 
-pub is_found : (id : MessageId) (events : List Event) (place : ℕ) (m : movement.Message) → IsAt id events 0 place → message_at events place ≡ Some m → IsFoundMessage id events place m
-is_found id events place m at h =
-    let f = found_message id events place at in
-    let same = some_message f.0 m (sym f.1 ∙ h) in
-    record { there = f.2 ∙ ap (λ (x : movement.Message). Some (Message x)) same; its_id = ap (λ (x : movement.Message). x.id) (sym same) ∙ f.3 }
+-- the note of a message taken back
+pub index_unnoted : (events : List Event) (m : movement.Message) (old new : MessageId → Option ℕ) → HasNoted events m.id old → ((q : MessageId) → new q ≡ cond (is_eq (compare_ids m.id q)) None (old q)) → IsIndexOf events new
+index_unnoted events m old new noted without = index_back events m old new without noted.fresh (noted.behind m refl)
 
-pub is_somewhere : (id : MessageId) (events : List Event) (place : ℕ) → IsAt id events 0 place → message_at events place ≡ None → ⊥
-is_somewhere id events place at h = let f = found_message id events place at in none_some f.0 (sym h ∙ f.1)
+-- an index of the same entries
+pub index_kept : (events : List Event) (old new : BTreeMap MessageId ℕ) → new.entries ≡ old.entries → IsIndexOf events (get compare_ids old) → IsIndexOf events (get compare_ids new)
+index_kept events old new same h q = rw same (h q)
+
+pub none_by : (o : Option ℕ) → ((place : ℕ) → o ≡ Some place → ⊥) → o ≡ None
+none_by None h = refl
+none_by (Some place) h = absurd (h place refl)
+
+pub is_found : (id : MessageId) (events : List Event) (o : Option ℕ) → o ≡ position (is_message_of id) events → IfSome o (λ place. IsMessageAt events id place)
+is_found id events (Some place) h = message_found id events place (sym h)
+is_found id events None h = tt
+
+pub is_new : (id : MessageId) (events : List Event) (o : Option ℕ) → o ≡ position (is_message_of id) events → IfNone o (IsFresh id events)
+is_new id events None h = fresh_by id events (sym h)
+is_new id events (Some place) h = tt

@@ -9,14 +9,15 @@ ghost use Rattle.commit_book.specs.inner.CommitTests.{IsAccepted, IsRefused};
 ghost use Rattle.commit_book.specs.Headline.{IsProved};
 ghost use Rattle.commit_book.specs.History.{IsTableAt, Owes, entry_at, replay};
 ghost use Rattle.commit_book.specs.inner.Kept.{IsKeptAt, which_of};
+ghost use Rattle.commit_book.specs.inner.Ledger.{IsMessageAt, IsNoMessage};
 ghost use Rattle.commit_book.specs.Snap.{IsVersionNumber, snap_of};
 ghost use Rattle.commit_book.specs.declared.call.Call.TheVariants as call;
 
 use crate::commits::judge;
 use crate::indexed_problem::IndexedProblem;
 use crate::kept_problems::{KeptProblem, find_kept, keep};
-use crate::ledger::Ledger;
-use crate::same_messages::is_same;
+use crate::ledger::{Ledger, MessageEntry};
+use crate::same_messages::is_same_message;
 use crate::{Limits, Refusal, Reply, Snap};
 use cost_table::{Cells, Problem, cells};
 use distance_tables::{Networks, Tables};
@@ -104,13 +105,13 @@ impl Book {
         ensures call { IsCall self.old.setting self.old.state (call.Message message.now) (answer_of result) self.new.state }
         ensures setting { self.new.setting ≡ self.old.setting }
     {
-        if let Some((place, other)) = self.ledger.find(message.id) {
-            if !is_same(other, message) {
-                return Err(Refusal::IdReused);
-            }
-            return Ok(Reply::Repeated(place as u64 + 1));
+        if self.is_full() {
+            return self.answer_full(message);
         }
-        self.enter(alloc, Event::Message(*message))
+        match self.ledger.enter_message(alloc, message)? {
+            MessageEntry::Entered => Ok(Reply::Accepted(self.len())),
+            MessageEntry::Known(place) => self.answer_known(message, place),
+        }
     }
 
     /// Places an order. Refused, with nothing changed: `BookFull` (72); `OrderKnown` (74); `TooManyOpen` (75);
@@ -208,8 +209,35 @@ impl Book {
         self.limits.entries() <= self.len()
     }
 
-    /// Lets an event happen that pays what it owes, unless the book is full.
+    /// What a message is answered where the book is full.
+    fn answer_full(&self, message: &Message) -> Result<Reply, Refusal>
+        requires { is_full self.now.setting self.now.state.history ≡ true }
+        ensures { IsCall self.now.setting self.now.state (call.Message message.now) (answer_of result) self.now.state }
+    {
+        match self.ledger.find(message.id) {
+            Some(place) => self.answer_known(message, place),
+            None => Err(Refusal::BookFull),
+        }
+    }
+
+    /// What a message is answered where the event at this place, counted from 0, is a message of its id.
+    fn answer_known(&self, message: &Message, place: usize) -> Result<Reply, Refusal>
+        requires { IsMessageAt self.now.state.history message.now.id place }
+        ensures { IsCall self.now.setting self.now.state (call.Message message.now) (answer_of result) self.now.state }
+    {
+        // For the prover alone: the number of an entry fits.
+        let _most = self.len();
+        match self.ledger.get(place) {
+            Some(Event::Message(other)) if is_same_message(other, message) => {
+                Ok(Reply::Repeated(place as u64 + 1))
+            }
+            _ => Err(Refusal::IdReused),
+        }
+    }
+
+    /// Lets an event that is no message happen, which pays what it owes, unless the book is full.
     fn enter(&mut self, alloc: Global, event: Event) -> Result<Reply, Refusal>
+        requires other { IsNoMessage event }
         requires promised { IsPromised (replay self.old.setting self.old.state.history) event }
         requires owed { Owes self.old.setting self.old.state.history event }
         ensures entered { IsEntered self.old.setting self.old.state event (answer_of result) self.new.state }

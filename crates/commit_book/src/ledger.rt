@@ -1,13 +1,15 @@
 //! The accepted events, and the office after them.
-ghost use Rattle.std.specs.Prelude.{◌≡◌, ◌<◌, ◌≤◌, ◌++◌, ◌∷◌, [], false, List, Some, IfErr, IfNone, IfOk, IfSome, IsOk, OnErr, OnOk, length, option_copied, option_map, slice_get, vec_capacity, vec_len};
+ghost use Rattle.std.specs.Prelude.{◌≡◌, ◌<◌, ◌≤◌, ◌++◌, ◌∷◌, [], IfErr, IfNone, IfOk, IfSome, IsOk, IsSome, OnErr, OnOk, cond, length, option_map, slice_get, vec_capacity, vec_len};
 ghost use Rattle.operating_db.specs.After.{after_call};
 ghost use Rattle.operating_db.specs.ApplyFault.{IsRefusal};
 ghost use Rattle.distance_tables.specs.Networks.{max_networks};
 ghost use Rattle.operating_db.specs.Steps.{IsPromised};
 ghost use Rattle.operating_db.specs.declared.event.Event.TheVariants as event;
 ghost use Rattle.commit_book.specs.History.{IsFresh};
-ghost use Rattle.commit_book.specs.inner.Ledger.{IsFreshEvent, IsIndexOf, compare_ids, message_at, office_of, state_of};
+ghost use Rattle.commit_book.specs.inner.Ledger.{IsIndexOf, IsMessageAt, IsMessageEntry, IsNoMessage, IsNoted, compare_ids, office_of, state_of};
 ghost use Rattle.std.specs.BTreeMap.{get};
+ghost use Rattle.std.specs.Ordering.{is_eq};
+ghost use Rattle.rail_codes.specs.declared.message_id.MessageId.{MessageId};
 
 use move_messages::Message;
 use operating_db::{ApplyFault, Event, OfficeState};
@@ -16,6 +18,15 @@ use std::alloc::{AllocError, Global};
 use std::collections::BTreeMap;
 use std::marker::Model;
 use wagon_roster::Roster;
+
+/// What came of a message that was to be entered.
+#[derive(Clone, Copy, Debug, PartialEq, Eq)]
+pub(crate) enum MessageEntry {
+    /// It is the last event now.
+    Entered,
+    /// The event at this place, counted from 0, is a message of its id.
+    Known(usize),
+}
 
 /// The accepted events in their order, and the office after them. A contract sees the roster, how many networks there
 /// are, and the list of the events.
@@ -84,124 +95,98 @@ impl Ledger {
         &self.state
     }
 
-    /// The message of an id, and the place of its event.
-    pub fn find(&self, id: MessageId) -> Option<(usize, &Message)>
-        ensures found { IfSome result (λ r. (slice_get self.now.events r.0 ≡ Some (event.Message r.1.now)) × (r.1.now.id ≡ id)) }
+    /// The place of the message of an id, counted from 0.
+    pub fn find(&self, id: MessageId) -> Option<usize>
+        ensures found { IfSome result (λ place. IsMessageAt self.now.events id place) }
         ensures fresh { IfNone result (IsFresh id self.now.events) }
     {
-        find_message(&self.ids, &self.events, id)
+        self.ids.get(&id).copied()
     }
 
-    /// Lets an event happen, as the last one; a message must have a new id, and a commit must be possible. Refused as
-    /// the office refuses it, or because memory is out where nothing else is wrong; nothing has changed then.
+    /// Lets a message happen, as the last event, unless an event has its id. Refused as the office refuses it, or
+    /// because memory is out where nothing else is wrong; nothing has changed then.
+    pub fn enter_message(
+        &mut self,
+        alloc: Global,
+        message: &Message,
+    ) -> Result<MessageEntry, ApplyFault>
+        ensures { IsMessageEntry self.old message.now result self.new }
+    {
+        let event = Event::Message(*message);
+        match note(&mut self.ids, &mut self.events, message.id) {
+            Ok(None) => {}
+            Ok(Some(place)) => return Ok(MessageEntry::Known(place)),
+            Err(_) => return Err(refusal_without_memory(&self.state, &event)),
+        }
+        if let Err(fault) = self.state.apply(alloc, &event) {
+            self.ids.remove(&message.id);
+            return Err(fault);
+        }
+        self.events.push_reserved(event);
+        Ok(MessageEntry::Entered)
+    }
+
+    /// Lets an event that is no message happen, as the last one; a commit must be possible. Refused as the office
+    /// refuses it, or because memory is out where nothing else is wrong; nothing has changed then.
     pub fn enter(&mut self, alloc: Global, event: Event) -> Result<(), ApplyFault>
+        requires other { IsNoMessage event }
         requires promised { IsPromised (office_of self.old) event }
-        requires fresh { IsFreshEvent event self.old.events }
         ensures entered { OnOk result (self.new ≡ record self.old { events = self.old.events ++ event ∷ [] }) }
         ensures possible { OnOk result (IsOk (after_call self.old.networks (office_of self.old) event)) }
         ensures refused { IfErr result (λ fault. IsRefusal (after_call self.old.networks (office_of self.old) event) fault) }
         ensures unchanged { OnErr result (self.new ≡ self.old) }
     {
-        prepare(&self.state, &mut self.events, &mut self.ids, &event)?;
-        if let Err(fault) = self.state.apply(alloc, &event) {
-            forget(&mut self.ids, &event);
-            return Err(fault);
+        if self.events.reserve(1).is_err() {
+            return Err(refusal_without_memory(&self.state, &event));
         }
+        self.state.apply(alloc, &event)?;
         self.events.push_reserved(event);
         Ok(())
     }
 }
 
-/// The message of an id, and its place.
-fn find_message<'a>(
-    ids: &BTreeMap<MessageId, usize>,
-    events: &'a [Event],
-    id: MessageId,
-) -> Option<(usize, &'a Message)>
-    requires { IsIndexOf events.now (get compare_ids ids.now) }
-    ensures found { IfSome result (λ r. (slice_get events.now r.0 ≡ Some (event.Message r.1.now)) × (r.1.now.id ≡ id)) }
-    ensures fresh { IfNone result (IsFresh id events.now) }
+/// Why an event is refused where there is no memory: as the office refuses it, or because memory is out where nothing
+/// else is wrong.
+fn refusal_without_memory(state: &OfficeState, event: &Event) -> ApplyFault
+    requires { IsPromised state.now.office event.now }
+    ensures { IsRefusal (after_call state.now.networks state.now.office event.now) result }
 {
-    let place = *ids.get(&id)?;
-    let message = message_at(events, place)?;
-    Some((place, message))
-}
-
-/// The message at a place, where there is one.
-fn message_at(events: &[Event], place: usize) -> Option<&Message>
-    ensures { option_copied result ≡ message_at events.now place }
-{
-    match events.get(place)? {
-        Event::Message(message) => Some(message),
-        _ => None,
+    match state.possible(event) {
+        Ok(()) => ApplyFault::OutOfMemory,
+        Err(fault) => fault,
     }
 }
 
-/// Makes room for one more event behind the others, and notes its place by its id, if it is a message. Refused as the
-/// office refuses the event, or because memory is out where nothing else is wrong; nothing has changed then.
-fn prepare(
-    state: &OfficeState,
-    events: &mut Vec<Event>,
-    ids: &mut BTreeMap<MessageId, usize>,
-    event: &Event,
-) -> Result<(), ApplyFault>
-    requires promised { IsPromised state.now.office event.now }
-    requires fresh { IsFreshEvent event.now events.old.items }
-    requires indexed { IsIndexOf events.old.items (get compare_ids ids.old) }
-    ensures events { events.new.items ≡ events.old.items }
-    ensures room { OnOk result (vec_len events.new < vec_capacity events.new) }
-    ensures noted { OnOk result (IsIndexOf (events.old.items ++ event.now ∷ []) (get compare_ids ids.new)) }
-    ensures refused { IfErr result (λ fault. IsRefusal (after_call state.now.networks state.now.office event.now) fault) }
-    ensures unchanged { OnErr result (IsIndexOf events.old.items (get compare_ids ids.new)) }
-{
-    if make_room(ids, events, event).is_err() {
-        // Out of memory is answered only where nothing else is wrong.
-        state.possible(event)?;
-        return Err(ApplyFault::OutOfMemory);
-    }
-    Ok(())
-}
-
-/// Makes room for one more event behind the others, and notes its place by its id, if it is a message. Where memory is
-/// refused, no place is noted.
-fn make_room(
-    ids: &mut BTreeMap<MessageId, usize>,
-    events: &mut Vec<Event>,
-    event: &Event,
-) -> Result<(), AllocError>
-    requires fresh { IsFreshEvent event.now events.old.items }
-    requires indexed { IsIndexOf events.old.items (get compare_ids ids.old) }
-    ensures events { events.new.items ≡ events.old.items }
-    ensures room { OnOk result (vec_len events.new < vec_capacity events.new) }
-    ensures noted { OnOk result (IsIndexOf (events.old.items ++ event.now ∷ []) (get compare_ids ids.new)) }
-    ensures refused { OnErr result (IsIndexOf events.old.items (get compare_ids ids.new)) }
-{
-    events.reserve(1)?;
-    note(ids, events, event)
-}
-
-/// Notes the place of an event behind others by its id, if it is a message. Where memory is refused, nothing changes.
+/// Notes the place behind the events by the id of a message, and makes room for the message there; or, where an event
+/// is a message of this id, gives its place and notes nothing. Where memory is refused, no event is, and nothing is
+/// noted. In the common case, a new id, the index is searched once.
 fn note(
     ids: &mut BTreeMap<MessageId, usize>,
-    events: &[Event],
-    event: &Event,
-) -> Result<(), AllocError>
-    requires indexed { IsIndexOf events.now (get compare_ids ids.old) }
-    requires fresh { IsFreshEvent event.now events.now }
-    ensures noted { OnOk result (IsIndexOf (events.now ++ event.now ∷ []) (get compare_ids ids.new)) }
-    ensures refused { OnErr result (IsIndexOf events.now (get compare_ids ids.new)) }
+    events: &mut Vec<Event>,
+    id: MessageId,
+) -> Result<Option<usize>, AllocError>
+    requires { IsIndexOf events.old.items (get compare_ids ids.old) }
+    ensures noted { IsNoted events.old.items id result (get compare_ids ids.new) }
+    ensures events { events.new.items ≡ events.old.items }
+    ensures room { IfOk result (λ known. IfNone known (vec_len events.new < vec_capacity events.new)) }
 {
-    if let Event::Message(message) = event {
-        ids.insert(message.id, events.len())?;
+    if let Some(place) = ids.insert(id, events.len())? {
+        note_again(ids, id, place);
+        return Ok(Some(place));
     }
-    Ok(())
+    if events.reserve(1).is_err() {
+        ids.remove(&id);
+        return Err(AllocError);
+    }
+    Ok(None)
 }
 
-/// Takes the note of the last event back, if it is a message. Takes no memory.
-fn forget(ids: &mut BTreeMap<MessageId, usize>, event: &Event)
-    ensures { (events : List Event) → IsFreshEvent event.now events → IsIndexOf (events ++ event.now ∷ []) (get compare_ids ids.old) → IsIndexOf events (get compare_ids ids.new) }
+/// Notes another place for an id that is noted. Takes no memory.
+fn note_again(ids: &mut BTreeMap<MessageId, usize>, id: MessageId, place: usize)
+    requires { IsSome (get compare_ids ids.old id) }
+    ensures { (other : MessageId) → get compare_ids ids.new other ≡ cond (is_eq (compare_ids id other)) (Some place) (get compare_ids ids.old other) }
 {
-    if let Event::Message(message) = event {
-        ids.remove(&message.id);
+    if let Some(noted) = ids.get_mut(&id) {
+        *noted = place;
     }
 }

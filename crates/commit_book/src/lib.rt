@@ -26,4 +26,5 @@ pub use limits::{Limits, MAX_ENTRIES, MAX_KEPT_PROBLEMS};
 pub use refusal::Refusal;
 pub use reply::Reply;
 pub use request::Request;
+pub use same_messages::is_same_message;
 pub use snap::Snap;

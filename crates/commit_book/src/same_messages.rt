@@ -5,7 +5,7 @@ use move_messages::{Message, MessageKind};
 use rail_codes::MessageId;
 
 /// Whether two messages are one, field by field.
-pub(crate) fn is_same(one: &Message, other: &Message) -> bool
+pub fn is_same_message(one: &Message, other: &Message) -> bool
     ensures { IsTrue result ↔ (one.now ≡ other.now) }
 {
     is_same_id(one.id, other.id)

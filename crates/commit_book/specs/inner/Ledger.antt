@@ -1,16 +1,21 @@
 -- The accepted events, as a book keeps them.
-use Rattle.std.specs.Prelude.{◌≡◌, ◌&&◌, ℕ, Bool, false, nat_eq, List, Option, Some, None, position, slice_get}
+use Rattle.std.specs.Prelude.{◌≡◌, ◌&&◌, ◌++◌, ◌∷◌, [], ℕ, Bool, false, nat_eq, IsOk, List, Option, Some, None, Result, Ok, Err, position, slice_get}
 use Rattle.std.specs.Cmp.Lexicographic.{pointwise, slice_cmp}
 use Rattle.std.specs.Ordering.{nat_cmp, ordering_then}
 use Rattle.std.specs.declared.cmp.Ordering.{Ordering}
-use Rattle.std.specs.Option.{option_and_then}
+use Rattle.std.specs.declared.alloc.AllocError.{AllocError}
 use Rattle.rail_codes.specs.declared.message_id.MessageId.{MessageId}
 use Rattle.move_messages.specs.declared.message.Message as movement
 use Rattle.wagon_state.specs.declared.wagon_row.WagonRow.{WagonRow}
+use Rattle.operating_db.specs.After.{after_call}
+use Rattle.operating_db.specs.ApplyFault.{IsRefusal}
 use Rattle.operating_db.specs.Office.{Office, StateValue, first_office}
+use Rattle.operating_db.specs.declared.apply_fault.ApplyFault.{ApplyFault}
 use Rattle.operating_db.specs.declared.event.Event.{Event}
 use Rattle.operating_db.specs.declared.event.Event.TheVariants.{Message, Place, Withdraw, Commit, Revise}
 use Rattle.commit_book.specs.History.{IsFresh, after_all}
+use Rattle.commit_book.specs.declared.ledger.MessageEntry.{MessageEntry}
+use Rattle.commit_book.specs.declared.ledger.MessageEntry.TheVariants.{Entered, Known}
 
 -- the roster, how many networks there are, and the events since
 pub record LedgerValue : Type 0 where
@@ -44,26 +49,43 @@ is_message_of id (Revise network) = false
 abbrev pub IsIndexOf : List Event → (index : MessageId → Option ℕ) → Type 0
 IsIndexOf events index = (id : MessageId) → index id ≡ position (is_message_of id) events
 
--- the message at a place, where there is one
-abbrev pub message_of : Event → Option movement.Message
-message_of (Message message) = Some message
-message_of (Place text) = None
-message_of (Withdraw id) = None
-message_of (Commit commit) = None
-message_of (Revise network) = None
+-- the event at a place is a message of this id
+pub record IsMessageAt (events : List Event) (id : MessageId) (place : ℕ) : Type 0 where
+  pub message : movement.Message
+  pub there : slice_get events place ≡ Some (Message message)
+  pub its_id : message.id ≡ id
 
-abbrev pub message_at : List Event → ℕ → Option movement.Message
-message_at events place = option_and_then message_of (slice_get events place)
-
--- a message has a new id
-abbrev pub IsFreshEvent : Event → List Event → Type 0
-IsFreshEvent (Message message) events = IsFresh message.id events
-IsFreshEvent (Place text) events = Unit {0}
-IsFreshEvent (Withdraw id) events = Unit {0}
-IsFreshEvent (Commit commit) events = Unit {0}
-IsFreshEvent (Revise network) events = Unit {0}
+-- an event that is no message
+abbrev pub IsNoMessage : Event → Type 0
+IsNoMessage (Message message) = ⊥
+IsNoMessage (Place text) = Unit {0}
+IsNoMessage (Withdraw id) = Unit {0}
+IsNoMessage (Commit commit) = Unit {0}
+IsNoMessage (Revise network) = Unit {0}
 
 -- the index has the messages, and the state is the office after all events
 pub record IsLedger (roster : List WagonRow) (events : List Event) (index : MessageId → Option ℕ) (state : StateValue) : Type 0 where
   pub indexed : IsIndexOf events index
   pub replayed : state.office ≡ after_all state.networks (first_office roster) events
+
+-- ---- a message that is entered
+
+-- the index has a message of this id behind the events
+pub record HasNoted (events : List Event) (id : MessageId) (index : MessageId → Option ℕ) : Type 0 where
+  pub fresh : IsFresh id events
+  pub behind : (message : movement.Message) → message.id ≡ id → IsIndexOf (events ++ Message message ∷ []) index
+
+-- what came of noting an id: it is noted behind the events; or an event is a message of it, or memory is out, and the
+-- index is that of the events
+abbrev pub IsNoted : List Event → MessageId → Result (Option ℕ) AllocError → (index : MessageId → Option ℕ) → Type 0
+IsNoted events id (Ok None) index = HasNoted events id index
+IsNoted events id (Ok (Some place)) index = IsMessageAt events id place × IsIndexOf events index
+IsNoted events id (Err error) index = IsFresh id events × IsIndexOf events index
+
+-- what came of entering a message: it is the last event; or an event is a message of its id; or it is refused
+abbrev pub IsMessageEntry : (old : LedgerValue) → movement.Message → Result MessageEntry ApplyFault → (new : LedgerValue) → Type 0
+IsMessageEntry old message (Ok Entered) new =
+    IsFresh message.id old.events × IsOk (after_call old.networks (office_of old) (Message message)) × (new ≡ record old { events = old.events ++ Message message ∷ [] })
+IsMessageEntry old message (Ok (Known place)) new = IsMessageAt old.events message.id place × (new ≡ old)
+IsMessageEntry old message (Err fault) new =
+    IsFresh message.id old.events × IsRefusal (after_call old.networks (office_of old) (Message message)) fault × (new ≡ old)
