@@ -1,5 +1,6 @@
 -- The lines of a sheet, from their parts.
 use Rattle.std.proofs.Common.{◌≡◌, ℕ, List, [], ◌∷◌, ◌++◌, refl, ap, ◌∙◌, append_assoc}
+use Rattle.rail_codes.specs.Moment.{IsMomentText}
 use Rattle.wagon_state.specs.declared.wagon_row.WagonRow.{WagonRow}
 use Rattle.load_orders.specs.OrderRow.{OrderRowValue}
 use Rattle.std.specs.Prelude.{decimal}
@@ -29,22 +30,23 @@ order_parts : (row : OrderRowValue) (latest : List ℕ) → order_front row ++ n
 order_parts row latest =
     five_behind (order_front row ++ next_word latest) (next_word (decimal row.text.penalty)) (next_word (state_word (state_of row))) (next_word (decimal row.text.wagons)) (next_word (list_word (listed_wagons row))) (10 ∷ [])
 
-pub wagon_line : (row : WagonRow) (old a b c : List ℕ) → a ≡ old ++ wagon_front row → Adds (IsMomentWord row.last) a b → c ≡ b ++ wagon_back row → Adds (IsWagonLine row) old c
-wagon_line row old a b c first moment last =
+-- a front, a moment behind it, and a back: a line that P holds of, where it does so of each text with such a moment
+dated_line : (P : List ℕ → Type 0) (seconds : ℕ) (text : List ℕ → List ℕ) (front back : List ℕ)
+    → ((moment : List ℕ) → front ++ next_word moment ++ back ≡ text moment)
+    → ((moment : List ℕ) → IsMomentText seconds moment → P (text moment))
+    → (old a b c : List ℕ) → a ≡ old ++ front → Adds (IsMomentWord seconds) a b → c ≡ b ++ back → Adds P old c
+dated_line P seconds text front back parts is_line old a b c first moment last =
     let word = moment.is in
-    let text = word.text in
     record {
-      added = wagon_text row text;
-      is = record { last = text; moment = word.moment; text = refl };
-      whole = three_parts old (wagon_front row) (next_word text) (wagon_back row) a b c first (moment.whole ∙ ap (λ (xs : List ℕ). a ++ xs) word.whole) last ∙ ap (λ (xs : List ℕ). old ++ xs) (wagon_parts row text);
+      added = text word.text;
+      is = is_line word.text word.moment;
+      whole = three_parts old front (next_word word.text) back a b c first (moment.whole ∙ ap (λ (xs : List ℕ). a ++ xs) word.whole) last ∙ ap (λ (xs : List ℕ). old ++ xs) (parts word.text);
     }
 
+pub wagon_line : (row : WagonRow) (old a b c : List ℕ) → a ≡ old ++ wagon_front row → Adds (IsMomentWord row.last) a b → c ≡ b ++ wagon_back row → Adds (IsWagonLine row) old c
+wagon_line row =
+    dated_line (IsWagonLine row) row.last (wagon_text row) (wagon_front row) (wagon_back row) (wagon_parts row) (λ last moment. record { last = last; moment = moment; text = refl })
+
 pub order_line : (row : OrderRowValue) (old a b c : List ℕ) → a ≡ old ++ order_front row → Adds (IsMomentWord row.text.latest) a b → c ≡ b ++ order_back row → Adds (IsOrderLine row) old c
-order_line row old a b c first moment last =
-    let word = moment.is in
-    let text = word.text in
-    record {
-      added = order_text row text;
-      is = record { latest = text; moment = word.moment; text = refl };
-      whole = three_parts old (order_front row) (next_word text) (order_back row) a b c first (moment.whole ∙ ap (λ (xs : List ℕ). a ++ xs) word.whole) last ∙ ap (λ (xs : List ℕ). old ++ xs) (order_parts row text);
-    }
+order_line row =
+    dated_line (IsOrderLine row) row.text.latest (order_text row) (order_front row) (order_back row) (order_parts row) (λ latest moment. record { latest = latest; moment = moment; text = refl })

@@ -3,13 +3,15 @@ ghost use Rattle.std.specs.Prelude.{◌≡◌, ◌-◌, ◌^◌, ◌≤◌, All,
 ghost use Rattle.serde_json.specs.View.{view};
 ghost use Rattle.rail_codes.specs.Moment.{moment_of};
 ghost use Rattle.json_fields.specs.Values.{list_of_each, number_within, pair_of};
+ghost use Rattle.json_fields.specs.Written.{list_data, number_data, pair_data};
 ghost use Rattle.move_messages.specs.Commands.{command_of, commit_text_of, max_version};
 ghost use Rattle.move_messages.specs.declared.command.Command.TheVariants.{Commit};
 ghost use Rattle.commit_book.specs.Snap.{IsInRange};
-ghost use Rattle.dispatch_sheet.specs.Certificate.{commit_data, commit_of, pair_data, pairs_data, prices_data, IsCertificateLine};
+ghost use Rattle.dispatch_sheet.specs.Certificate.{commit_data, commit_of, IsCertificateLine};
 
 use commit_book::Snap;
 use cost_table::Plan;
+use json_fields::list_value;
 use move_messages::CommitText;
 use price_checker::Prices;
 use rail_codes::{OrderId, WagonNumber};
@@ -67,37 +69,16 @@ fn commit_value(alloc: Global, commit: &CommitText, at: String) -> Result<Value,
 
 /// Pairs of a wagon and an order, as lists of two texts.
 fn pairs_value(alloc: Global, pairs: &[(WagonNumber, OrderId)]) -> Result<Value, AllocError>
-    ensures value { IfOk result (λ value. view value ≡ pairs_data pairs.now) }
-    ensures reads { OnOk result (list_of_each pair_of (pairs_data pairs.now) ≡ Ok pairs.now) }
+    ensures value { IfOk result (λ value. view value ≡ list_data pair_data pairs.now) }
+    ensures reads { OnOk result (list_of_each pair_of (list_data pair_data pairs.now) ≡ Ok pairs.now) }
 {
-    let mut values = Vec::with_capacity(alloc, pairs.len())?;
-    for (number, id) in pairs {
-        values.push(pair_value(alloc, *number, *id)?)?;
-    }
-    Ok(Value::Array(values))
-}
-
-/// A wagon and an order, as a list of two texts.
-fn pair_value(alloc: Global, number: WagonNumber, id: OrderId) -> Result<Value, AllocError>
-    ensures value { IfOk result (λ value. view value ≡ pair_data (number, id)) }
-    ensures reads { OnOk result (pair_of (pair_data (number, id)) ≡ Ok (number, id)) }
-{
-    let wagon = number.text(alloc)?;
-    let order = id.text(alloc)?;
-    let mut values = Vec::with_capacity(alloc, 2)?;
-    values.push(Value::String(wagon))?;
-    values.push(Value::String(order))?;
-    Ok(Value::Array(values))
+    list_value(alloc, pairs)
 }
 
 /// Prices, as a list of numbers.
 fn prices_value(alloc: Global, prices: &[u64]) -> Result<Value, AllocError>
-    ensures value { IfOk result (λ value. view value ≡ prices_data prices.now) }
-    ensures reads { OnOk result (list_of_each (number_within 0 (2 ^ 64 - 1)) (prices_data prices.now) ≡ Ok prices.now) }
+    ensures value { IfOk result (λ value. view value ≡ list_data number_data prices.now) }
+    ensures reads { OnOk result (list_of_each (number_within 0 (2 ^ 64 - 1)) (list_data number_data prices.now) ≡ Ok prices.now) }
 {
-    let mut values = Vec::with_capacity(alloc, prices.len())?;
-    for price in prices {
-        values.push(Value::from(*price))?;
-    }
-    Ok(Value::Array(values))
+    list_value(alloc, prices)
 }

@@ -6,8 +6,10 @@
 mod certificate;
 mod order_line;
 mod plan_lines;
+mod row_lines;
 mod sheet;
 mod wagon_line;
+mod wagon_list;
 mod words;
 
 pub use certificate::certificate_line;

@@ -2,8 +2,7 @@
 ghost use Rattle.std.specs.Prelude.{◌≡◌, ◌++◌, IfOk, OnOk, string_bytes};
 ghost use Rattle.dispatch_sheet.specs.Sheet.{network_line, version_line, IsSheetText};
 
-use crate::order_line::push_order_lines;
-use crate::wagon_line::push_wagon_lines;
+use crate::row_lines::push_lines;
 use crate::words::push_number;
 use operating_db::OfficeState;
 use std::alloc::{AllocError, Global};
@@ -15,8 +14,8 @@ pub fn sheet_text(alloc: Global, version: u64, state: &OfficeState) -> Result<St
 {
     let mut text = String::new(alloc);
     push_version(&mut text, version)?;
-    push_wagon_lines(&mut text, state.wagon_rows())?;
-    push_order_lines(&mut text, state.order_rows())?;
+    push_lines(&mut text, state.wagon_rows())?;
+    push_lines(&mut text, state.order_rows())?;
     push_network(&mut text, state)?;
     Ok(text)
 }

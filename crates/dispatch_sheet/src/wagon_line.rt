@@ -2,34 +2,26 @@
 ghost use Rattle.std.specs.Prelude.{◌≡◌, ◌++◌, OnOk, string_bytes};
 ghost use Rattle.wagon_state.specs.StatusTable.{place_of};
 ghost use Rattle.wagon_state.specs.declared.load.Load.TheVariants.{Loaded, Unladen};
-ghost use Rattle.dispatch_sheet.specs.Sheet.{hold_word, promise_word, status_word, AreLines, IsWagonLine};
+ghost use Rattle.dispatch_sheet.specs.Sheet.{hold_word, promise_word, status_word, IsWagonLine};
 ghost use Rattle.dispatch_sheet.specs.Words.{next_word};
 ghost use Rattle.dispatch_sheet.specs.inner.Parts.{wagon_back, wagon_front};
-ghost use Rattle.dispatch_sheet.specs.inner.Pushed.{Adds};
 ghost use Rattle.dispatch_sheet.specs.inner.RosterWords.{IsRosterWord};
 
+use crate::row_lines::Lined;
 use crate::words::{push_code, push_moment, push_number, push_word};
 use rail_codes::OrderId;
 use std::alloc::AllocError;
 use wagon_state::{Load, Status, WagonRow};
 
-/// Adds a line for each wagon.
-pub(crate) fn push_wagon_lines(text: &mut String, rows: &[WagonRow]) -> Result<(), AllocError>
-    ensures { OnOk result (Adds (AreLines IsWagonLine rows.now) (string_bytes text.old) (string_bytes text.new)) }
-{
-    for row in rows {
-        push_wagon_line(text, row)?;
-    }
-    Ok(())
-}
+impl Lined for WagonRow {
+    ghost is_line = { IsWagonLine };
 
-/// Adds `wagon NUMBER CLASS LOAD STATUS PLACE LAST HOLD PROMISE`.
-fn push_wagon_line(text: &mut String, row: &WagonRow) -> Result<(), AllocError>
-    ensures { OnOk result (Adds (IsWagonLine row.now) (string_bytes text.old) (string_bytes text.new)) }
-{
-    push_wagon_front(text, row)?;
-    push_moment(text, row.last)?;
-    push_wagon_back(text, row)
+    /// Adds `wagon NUMBER CLASS LOAD STATUS PLACE LAST HOLD PROMISE`.
+    fn push_line(&self, text: &mut String) -> Result<(), AllocError> {
+        push_wagon_front(text, self)?;
+        push_moment(text, self.last)?;
+        push_wagon_back(text, self)
+    }
 }
 
 /// Adds what stands before the last moment.

@@ -1,3 +1,4 @@
 pub mod Arrows
+pub mod LineParts
 pub mod Loops
 pub mod Names

@@ -27,24 +27,18 @@ fn push_line_at(text: &mut String, network: &Network, i: usize) -> Result<(), Al
     if is_second(lines, i) {
         return Ok(());
     }
-    let Some(line) = lines.get(i) else {
+    let Some(line) = line_at(lines, i) else {
         return Ok(());
     };
-    push_line(text, network, i, line, goes_back(lines, i, i + 1))
+    push_line_node(text, i, &line)?;
+    push_line_edge(text, network, i, &line, goes_back(lines, i, i + 1))
 }
 
-/// Adds line `i`.
-fn push_line(
-    text: &mut String,
-    network: &Network,
-    i: usize,
-    line: &Line,
-    both: bool,
-) -> Result<(), AllocError>
-    ensures { OnOk result (string_bytes text.new ≡ string_bytes text.old ++ (line_node i line.now ++ line_edge network.now.places i line.now both)) }
+/// Line `i`.
+fn line_at(lines: &[Line], i: usize) -> Option<Line>
+    ensures { result ≡ slice_get lines.now i }
 {
-    push_line_node(text, i, line)?;
-    push_line_edge(text, network, i, line, both)
+    lines.get(i).copied()
 }
 
 /// Adds the kilometres and minutes of line `i`.

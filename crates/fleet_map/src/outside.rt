@@ -1,6 +1,7 @@
 //! Places that the network in force doesn't have.
-ghost use Rattle.std.specs.Prelude.{◌≡◌, IfOk, OnOk};
+ghost use Rattle.std.specs.Prelude.{◌≡◌, ℕ, List, IfOk, OnOk};
 ghost use Rattle.std.specs.List.{fold};
+ghost use Rattle.line_network.specs.Network.{NetworkValue};
 ghost use Rattle.fleet_map.specs.Outside.{is_drawn, outside_places, with_order_place, with_outside, with_wagon_place};
 
 use line_network::Network;
@@ -20,48 +21,53 @@ pub(crate) fn outside_places(
     ensures { IfOk result (λ places. places.items ≡ outside_places network.now state.now.office) }
 {
     let mut places = Vec::new(alloc);
-    note_wagons(&mut places, network, state.wagon_rows())?;
-    note_orders(&mut places, network, state.order_rows())?;
+    note_rows(&mut places, network, state.wagon_rows())?;
+    note_rows(&mut places, network, state.order_rows())?;
     Ok(places)
 }
 
-/// Notes the places of wagons.
-fn note_wagons(
-    places: &mut Vec<Place>,
-    network: &Network,
-    rows: &[WagonRow],
-) -> Result<(), AllocError>
-    ensures { OnOk result (places.new.items ≡ fold (with_wagon_place network.now) places.old.items rows.now) }
-{
-    for row in rows {
-        note_outside(places, network, row.status.place())?;
-    }
-    Ok(())
+/// A row whose place may be on the map.
+trait Placed {
+    // the places with that of this row, where it is on the map but not in the network
+    ghost with_place: { NetworkValue → List (List ℕ) → Self → List (List ℕ) };
+
+    /// Notes the row's place. `Err` only when out of memory.
+    fn note(&self, places: &mut Vec<Place>, network: &Network) -> Result<(), AllocError>
+        ensures { OnOk result (places.new.items ≡ with_place network.now places.old.items self.now) };
 }
 
-/// Notes the places of the orders that are on the map.
-fn note_orders(
-    places: &mut Vec<Place>,
-    network: &Network,
-    rows: &[OrderRow],
-) -> Result<(), AllocError>
-    ensures { OnOk result (places.new.items ≡ fold (with_order_place network.now) places.old.items rows.now) }
-{
-    for row in rows {
-        note_order(places, network, row)?;
+impl Placed for WagonRow {
+    ghost with_place = { with_wagon_place };
+
+    fn note(&self, places: &mut Vec<Place>, network: &Network) -> Result<(), AllocError> {
+        note_outside(places, network, self.status.place())
     }
-    Ok(())
 }
 
-/// Notes the place of an order that is on the map.
-fn note_order(places: &mut Vec<Place>, network: &Network, row: &OrderRow) -> Result<(), AllocError>
-    ensures { OnOk result (places.new.items ≡ with_order_place network.now places.old.items row.now) }
-{
-    if is_drawn(row) {
-        note_outside(places, network, row.text().place())
-    } else {
-        Ok(())
+impl Placed for OrderRow {
+    ghost with_place = { with_order_place };
+
+    fn note(&self, places: &mut Vec<Place>, network: &Network) -> Result<(), AllocError> {
+        if is_drawn(self) {
+            note_outside(places, network, self.text().place())
+        } else {
+            Ok(())
+        }
     }
+}
+
+/// Notes the places of rows.
+fn note_rows<T: Placed>(
+    places: &mut Vec<Place>,
+    network: &Network,
+    rows: &[T],
+) -> Result<(), AllocError>
+    ensures { OnOk result (places.new.items ≡ fold (T.with_place network.now) places.old.items rows.now) }
+{
+    for row in rows {
+        row.note(places, network)?;
+    }
+    Ok(())
 }
 
 /// Notes a place that the network doesn't have.

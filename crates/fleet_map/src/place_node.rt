@@ -1,6 +1,6 @@
 //! Places.
 ghost use Rattle.std.specs.Prelude.{◌≡◌, ◌++◌, IfOk, OnOk, filter, string_bytes};
-ghost use Rattle.fleet_map.specs.Places.{back_of, front_of, has_free, is_at, lack_line, node_of, place_node, style_words, waiting_lines, waits_at};
+ghost use Rattle.fleet_map.specs.Places.{back_of, front_of, has_free, is_at, lack_line, place_node, style_words, waiting_lines, waits_at};
 
 use crate::wagon_groups::push_wagon_lines;
 use crate::words::{push_ascii, push_number, push_quoted};
@@ -20,22 +20,10 @@ pub(crate) fn push_place(
     ensures { OnOk result (string_bytes text.new ≡ string_bytes text.old ++ place_node rows.now waiting.now place) }
 {
     let here = wagons_at(alloc, rows, place)?;
-    push_node(text, &here, waiting, place)
-}
-
-/// Adds a place, with its wagons.
-fn push_node(
-    text: &mut String,
-    here: &[WagonRow],
-    waiting: &[Wanted],
-    place: Place,
-) -> Result<(), AllocError>
-    ensures { OnOk result (string_bytes text.new ≡ string_bytes text.old ++ node_of here.now waiting.now place) }
-{
     push_front(text, place)?;
-    push_wagon_lines(text, here)?;
+    push_wagon_lines(text, &here)?;
     push_waiting_lines(text, waiting, place)?;
-    push_back(text, waits_at(waiting, place), has_free(here))
+    push_back(text, waits_at(waiting, place), has_free(&here))
 }
 
 /// Adds the name of a place, and the first line of its label.

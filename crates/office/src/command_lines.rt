@@ -1,10 +1,9 @@
 //! The run that brings command lines to a book.
 ghost use Rattle.std.specs.Prelude.{◌≡◌, ◌≢◌, ◌⊎◌, ◌≤◌, ◌++◌, false, true, List, ℕ, All, Err, IfOk, IfErr, MatchResult, Ok, IsOk, OnErr, OnOk, length};
-ghost use Rattle.commit_book.specs.BookStep.{answer_of};
+ghost use Rattle.commit_book.specs.BookStep.{answer_of, is_kept};
 ghost use Rattle.commit_book.specs.Headline.{IsProved};
 ghost use Rattle.commit_book.specs.declared.answer.Answer.TheVariants.{Refused};
 ghost use Rattle.commit_book.specs.declared.refusal.Refusal.TheVariants.{OutOfMemory};
-ghost use Rattle.commit_book.specs.BookStep.{is_kept};
 ghost use Rattle.line_engine.specs.Outcome.{is_refusal};
 ghost use Rattle.line_engine.specs.Replies.{max_head_bytes};
 ghost use Rattle.line_engine.specs.Runs.{Ends, Stops};

@@ -1,6 +1,13 @@
 -- Faults and the list of refusal numbers.
 use Rattle.std.proofs.Common.{ℕ, zero, suc, List, [], ◌∷◌, map, codes, refl, arith, Vec, Global}
+use Rattle.std.specs.Prelude.{IsTrue}
 use Rattle.sessions.specs.Seat.{SeatValue}
+use Rattle.rail_codes.specs.declared.code_fault.CodeFault.{CodeFault}
+use Rattle.json_fields.specs.declared.fault.LineFault.{LineFault}
+use Rattle.wagon_state.specs.declared.step_fault.StepFault.{StepFault}
+use Rattle.cost_table.specs.declared.table_fault.TableFault.{TableFault}
+use Rattle.named_pairs.specs.declared.named_fault.NamedFault.{NamedFault}
+use Rattle.refusal_manual.specs.Numbers.{is_refusal_number}
 use Rattle.json_fields.specs.declared.field.Field.TheVariants.{Wagon}
 use Rattle.distance_tables.specs.declared.networks_fault.NetworksFault.TheVariants.{BadNetworkCount}
 use Rattle.rail_codes.specs.declared.code_fault.CodeFault.TheVariants as code
@@ -22,34 +29,60 @@ use Rattle.sessions.specs.declared.close_fault.CloseFault.TheVariants as close
 use Rattle.office.specs.declared.feed_fault.FeedFault.TheVariants as feed
 use Rattle.refusal_manual.specs.Laws.{AnyFault, of_code, of_field, of_line, of_step, of_roster, of_run, of_network, of_networks, of_work, of_table, of_check, of_named, of_table_line, of_event, of_call, of_plan, of_opening, of_closing, of_feed, EachFaultIsListed, EachNumberIsAFaults, AreFaults, number_of}
 
+abbrev IsListed : (L : Type 0) → AnyFault L → Type 0
+IsListed L fault = IsTrue (is_refusal_number (number_of fault))
+
+-- ---- faults that others hold
+
+code_listed : (L : Type 0) (fault : CodeFault) → IsListed L (of_code fault)
+code_listed L code.NotTwelveDigits = refl
+code_listed L code.CheckDigit = refl
+code_listed L code.BadPlace = refl
+code_listed L code.BadClass = refl
+code_listed L code.BadCompany = refl
+code_listed L code.BadOrderId = refl
+code_listed L code.BadMoment = refl
+code_listed L code.MomentOutOfRange = refl
+
+line_listed : (L : Type 0) (fault : LineFault) → IsListed L (of_line fault)
+line_listed L line.OutOfMemory = refl
+line_listed L line.NotJson = refl
+line_listed L line.NotAnObject = refl
+line_listed L line.UnknownType = refl
+line_listed L (line.MissingField a) = refl
+line_listed L (line.BadField a b) = refl
+
+step_listed : (L : Type 0) (fault : StepFault) → IsListed L (of_step fault)
+step_listed L step.Earlier = refl
+step_listed L step.WrongStatus = refl
+step_listed L step.WrongPlace = refl
+
+table_listed : (L : Type 0) (fault : TableFault) → IsListed L (of_table fault)
+table_listed L table.OutOfMemory = refl
+table_listed L (table.DuplicateWagon a) = refl
+table_listed L (table.DuplicateOrder a) = refl
+table_listed L table.TooLarge = refl
+table_listed L table.UnevenRows = refl
+
+named_listed : (L : Type 0) (fault : NamedFault) → IsListed L (of_named fault)
+named_listed L named.OutOfMemory = refl
+named_listed L named.WrongLengths = refl
+named_listed L (named.NotAllowed a b) = refl
+named_listed L (named.UsedTwice a b) = refl
+named_listed L (named.PriceGap a b) = refl
+named_listed L (named.OverPenalty a) = refl
+named_listed L (named.SumsDiffer a b) = refl
+named_listed L (named.NotInProblem a b) = refl
+
+-- ---- all faults
+
 pub listed : (L : Type 0) → EachFaultIsListed L
-listed L (of_code code.NotTwelveDigits) = refl
-listed L (of_code code.CheckDigit) = refl
-listed L (of_code code.BadPlace) = refl
-listed L (of_code code.BadClass) = refl
-listed L (of_code code.BadCompany) = refl
-listed L (of_code code.BadOrderId) = refl
-listed L (of_code code.BadMoment) = refl
-listed L (of_code code.MomentOutOfRange) = refl
-listed L (of_field (field.Code code.NotTwelveDigits)) = refl
-listed L (of_field (field.Code code.CheckDigit)) = refl
-listed L (of_field (field.Code code.BadPlace)) = refl
-listed L (of_field (field.Code code.BadClass)) = refl
-listed L (of_field (field.Code code.BadCompany)) = refl
-listed L (of_field (field.Code code.BadOrderId)) = refl
-listed L (of_field (field.Code code.BadMoment)) = refl
-listed L (of_field (field.Code code.MomentOutOfRange)) = refl
+listed L (of_code fault) = code_listed L fault
+listed L (of_field (field.Code fault)) = code_listed L fault
 listed L (of_field field.WrongKind) = refl
 listed L (of_field field.OutOfRange) = refl
-listed L (of_line line.OutOfMemory) = refl
-listed L (of_line line.NotJson) = refl
-listed L (of_line line.NotAnObject) = refl
-listed L (of_line line.UnknownType) = refl
-listed L (of_line (line.MissingField a)) = refl
-listed L (of_line (line.BadField a b)) = refl
-listed L (of_step step.Earlier) = refl
-listed L (of_step step.WrongStatus) = refl
-listed L (of_step step.WrongPlace) = refl
+listed L (of_line fault) = line_listed L fault
+listed L (of_step fault) = step_listed L fault
 listed L (of_roster roster.OutOfMemory) = refl
 listed L (of_roster (roster.DuplicateWagon a)) = refl
 listed L (of_roster roster.TooLarge) = refl
@@ -69,49 +102,20 @@ listed L (of_networks fault) = refl
 listed L (of_work work.OutOfMemory) = refl
 listed L (of_work work.BadWorkerCount) = refl
 listed L (of_work work.NoThread) = refl
-listed L (of_table table.OutOfMemory) = refl
-listed L (of_table (table.DuplicateWagon a)) = refl
-listed L (of_table (table.DuplicateOrder a)) = refl
-listed L (of_table table.TooLarge) = refl
-listed L (of_table table.UnevenRows) = refl
+listed L (of_table fault) = table_listed L fault
 listed L (of_check check.WrongLengths) = refl
 listed L (of_check (check.NotAllowed a b)) = refl
 listed L (of_check (check.UsedTwice a b)) = refl
 listed L (of_check (check.PriceGap a b)) = refl
 listed L (of_check (check.OverPenalty a)) = refl
 listed L (of_check (check.SumsDiffer a b)) = refl
-listed L (of_named named.OutOfMemory) = refl
-listed L (of_named named.WrongLengths) = refl
-listed L (of_named (named.NotAllowed a b)) = refl
-listed L (of_named (named.UsedTwice a b)) = refl
-listed L (of_named (named.PriceGap a b)) = refl
-listed L (of_named (named.OverPenalty a)) = refl
-listed L (of_named (named.SumsDiffer a b)) = refl
-listed L (of_named (named.NotInProblem a b)) = refl
+listed L (of_named fault) = named_listed L fault
 listed L (of_table_line table_line.OutOfMemory) = refl
-listed L (of_table_line (table_line.Line line.OutOfMemory)) = refl
-listed L (of_table_line (table_line.Line line.NotJson)) = refl
-listed L (of_table_line (table_line.Line line.NotAnObject)) = refl
-listed L (of_table_line (table_line.Line line.UnknownType)) = refl
-listed L (of_table_line (table_line.Line (line.MissingField a))) = refl
-listed L (of_table_line (table_line.Line (line.BadField a b))) = refl
-listed L (of_table_line (table_line.Table table.OutOfMemory)) = refl
-listed L (of_table_line (table_line.Table (table.DuplicateWagon a))) = refl
-listed L (of_table_line (table_line.Table (table.DuplicateOrder a))) = refl
-listed L (of_table_line (table_line.Table table.TooLarge)) = refl
-listed L (of_table_line (table_line.Table table.UnevenRows)) = refl
-listed L (of_table_line (table_line.Check named.OutOfMemory)) = refl
-listed L (of_table_line (table_line.Check named.WrongLengths)) = refl
-listed L (of_table_line (table_line.Check (named.NotAllowed a b))) = refl
-listed L (of_table_line (table_line.Check (named.UsedTwice a b))) = refl
-listed L (of_table_line (table_line.Check (named.PriceGap a b))) = refl
-listed L (of_table_line (table_line.Check (named.OverPenalty a))) = refl
-listed L (of_table_line (table_line.Check (named.SumsDiffer a b))) = refl
-listed L (of_table_line (table_line.Check (named.NotInProblem a b))) = refl
+listed L (of_table_line (table_line.Line fault)) = line_listed L fault
+listed L (of_table_line (table_line.Table fault)) = table_listed L fault
+listed L (of_table_line (table_line.Check fault)) = named_listed L fault
 listed L (of_event event.OutOfMemory) = refl
-listed L (of_event (event.Step step.Earlier)) = refl
-listed L (of_event (event.Step step.WrongStatus)) = refl
-listed L (of_event (event.Step step.WrongPlace)) = refl
+listed L (of_event (event.Step fault)) = step_listed L fault
 listed L (of_event event.UnknownWagon) = refl
 listed L (of_event event.OrderKnown) = refl
 listed L (of_event event.TooManyOpen) = refl
@@ -120,17 +124,8 @@ listed L (of_event event.OrderClosed) = refl
 listed L (of_event event.UnknownNetwork) = refl
 listed L (of_event event.SameNetwork) = refl
 listed L (of_call call.OutOfMemory) = refl
-listed L (of_call (call.Step step.Earlier)) = refl
-listed L (of_call (call.Step step.WrongStatus)) = refl
-listed L (of_call (call.Step step.WrongPlace)) = refl
-listed L (of_call (call.Check named.OutOfMemory)) = refl
-listed L (of_call (call.Check named.WrongLengths)) = refl
-listed L (of_call (call.Check (named.NotAllowed a b))) = refl
-listed L (of_call (call.Check (named.UsedTwice a b))) = refl
-listed L (of_call (call.Check (named.PriceGap a b))) = refl
-listed L (of_call (call.Check (named.OverPenalty a))) = refl
-listed L (of_call (call.Check (named.SumsDiffer a b))) = refl
-listed L (of_call (call.Check (named.NotInProblem a b))) = refl
+listed L (of_call (call.Step fault)) = step_listed L fault
+listed L (of_call (call.Check fault)) = named_listed L fault
 listed L (of_call call.IdReused) = refl
 listed L (of_call call.BookFull) = refl
 listed L (of_call call.UnknownWagon) = refl

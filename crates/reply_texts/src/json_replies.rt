@@ -5,7 +5,7 @@ ghost use Rattle.line_engine.specs.Replies.{least_room};
 ghost use Rattle.table_lines.specs.declared.table_refusal.TableRefusal.TheVariants.{OutOfMemory};
 ghost use Rattle.reply_texts.specs.JsonReplies.{json_refused_head, json_refused_text};
 
-use crate::details::push_table_line_details;
+use crate::details::Detailed;
 use line_engine::ReplyText;
 use std::alloc::AllocError;
 use table_lines::TableRefusal;
@@ -40,7 +40,7 @@ pub fn push_json_refused(
     ensures { OnOk result (reply.new ≡ reply.old ++ json_refused_text line refusal.now) }
 {
     push_head(reply, line, refusal.number())?;
-    push_table_line_details(reply, refusal)?;
+    refusal.push_details(reply)?;
     reply.push_bytes(b"\"}\n")
 }
 

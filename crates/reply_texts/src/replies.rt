@@ -1,10 +1,10 @@
 //! Whole replies, behind the line's number. `Err` only when out of memory; part of the text may be there then.
-ghost use Rattle.std.specs.Prelude.{◌≡◌, ◌+◌, ◌≤◌, ◌++◌, [], ◌∷◌, codes, decimal, length, IsOk, OnOk};
+ghost use Rattle.std.specs.Prelude.{◌≡◌, ◌+◌, ◌≤◌, ◌++◌, [], ◌∷◌, decimal, length, IsOk, OnOk};
 ghost use Rattle.line_engine.specs.Replies.{least_room, max_head_bytes};
 ghost use Rattle.reply_texts.specs.Details.{then};
-ghost use Rattle.reply_texts.specs.ReplyTexts.{accepted_text, book_refused_text, begun_text, counted, line_refused_text, optimal_text, planned_text, repeated_text, table_refused_text};
+ghost use Rattle.reply_texts.specs.ReplyTexts.{accepted_text, book_refused_text, begun_text, counted, line_refused_text, optimal_text, planned_text, refused_text, repeated_text, table_refused_text};
 
-use crate::details::{push_book_details, push_line_details, push_table_line_details};
+use crate::details::Detailed;
 use crate::words::{push_number, push_numbers};
 use commit_book::Refusal;
 use json_fields::LineFault;
@@ -12,12 +12,18 @@ use line_engine::ReplyText;
 use std::alloc::AllocError;
 use table_lines::TableRefusal;
 
-/// Adds `refused` and the number of a refusal.
-fn push_refused(reply: &mut ReplyText, number: u32) -> Result<(), AllocError>
-    ensures { OnOk result (reply.new ≡ reply.old ++ (codes "refused" ++ then (decimal number))) }
+/// Adds `refused`, the number of a refusal, its details, and the line feed.
+fn push_refused<T: Detailed>(
+    reply: &mut ReplyText,
+    number: u32,
+    refusal: &T,
+) -> Result<(), AllocError>
+    ensures { OnOk result (reply.new ≡ reply.old ++ refused_text number (T.details refusal.now)) }
 {
     reply.push_bytes(b"refused")?;
-    push_number(reply, u128::from(number))
+    push_number(reply, u128::from(number))?;
+    refusal.push_details(reply)?;
+    reply.push_bytes(b"\n")
 }
 
 /// Adds a word, a number behind it, and the line feed.
@@ -34,27 +40,21 @@ fn push_counted(reply: &mut ReplyText, word: &[u8], number: u128) -> Result<(), 
 pub fn push_line_refused(reply: &mut ReplyText, fault: &LineFault) -> Result<(), AllocError>
     ensures { OnOk result (reply.new ≡ reply.old ++ line_refused_text fault.now) }
 {
-    push_refused(reply, fault.number())?;
-    push_line_details(reply, fault)?;
-    reply.push_bytes(b"\n")
+    push_refused(reply, fault.number(), fault)
 }
 
 /// Adds `refused CODE` and the details of a table line's refusal.
 pub fn push_table_refused(reply: &mut ReplyText, refusal: &TableRefusal) -> Result<(), AllocError>
     ensures { OnOk result (reply.new ≡ reply.old ++ table_refused_text refusal.now) }
 {
-    push_refused(reply, refusal.number())?;
-    push_table_line_details(reply, refusal)?;
-    reply.push_bytes(b"\n")
+    push_refused(reply, refusal.number(), refusal)
 }
 
 /// Adds `refused CODE` and the details of a book's refusal.
 pub fn push_book_refused(reply: &mut ReplyText, refusal: &Refusal) -> Result<(), AllocError>
     ensures { OnOk result (reply.new ≡ reply.old ++ book_refused_text refusal.now) }
 {
-    push_refused(reply, refusal.number())?;
-    push_book_details(reply, refusal)?;
-    reply.push_bytes(b"\n")
+    push_refused(reply, refusal.number(), refusal)
 }
 
 /// Adds `optimal COST`, in kilometres.

@@ -1,9 +1,10 @@
 //! Events compared.
 ghost use Rattle.std.specs.Prelude.{◌≡◌, ◌↔◌, IsTrue};
 
-use move_messages::{Classes, CommitText, Message, MessageKind, OrderText, Pairs, PriceList};
+use commit_book::is_same_message;
+use move_messages::{Classes, CommitText, OrderText, Pairs, PriceList};
 use operating_db::Event;
-use rail_codes::{MessageId, OrderId};
+use rail_codes::OrderId;
 
 /// Whether two events are one.
 pub(crate) fn is_same_event(one: &Event, other: &Event) -> bool
@@ -31,28 +32,6 @@ pub(crate) fn is_same_event(one: &Event, other: &Event) -> bool
             _ => false,
         },
     }
-}
-
-fn is_same_message(one: &Message, other: &Message) -> bool
-    ensures { IsTrue result ↔ (one.now ≡ other.now) }
-{
-    is_same_message_id(one.id, other.id)
-        && is_same_kind(one.kind, other.kind)
-        && one.wagon == other.wagon
-        && one.place == other.place
-        && one.moment == other.moment
-}
-
-fn is_same_message_id(one: MessageId, other: MessageId) -> bool
-    ensures { IsTrue result ↔ (one ≡ other) }
-{
-    one == other
-}
-
-fn is_same_kind(one: MessageKind, other: MessageKind) -> bool
-    ensures { IsTrue result ↔ (one ≡ other) }
-{
-    one == other
 }
 
 fn is_same_order(one: &OrderText, other: &OrderText) -> bool

@@ -118,6 +118,15 @@ names_kept wagons orders names h =
     let f = if_unrepeated (record { wagons = wagons; orders = orders }) names (nat_lt max_table_wagons (length wagons) || nat_lt max_table_orders (length orders)) (first_repeated wagons) (first_repeated orders) h in
     (ap (λ (n : NameLists). n.wagons) (sym f), ap (λ (n : NameLists). n.orders) (sym f))
 
+-- an even table of them has a row for each wagon named and a lack for each order named
+pub named_counts : (w o : List (List ℕ)) (names : NameLists) (wagons orders : ℕ) (cells : List (List (Option ℕ))) (penalties lacks : List ℕ) (table : Table)
+    → names_of w o ≡ Ok names → even_table wagons orders cells penalties lacks ≡ Ok table → length w ≡ wagons → length o ≡ orders
+    → (wagon_count table ≡ length names.wagons) × (order_count table ≡ length names.orders)
+named_counts w o names wagons orders cells penalties lacks table named even same_wagons same_orders =
+    let counts = even_counts wagons orders cells penalties lacks table even in
+    let kept = names_kept w o names named in
+    (counts.0 ∙ sym same_wagons ∙ ap length (sym kept.0), counts.1 ∙ sym same_orders ∙ ap length (sym kept.1))
+
 -- a line's answer, once its names are read
 pub cost_in-named : (t : TableText) (names : NameLists) → is_too_large t ≡ false → names_of t.wagons t.orders ≡ Ok names
     → cost_in t ≡ (even_table (length t.wagons) (length t.orders) t.cells t.penalties (lacks_in t) >>= λ stated. with_check_fault (checked names stated t.pairs t.u t.v))

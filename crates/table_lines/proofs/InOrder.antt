@@ -17,7 +17,7 @@ use Rattle.json_fields.proofs.Bounds.{numbers_within}
 use Rattle.cost_table.specs.TableLimits.{max_cost}
 use Rattle.cost_table.specs.Rows.{IsNumber}
 use Rattle.table_lines.specs.declared.table_line.TableLine.{TableLine}
-use Rattle.table_lines.specs.TableLine.{row_of, cells_of, lacks_of, prices_of, table_text, table_text_of, table_line_of}
+use Rattle.table_lines.specs.TableLine.{row_of, cells_of, lacks_of, prices_of, table_of, table_text, table_text_of, table_line_of, with_plan_of}
 use Rattle.table_lines.specs.inner.Tokens.{AreRead, SpellsMember}
 use Rattle.table_lines.specs.inner.InOrder.{IsTable}
 use Rattle.table_lines.proofs.Bounds.{cells_are}
@@ -84,7 +84,7 @@ module _ (w o c p q u v : Items) where
       → AreRead (λ e row. row_of e ≡ Ok row.items) c line.cells.items → AreRead (λ e x. number_within 0 max_cost e ≡ Ok x) p line.penalties.items
       → AreRead (λ e x. pair_of e ≡ Ok x) q line.pairs.items → AreRead (λ e x. number_within 0 (2 ^ 64 - 1) e ≡ Ok x) u line.u.items
       → AreRead (λ e x. number_within 0 (2 ^ 64 - 1) e ≡ Ok x) v line.v.items → line.lacks ≡ None → IsTable d line
-  unfolding table_text_of
+  unfolding table_text_of table_of with_plan_of
   table_is line hw ho hc hp hq hu hv none =
       let ew = at_wagons line.wagons.items (list_read wagon_number_from w line.wagons.items hw) in
       let eo = at_orders line.orders.items (list_read order_id_from o line.orders.items ho) in

@@ -1,51 +1,25 @@
 -- The table that a line states, and then its plan.
-use Rattle.std.proofs.Common.{◌≡◌, ℕ, Bool, true, false, cond, List, [], Option, Result, Ok, Err, length, refl, ap}
+use Rattle.std.proofs.Common.{◌≡◌, ℕ, Bool, true, false, cond, List, Result, Ok, Err, length, refl, ap}
 use Rattle.serde_json.specs.Data.{Data}
 use Rattle.cost_table.specs.Names.{NameLists, names_of}
 use Rattle.cost_table.specs.Table.{Table}
 use Rattle.cost_table.specs.declared.table_fault.TableFault.{TableFault}
 use Rattle.cost_table.specs.declared.table_fault.TableFault.TheVariants.{TooLarge}
-use Rattle.json_fields.specs.declared.field.Field.TheVariants.{Wagons, Orders, Penalties, Pairs, WagonPrices, OrderPrices}
 use Rattle.json_fields.specs.declared.fault.LineFault.{LineFault}
-use Rattle.json_fields.specs.Values.{◌>>=◌, number_within, wagon_number_from, order_id_from, pair_of}
-use Rattle.json_fields.specs.Fields.{list_at}
+use Rattle.json_fields.specs.Values.{◌>>=◌}
 use Rattle.json_fields.specs.Line.{object_of}
-use Rattle.cost_table.specs.TableLimits.{max_cost}
 use Rattle.named_pairs.specs.NamedPairs.{checked}
-use Rattle.table_lines.specs.TableLine.{TableText, cells_of, lacks_of, prices_of, table_text_of, table_line_of}
-use Rattle.table_lines.specs.TablePart.{table_of, table_then_plan, with_plan, with_plan_of}
+use Rattle.table_lines.specs.TableLine.{TableText, table_line_of, table_of, table_text_of, with_plan_of}
+use Rattle.table_lines.specs.TablePart.{table_then_plan}
 use Rattle.table_lines.specs.StatedTable.{CostsOfPlans, stated_in}
 use Rattle.table_lines.specs.TableCost.{cost_in, cost_of_line, even_table, is_too_large, lacks_in, with_check_fault, with_line_fault, with_table_fault}
 use Rattle.table_lines.specs.declared.table_refusal.TableRefusal.{TableRefusal}
 use Rattle.table_lines.specs.declared.table_refusal.TableRefusal.TheVariants.{Table as OfTable}
 
-abbrev Names : Type 0
-Names = List (List ℕ)
-
--- fields one after the other, at once or in two parts
-in_two : (w o : Result Names LineFault) (c : Result (List (List (Option ℕ))) LineFault) (p : Result (List ℕ) LineFault) (l : Result (Option (List ℕ)) LineFault)
-    (q : Result (List (List ℕ × List ℕ)) LineFault) (u v : Result (List ℕ) LineFault)
-    → (w >>= λ wagons. o >>= λ orders. c >>= λ cells. p >>= λ penalties. l >>= λ lacks. q >>= λ pairs. u >>= λ us. v >>= λ vs.
-    Ok (record { wagons = wagons; orders = orders; cells = cells; penalties = penalties; lacks = lacks; pairs = pairs; u = us; v = vs }))
-    ≡ ((w >>= λ wagons. o >>= λ orders. c >>= λ cells. p >>= λ penalties. l >>= λ lacks.
-    Ok (record { wagons = wagons; orders = orders; cells = cells; penalties = penalties; lacks = lacks; pairs = []; u = []; v = [] }))
-    >>= λ (t : TableText). q >>= λ pairs. u >>= λ us. v >>= λ vs. Ok (with_plan t pairs us vs))
-in_two (Err e) o c p l q u v = refl
-in_two (Ok ws) (Err e) c p l q u v = refl
-in_two (Ok ws) (Ok os) (Err e) p l q u v = refl
-in_two (Ok ws) (Ok os) (Ok cs) (Err e) l q u v = refl
-in_two (Ok ws) (Ok os) (Ok cs) (Ok ps) (Err e) q u v = refl
-in_two (Ok ws) (Ok os) (Ok cs) (Ok ps) (Ok ls) q u v = refl
-
-object_then_plan : (d : Data) → table_text_of d ≡ (table_of d >>= with_plan_of d)
-unfolding table_text_of table_of with_plan_of
-object_then_plan d =
-    in_two (list_at wagon_number_from Wagons d) (list_at order_id_from Orders d) (cells_of d) (list_at (number_within 0 max_cost) Penalties d) (lacks_of d)
-    (list_at pair_of Pairs d) (prices_of WagonPrices d) (prices_of OrderPrices d)
-
 then_plan : (r : Result Data LineFault) → (r >>= table_text_of) ≡ (r >>= λ d. table_of d >>= with_plan_of d)
+unfolding table_text_of
 then_plan (Err e) = refl
-then_plan (Ok d) = object_then_plan d
+then_plan (Ok d) = refl
 
 -- a line is read as its table and then its plan
 pub line_then_plan : (bytes : List ℕ) → table_line_of bytes ≡ table_then_plan bytes

@@ -5,8 +5,8 @@ use Rattle.cost_table.specs.Table.{Table}
 use Rattle.cost_table.specs.declared.table_fault.TableFault.TheVariants.{TooLarge}
 use Rattle.json_fields.specs.Values.{◌>>=◌}
 use Rattle.named_pairs.specs.NamedPairs.{checked}
-use Rattle.table_lines.specs.TableLine.{TableText}
-use Rattle.table_lines.specs.TablePart.{table_of_line, with_plan}
+use Rattle.table_lines.specs.TableLine.{TableText, with_plan}
+use Rattle.table_lines.specs.TablePart.{table_of_line}
 use Rattle.table_lines.specs.TableCost.{cost_in, even_table, is_too_large, lacks_in, with_check_fault, with_line_fault, with_table_fault}
 use Rattle.table_lines.specs.declared.table_refusal.TableRefusal.{TableRefusal}
 use Rattle.table_lines.specs.declared.table_refusal.TableRefusal.TheVariants.{Table as OfTable}

@@ -1,5 +1,5 @@
 -- What a line is read as: a table, a plan and its prices, or the first fault.
-use Rattle.std.specs.Prelude.{ℕ, ◌^◌, ◌-◌, List, map, if◌then◌else◌, Option, Some, None, option_map, is_some, Result, Ok}
+use Rattle.std.specs.Prelude.{ℕ, ◌^◌, ◌-◌, List, [], map, if◌then◌else◌, Option, Some, None, option_map, is_some, Result, Ok}
 use Rattle.serde_json.specs.Data.{Data}
 use Rattle.serde_json.specs.Find.{as_null}
 use Rattle.json_fields.specs.declared.field.Field.{Field}
@@ -53,18 +53,32 @@ prices_of field d = list_at (number_within 0 (2 ^ 64 - 1)) field d
 
 -- ---- the whole line
 
--- the fields of an object, in the order in which they are tried
-unfoldable pub table_text_of : Data → Result TableText LineFault
-table_text_of d = do
+-- the same table with this plan and these prices
+abbrev pub with_plan : TableText → List (List ℕ × List ℕ) → (u v : List ℕ) → TableText
+with_plan t pairs u v =
+    record { wagons = t.wagons; orders = t.orders; cells = t.cells; penalties = t.penalties; lacks = t.lacks; pairs = pairs; u = u; v = v }
+
+-- the table of an object, without a plan: its fields, in the order in which they are tried
+unfoldable pub table_of : Data → Result TableText LineFault
+table_of d = do
   wagons ← list_at wagon_number_from Wagons d
   orders ← list_at order_id_from Orders d
   cells ← cells_of d
   penalties ← list_at (number_within 0 max_cost) Penalties d
   lacks ← lacks_of d
+  Ok (record { wagons = wagons; orders = orders; cells = cells; penalties = penalties; lacks = lacks; pairs = []; u = []; v = [] })
+
+-- a table with the plan and the prices that an object gives
+unfoldable pub with_plan_of : Data → TableText → Result TableText LineFault
+with_plan_of d t = do
   pairs ← list_at pair_of Pairs d
   u ← prices_of WagonPrices d
   v ← prices_of OrderPrices d
-  Ok (record { wagons = wagons; orders = orders; cells = cells; penalties = penalties; lacks = lacks; pairs = pairs; u = u; v = v })
+  Ok (with_plan t pairs u v)
+
+-- the fields of an object, in the order in which they are tried: the table's, then the plan's
+unfoldable pub table_text_of : Data → Result TableText LineFault
+table_text_of d = table_of d >>= with_plan_of d
 
 -- the table that a line is, or its first fault
 unfoldable pub table_line_of : List ℕ → Result TableText LineFault

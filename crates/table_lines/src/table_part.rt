@@ -3,8 +3,8 @@
 ghost use Rattle.std.specs.Prelude.{◌≡◌, ◌≤◌, All, IfOk, IfSome};
 ghost use Rattle.serde_json.specs.View.{view};
 ghost use Rattle.json_fields.specs.Fields.{Gives};
-ghost use Rattle.table_lines.specs.TableLine.{table_text, table_line_of};
-ghost use Rattle.table_lines.specs.TablePart.{table_of, table_of_line, table_then_plan};
+ghost use Rattle.table_lines.specs.TableLine.{table_line_of, table_of, table_text};
+ghost use Rattle.table_lines.specs.TablePart.{table_of_line, table_then_plan};
 ghost use Rattle.cost_table.specs.Rows.{IsNumber};
 ghost use Rattle.cost_table.specs.TableLimits.{max_cost};
 ghost use Rattle.load_orders.specs.Wanted.{IsLack};
@@ -37,8 +37,8 @@ pub fn read_table(alloc: Global, bytes: &[u8]) -> Result<TableLine, LineFault>
 }
 
 /// The table that an object states.
-#[tactic(auto, unfolding(crate::specs::TablePart::table_of))]
-fn table_part(alloc: Global, object: &Value) -> Result<TableLine, LineFault>
+#[tactic(auto, unfolding(crate::specs::TableLine::table_of))]
+pub(crate) fn table_part(alloc: Global, object: &Value) -> Result<TableLine, LineFault>
     ensures meaning { Gives table_text result (table_of (view object.now)) }
     ensures costs { IfOk result (λ line. All (λ row. All IsNumber row.items) line.cells.items) }
     ensures penalties { IfOk result

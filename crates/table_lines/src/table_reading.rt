@@ -8,14 +8,10 @@ ghost use Rattle.cost_table.specs.Rows.{IsNumber};
 ghost use Rattle.cost_table.specs.TableLimits.{max_cost};
 ghost use Rattle.load_orders.specs.Wanted.{IsLack};
 
-use crate::cells::cells_at;
-use crate::lacks::lacks_at;
 use crate::table_in_order::table_in_order;
 use crate::table_line::TableLine;
-use cost_table::MAX_COST;
-use json_fields::{
-    Field, LineFault, numbers_at, object_of, order_ids_at, pairs_at, wagon_numbers_at,
-};
+use crate::table_part::table_part;
+use json_fields::{Field, LineFault, numbers_at, object_of, pairs_at};
 use serde_json::Value;
 use std::alloc::Global;
 
@@ -41,7 +37,7 @@ pub fn read_table_line(alloc: Global, bytes: &[u8]) -> Result<TableLine, LineFau
 }
 
 /// The table that an object gives.
-#[tactic(auto, unfolding(crate::specs::TableLine::table_text_of))]
+#[tactic(auto, unfolding(crate::specs::TableLine::table_text_of, crate::specs::TableLine::with_plan_of))]
 fn table_of(alloc: Global, object: &Value) -> Result<TableLine, LineFault>
     ensures meaning { Gives table_text result (table_text_of (view object.now)) }
     ensures costs { IfOk result (λ line. All (λ row. All IsNumber row.items) line.cells.items) }
@@ -49,22 +45,9 @@ fn table_of(alloc: Global, object: &Value) -> Result<TableLine, LineFault>
         (λ line. All (λ penalty. penalty ≤ max_cost) line.penalties.items) }
     ensures lacks { IfOk result (λ line. IfSome line.lacks (λ lacks. All IsLack lacks.items)) }
 {
-    let wagons = wagon_numbers_at(alloc, object, Field::Wagons)?;
-    let orders = order_ids_at(alloc, object, Field::Orders)?;
-    let cells = cells_at(alloc, object)?;
-    let penalties = numbers_at(alloc, object, Field::Penalties, 0, MAX_COST)?;
-    let lacks = lacks_at(alloc, object)?;
-    let pairs = pairs_at(alloc, object, Field::Pairs)?;
-    let u = numbers_at(alloc, object, Field::WagonPrices, 0, u64::MAX)?;
-    let v = numbers_at(alloc, object, Field::OrderPrices, 0, u64::MAX)?;
-    Ok(TableLine {
-        wagons,
-        orders,
-        cells,
-        penalties,
-        lacks,
-        pairs,
-        u,
-        v,
-    })
+    let mut table = table_part(alloc, object)?;
+    table.pairs = pairs_at(alloc, object, Field::Pairs)?;
+    table.u = numbers_at(alloc, object, Field::WagonPrices, 0, u64::MAX)?;
+    table.v = numbers_at(alloc, object, Field::OrderPrices, 0, u64::MAX)?;
+    Ok(table)
 }

@@ -15,13 +15,10 @@ use Rattle.named_pairs.specs.NamedFaults.{name_at}
 use Rattle.named_pairs.specs.NamedPairs.{before_rest, checked, checked_at, cost_unless, found_or, positions_of}
 use Rattle.named_pairs.specs.inner.Naming.{IsNamed}
 use Rattle.table_lines.specs.StatedTable.{stated_in}
-use Rattle.table_lines.specs.TableCost.{cost_in}
-use Rattle.table_lines.specs.TableLine.{TableText, table_line_of}
-use Rattle.table_lines.specs.TablePart.{with_plan}
-use Rattle.table_lines.proofs.Even.{certifies_text, even_counts, names_kept}
-use Rattle.table_lines.proofs.Parts.{costs_of_plans, stated_parts, cost_of_read}
-use Rattle.table_solver.specs.SolvedText.{solved_text}
-use Rattle.table_solver.specs.Solving.{IsSolved}
+use Rattle.table_lines.specs.TableCost.{IsCertified, cost_in}
+use Rattle.table_lines.specs.TableLine.{TableText, with_plan}
+use Rattle.table_lines.proofs.Even.{certifies_text, named_counts}
+use Rattle.table_lines.proofs.Parts.{costs_of_plans, stated_parts}
 use Rattle.table_solver.specs.inner.Naming.{named_at}
 
 -- ---- names
@@ -76,32 +73,18 @@ checked_free names t pairs positions u v are c =
 pub plan_named : (t : TableText) (names : NameLists) (table : Table) (plan : List (ℕ × ℕ)) (u v : List ℕ) → stated_in t ≡ Ok (names, table) → IsCertificate table plan u v → All (IsNamed names) plan
 plan_named t names table plan u v stated certificate =
     let parts = stated_parts t names table stated in
-    let counts = even_counts _ _ _ _ _ table parts.even in
-    let kept = names_kept t.wagons t.orders names parts.named in
-    are_named names table plan (counts.0 ∙ sym (ap length kept.0)) (counts.1 ∙ sym (ap length kept.1)) certificate.plan.allowed
+    let counts = named_counts t.wagons t.orders names _ _ _ _ _ table parts.named parts.even refl refl in
+    are_named names table plan counts.0 counts.1 certificate.plan.allowed
 
--- a text of a stated table with a plan, its prices and its cost
-pub solved : (t : TableText) (names : NameLists) (table : Table) (plan : List (ℕ × ℕ)) (pairs : List (List ℕ × List ℕ)) (u v : List ℕ) (cost : ℕ) (text : List ℕ) → stated_in t ≡ Ok (names, table)
+-- the plan passes the check, which answers its cost
+pub plan_passes : (t : TableText) (names : NameLists) (table : Table) (plan : List (ℕ × ℕ)) (pairs : List (List ℕ × List ℕ)) (u v : List ℕ) (cost : ℕ) → stated_in t ≡ Ok (names, table)
     → pairs ≡ map (named_at names) plan → IsCertificate table plan u v → IsOptimal table plan → cost ≡ cost_of table plan
-    → text ≡ solved_text (with_plan t pairs u v) cost → table_line_of text ≡ Ok (with_plan t pairs u v) → IsSolved t text
-solved t names table plan pairs u v cost text stated by_name certificate optimal least whole reads =
+    → IsCertified (with_plan t pairs u v) cost × (cost_in (with_plan t pairs u v) ≡ Ok cost)
+plan_passes t names table plan pairs u v cost stated by_name certificate optimal least =
     let parts = stated_parts t names table stated in
-    let counts = even_counts _ _ _ _ _ table parts.even in
-    let kept = names_kept t.wagons t.orders names parts.named in
+    let counts = named_counts t.wagons t.orders names _ _ _ _ _ table parts.named parts.even refl refl in
     let one = once t.wagons t.orders names parts.named in
-    let wagons = counts.0 ∙ sym (ap length kept.0) in
-    let orders = counts.1 ∙ sym (ap length kept.1) in
-    let found : positions_of names pairs ≡ Ok plan = ap (positions_of names) by_name ∙ positions_found names table one wagons orders plan certificate.plan.allowed in
+    let found : positions_of names pairs ≡ Ok plan = ap (positions_of names) by_name ∙ positions_found names table one counts.0 counts.1 plan certificate.plan.allowed in
     let passes : checked names table pairs u v ≡ Ok cost = checked_free names table pairs plan u v found certificate ∙ ap Ok (sym least) in
-    let whole_table = with_plan t pairs u v in
-    let answer : cost_in whole_table ≡ Ok cost = costs_of_plans t pairs u v ∙ rw (stated, passes) refl in
-    record {
-      pairs = pairs;
-      u = u;
-      v = v;
-      cost = cost;
-      whole = whole;
-      reads = reads;
-      certified = certifies_text whole_table names table cost parts.named parts.even (plan, found, certificate, optimal, least);
-      checked = cost_of_read text whole_table reads ∙ answer;
-    }
+    let answer : cost_in (with_plan t pairs u v) ≡ Ok cost = costs_of_plans t pairs u v ∙ rw (stated, passes) refl in
+    (certifies_text (with_plan t pairs u v) names table cost parts.named parts.even (plan, found, certificate, optimal, least), answer)

@@ -4,7 +4,7 @@ use Rattle.std.specs.Prelude.{IfSome, codes, option_map}
 use Rattle.std.specs.Str.{IsUtf8}
 use Rattle.std.proofs.lemmas.List.Elements.{All-map, All-weaker}
 use Rattle.serde_json.specs.Data as json
-use Rattle.serde_json.specs.Data.{Data, Members, no_members, string, array, depth, items_depth, members_depth}
+use Rattle.serde_json.specs.Data.{Data, Members, object, string, array, depth, items_depth, members_depth}
 use Rattle.serde_json.specs.Read.{read, max_depth}
 use Rattle.serde_json.specs.View.{items_of}
 use Rattle.serde_json.specs.Written.{has_float, members_have_float}
@@ -18,10 +18,21 @@ use Rattle.move_messages.specs.Order.{max_order_wagons}
 use Rattle.cost_table.specs.Rows.{IsNumber, Rows}
 use Rattle.cost_table.specs.TableLimits.{max_cost}
 use Rattle.load_orders.specs.Wanted.{IsLack}
-use Rattle.table_lines.specs.TableLine.{TableText, cell_of, row_of, table_line_of, table_text, table_text_of}
-use Rattle.table_lines.specs.TablePart.{with_plan}
+use Rattle.table_lines.specs.TableLine.{TableText, cell_of, row_of, table_line_of, table_of, table_text, table_text_of, with_plan, with_plan_of}
 use Rattle.table_lines.specs.declared.table_line.TableLine.{TableLine}
-use Rattle.table_solver.specs.SolvedText.{solved_data, with_lacks}
+use Rattle.table_solver.specs.SolvedText.{last_members, solved_data, with_lacks}
+use Rattle.table_solver.specs.inner.Members.{plain_members, put_lacks}
+
+-- ---- the members
+
+put_by : (lacks : Option (List ℕ)) (t : TableText) (cost : ℕ)
+    → put_lacks lacks (plain_members t cost) ≡ json.member (codes "cells") (list_data (list_data number_or_null) t.cells) (json.member (codes "cost") (number_data cost) (with_lacks lacks (last_members t)))
+put_by None t cost = refl
+put_by (Some lacks) t cost = refl
+
+-- what the orders lack, put in among the others
+pub lacks_put : (t : TableText) (cost : ℕ) → object (put_lacks t.lacks (plain_members t cost)) ≡ solved_data t cost
+lacks_put t cost = ap object (put_by t.lacks t cost)
 
 -- ---- no part is a float, and it nests little
 
@@ -36,16 +47,6 @@ number_has_no_float (Some n) = refl
 lacks_have_no_float : (lacks : Option (List ℕ)) (others : Members) → members_have_float others ≡ false → members_have_float (with_lacks lacks others) ≡ false
 lacks_have_no_float None others h = h
 lacks_have_no_float (Some lacks) others h = rw (list_has_no_float number_data lacks (λ n. refl)) h
-
--- the members behind `lacks`
-abbrev last_members : TableText → Members
-last_members t =
-    json.member (codes "orders") (list_data string t.orders)
-    (json.member (codes "pairs") (list_data pair_data t.pairs)
-    (json.member (codes "penalties") (list_data number_data t.penalties)
-    (json.member (codes "u") (list_data number_data t.u)
-    (json.member (codes "v") (list_data number_data t.v)
-    (json.member (codes "wagons") (list_data string t.wagons) no_members)))))
 
 pub solved_has_no_float : (t : TableText) (cost : ℕ) → has_float (solved_data t cost) ≡ false
 solved_has_no_float t cost =
@@ -136,7 +137,7 @@ with_lack_list t lacks =
     record { wagons = t.wagons; orders = t.orders; cells = t.cells; penalties = t.penalties; lacks = lacks; pairs = t.pairs; u = t.u; v = t.v }
 
 reads_by : (lacks : Option (List ℕ)) (t : TableText) (cost : ℕ) → ListsRead t → IfSome lacks (λ list. All IsLack list) → table_text_of (solved_data (with_lack_list t lacks) cost) ≡ Ok (with_lack_list t lacks)
-unfolding table_text_of field_of optional_field_of member field_name
+unfolding table_text_of table_of with_plan_of field_of optional_field_of member field_name
 reads_by None t cost r h = rw (r.wagons, r.orders, r.cells, r.penalties, r.pairs, r.u, r.v) refl
 reads_by (Some list) t cost r h = rw (r.wagons, r.orders, r.cells, r.penalties, lacks_read list h, r.pairs, r.u, r.v) refl
 

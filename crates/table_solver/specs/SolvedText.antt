@@ -10,18 +10,21 @@ abbrev pub with_lacks : Option (List ℕ) → Members → Members
 with_lacks None others = others
 with_lacks (Some lacks) others = member (codes "lacks") (list_data number_data lacks) others
 
--- a table with its plan, the plan's cost and its prices, in km: a list of costs per wagon, a number or null per order
-abbrev pub solved_data : TableText → (cost : ℕ) → Data
-solved_data t cost =
-    object (member (codes "cells") (list_data (list_data number_or_null) t.cells)
-    (member (codes "cost") (number_data cost)
-    (with_lacks t.lacks
-    (member (codes "orders") (list_data string t.orders)
+-- the members behind `lacks`
+abbrev pub last_members : TableText → Members
+last_members t =
+    member (codes "orders") (list_data string t.orders)
     (member (codes "pairs") (list_data pair_data t.pairs)
     (member (codes "penalties") (list_data number_data t.penalties)
     (member (codes "u") (list_data number_data t.u)
     (member (codes "v") (list_data number_data t.v)
-    (member (codes "wagons") (list_data string t.wagons) no_members)))))))))
+    (member (codes "wagons") (list_data string t.wagons) no_members)))))
+
+-- a table with its plan, the plan's cost and its prices, in km: a list of costs per wagon, a number or null per order
+abbrev pub solved_data : TableText → (cost : ℕ) → Data
+solved_data t cost =
+    object (member (codes "cells") (list_data (list_data number_or_null) t.cells)
+    (member (codes "cost") (number_data cost) (with_lacks t.lacks (last_members t))))
 
 -- its JSON with no space in it; the line feed is not part of it
 abbrev pub solved_text : TableText → (cost : ℕ) → List ℕ

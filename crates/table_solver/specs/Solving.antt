@@ -3,8 +3,7 @@ use Rattle.std.specs.Prelude.{◌≡◌, ◌⊎◌, ℕ, Bool, true, false, List
 use Rattle.reply_texts.specs.JsonReplies.{json_refused_text}
 use Rattle.table_lines.specs.StatedTable.{stated_line}
 use Rattle.table_lines.specs.TableCost.{IsCertified, cost_of_line}
-use Rattle.table_lines.specs.TableLine.{TableText, table_line_of}
-use Rattle.table_lines.specs.TablePart.{with_plan}
+use Rattle.table_lines.specs.TableLine.{TableText, table_line_of, with_plan}
 use Rattle.table_lines.specs.declared.table_refusal.TableRefusal.{TableRefusal}
 use Rattle.table_lines.specs.declared.table_refusal.TableRefusal.TheVariants.{OutOfMemory}
 use Rattle.table_solver.specs.SolvedText.{solved_text}

@@ -1,16 +1,15 @@
 //! A table with its plan, as JSON.
-ghost use Rattle.std.specs.Prelude.{◌≡◌, ◌≤◌, ◌-◌, ◌^◌, All, IfOk, IfSome, OnOk, string_bytes};
-ghost use Rattle.serde_json.specs.Data.{string};
+ghost use Rattle.std.specs.Prelude.{◌≡◌, ◌≤◌, ◌-◌, ◌^◌, All, IfOk, IfSome, OnOk, option_map, string_bytes};
+ghost use Rattle.serde_json.specs.Data.{object, string};
 ghost use Rattle.serde_json.specs.View.{members_view, view};
 ghost use Rattle.json_fields.specs.Values.{number_within, order_id_from, pair_of, wagon_number_from};
 ghost use Rattle.json_fields.specs.Written.{list_data, number_data, number_or_null, pair_data};
 ghost use Rattle.cost_table.specs.Rows.{IsNumber};
 ghost use Rattle.cost_table.specs.TableLimits.{max_cost};
 ghost use Rattle.load_orders.specs.Wanted.{IsLack};
-ghost use Rattle.table_lines.specs.TableLine.{table_line_of, table_text, table_text_of};
-ghost use Rattle.table_lines.specs.TablePart.{with_plan};
-ghost use Rattle.table_solver.specs.SolvedText.{solved_data, solved_text};
-ghost use Rattle.table_solver.specs.inner.Members.{plain_members};
+ghost use Rattle.table_lines.specs.TableLine.{table_line_of, table_text, with_plan};
+ghost use Rattle.table_solver.specs.SolvedText.{solved_text};
+ghost use Rattle.table_solver.specs.inner.Members.{plain_members, put_lacks};
 
 use json_fields::list_value;
 use price_checker::Prices;
@@ -34,26 +33,21 @@ pub(crate) fn solved_line(
     ensures text { let t = with_plan (table_text table.now) pairs.now prices.now.u.items prices.now.v.items in IfOk result (λ line. string_bytes line ≡ solved_text t cost) }
     ensures reads { let t = with_plan (table_text table.now) pairs.now prices.now.u.items prices.now.v.items in IfOk result (λ line. table_line_of (string_bytes line) ≡ Ok t) }
 {
-    let value = solved_value(alloc, table, pairs, prices, cost)?;
+    let members = members_without_lacks(alloc, table, pairs, prices, cost)?;
+    let value = object_with_lacks(alloc, members, &table.lacks)?;
     value.to_string(alloc)
 }
 
-/// The table with its plan as one object.
-fn solved_value(
+/// The object of these members and of what the orders lack, where the table says it.
+fn object_with_lacks(
     alloc: Global,
-    table: &TableLine,
-    pairs: &[(WagonNumber, OrderId)],
-    prices: &Prices,
-    cost: u64,
+    members: Map<String, Value>,
+    lacks: &Option<Vec<u32>>,
 ) -> Result<Value, AllocError>
-    requires costs { All (λ row. All IsNumber row.items) table.now.cells.items }
-    requires penalties { All (λ penalty. penalty ≤ max_cost) table.now.penalties.items }
-    requires lacks { IfSome table.now.lacks (λ lacks. All IsLack lacks.items) }
-    ensures value { let t = with_plan (table_text table.now) pairs.now prices.now.u.items prices.now.v.items in IfOk result (λ value. view value ≡ solved_data t cost) }
-    ensures reads { let t = with_plan (table_text table.now) pairs.now prices.now.u.items prices.now.v.items in OnOk result (table_text_of (solved_data t cost) ≡ Ok t) }
+    ensures { IfOk result (λ value. view value ≡ object (put_lacks (option_map (λ list. list.items) lacks.now) (members_view members.entries))) }
 {
-    let mut members = members_without_lacks(alloc, table, pairs, prices, cost)?;
-    match &table.lacks {
+    let mut members = members;
+    match lacks {
         None => Ok(Value::Object(members)),
         Some(lacks) => {
             let lacks = list_value(alloc, lacks)?;

@@ -1,7 +1,10 @@
 //! The command line: its words, and the faults of arguments.
 
 use crate::help;
-use crate::office_options::{FeedOptions, OfficeOptions, with_files, with_office_options};
+use crate::help::WordHelp;
+use crate::office_options::{
+    FeedOptions, OfficeOptions, files_of, with_files, with_office_options,
+};
 use clap::builder::ValueParser;
 use clap::error::ErrorKind;
 use clap::{Arg, ArgMatches, Command, Error};
@@ -43,7 +46,9 @@ pub fn read_words<'a, S: AsStr>(alloc: Global, words: &'a [S]) -> Result<Word<'a
         return Ok(Word::Run(OfficeOptions::read(alloc, options)?));
     }
     if let Some(options) = matches.subcommand_matches("feed") {
-        return Ok(Word::Feed(FeedOptions::read(alloc, options)?));
+        let office = OfficeOptions::read(alloc, options)?;
+        let files = files_of(alloc, options)?;
+        return Ok(Word::Feed(FeedOptions { office, files }));
     }
     if let Some(options) = matches.subcommand_matches("map") {
         return Ok(Word::Map(OfficeOptions::read(alloc, options)?));
@@ -94,67 +99,33 @@ fn command_line<'a>(alloc: Global) -> Result<Command<'a>, AllocError> {
         .version(VERSION)
         .about(help::ABOUT)
         .after_help(help::EXAMPLES)
-        .subcommand(check_command(alloc))?
-        .subcommand(solve_command(alloc))?
-        .subcommand(run_command(alloc)?)?
-        .subcommand(feed_command(alloc)?)?
-        .subcommand(map_command(alloc)?)?
+        .subcommand(word_command(alloc, help::CHECK))?
+        .subcommand(word_command(alloc, help::SOLVE))?
+        .subcommand(office_command(alloc, help::RUN)?)?
+        .subcommand(with_files(alloc, office_command(alloc, help::FEED)?)?)?
+        .subcommand(office_command(alloc, help::MAP)?)?
         .subcommand(explain_command(alloc)?)
 }
 
-/// The word `check`.
-fn check_command<'a>(alloc: Global) -> Command<'a> {
-    Command::new(alloc, "check")
-        .about(help::CHECK_ABOUT)
-        .long_about(help::CHECK_LONG_ABOUT)
-        .after_help(help::CHECK_EXAMPLE)
+/// A word with its help.
+fn word_command<'a>(alloc: Global, help: WordHelp) -> Command<'a> {
+    Command::new(alloc, help.name)
+        .about(help.about)
+        .long_about(help.long_about)
+        .after_help(help.example)
 }
 
-/// The word `solve`.
-fn solve_command<'a>(alloc: Global) -> Command<'a> {
-    Command::new(alloc, "solve")
-        .about(help::SOLVE_ABOUT)
-        .long_about(help::SOLVE_LONG_ABOUT)
-        .after_help(help::SOLVE_EXAMPLE)
-}
-
-/// The word `run`.
-fn run_command<'a>(alloc: Global) -> Result<Command<'a>, AllocError> {
-    let run = Command::new(alloc, "run")
-        .about(help::RUN_ABOUT)
-        .long_about(help::RUN_LONG_ABOUT)
-        .after_help(help::RUN_EXAMPLE);
-    with_office_options(alloc, run)
-}
-
-/// The word `feed`.
-fn feed_command<'a>(alloc: Global) -> Result<Command<'a>, AllocError> {
-    let feed = Command::new(alloc, "feed")
-        .about(help::FEED_ABOUT)
-        .long_about(help::FEED_LONG_ABOUT)
-        .after_help(help::FEED_EXAMPLE);
-    with_files(alloc, with_office_options(alloc, feed)?)
-}
-
-/// The word `map`.
-fn map_command<'a>(alloc: Global) -> Result<Command<'a>, AllocError> {
-    let map = Command::new(alloc, "map")
-        .about(help::MAP_ABOUT)
-        .long_about(help::MAP_LONG_ABOUT)
-        .after_help(help::MAP_EXAMPLE);
-    with_office_options(alloc, map)
+/// A word that opens an office.
+fn office_command<'a>(alloc: Global, help: WordHelp) -> Result<Command<'a>, AllocError> {
+    with_office_options(alloc, word_command(alloc, help))
 }
 
 /// The word `explain`, which may have a code.
 fn explain_command<'a>(alloc: Global) -> Result<Command<'a>, AllocError> {
-    Command::new(alloc, "explain")
-        .about(help::EXPLAIN_ABOUT)
-        .long_about(help::EXPLAIN_LONG_ABOUT)
-        .after_help(help::EXPLAIN_EXAMPLE)
-        .arg(
-            Arg::new(alloc, CODE)
-                .value_name("CODE")
-                .value_parser(ValueParser::unsigned(1, MAX_CODE))
-                .help(help::CODE),
-        )
+    word_command(alloc, help::EXPLAIN).arg(
+        Arg::new(alloc, CODE)
+            .value_name("CODE")
+            .value_parser(ValueParser::unsigned(1, MAX_CODE))
+            .help(help::CODE),
+    )
 }

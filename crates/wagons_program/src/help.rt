@@ -1,5 +1,18 @@
 //! The texts of help. No line is longer than 80 characters where help prints it.
 
+/// The help of a word.
+#[derive(Clone, Copy, Debug)]
+pub(crate) struct WordHelp {
+    /// The word.
+    pub(crate) name: &'static str,
+    /// What it does, on a line.
+    pub(crate) about: &'static str,
+    /// What it does.
+    pub(crate) long_about: &'static str,
+    /// How it is called.
+    pub(crate) example: &'static str,
+}
+
 /// What the program is.
 pub(crate) const ABOUT: &str =
     "The fleet office: keeps where freight wagons are, and plans which empty wagon\n\
@@ -13,93 +26,81 @@ pub(crate) const EXAMPLES: &str = "Examples:\n  \
      wagons explain 82\n\n\
      The manual: `man wagons`, and docs/FORMATS.md";
 
-/// What `check` does, on a line.
-pub(crate) const CHECK_ABOUT: &str = "Checks plans and their prices, one JSON object a line";
-
-/// What `check` does.
-pub(crate) const CHECK_LONG_ABOUT: &str =
-    "Reads table lines from standard input, one JSON object a line: wagons, orders,\n\
+/// The help of `check`.
+pub(crate) const CHECK: WordHelp = WordHelp {
+    name: "check",
+    about: "Checks plans and their prices, one JSON object a line",
+    long_about: "Reads table lines from standard input, one JSON object a line: wagons, orders,\n\
      the cost of each allowed pair in kilometres, penalties, a plan and its prices.\n\
      Replies `N optimal COST` where the prices prove the plan of line N least, else\n\
      `N refused CODE` and details. Exits with 0, with 1 where a line was refused,\n\
-     with 2 where it could not run or stopped.";
+     with 2 where it could not run or stopped.",
+    example: "Example:\n  wagons check < tables.jsonl",
+};
 
-/// How `check` is called.
-pub(crate) const CHECK_EXAMPLE: &str = "Example:\n  wagons check < tables.jsonl";
-
-/// What `solve` does, on a line.
-pub(crate) const SOLVE_ABOUT: &str = "Plans cost tables, one JSON object a line";
-
-/// What `solve` does.
-pub(crate) const SOLVE_LONG_ABOUT: &str =
-    "Reads cost tables from standard input, one JSON object a line: wagons, orders,\n\
+/// The help of `solve`.
+pub(crate) const SOLVE: WordHelp = WordHelp {
+    name: "solve",
+    about: "Plans cost tables, one JSON object a line",
+    long_about: "Reads cost tables from standard input, one JSON object a line: wagons, orders,\n\
      the cost of each allowed pair in kilometres, and penalties. Prints each with a\n\
      plan of the lowest cost and the prices that prove it, as JSON that `wagons\n\
      check` reads; for a line that is refused it prints `line` and `refused`. Exits\n\
      with 0, with 1 where a line was refused, with 2 where it could not run or\n\
-     stopped.";
+     stopped.",
+    example: "Example:\n  wagons solve < problems.jsonl | wagons check",
+};
 
-/// How `solve` is called.
-pub(crate) const SOLVE_EXAMPLE: &str = "Example:\n  wagons solve < problems.jsonl | wagons check";
-
-/// What `run` does, on a line.
-pub(crate) const RUN_ABOUT: &str = "Keeps a fleet: messages and orders in, replies and plans out";
-
-/// What `run` does.
-pub(crate) const RUN_LONG_ABOUT: &str =
-    "Reads the fleet and the network from files, then commands from standard input,\n\
+/// The help of `run`.
+pub(crate) const RUN: WordHelp = WordHelp {
+    name: "run",
+    about: "Keeps a fleet: messages and orders in, replies and plans out",
+    long_about: "Reads the fleet and the network from files, then commands from standard input,\n\
      one JSON object a line: movement messages of the wagons, orders for wagons and\n\
      their withdrawals, `begin`, `plan`, `commit`, `network` and `sheet`. Answers\n\
      each line at once; a reply begins with the number of its line. Exits with 0,\n\
-     with 1 where a line was refused, with 2 where it could not run or stopped.";
+     with 1 where a line was refused, with 2 where it could not run or stopped.",
+    example: "Example:\n  \
+     wagons run --roster roster.csv --network network.csv < day.jsonl",
+};
 
-/// How `run` is called.
-pub(crate) const RUN_EXAMPLE: &str = "Example:\n  \
-     wagons run --roster roster.csv --network network.csv < day.jsonl";
-
-/// What `feed` does, on a line.
-pub(crate) const FEED_ABOUT: &str = "Keeps a fleet: several files of commands in at once";
-
-/// What `feed` does.
-pub(crate) const FEED_LONG_ABOUT: &str =
-    "Reads the fleet and the network from files, then commands from 1 to 16 files at\n\
+/// The help of `feed`.
+pub(crate) const FEED: WordHelp = WordHelp {
+    name: "feed",
+    about: "Keeps a fleet: several files of commands in at once",
+    long_about: "Reads the fleet and the network from files, then commands from 1 to 16 files at\n\
      once, each by a thread of its own; named pipes are files too. A `plan` line is\n\
      planned and committed, a `sheet` line is skipped. At the end prints for each\n\
      file how many lines were accepted, repeated and refused, or why it failed, and\n\
      then the sheet. Exits with 0, with 1 where a line was refused, with 2 where a\n\
-     file failed or it could not run.";
+     file failed or it could not run.",
+    example: "Example:\n  \
+     wagons feed --roster roster.csv --network network.csv north.jsonl south.jsonl",
+};
 
-/// How `feed` is called.
-pub(crate) const FEED_EXAMPLE: &str = "Example:\n  \
-     wagons feed --roster roster.csv --network network.csv north.jsonl south.jsonl";
-
-/// What `map` does, on a line.
-pub(crate) const MAP_ABOUT: &str = "Draws a fleet: commands in, a Graphviz graph out";
-
-/// What `map` does.
-pub(crate) const MAP_LONG_ABOUT: &str =
-    "Reads the fleet and the network from files, then commands from standard input\n\
+/// The help of `map`.
+pub(crate) const MAP: WordHelp = WordHelp {
+    name: "map",
+    about: "Draws a fleet: commands in, a Graphviz graph out",
+    long_about: "Reads the fleet and the network from files, then commands from standard input\n\
      as `run` does, without a reply. At the end prints the office as a graph in the\n\
      DOT language: places with their wagons, lines with kilometres and minutes,\n\
      waiting orders, and promised wagons as arrows. Graphviz makes a picture of it.\n\
      Exits with 0, with 1 where a line was refused, with 2 where it could not run or\n\
-     stopped; then there is no graph.";
-
-/// How `map` is called.
-pub(crate) const MAP_EXAMPLE: &str = "Example:\n  \
+     stopped; then there is no graph.",
+    example: "Example:\n  \
      wagons map --roster roster.csv --network network.csv < day.jsonl |\n    \
-     neato -Tsvg > day.svg";
+     neato -Tsvg > day.svg",
+};
 
-/// What `explain` does, on a line.
-pub(crate) const EXPLAIN_ABOUT: &str = "Says what a refusal means, and what to do about it";
-
-/// What `explain` does.
-pub(crate) const EXPLAIN_LONG_ABOUT: &str =
-    "Says what the code of a refusal means, in which words it comes, its usual cause\n\
-     and what to do about it. Without a code it says this of all refusals.";
-
-/// How `explain` is called.
-pub(crate) const EXPLAIN_EXAMPLE: &str = "Example:\n  wagons explain 82";
+/// The help of `explain`.
+pub(crate) const EXPLAIN: WordHelp = WordHelp {
+    name: "explain",
+    about: "Says what a refusal means, and what to do about it",
+    long_about: "Says what the code of a refusal means, in which words it comes, its usual cause\n\
+     and what to do about it. Without a code it says this of all refusals.",
+    example: "Example:\n  wagons explain 82",
+};
 
 /// What the code of `explain` is.
 pub(crate) const CODE: &str = "The number behind `refused`, or behind `wagons:`";

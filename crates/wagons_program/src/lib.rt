@@ -1,6 +1,7 @@
 //! The program `wagons` as a library: its command line, its words, and how it ends.
 #![tactic(auto)]
 
+mod bringing;
 mod check;
 mod command_line;
 mod explain;

@@ -1,12 +1,10 @@
 //! The word `map`.
 
-use crate::new_book::{OfficeFiles, new_book, read_files};
+use crate::bringing::{Brought, bring};
 use crate::office_options::OfficeOptions;
 use crate::printing::print_whole;
-use crate::status::status_of_run;
 use crate::stop::Stop;
 use fleet_map::map_text;
-use office::{FromRead, ToWrite};
 use std::io;
 use std::io::Read;
 use std::rt::Files;
@@ -20,12 +18,11 @@ pub(crate) fn map<R: Print + Files + Threads + Wait + AllocGlobal, I: Read + Dro
     options: &OfficeOptions<'_>,
     input: I,
 ) -> Result<u8, Stop> {
-    let OfficeFiles { roster, networks } = read_files(rt, options)?;
-    let mut book = new_book(rt, options, roster, &networks)?.book;
-    let mut reader = FromRead::new(input);
-    let mut nowhere = ToWrite::new(io::sink());
-    let count = office::run(rt.alloc(), &mut reader, &mut nowhere, &mut book);
-    let status = status_of_run(count)?;
+    let Brought {
+        book,
+        networks,
+        status,
+    } = bring(rt, options, input, io::sink())?;
     let state = book.state();
     // A book's network in force is one of its networks, which are numbered from 1.
     let Some(network) = networks.get(state.network() as usize - 1) else {

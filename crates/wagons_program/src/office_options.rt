@@ -50,18 +50,12 @@ pub struct FeedOptions<'a> {
     pub files: Vec<&'a str>,
 }
 
-impl<'a> FeedOptions<'a> {
-    /// The options and files that were given.
-    pub(crate) fn read(
-        alloc: Global,
-        matches: &ArgMatches<'a>,
-    ) -> Result<FeedOptions<'a>, AllocError> {
-        let files = matches.get_strs("file").unwrap_or(&[]);
-        Ok(FeedOptions {
-            office: OfficeOptions::read(alloc, matches)?,
-            files: Vec::from_slice(alloc, files)?,
-        })
-    }
+/// The files that were given.
+pub(crate) fn files_of<'a>(
+    alloc: Global,
+    matches: &ArgMatches<'a>,
+) -> Result<Vec<&'a str>, AllocError> {
+    Vec::from_slice(alloc, matches.get_strs("file").unwrap_or(&[]))
 }
 
 /// A word with 1 to 16 files.

@@ -1,14 +1,14 @@
 use Rattle.std.proofs.Common.{◌≡◌, ◌-◌, ◌^◌, ℕ, List, Ok, subst, string_bytes}
 use Rattle.json_fields.specs.Values.{list_of_each, number_within, pair_of}
-use Rattle.dispatch_sheet.specs.Certificate.{pairs_data, prices_data}
+use Rattle.json_fields.specs.Written.{list_data, number_data, pair_data}
 use Rattle.dispatch_sheet.proofs.Certificates.{commit-reads}
 use Rattle.dispatch_sheet.proofs.certificate.commit_value.Goals as goal
 
 abbrev PairsRead : List (List ℕ × List ℕ) → Type 0
-PairsRead pairs = list_of_each pair_of (pairs_data pairs) ≡ Ok pairs
+PairsRead pairs = list_of_each pair_of (list_data pair_data pairs) ≡ Ok pairs
 
 abbrev PricesRead : List ℕ → Type 0
-PricesRead prices = list_of_each (number_within 0 (2 ^ 64 - 1)) (prices_data prices) ≡ Ok prices
+PricesRead prices = list_of_each (number_within 0 (2 ^ 64 - 1)) (list_data number_data prices) ≡ Ok prices
 
 pub returns-in-Ok-json-12-clause-reads : goal.returns-in-Ok-json-12-clause-reads
 returns-in-Ok-json-12-clause-reads c =

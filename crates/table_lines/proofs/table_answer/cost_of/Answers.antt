@@ -4,7 +4,7 @@ use Rattle.table_lines.specs.TableLine.{table_text}
 use Rattle.table_lines.specs.TableCost.{Yields, is_too_large, with_check_fault, cost_in, IsCertified}
 use Rattle.named_pairs.specs.NamedPairs.{checked}
 use Rattle.table_lines.specs.declared.table_refusal.TableRefusal.{TableRefusal}
-use Rattle.table_lines.proofs.Even.{cells_in, even_counts, names_kept, cost_in-named, same_even, certifies_text}
+use Rattle.table_lines.proofs.Even.{cells_in, named_counts, cost_in-named, same_even, certifies_text}
 use Rattle.table_lines.proofs.table_answer.cost_of.Goals as goal
 
 pub returns-in_err-cells-clause-meaning : goal.returns-in_err-cells-clause-meaning
@@ -19,17 +19,11 @@ returns-in_err-cells-clause-meaning c =
 
 pub checked_cost-requires-clause-wagons : goal.checked_cost-requires-clause-wagons
 checked_cost-requires-clause-wagons c =
-    let counts = even_counts _ _ _ _ _ c.in_ok-cells.cells c.in_ok-cells.ensures in
-    let kept = names_kept _ _ c.in_ok-names.names (sym c.in_ok-names.ensures) in
-    let wagons : length (table_text c.args.table).wagons ≡ c.len-wagons.result = omega (arith, c.len-wagons.ensures, c.args.table.wagons.ok.0) in
-    counts.0 ∙ sym wagons ∙ ap length (sym kept.0)
+    (named_counts c.args.table.wagons.items c.args.table.orders.items c.in_ok-names.names c.len-wagons.result c.len-orders.result _ _ _ c.in_ok-cells.cells (sym c.in_ok-names.ensures) c.in_ok-cells.ensures (omega (arith, c.len-wagons.ensures, c.args.table.wagons.ok.0)) (omega (arith, c.len-orders.ensures, c.args.table.orders.ok.0))).0
 
 pub checked_cost-requires-clause-orders : goal.checked_cost-requires-clause-orders
 checked_cost-requires-clause-orders c =
-    let counts = even_counts _ _ _ _ _ c.in_ok-cells.cells c.in_ok-cells.ensures in
-    let kept = names_kept _ _ c.in_ok-names.names (sym c.in_ok-names.ensures) in
-    let orders : length (table_text c.args.table).orders ≡ c.len-orders.result = omega (arith, c.len-orders.ensures, c.args.table.orders.ok.0) in
-    counts.1 ∙ sym orders ∙ ap length (sym kept.1)
+    (named_counts c.args.table.wagons.items c.args.table.orders.items c.in_ok-names.names c.len-wagons.result c.len-orders.result _ _ _ c.in_ok-cells.cells (sym c.in_ok-names.ensures) c.in_ok-cells.ensures (omega (arith, c.len-wagons.ensures, c.args.table.wagons.ok.0)) (omega (arith, c.len-orders.ensures, c.args.table.orders.ok.0))).1
 
 pub returns-clause-meaning : goal.returns-clause-meaning
 returns-clause-meaning c =

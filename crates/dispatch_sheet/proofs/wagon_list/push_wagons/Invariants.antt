@@ -1,7 +1,7 @@
 use Rattle.std.proofs.Common.{◌≡◌, ◌++◌, map, take, string_bytes}
 use Rattle.dispatch_sheet.specs.inner.Pushed.{listed}
 use Rattle.dispatch_sheet.proofs.Lists.{later}
-use Rattle.dispatch_sheet.proofs.order_line.push_wagons.Given as goal
+use Rattle.dispatch_sheet.proofs.wagon_list.push_wagons.Given as goal
 
 abbrev pub invariant-loop-number : goal.invariant-loop-number
 invariant-loop-number l = record {

@@ -1,7 +1,0 @@
-use Rattle.std.proofs.Common.{ap, ◌∙◌, arith}
-use Rattle.fleet_map.specs.Outside.{with_outside, with_wagon_place}
-use Rattle.fleet_map.proofs.Loops.{fold_noted}
-use Rattle.fleet_map.proofs.outside.note_wagons.Goals as goal
-
-pub loop-row-preserved : goal.loop-row-preserved
-loop-row-preserved c = fold_noted (with_wagon_place c.args.network.now) c.args.rows.now _ _ _ c.loop-row.row-index c.row-item.result c.row-item.result (omega arith) c.row-item.is c.loop-row.invariant (c.in_ok-note_outside.ensures {u = tt} ∙ ap (with_outside c.args.network.now c.loop-row.places.items) c.place.ensures)
