@@ -1,13 +1,12 @@
 //! Rounds of timed calls.
-ghost use Rattle.std.specs.Prelude.{All, IsTrue};
-ghost use Rattle.commit_book.specs.Snap.{IsInRange};
 
 use crate::growth::{Growth, SUITED, entered};
 use crate::times::KINDS;
 use anyhow::{Context, Result};
 use assignment::certified_plan;
+use book_samples::is_in_range;
 use commit_book::Snap;
-use cost_table::{Cells, Plan, Problem, cells};
+use cost_table::{Cells, cells};
 use move_messages::CommitText;
 use rail_codes::OrderId;
 use std::alloc::Global;
@@ -115,14 +114,4 @@ fn planned(alloc: Global, snap: &Snap, table: &Cells) -> Result<CommitText> {
         return None.context("a plan of another problem");
     }
     Ok(snap.commit_text(alloc, &plan, &prices)?)
-}
-
-/// Whether the positions of a plan are a problem's.
-fn is_in_range(problem: &Problem, plan: &Plan) -> bool
-    ensures { IsTrue result → All (IsInRange problem.now) plan.now }
-{
-    let (wagons, orders) = (problem.wagons().len(), problem.orders().len());
-    plan.pairs()
-        .iter()
-        .all(|pair| pair.0 < wagons && pair.1 < orders)
 }

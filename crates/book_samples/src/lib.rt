@@ -1,14 +1,23 @@
-//! Books for the tests: what they start from, and command lines that are brought to them.
+//! Books for the tests: what they start from, command lines that are brought to them, what is told then, and what their offices hold.
 #![tactic(auto)]
 
-ghost use Rattle.std.specs.Prelude.{◌≡◌, [], IfOk};
+ghost use Rattle.std.specs.Prelude.{◌≡◌, [], All, IfOk, IsTrue};
+ghost use Rattle.commit_book.specs.Snap.{IsInRange};
 
+mod answers;
 mod lines;
+mod states;
 
+pub use answers::reply_text;
 use commit_book::{Book, Limits};
+use cost_table::{Plan, Problem};
 use distance_tables::{Networks, tables};
 use line_network::read_lines;
-pub use lines::{BEGIN, COMMIT, DEPARTURE, OTHER_PLACE, REVISION, WITHDRAWAL};
+pub use lines::{
+    BEGIN, COMMIT, DEPARTURE, FARTHER, Line, NEAREST, ORDER, OTHER_PLACE, REVISION, WITHDRAWAL,
+    call, script,
+};
+pub use states::{State, holds};
 use std::alloc::Global;
 use std::sync::Arc;
 use std::test::Fail;
@@ -32,6 +41,22 @@ pub const SAMPLE: Start<'static> = Start {
     kept: 8,
 };
 
+/// The sample, with room for one entry.
+pub const ONE_ENTRY: Start<'static> = Start {
+    entries: 1,
+    ..SAMPLE
+};
+
+/// The line from the second place to the third is longer than the sample's, and none leads from the first to the third.
+pub const LONGER: &str =
+    "from,to,km,minutes,way\nDE00001,DE00002,100,120,both\nDE00002,DE00003,70,80,both\n";
+
+/// The sample, with a second network.
+pub const BOTH: Start<'static> = Start {
+    networks: &[NETWORK, LONGER],
+    ..SAMPLE
+};
+
 /// The networks of these texts.
 pub fn networks_of(alloc: Global, texts: &[&str]) -> Result<Networks, Fail> {
     let mut all = Vec::new(alloc);
@@ -50,4 +75,14 @@ pub fn book_of(alloc: Global, start: Start<'_>) -> Result<Book, Fail>
     let roster = Roster::read_rows(alloc, start.roster.as_bytes())?;
     let networks = Arc::new(alloc, networks_of(alloc, start.networks)?)?;
     Ok(Book::new(alloc, roster, networks, limits)?)
+}
+
+/// Whether the positions of a plan are a problem's.
+pub fn is_in_range(problem: &Problem, plan: &Plan) -> bool
+    ensures { IsTrue result → All (IsInRange problem.now) plan.now }
+{
+    let (wagons, orders) = (problem.wagons().len(), problem.orders().len());
+    plan.pairs()
+        .iter()
+        .all(|pair| pair.0 < wagons && pair.1 < orders)
 }

@@ -2,12 +2,4 @@
 #![tactic(auto)]
 
 #[cfg(test)]
-mod check_lines;
-#[cfg(test)]
-mod failures;
-#[cfg(test)]
-mod runs;
-#[cfg(test)]
-mod solved_lines;
-#[cfg(test)]
-mod tables;
+mod tests;

@@ -28,20 +28,6 @@ fn wagon_numbers(rt: HostRuntime) -> Result<(), Fail> {
     Ok(())
 }
 
-#[test]
-fn refused_wagon_numbers(rt: HostRuntime) {
-    for (text, fault) in [
-        ("338447961009", CodeFault::CheckDigit),
-        ("33844796100", CodeFault::NotTwelveDigits),
-        ("3384479610080", CodeFault::NotTwelveDigits),
-        ("33844796100a", CodeFault::NotTwelveDigits),
-        ("33844796100é", CodeFault::NotTwelveDigits),
-        ("", CodeFault::NotTwelveDigits),
-    ] {
-        assert_eq!(rt; WagonNumber::read(text), Err(fault), "{text}");
-    }
-}
-
 /// Whether an order's name gives its text back.
 fn order_printed(alloc: Global, text: &str) -> Result<bool, Fail> {
     Ok(order_id(text)?.text(alloc)?.as_str() == text)
@@ -51,9 +37,6 @@ fn order_printed(alloc: Global, text: &str) -> Result<bool, Fail> {
 fn order_names(rt: HostRuntime) -> Result<(), Fail> {
     for text in ["O1", "A", "ORDER-0123456789"] {
         assert!(rt; order_printed(rt.alloc(), text)?, "{text}");
-    }
-    for text in ["", "o1", "O 1", "ORDER-01234567890", "Ö1"] {
-        assert_eq!(rt; OrderId::read(text), Err(CodeFault::BadOrderId), "{text}");
     }
     Ok(())
 }
@@ -84,16 +67,22 @@ fn numbers_of_faults(rt: HostRuntime) {
     }
 }
 
+/// Fails where one of these texts isn't refused with this fault.
+macro_rules! assert_refused {
+    ($rt:ident, $code:ident, $fault:ident: $($text:literal),+) => {
+        $(assert_eq!($rt; $code::read($text), Err(CodeFault::$fault), "{}", $text);)+
+    };
+}
+
 #[test]
-fn refused_moments(rt: HostRuntime) {
-    for (text, fault) in [
-        ("1999-12-31T23:59:59Z", CodeFault::MomentOutOfRange),
-        ("2000-01-01T00:00:00+01:00", CodeFault::MomentOutOfRange),
-        ("2100-01-01T00:00:00Z", CodeFault::MomentOutOfRange),
-        ("2026-03-01T01:00:00", CodeFault::BadMoment),
-    ] {
-        assert_eq!(rt; Moment::read(text), Err(fault), "{text}");
-    }
+fn refused_texts(rt: HostRuntime) {
+    assert_refused!(rt, WagonNumber, CheckDigit: "338447961009");
+    assert_refused!(rt, WagonNumber, NotTwelveDigits: "33844796100", "3384479610080",
+        "33844796100a", "33844796100é", "");
+    assert_refused!(rt, OrderId, BadOrderId: "", "o1", "O 1", "ORDER-01234567890", "Ö1");
+    assert_refused!(rt, Moment, BadMoment: "2026-03-01T01:00:00");
+    assert_refused!(rt, Moment, MomentOutOfRange: "1999-12-31T23:59:59Z",
+        "2000-01-01T00:00:00+01:00", "2100-01-01T00:00:00Z");
     let early = Moment::from_seconds(946_684_799);
     assert_eq!(rt; early, Err(CodeFault::MomentOutOfRange));
 }

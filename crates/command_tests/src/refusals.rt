@@ -5,21 +5,22 @@ use move_messages::read_line;
 use std::alloc::{AllocError, Global};
 use std::test::Fail;
 
-/// What a line is refused with: the code, the field's name and the field's code. Zeros where it is
-/// read.
-fn refusal(alloc: Global, line: &str) -> (u32, &'static str, u32) {
+/// What a line is refused with: the code, the field's name and the field's code, as many of them as it has. Empty where
+/// it is read.
+fn refusal(alloc: Global, line: &str) -> Result<String, AllocError> {
     match read_line(alloc, line.as_bytes()) {
-        Ok(_) => (0, "", 0),
-        Err(LineFault::MissingField(field)) => (24, field.name(), 0),
-        Err(LineFault::BadField(field, fault)) => (25, field.name(), fault.number()),
-        Err(fault) => (fault.number(), "", 0),
+        Ok(_) => Ok(String::new(alloc)),
+        Err(LineFault::MissingField(field)) => format!(in alloc; "24 {}", field.name()),
+        Err(LineFault::BadField(field, fault)) => {
+            format!(in alloc; "25 {} {}", field.name(), fault.number())
+        }
+        Err(fault) => format!(in alloc; "{}", fault.number()),
     }
 }
 
 /// Whether a line is refused so.
-fn is_refused(alloc: Global, line: &str, code: u32, field: &str, field_code: u32) -> bool {
-    let (first, name, second) = refusal(alloc, line);
-    first == code && name == field && second == field_code
+fn is_refused(alloc: Global, line: &str, wanted: &str) -> Result<bool, AllocError> {
+    Ok(refusal(alloc, line)?.as_str() == wanted)
 }
 
 /// A field of a line: its name, a value that is read, one of another JSON kind, and one that its
@@ -122,6 +123,20 @@ pub(crate) fn line_of(
     Ok(line)
 }
 
+/// Whether a line of this type with these fields and then the field with this value is refused so.
+fn is_field_refused(
+    alloc: Global,
+    type_name: &str,
+    before: &[FieldRow],
+    field: (&str, &str),
+    wanted: &str,
+) -> Result<bool, AllocError> {
+    let (name, value) = field;
+    let rest = format!(in alloc; r#","{name}":{value}"#)?;
+    let line = line_of(alloc, type_name, before, &rest)?;
+    is_refused(alloc, &line, wanted)
+}
+
 /// Whether the field behind these is refused where it is missing, of another kind, or against its rule; and whether the
 /// line is refused for this field, although those that follow are not there.
 fn is_tried(
@@ -132,14 +147,12 @@ fn is_tried(
 ) -> Result<bool, AllocError> {
     let (name, _, wrong, refused, code) = field;
     let missing = line_of(alloc, type_name, before, "")?;
-    let of_kind = format!(in alloc; r#","{name}":{wrong}"#)?;
-    let of_kind = line_of(alloc, type_name, before, &of_kind)?;
-    let against = format!(in alloc; r#","{name}":{refused}"#)?;
-    let against = line_of(alloc, type_name, before, &against)?;
+    let of_kind = format!(in alloc; "25 {name} 19")?;
+    let against = format!(in alloc; "25 {name} {code}")?;
     Ok(
-        is_refused(alloc, &missing, 24, name, 0)
-            && is_refused(alloc, &of_kind, 25, name, 19)
-            && is_refused(alloc, &against, 25, name, code),
+        is_refused(alloc, &missing, &format!(in alloc; "24 {name}")?)?
+            && is_field_refused(alloc, type_name, before, (name, wrong), &of_kind)?
+            && is_field_refused(alloc, type_name, before, (name, refused), &against)?,
     )
 }
 
@@ -154,8 +167,7 @@ fn first_untried(
             return Ok(Some(i));
         }
     }
-    let line = line_of(alloc, type_name, fields, r#","other":null"#)?;
-    if is_refused(alloc, &line, 0, "", 0) {
+    if is_field_refused(alloc, type_name, fields, ("other", "null"), "")? {
         Ok(None)
     } else {
         Ok(Some(fields.len()))
@@ -187,76 +199,59 @@ fn each_field(rt: HostRuntime) -> Result<(), Fail> {
     Ok(())
 }
 
-/// Lines with what they are refused with: the code, the field's name and the field's code.
-const LINES: &[(&str, u32, &str, u32)] = &[
-    (r#"{"type":"withdraw","ord"#, 21, "", 0),
-    ("[]", 22, "", 0),
-    (r#"{"type":"Release"}"#, 23, "", 0),
-    (r#"{"type":"release "}"#, 23, "", 0),
-    (r#"{"typ":"release"}"#, 24, "type", 0),
-    (r#"{"type":7}"#, 25, "type", 19),
-    (r#"{"type":null}"#, 25, "type", 19),
-    (
-        r#"{"type":"release","wagon":"338447961009"}"#,
-        24,
-        "company",
-        0,
-    ),
-    (r#"{"type":"release","company":"ab12"}"#, 25, "company", 15),
+/// Lines with what they are refused with.
+const LINES: &[(&str, &str)] = &[
+    (r#"{"type":"withdraw","ord"#, "21"),
+    ("[]", "22"),
+    (r#"{"type":"Release"}"#, "23"),
+    (r#"{"type":"release "}"#, "23"),
+    (r#"{"typ":"release"}"#, "24 type"),
+    (r#"{"type":7}"#, "25 type 19"),
+    (r#"{"type":null}"#, "25 type 19"),
+    (r#"{"type":"release","wagon":"338447961009"}"#, "24 company"),
+    (r#"{"type":"release","company":"ab12"}"#, "25 company 15"),
     (
         r#"{"type":"release","company":"0080","number":4294967296}"#,
-        25,
-        "number",
-        20,
+        "25 number 20",
     ),
-    (r#"{"type":"begin","at":5}"#, 25, "at", 19),
-    (
-        r#"{"type":"begin","at":"2026-03-01T01:00:00"}"#,
-        25,
-        "at",
-        17,
-    ),
+    (r#"{"type":"begin","at":5}"#, "25 at 19"),
+    (r#"{"type":"begin","at":"2026-03-01T01:00:00"}"#, "25 at 17"),
     (
         r#"{"type":"withdraw","order":"ORDER-01234567890"}"#,
-        25,
-        "order",
-        16,
+        "25 order 16",
     ),
-    (r#"{"type":"network","revision":0}"#, 25, "revision", 20),
-    // a whole message with a zero in front of its number, with a number that is no whole number, with a brace more and
-    // with one less
-    (
-        r#"{"type":"release","company":"0080","number":01,"wagon":"338447961008","place":"DE00001","moment":"2026-03-01T02:00:00Z"}"#,
-        21,
-        "",
-        0,
-    ),
-    (
-        r#"{"type":"release","company":"0080","number":1e0,"wagon":"338447961008","place":"DE00001","moment":"2026-03-01T02:00:00Z"}"#,
-        25,
-        "number",
-        19,
-    ),
-    (
-        r#"{"type":"release","company":"0080","number":1,"wagon":"338447961008","place":"DE00001","moment":"2026-03-01T02:00:00Z"}}"#,
-        21,
-        "",
-        0,
-    ),
-    (
-        r#"{"type":"release","company":"0080","number":1,"wagon":"338447961008","place":"DE00001","moment":"2026-03-01T02:00:00Z""#,
-        21,
-        "",
-        0,
-    ),
+    (r#"{"type":"network","revision":0}"#, "25 revision 20"),
 ];
 
 #[test]
-fn refused_lines(rt: HostRuntime) {
-    for (line, code, field, field_code) in LINES {
-        let refused = is_refused(rt.alloc(), line, *code, field, *field_code);
-        assert!(rt; refused, "{line}");
+fn refused_lines(rt: HostRuntime) -> Result<(), Fail> {
+    for (line, wanted) in LINES {
+        assert_eq!(rt; refusal(rt.alloc(), line)?.as_str(), *wanted, "{line}");
     }
+    Ok(())
+}
+
+/// What a whole message with this number and this end is refused with.
+fn message_refusal(alloc: Global, number: &str, end: &str) -> Result<String, AllocError> {
+    let line = format!(in alloc;
+        r#"{{"type":"release","company":"0080","number":{number},"wagon":"338447961008","place":"DE00001","moment":"2026-03-01T02:00:00Z"{end}"#
+    )?;
+    refusal(alloc, &line)
+}
+
+/// A zero in front of the number, a number that is no whole number, a brace more and one less.
+#[test]
+fn refused_messages(rt: HostRuntime) -> Result<(), Fail> {
+    for (number, end, wanted) in [
+        ("01", "}", "21"),
+        ("1e0", "}", "25 number 19"),
+        ("1", "}}", "21"),
+        ("1", "", "21"),
+    ] {
+        let refused = message_refusal(rt.alloc(), number, end)?;
+        assert_eq!(rt; refused.as_str(), wanted, "{number}{end}");
+    }
+    Ok(())
 }
 
 /// Whether a line of this type with these fields and one more value is refused with this code of that field; 0 where
@@ -269,58 +264,51 @@ fn is_judged(
     value: &str,
     code: u32,
 ) -> Result<bool, AllocError> {
-    let latest = r#""load":0,"latest":"2026-03-01T04:00:00Z","penalty":0"#;
-    let rest = format!(in alloc; r#","{field}":{value},{latest}"#)?;
-    let line = line_of(alloc, type_name, before, &rest)?;
-    if code == 0 {
-        return Ok(is_refused(alloc, &line, 0, "", 0));
-    }
-    Ok(is_refused(alloc, &line, 25, field, code))
+    let value = format!(in alloc;
+        r#"{value},"load":0,"latest":"2026-03-01T04:00:00Z","penalty":0"#
+    )?;
+    let wanted = if code == 0 {
+        String::new(alloc)
+    } else {
+        format!(in alloc; "25 {field} {code}")?
+    };
+    is_field_refused(alloc, type_name, before, (field, &value), &wanted)
 }
 
-/// A list's length is judged before its items.
+/// Values of a field, each with what it is refused with; a list's length is judged before its items.
 #[test]
-fn classes(rt: HostRuntime) -> Result<(), Fail> {
-    for (value, code) in [
+fn judged_values(rt: HostRuntime) -> Result<(), Fail> {
+    let classes: &[(&str, u32)] = &[
         ("[]", 20),
         (r#"["a","b","c","d","e","f","g","h",9]"#, 20),
         (r#"["a","b","c","d","e","f","g",9]"#, 19),
         (r#"["a","b","c","d","e","f","g","h"]"#, 0),
         (r#"["a","a"]"#, 0),
         (r#"["a","","c4"]"#, 14),
-    ] {
-        let judged = is_judged(rt.alloc(), "order", &ORDER[..2], "classes", value, code)?;
-        assert!(rt; judged, "{value}");
-    }
-    Ok(())
-}
-
-#[test]
-fn pairs(rt: HostRuntime) -> Result<(), Fail> {
-    for (value, code) in [
+    ];
+    let pairs: &[(&str, u32)] = &[
         (r#"[["9"]]"#, 20),
         (r#"[["9","o1","O1"]]"#, 20),
         (r#"[["9","o1"]]"#, 11),
         (r#"[["218124712173","o1"]]"#, 16),
         (r#"[["218124712173","O1"],7]"#, 19),
-    ] {
-        let judged = is_judged(rt.alloc(), "commit", &COMMIT[..2], "pairs", value, code)?;
-        assert!(rt; judged, "{value}");
-    }
-    Ok(())
-}
-
-#[test]
-fn wagons(rt: HostRuntime) -> Result<(), Fail> {
-    for (value, code) in [
+    ];
+    let wagons: &[(&str, u32)] = &[
         ("0", 20),
         ("21", 20),
         (r#""1""#, 19),
         ("null", 19),
         ("20", 0),
+    ];
+    for (type_name, before, field, values) in [
+        ("order", &ORDER[..2], "classes", classes),
+        ("commit", &COMMIT[..2], "pairs", pairs),
+        ("order", &ORDER[..], "wagons", wagons),
     ] {
-        let judged = is_judged(rt.alloc(), "order", &ORDER, "wagons", value, code)?;
-        assert!(rt; judged, "{value}");
+        for (value, code) in values {
+            let judged = is_judged(rt.alloc(), type_name, before, field, value, *code)?;
+            assert!(rt; judged, "{field} {value}");
+        }
     }
     Ok(())
 }

@@ -10,10 +10,11 @@ use test_samples::{FAR, class, message_id, order_id, place, time, wagon};
 use wagon_state::Load::{Loaded, Unladen};
 use wagon_state::{Change, Effect, FreeWagon, Load, Status, WagonRow, free, step};
 
-/// A status without its place and moment, as a table of cases names it.
+/// A status without its place, as a table of cases names it.
 #[derive(Clone, Copy)]
 enum Word {
-    Empty,
+    /// Empty since a time.
+    Empty(&'static str),
     Loading,
     Ready,
     Journey(Load),
@@ -22,11 +23,11 @@ enum Word {
     Unloading,
 }
 
-/// The status at a place, since a time.
-fn status(alloc: Global, word: Word, at: &str, since: &str) -> Result<Status, Fail> {
-    let (at, since) = (place(at)?, time(alloc, since)?);
+/// The status at a place.
+fn status(alloc: Global, word: Word, at: &str) -> Result<Status, Fail> {
+    let at = place(at)?;
     Ok(match word {
-        Word::Empty => Status::Empty(at, since),
+        Word::Empty(since) => Status::Empty(at, time(alloc, since)?),
         Word::Loading => Status::Loading(at),
         Word::Ready => Status::Ready(at),
         Word::Journey(load) => Status::Journey(load, at),
@@ -87,7 +88,7 @@ const REFUSED: &[(Told, u32)] = &[
 
 /// The number of a message's refusal, where it is refused.
 fn refusal(alloc: Global, told: Told) -> Result<Option<u32>, Fail> {
-    let start = status(alloc, Word::Loading, "DE00003", "06:00")?;
+    let start = status(alloc, Word::Loading, "DE00003")?;
     let row = row(alloc, start)?;
     if row.promise.is_some() {
         return Ok(None);
@@ -103,192 +104,28 @@ fn refused_messages(rt: HostRuntime) -> Result<(), Fail> {
     Ok(())
 }
 
-/// A message with what it makes of the wagon: the status, its place and its moment, and the effect on a promise.
-type Accepted = (Told, Word, &'static str, Effect);
+/// What an accepted message makes of the wagon: its status and place, and the effect on a promise.
+type Made = (Word, &'static str, Effect);
 
-/// The row after a message that is accepted and does this; `None` where it is refused or does otherwise.
-fn accepted(alloc: Global, row: &WagonRow, case: Accepted) -> Result<Option<WagonRow>, Fail> {
-    let (told, word, at, effect) = case;
+/// The row after a message that is accepted and makes this of it; `None` where it is refused or does otherwise.
+fn accepted(
+    alloc: Global,
+    row: &WagonRow,
+    told: Told,
+    made: Made,
+) -> Result<Option<WagonRow>, Fail> {
+    let (word, at, effect) = made;
     let Ok(change) = change(alloc, row, told)? else {
         return Ok(None);
     };
     let next = change.row;
-    let is_so = next.status == status(alloc, word, at, told.2)? && change.effect == effect;
-    let keeps = row.promise.is_some() && effect == Effect::None;
-    if is_so && next.promise.is_some() == keeps && next.last == time(alloc, told.2)? {
-        Ok(Some(next))
-    } else {
-        Ok(None)
-    }
-}
-
-/// A loaded wagon from its loading to its unloading.
-const LOADED: &[Accepted] = &[
-    (
-        (Release, "DE00003", "06:00"),
-        Word::Ready,
-        "DE00003",
-        Effect::None,
-    ),
-    (
-        (Departure, "DE00003", "06:00"),
-        Word::Journey(Loaded),
-        "DE00003",
-        Effect::None,
-    ),
-    (
-        (YardArrival, "DE00002", "06:00"),
-        Word::Yard(Loaded),
-        "DE00002",
-        Effect::None,
-    ),
-    (
-        (YardDeparture, "DE00002", "06:00"),
-        Word::Journey(Loaded),
-        "DE00002",
-        Effect::None,
-    ),
-    (
-        (Arrival, "DE00001", "06:00"),
-        Word::Arrived(Loaded),
-        "DE00001",
-        Effect::None,
-    ),
-    (
-        (Delivery, "DE00001", "06:00"),
-        Word::Unloading,
-        "DE00001",
-        Effect::None,
-    ),
-    (
-        (Release, "DE00001", "07:00"),
-        Word::Empty,
-        "DE00001",
-        Effect::None,
-    ),
-];
-
-/// The first message to a wagon that is loaded at DE00003 that isn't accepted so, counted from 0.
-fn first_other(alloc: Global, cases: &[Accepted]) -> Result<Option<usize>, Fail> {
-    let start = status(alloc, Word::Loading, "DE00003", "06:00")?;
-    let mut row = row(alloc, start)?;
-    if row.promise.is_some() {
-        return Err(Fail::new("promised from the start"));
-    }
-    for (k, case) in cases.iter().enumerate() {
-        match accepted(alloc, &row, *case)? {
-            Some(next) => row = next,
-            None => return Ok(Some(k)),
-        }
-    }
-    Ok(None)
-}
-
-#[test]
-fn a_wagon_is_loaded_and_emptied(rt: HostRuntime) -> Result<(), Fail> {
-    assert_eq!(rt; first_other(rt.alloc(), LOADED)?, None);
-    Ok(())
-}
-
-/// Whether the wagon is promised, its status at DE00002, and a message that is accepted.
-type Single = (bool, Word, Accepted);
-
-const SINGLE: &[Single] = &[
-    (
-        true,
-        Word::Empty,
-        (
-            (Departure, "DE00002", "07:00"),
-            Word::Journey(Unladen),
-            "DE00002",
-            Effect::None,
-        ),
-    ),
-    (
-        true,
-        Word::Arrived(Unladen),
-        (
-            (Delivery, "DE00001", "06:00"),
-            Word::Loading,
-            "DE00001",
-            Effect::Fills,
-        ),
-    ),
-    (
-        true,
-        Word::Arrived(Unladen),
-        (
-            (Delivery, "DE00002", "07:00"),
-            Word::Empty,
-            "DE00002",
-            Effect::Ends,
-        ),
-    ),
-    (
-        false,
-        Word::Arrived(Unladen),
-        (
-            (Delivery, "DE00002", "07:00"),
-            Word::Empty,
-            "DE00002",
-            Effect::None,
-        ),
-    ),
-    (
-        false,
-        Word::Arrived(Loaded),
-        (
-            (Exception(false), "DE00001", "07:00"),
-            Word::Arrived(Loaded),
-            "DE00002",
-            Effect::None,
-        ),
-    ),
-];
-
-/// Whether a message is accepted so.
-fn is_accepted(alloc: Global, single: Single) -> Result<bool, Fail> {
-    let (has_promise, word, case) = single;
-    let start = status(alloc, word, "DE00002", "06:00")?;
-    let row = row(alloc, start)?;
-    let row = if has_promise { promised(row)? } else { row };
-    if row.promise.is_some() != has_promise {
-        return Ok(false);
-    }
-    Ok(accepted(alloc, &row, case)?.is_some())
-}
-
-#[test]
-fn single_messages(rt: HostRuntime) -> Result<(), Fail> {
-    for (k, single) in SINGLE.iter().enumerate() {
-        assert!(rt; is_accepted(rt.alloc(), *single)?, "{k}");
-    }
-    Ok(())
-}
-
-/// A hold ends the promise and leaves the status; the wagon is empty since the moment at which it is let go.
-const HELD: &[(MessageKind, bool, &str, Effect)] = &[
-    (Exception(true), true, "06:00", Effect::Ends),
-    (Exception(true), true, "06:00", Effect::None),
-    (Exception(false), false, "07:00", Effect::None),
-];
-
-/// The row after a hold or its end, at 07:00 for the wagon that is empty at DE00002; `None` where it is otherwise.
-fn held(
-    alloc: Global,
-    row: &WagonRow,
-    case: (MessageKind, bool, &'static str, Effect),
-) -> Result<Option<WagonRow>, Fail> {
-    let (kind, is_held, since, effect) = case;
-    let Ok(change) = change(alloc, row, (kind, "DE00001", "07:00"))? else {
-        return Ok(None);
-    };
-    let next = change.row;
-    let wanted = status(alloc, Word::Empty, "DE00002", since)?;
-    if next.status == wanted
+    let is_so = next.status == status(alloc, word, at)? && change.effect == effect;
+    let is_held = told.0 == Exception(true);
+    let is_promised = row.promise.is_some() && effect == Effect::None;
+    if is_so
         && next.held == is_held
-        && next.promise.is_none()
-        && change.effect == effect
+        && next.promise.is_some() == is_promised
+        && next.last == time(alloc, told.2)?
     {
         Ok(Some(next))
     } else {
@@ -296,15 +133,20 @@ fn held(
     }
 }
 
-/// The first of the holds that goes otherwise, counted from 0.
-fn first_other_hold(alloc: Global) -> Result<Option<usize>, Fail> {
-    let start = status(alloc, Word::Empty, "DE00002", "06:00")?;
-    let mut row = promised(row(alloc, start)?)?;
-    if row.promise.is_none() {
-        return Err(Fail::new("not promised"));
+/// The first message to a wagon with this status, promised or not, that isn't accepted so, counted from 0.
+fn first_other(
+    alloc: Global,
+    has_promise: bool,
+    (word, at): (Word, &str),
+    cases: &[(Told, Made)],
+) -> Result<Option<usize>, Fail> {
+    let row = row(alloc, status(alloc, word, at)?)?;
+    let mut row = if has_promise { promised(row)? } else { row };
+    if row.promise.is_some() != has_promise {
+        return Err(Fail::new("another promise"));
     }
-    for (k, case) in HELD.iter().enumerate() {
-        match held(alloc, &row, *case)? {
+    for (k, (told, made)) in cases.iter().enumerate() {
+        match accepted(alloc, &row, *told, *made)? {
             Some(next) => row = next,
             None => return Ok(Some(k)),
         }
@@ -312,9 +154,107 @@ fn first_other_hold(alloc: Global) -> Result<Option<usize>, Fail> {
     Ok(None)
 }
 
+/// A loaded wagon from its loading to its unloading.
+const LOADED: &[(Told, Made)] = &[
+    (
+        (Release, "DE00003", "06:00"),
+        (Word::Ready, "DE00003", Effect::None),
+    ),
+    (
+        (Departure, "DE00003", "06:00"),
+        (Word::Journey(Loaded), "DE00003", Effect::None),
+    ),
+    (
+        (YardArrival, "DE00002", "06:00"),
+        (Word::Yard(Loaded), "DE00002", Effect::None),
+    ),
+    (
+        (YardDeparture, "DE00002", "06:00"),
+        (Word::Journey(Loaded), "DE00002", Effect::None),
+    ),
+    (
+        (Arrival, "DE00001", "06:00"),
+        (Word::Arrived(Loaded), "DE00001", Effect::None),
+    ),
+    (
+        (Delivery, "DE00001", "06:00"),
+        (Word::Unloading, "DE00001", Effect::None),
+    ),
+    (
+        (Release, "DE00001", "07:00"),
+        (Word::Empty("07:00"), "DE00001", Effect::None),
+    ),
+];
+
+#[test]
+fn a_wagon_is_loaded_and_emptied(rt: HostRuntime) -> Result<(), Fail> {
+    let start = (Word::Loading, "DE00003");
+    assert_eq!(rt; first_other(rt.alloc(), false, start, LOADED)?, None);
+    Ok(())
+}
+
+/// A hold ends the promise and leaves the status; the wagon is empty since the moment at which it is let go.
+const HELD: &[(Told, Made)] = &[
+    (
+        (Exception(true), "DE00001", "07:00"),
+        (Word::Empty("06:00"), "DE00002", Effect::Ends),
+    ),
+    (
+        (Exception(true), "DE00001", "07:00"),
+        (Word::Empty("06:00"), "DE00002", Effect::None),
+    ),
+    (
+        (Exception(false), "DE00001", "07:00"),
+        (Word::Empty("07:00"), "DE00002", Effect::None),
+    ),
+];
+
 #[test]
 fn a_wagon_is_held(rt: HostRuntime) -> Result<(), Fail> {
-    assert_eq!(rt; first_other_hold(rt.alloc())?, None);
+    let start = (Word::Empty("06:00"), "DE00002");
+    assert_eq!(rt; first_other(rt.alloc(), true, start, HELD)?, None);
+    Ok(())
+}
+
+/// Deliveries of an empty wagon: whether it is promised, where and when it is delivered, and what it is there.
+const DELIVERED: &[(bool, &str, &str, Word, Effect)] = &[
+    (true, "DE00001", "06:00", Word::Loading, Effect::Fills),
+    (true, "DE00002", "07:00", Word::Empty("07:00"), Effect::Ends),
+    (
+        false,
+        "DE00002",
+        "07:00",
+        Word::Empty("07:00"),
+        Effect::None,
+    ),
+];
+
+#[test]
+fn an_empty_wagon_is_delivered(rt: HostRuntime) -> Result<(), Fail> {
+    let start = (Word::Arrived(Unladen), "DE00002");
+    for (has_promise, at, moment, word, effect) in DELIVERED {
+        let case = ((Delivery, *at, *moment), (*word, *at, *effect));
+        let other = first_other(rt.alloc(), *has_promise, start, &[case])?;
+        assert_eq!(rt; other, None, "{has_promise} {at}");
+    }
+    Ok(())
+}
+
+/// A promised wagon departs, and an exception that holds no wagon leaves it as it is.
+#[test]
+fn single_messages(rt: HostRuntime) -> Result<(), Fail> {
+    let departs = (
+        (Departure, "DE00002", "07:00"),
+        (Word::Journey(Unladen), "DE00002", Effect::None),
+    );
+    let empty = (Word::Empty("06:00"), "DE00002");
+    assert_eq!(rt; first_other(rt.alloc(), true, empty, &[departs])?, None);
+    let stays = (
+        (Exception(false), "DE00001", "07:00"),
+        (Word::Arrived(Loaded), "DE00002", Effect::None),
+    );
+    let arrived = (Word::Arrived(Loaded), "DE00002");
+    assert_eq!(rt; first_other(rt.alloc(), false, arrived, &[stays])?, None);
     Ok(())
 }
 
@@ -332,7 +272,7 @@ fn free_at(alloc: Global) -> Result<FreeWagon, Fail> {
 #[test]
 fn free_wagons(rt: HostRuntime) -> Result<(), Fail> {
     let alloc = rt.alloc();
-    let start = status(alloc, Word::Empty, "DE00002", "06:00")?;
+    let start = status(alloc, Word::Empty("06:00"), "DE00002")?;
     let empty = row(alloc, start)?;
     assert_eq!(rt; free(&empty), Some(free_at(alloc)?));
     assert_eq!(rt; free(&promised(empty)?), None);

@@ -2,14 +2,4 @@
 #![tactic(auto)]
 
 #[cfg(test)]
-mod commits;
-#[cfg(test)]
-mod days;
-#[cfg(test)]
-mod limits;
-#[cfg(test)]
-mod messages;
-#[cfg(test)]
-mod orders;
-#[cfg(test)]
-mod problems;
+mod tests;

@@ -16,191 +16,83 @@ use test_samples::{FAR, misnamed, order_id, wagon};
 use wagon_roster::RosterFault;
 use wagon_state::StepFault;
 
+/// Fails where one of these variants of an enum prints another text than its name.
+macro_rules! assert_named {
+    ($rt:ident, $faults:ident: $($name:ident $(($($part:expr),+))?),+) => {
+        assert_eq!($rt;
+            misnamed($rt.alloc(), &[$(($faults::$name $(($($part),+))?, stringify!($name))),+])?,
+            None
+        );
+    };
+}
+
 #[test]
-fn code_faults(rt: HostRuntime) -> Result<(), Fail> {
-    let faults = [
-        (CodeFault::NotTwelveDigits, "NotTwelveDigits"),
-        (CodeFault::CheckDigit, "CheckDigit"),
-        (CodeFault::BadPlace, "BadPlace"),
-        (CodeFault::BadClass, "BadClass"),
-        (CodeFault::BadCompany, "BadCompany"),
-        (CodeFault::BadOrderId, "BadOrderId"),
-        (CodeFault::BadMoment, "BadMoment"),
-        (CodeFault::MomentOutOfRange, "MomentOutOfRange"),
-    ];
-    assert_eq!(rt; misnamed(rt.alloc(), &faults)?, None);
+fn faults_of_lines(rt: HostRuntime) -> Result<(), Fail> {
+    assert_named!(rt, CodeFault: NotTwelveDigits, CheckDigit, BadPlace, BadClass, BadCompany,
+        BadOrderId, BadMoment, MomentOutOfRange);
+    assert_named!(rt, FieldFault: WrongKind, OutOfRange);
+    assert_named!(rt, LineFault: OutOfMemory, NotJson, NotAnObject, UnknownType,
+        MissingField(Field::Wagon), BadField(Field::Wagon, FieldFault::WrongKind));
     Ok(())
 }
 
 #[test]
-fn field_faults(rt: HostRuntime) -> Result<(), Fail> {
-    let faults = [
-        (FieldFault::Code(CodeFault::CheckDigit), "CheckDigit"),
-        (FieldFault::WrongKind, "WrongKind"),
-        (FieldFault::OutOfRange, "OutOfRange"),
-    ];
-    assert_eq!(rt; misnamed(rt.alloc(), &faults)?, None);
+fn faults_of_networks(rt: HostRuntime) -> Result<(), Fail> {
+    assert_named!(rt, NetworkFault: OutOfMemory, BadRow(2), TooManyPlaces, TooManyLines,
+        ReadFailed);
+    assert_named!(rt, WorkFault: OutOfMemory, BadWorkerCount, NoThread);
+    assert_named!(rt, NetworksFault: BadNetworkCount);
     Ok(())
 }
 
 #[test]
-fn line_faults(rt: HostRuntime) -> Result<(), Fail> {
-    let faults = [
-        (LineFault::OutOfMemory, "OutOfMemory"),
-        (LineFault::NotJson, "NotJson"),
-        (LineFault::NotAnObject, "NotAnObject"),
-        (LineFault::UnknownType, "UnknownType"),
-        (LineFault::MissingField(Field::Wagon), "MissingField"),
-        (
-            LineFault::BadField(Field::Wagon, FieldFault::WrongKind),
-            "BadField",
-        ),
-    ];
-    assert_eq!(rt; misnamed(rt.alloc(), &faults)?, None);
+fn faults_of_plans(rt: HostRuntime) -> Result<(), Fail> {
+    let (far, first) = (wagon(FAR)?, order_id("O1")?);
+    assert_named!(rt, TableFault: OutOfMemory, DuplicateWagon(far), DuplicateOrder(first),
+        TooLarge, UnevenRows);
+    assert_named!(rt, CheckFault: WrongLengths, NotAllowed(0, 0), UsedTwice(0, 0),
+        PriceGap(0, 0), OverPenalty(0), SumsDiffer(1, 2));
+    assert_named!(rt, NamedFault: OutOfMemory, WrongLengths, NotAllowed(far, first),
+        UsedTwice(far, first), PriceGap(far, first), OverPenalty(first), SumsDiffer(1, 2),
+        NotInProblem(far, first));
     Ok(())
 }
 
 #[test]
-fn step_faults(rt: HostRuntime) -> Result<(), Fail> {
-    let faults = [
-        (StepFault::Earlier, "Earlier"),
-        (StepFault::WrongStatus, "WrongStatus"),
-        (StepFault::WrongPlace, "WrongPlace"),
-    ];
-    assert_eq!(rt; misnamed(rt.alloc(), &faults)?, None);
+fn faults_of_an_office(rt: HostRuntime) -> Result<(), Fail> {
+    let (far, first) = (wagon(FAR)?, order_id("O1")?);
+    assert_named!(rt, RosterFault: OutOfMemory, DuplicateWagon(far), TooLarge, BadRosterRow(2),
+        ReadFailed);
+    assert_named!(rt, StepFault: Earlier, WrongStatus, WrongPlace);
+    assert_named!(rt, ApplyFault: OutOfMemory, UnknownWagon, OrderKnown, TooManyOpen,
+        UnknownOrder, OrderClosed, UnknownNetwork, SameNetwork);
+    assert_named!(rt, Refusal: OutOfMemory, IdReused, BookFull, UnknownWagon, OrderKnown,
+        TooManyOpen, UnknownOrder, OrderClosed, UnknownNetwork, SameNetwork, NotKept,
+        WagonChanged(far), OrderChanged(first));
     Ok(())
 }
 
 #[test]
-fn network_faults(rt: HostRuntime) -> Result<(), Fail> {
-    let faults = [
-        (NetworkFault::OutOfMemory, "OutOfMemory"),
-        (NetworkFault::BadRow(2), "BadRow"),
-        (NetworkFault::TooManyPlaces, "TooManyPlaces"),
-        (NetworkFault::TooManyLines, "TooManyLines"),
-        (NetworkFault::ReadFailed, "ReadFailed"),
-    ];
-    assert_eq!(rt; misnamed(rt.alloc(), &faults)?, None);
+fn faults_of_runs(rt: HostRuntime) -> Result<(), Fail> {
+    assert_named!(rt, TableRefusal: OutOfMemory);
+    assert_named!(rt, RunFault: OutOfMemory, TooManyLines(1_000_001), LineTooLong(7),
+        ReadFailed(8), WriteFailed(9));
     Ok(())
 }
 
 #[test]
-fn faults_of_tables_of_distances(rt: HostRuntime) -> Result<(), Fail> {
-    let faults = [
-        (WorkFault::OutOfMemory, "OutOfMemory"),
-        (WorkFault::BadWorkerCount, "BadWorkerCount"),
-        (WorkFault::NoThread, "NoThread"),
-    ];
-    assert_eq!(rt; misnamed(rt.alloc(), &faults)?, None);
-    let faults = [(NetworksFault::BadNetworkCount, "BadNetworkCount")];
-    assert_eq!(rt; misnamed(rt.alloc(), &faults)?, None);
-    Ok(())
-}
-
-#[test]
-fn roster_faults(rt: HostRuntime) -> Result<(), Fail> {
-    let faults = [
-        (RosterFault::OutOfMemory, "OutOfMemory"),
-        (RosterFault::DuplicateWagon(wagon(FAR)?), "DuplicateWagon"),
-        (RosterFault::TooLarge, "TooLarge"),
-        (RosterFault::BadRosterRow(2), "BadRosterRow"),
-        (RosterFault::ReadFailed, "ReadFailed"),
-    ];
-    assert_eq!(rt; misnamed(rt.alloc(), &faults)?, None);
-    Ok(())
-}
-
-#[test]
-fn table_faults(rt: HostRuntime) -> Result<(), Fail> {
-    let faults = [
-        (TableFault::OutOfMemory, "OutOfMemory"),
-        (TableFault::DuplicateWagon(wagon(FAR)?), "DuplicateWagon"),
-        (
-            TableFault::DuplicateOrder(order_id("O1")?),
-            "DuplicateOrder",
-        ),
-        (TableFault::TooLarge, "TooLarge"),
-        (TableFault::UnevenRows, "UnevenRows"),
-    ];
-    assert_eq!(rt; misnamed(rt.alloc(), &faults)?, None);
-    Ok(())
-}
-
-#[test]
-fn check_faults(rt: HostRuntime) -> Result<(), Fail> {
-    let faults = [
-        (CheckFault::WrongLengths, "WrongLengths"),
-        (CheckFault::NotAllowed(0, 0), "NotAllowed"),
-        (CheckFault::UsedTwice(0, 0), "UsedTwice"),
-        (CheckFault::PriceGap(0, 0), "PriceGap"),
-        (CheckFault::OverPenalty(0), "OverPenalty"),
-        (CheckFault::SumsDiffer(1, 2), "SumsDiffer"),
-    ];
-    assert_eq!(rt; misnamed(rt.alloc(), &faults)?, None);
-    Ok(())
-}
-
-#[test]
-fn named_faults(rt: HostRuntime) -> Result<(), Fail> {
-    let (number, id) = (wagon(FAR)?, order_id("O1")?);
-    let faults = [
-        (NamedFault::OutOfMemory, "OutOfMemory"),
-        (NamedFault::WrongLengths, "WrongLengths"),
-        (NamedFault::NotAllowed(number, id), "NotAllowed"),
-        (NamedFault::UsedTwice(number, id), "UsedTwice"),
-        (NamedFault::PriceGap(number, id), "PriceGap"),
-        (NamedFault::OverPenalty(id), "OverPenalty"),
-        (NamedFault::SumsDiffer(1, 2), "SumsDiffer"),
-        (NamedFault::NotInProblem(number, id), "NotInProblem"),
-    ];
-    assert_eq!(rt; misnamed(rt.alloc(), &faults)?, None);
-    Ok(())
-}
-
-#[test]
-fn apply_faults(rt: HostRuntime) -> Result<(), Fail> {
-    let faults = [
-        (ApplyFault::OutOfMemory, "OutOfMemory"),
-        (ApplyFault::UnknownWagon, "UnknownWagon"),
-        (ApplyFault::Step(StepFault::WrongPlace), "WrongPlace"),
-        (ApplyFault::OrderKnown, "OrderKnown"),
-        (ApplyFault::TooManyOpen, "TooManyOpen"),
-        (ApplyFault::UnknownOrder, "UnknownOrder"),
-        (ApplyFault::OrderClosed, "OrderClosed"),
-        (ApplyFault::UnknownNetwork, "UnknownNetwork"),
-        (ApplyFault::SameNetwork, "SameNetwork"),
-    ];
-    assert_eq!(rt; misnamed(rt.alloc(), &faults)?, None);
-    Ok(())
-}
-
-#[test]
-fn refusals_of_a_book(rt: HostRuntime) -> Result<(), Fail> {
-    let faults = [
-        (Refusal::OutOfMemory, "OutOfMemory"),
+fn faults_around_another(rt: HostRuntime) -> Result<(), Fail> {
+    let alloc = rt.alloc();
+    let fields = [(FieldFault::Code(CodeFault::CheckDigit), "CheckDigit")];
+    assert_eq!(rt; misnamed(alloc, &fields)?, None);
+    let events = [(ApplyFault::Step(StepFault::WrongPlace), "WrongPlace")];
+    assert_eq!(rt; misnamed(alloc, &events)?, None);
+    let calls = [
         (Refusal::Step(StepFault::Earlier), "Earlier"),
         (Refusal::Check(NamedFault::WrongLengths), "WrongLengths"),
-        (Refusal::IdReused, "IdReused"),
-        (Refusal::BookFull, "BookFull"),
-        (Refusal::UnknownWagon, "UnknownWagon"),
-        (Refusal::OrderKnown, "OrderKnown"),
-        (Refusal::TooManyOpen, "TooManyOpen"),
-        (Refusal::UnknownOrder, "UnknownOrder"),
-        (Refusal::OrderClosed, "OrderClosed"),
-        (Refusal::UnknownNetwork, "UnknownNetwork"),
-        (Refusal::SameNetwork, "SameNetwork"),
-        (Refusal::NotKept, "NotKept"),
-        (Refusal::WagonChanged(wagon(FAR)?), "WagonChanged"),
-        (Refusal::OrderChanged(order_id("O1")?), "OrderChanged"),
     ];
-    assert_eq!(rt; misnamed(rt.alloc(), &faults)?, None);
-    Ok(())
-}
-
-#[test]
-fn refusals_of_a_table_line(rt: HostRuntime) -> Result<(), Fail> {
-    let faults = [
-        (TableRefusal::OutOfMemory, "OutOfMemory"),
+    assert_eq!(rt; misnamed(alloc, &calls)?, None);
+    let tables = [
         (TableRefusal::Line(LineFault::NotJson), "NotJson"),
         (TableRefusal::Table(TableFault::TooLarge), "TooLarge"),
         (
@@ -208,19 +100,6 @@ fn refusals_of_a_table_line(rt: HostRuntime) -> Result<(), Fail> {
             "SumsDiffer",
         ),
     ];
-    assert_eq!(rt; misnamed(rt.alloc(), &faults)?, None);
-    Ok(())
-}
-
-#[test]
-fn run_faults(rt: HostRuntime) -> Result<(), Fail> {
-    let faults = [
-        (RunFault::OutOfMemory, "OutOfMemory"),
-        (RunFault::TooManyLines(1_000_001), "TooManyLines"),
-        (RunFault::LineTooLong(7), "LineTooLong"),
-        (RunFault::ReadFailed(8), "ReadFailed"),
-        (RunFault::WriteFailed(9), "WriteFailed"),
-    ];
-    assert_eq!(rt; misnamed(rt.alloc(), &faults)?, None);
+    assert_eq!(rt; misnamed(alloc, &tables)?, None);
     Ok(())
 }

@@ -1,30 +1,33 @@
 //! Maps of the sample office.
 
-use book_samples::{DEPARTURE, SAMPLE, Start, book_of};
+use book_samples::{
+    BEGIN, COMMIT, DEPARTURE, FARTHER, Line, ORDER, SAMPLE, Start, book_of, script,
+};
 use fleet_map::map_text;
 use line_network::read_lines;
 use office::run;
 use std::alloc::Global;
 use std::test::Fail;
-use test_samples::{MemorySink, MemorySource, NETWORK, ORDER};
+use test_samples::{MemorySink, MemorySource, NEAR, NETWORK};
 
 /// What stands last before the places.
 const HEAD_END: &str = "  node [fontsize=10, margin=\"0.08,0.05\"];\n";
 
 /// The order, a commit of the nearer wagon, a hold that ends its promise, and a commit of the other wagon.
-const PROMISES: &str =
-    r#"{"type":"order","order":"O1","place":"DE00003","classes":["Eanos"],"load":50000,"latest":"2026-03-01T04:00:00Z","penalty":1000}
-{"type":"begin","at":"2026-03-01T01:00:00Z"}
-{"type":"commit","version":1,"at":"2026-03-01T01:00:00Z","pairs":[["218124712173","O1"]],"u":[0,0],"v":[50]}
-{"type":"exception","company":"0080","number":2,"wagon":"218124712173","place":"DE00002","moment":"2026-03-01T01:30:00Z","hold":true}
-{"type":"begin","at":"2026-03-01T01:00:00Z"}
-{"type":"exception","company":"0080","number":3,"wagon":"218124712173","place":"DE00002","moment":"2026-03-01T01:45:00Z","hold":false}
-{"type":"commit","version":3,"at":"2026-03-01T01:00:00Z","pairs":[["338447961008","O1"]],"u":[0],"v":[150]}
-"#;
+const PROMISES: &[Line] = &[
+    ORDER,
+    BEGIN,
+    COMMIT,
+    Line::Hold(2, NEAR, "DE00002", "01:30:00", true),
+    BEGIN,
+    Line::Hold(3, NEAR, "DE00002", "01:45:00", false),
+    Line::Commit(3, FARTHER, &[0], &[150]),
+];
 
 /// An order for two wagons at a place that the network doesn't have.
-const FAR_ORDER: &str =
-    r#"{"type":"order","order":"X-1","place":"FR90000","classes":["Eanos"],"load":0,"latest":"2026-03-01T04:00:00Z","penalty":5,"wagons":2}"#;
+const FAR_ORDER: Line<'static> = Line::Text(
+    r#"{"type":"order","order":"X-1","place":"FR90000","classes":["Eanos"],"load":0,"latest":"2026-03-01T04:00:00Z","penalty":5,"wagons":2}"#,
+);
 
 /// Three wagons at one place.
 const THREE_WAGONS: &str =
@@ -46,8 +49,9 @@ const LINES: &str = r#"  node [style="rounded,filled,dashed"];
 "#;
 
 /// The map of an office that starts so, after these lines, behind its head.
-fn map_after(alloc: Global, start: Start<'_>, lines: &str) -> Result<String, Fail> {
+fn map_after(alloc: Global, start: Start<'_>, lines: &[Line<'_>]) -> Result<String, Fail> {
     let mut book = book_of(alloc, start)?;
+    let lines = script(alloc, lines)?;
     let mut reader = MemorySource::new(lines.as_bytes(), usize::MAX);
     let mut writer = MemorySink::new(alloc, usize::MAX);
     run(alloc, &mut reader, &mut writer, &mut book)?;
@@ -57,37 +61,40 @@ fn map_after(alloc: Global, start: Start<'_>, lines: &str) -> Result<String, Fai
     Ok(String::from_str(alloc, body)?)
 }
 
-#[test]
-fn a_waiting_order(rt: HostRuntime) -> Result<(), Fail> {
-    let map = map_after(rt.alloc(), SAMPLE, ORDER)?;
-    let places = r#"  "DE00001" [label="DE00001\n1 Eanos empty", fillcolor=darkseagreen1];
+/// The places while the order waits, and when the other wagon is promised to it; and then the promise.
+const WAITING: &str = r#"  "DE00001" [label="DE00001\n1 Eanos empty", fillcolor=darkseagreen1];
   "DE00002" [label="DE00002\n1 Eanos empty", fillcolor=darkseagreen1];
   "DE00003" [label="DE00003\nO1 lacks 1", fillcolor=orange, peripheries=2];
 "#;
-    let expected = format!(in rt.alloc(); "{places}{LINES}}}\n")?;
-    assert_eq!(rt; map.as_str(), expected.as_str());
-    Ok(())
-}
 
-#[test]
-fn a_promise(rt: HostRuntime) -> Result<(), Fail> {
-    let map = map_after(rt.alloc(), SAMPLE, PROMISES)?;
-    let places = r#"  "DE00001" [label="DE00001\n1 Eanos empty"];
+const PROMISED: &str = r#"  "DE00001" [label="DE00001\n1 Eanos empty"];
   "DE00002" [label="DE00002\n1 Eanos empty", fillcolor=darkseagreen1];
   "DE00003" [label="DE00003"];
 "#;
-    let promises = r#"  "O1 from DE00001" [label="1 for\nO1"];
+
+const PROMISE: &str = r#"  "O1 from DE00001" [label="1 for\nO1"];
   "DE00001" -> "O1 from DE00001" -> "DE00003" [len=2];
 "#;
-    let expected = format!(in rt.alloc(); "{places}{LINES}{promises}}}\n")?;
-    assert_eq!(rt; map.as_str(), expected.as_str());
+
+/// Lines, and the places and the promise on the map after them.
+const MAPS: [(&[Line<'static>], &str, &str); 2] = [
+    (&[ORDER], WAITING, ""),
+    (PROMISES, PROMISED, PROMISE),
+];
+
+#[test]
+fn an_order(rt: HostRuntime) -> Result<(), Fail> {
+    for (lines, places, promise) in MAPS {
+        let map = map_after(rt.alloc(), SAMPLE, lines)?;
+        let expected = format!(in rt.alloc(); "{places}{LINES}{promise}}}\n")?;
+        assert_eq!(rt; map.as_str(), expected.as_str());
+    }
     Ok(())
 }
 
 #[test]
 fn a_journey_and_a_place_outside(rt: HostRuntime) -> Result<(), Fail> {
-    let lines = format!(in rt.alloc(); "{DEPARTURE}\n{FAR_ORDER}\n")?;
-    let map = map_after(rt.alloc(), SAMPLE, lines.as_str())?;
+    let map = map_after(rt.alloc(), SAMPLE, &[DEPARTURE, FAR_ORDER])?;
     assert!(rt;
         map.as_str().starts_with("  \"DE00001\" [label=\"DE00001\\n1 Eanos left empty\"];\n")
     );
@@ -105,7 +112,7 @@ fn counts(rt: HostRuntime) -> Result<(), Fail> {
         roster: THREE_WAGONS,
         ..SAMPLE
     };
-    let map = map_after(rt.alloc(), start, "")?;
+    let map = map_after(rt.alloc(), start, &[])?;
     assert!(rt;
         map.as_str().contains(
             "\"DE00003\" [label=\"DE00003\\n2 Eanos empty\\n1 Falns unloading\", fillcolor=darkseagreen1];\n"

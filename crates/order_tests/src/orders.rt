@@ -1,5 +1,6 @@
 //! Orders: which wagon suits them, and what they lack.
 
+use load_orders::OrderState::{Filled, Promised, Waiting, Withdrawn};
 use load_orders::{OrderRow, OrderState, Wanted, suits};
 use move_messages::{Classes, OrderText};
 use rail_codes::WagonNumber;
@@ -119,37 +120,37 @@ fn are(numbers: &[WagonNumber], texts: &[&str]) -> Result<bool, Fail> {
     Ok(true)
 }
 
-/// What an order is after a step: its state and lack, and the wagons that are promised to it and that filled it.
-#[derive(Clone, Copy)]
-struct After {
-    step: Step,
-    state: OrderState,
-    lack: u32,
-    promised: &'static [&'static str],
-    filled: &'static [&'static str],
-}
+/// A step and what the order is after it: its state and lack, and the wagons that are promised to it and that filled it.
+type After = (
+    Step,
+    OrderState,
+    u32,
+    &'static [&'static str],
+    &'static [&'static str],
+);
 
 /// Whether an order is so.
-fn is_so(row: &OrderRow, after: &After) -> Result<bool, Fail> {
-    let is_open = after.state == OrderState::Waiting || after.state == OrderState::Promised;
-    if row.state() != after.state || row.lack() != after.lack || row.is_open() != is_open {
+fn is_so(row: &OrderRow, after: After) -> Result<bool, Fail> {
+    let (_, state, lack, promised, filled) = after;
+    let is_open = state == Waiting || state == Promised;
+    if row.state() != state || row.lack() != lack || row.is_open() != is_open {
         return Ok(false);
     }
-    if row.is_waiting() != (after.state == OrderState::Waiting) {
+    if row.is_waiting() != (state == Waiting) {
         return Ok(false);
     }
-    Ok(are(row.promised(), after.promised)? && are(row.filled(), after.filled)?)
+    Ok(are(row.promised(), promised)? && are(row.filled(), filled)?)
 }
 
 /// The first step that a new order for two wagons takes otherwise, counted from 0.
 fn first_other(alloc: Global, steps: &[After]) -> Result<Option<usize>, Fail> {
     let mut row = OrderRow::new(alloc, order(1)?)?;
-    if row.state() != OrderState::Waiting || row.lack() != 2 || row.text().wagons() != 2 {
+    if row.state() != Waiting || row.lack() != 2 || row.text().wagons() != 2 {
         return Err(Fail::new("another order"));
     }
     for (k, after) in steps.iter().enumerate() {
-        take(&mut row, after.step)?;
-        if !is_so(&row, after)? {
+        take(&mut row, after.0)?;
+        if !is_so(&row, *after)? {
             return Ok(Some(k));
         }
     }
@@ -157,65 +158,17 @@ fn first_other(alloc: Global, steps: &[After]) -> Result<Option<usize>, Fail> {
 }
 
 const FILLED: &[After] = &[
-    After {
-        step: Step::Promise(FAR),
-        state: OrderState::Waiting,
-        lack: 1,
-        promised: &[FAR],
-        filled: &[],
-    },
-    After {
-        step: Step::Promise(NEAR),
-        state: OrderState::Promised,
-        lack: 0,
-        promised: &[NEAR, FAR],
-        filled: &[],
-    },
-    After {
-        step: Step::Fill(FAR),
-        state: OrderState::Promised,
-        lack: 0,
-        promised: &[NEAR],
-        filled: &[FAR],
-    },
-    After {
-        step: Step::End(NEAR),
-        state: OrderState::Waiting,
-        lack: 1,
-        promised: &[],
-        filled: &[FAR],
-    },
-    After {
-        step: Step::Promise(NEAR),
-        state: OrderState::Promised,
-        lack: 0,
-        promised: &[NEAR],
-        filled: &[FAR],
-    },
-    After {
-        step: Step::Fill(NEAR),
-        state: OrderState::Filled,
-        lack: 0,
-        promised: &[],
-        filled: &[FAR, NEAR],
-    },
+    (Step::Promise(FAR), Waiting, 1, &[FAR], &[]),
+    (Step::Promise(NEAR), Promised, 0, &[NEAR, FAR], &[]),
+    (Step::Fill(FAR), Promised, 0, &[NEAR], &[FAR]),
+    (Step::End(NEAR), Waiting, 1, &[], &[FAR]),
+    (Step::Promise(NEAR), Promised, 0, &[NEAR], &[FAR]),
+    (Step::Fill(NEAR), Filled, 0, &[], &[FAR, NEAR]),
 ];
 
 const WITHDRAWN: &[After] = &[
-    After {
-        step: Step::Promise(FAR),
-        state: OrderState::Waiting,
-        lack: 1,
-        promised: &[FAR],
-        filled: &[],
-    },
-    After {
-        step: Step::Withdraw,
-        state: OrderState::Withdrawn,
-        lack: 0,
-        promised: &[],
-        filled: &[],
-    },
+    (Step::Promise(FAR), Waiting, 1, &[FAR], &[]),
+    (Step::Withdraw, Withdrawn, 0, &[], &[]),
 ];
 
 #[test]

@@ -3,9 +3,39 @@
 use crate::tables::table;
 use assignment::{Planner, plan};
 use cost_table::{Cells, Plan};
+use price_checker::CheckFault::{OverPenalty, SumsDiffer, UsedTwice};
 use price_checker::{CheckFault, Prices, check};
 use std::alloc::Global;
 use std::test::Fail;
+
+/// A table's rows of costs, its penalties and its lacks.
+type Parts = (&'static str, &'static str, &'static str);
+
+/// The second wagon may not serve the second order.
+const TWO: Parts = ("[10,20],[15,null]", "1000,1000", "1,1");
+
+/// One wagon for two orders.
+const ROW: Parts = ("[10,20]", "50,500", "1,1");
+
+/// Two wagons for one order.
+const COLUMN: Parts = ("[10],[12]", "100", "1");
+
+/// An order and no wagon.
+const UNSERVED: Parts = ("", "900", "1");
+
+/// Three wagons for an order of two wagons and one of one.
+const THREE: Parts = ("[10,12],[20,30],[null,40]", "100,100", "2,1");
+
+/// One wagon for an order of two.
+const LACKING: Parts = ("[10]", "50", "2");
+
+/// The penalty is as high as the cost.
+const EVEN: Parts = ("[30]", "30", "1");
+
+/// The table of these parts.
+fn table_of(alloc: Global, (rows, penalties, lacks): Parts) -> Result<Cells, Fail> {
+    table(alloc, rows, penalties, lacks)
+}
 
 /// The plan of a table, and its cost, as the checker certifies it.
 fn planned(alloc: Global, cells: &Cells) -> Result<(Plan, u128), Fail> {
@@ -17,44 +47,28 @@ fn planned(alloc: Global, cells: &Cells) -> Result<(Plan, u128), Fail> {
 #[test]
 fn least_plans(rt: HostRuntime) -> Result<(), Fail> {
     let alloc = rt.alloc();
-    for (rows, penalties, lacks, pairs, cost) in [
-        (
-            "[10,20],[15,null]",
-            "1000,1000",
-            "1,1",
-            [(1, 0), (0, 1)].as_slice(),
-            35,
-        ),
-        ("[10,20]", "50,500", "1,1", [(0, 1)].as_slice(), 70),
-        ("[10],[12]", "100", "1", [(0, 0)].as_slice(), 10),
-        ("", "900", "1", [].as_slice(), 900),
-        (
-            "[10,12],[20,30],[null,40]",
-            "100,100",
-            "2,1",
-            [(0, 0), (1, 0), (2, 1)].as_slice(),
-            70,
-        ),
-        ("[10]", "50", "2", [(0, 0)].as_slice(), 60),
-        ("[50],[150]", "1000", "1", [(0, 0)].as_slice(), 50),
-        (
-            "[0,1000000000]",
-            "1000000000,1000000000",
-            "1,1",
-            [(0, 0)].as_slice(),
-            1_000_000_000,
-        ),
+    let far = ("[50],[150]", "1000", "1");
+    let dear = ("[0,1000000000]", "1000000000,1000000000", "1,1");
+    for (parts, pairs, cost) in [
+        (TWO, [(1, 0), (0, 1)].as_slice(), 35),
+        (ROW, [(0, 1)].as_slice(), 70),
+        (COLUMN, [(0, 0)].as_slice(), 10),
+        (UNSERVED, [].as_slice(), 900),
+        (THREE, [(0, 0), (1, 0), (2, 1)].as_slice(), 70),
+        (LACKING, [(0, 0)].as_slice(), 60),
+        (far, [(0, 0)].as_slice(), 50),
+        (dear, [(0, 0)].as_slice(), 1_000_000_000),
     ] {
-        let (plan, certified) = planned(alloc, &table(alloc, rows, penalties, lacks)?)?;
-        assert_eq!(rt; plan.pairs(), pairs, "{rows}");
-        assert_eq!(rt; certified, cost, "{rows}");
+        let (plan, certified) = planned(alloc, &table_of(alloc, parts)?)?;
+        assert_eq!(rt; plan.pairs(), pairs, "{}", parts.0);
+        assert_eq!(rt; certified, cost, "{}", parts.0);
     }
     Ok(())
 }
 
 #[test]
 fn an_order_that_no_wagon_serves(rt: HostRuntime) -> Result<(), Fail> {
-    let cells = table(rt.alloc(), "", "900", "1")?;
+    let cells = table_of(rt.alloc(), UNSERVED)?;
     let (plan, prices) = Planner::new(rt.alloc(), &cells)?.plan();
     assert_eq!(rt; plan.pairs(), [].as_slice());
     assert_eq!(rt; prices.u.as_slice(), [].as_slice());
@@ -64,110 +78,79 @@ fn an_order_that_no_wagon_serves(rt: HostRuntime) -> Result<(), Fail> {
 
 #[test]
 fn a_penalty_as_high_as_the_cost(rt: HostRuntime) -> Result<(), Fail> {
-    let (_plan, cost) = planned(rt.alloc(), &table(rt.alloc(), "[30]", "30", "1")?)?;
+    let (_plan, cost) = planned(rt.alloc(), &table_of(rt.alloc(), EVEN)?)?;
     assert_eq!(rt; cost, 30);
     Ok(())
 }
 
-/// What the checker says of pairs with prices: the cost, or the first fault.
+/// A table with pairs, prices of its wagons and orders, and what the checker says of them: the cost, or the first fault.
+type Checked = (
+    Parts,
+    &'static [(usize, usize)],
+    &'static [u64],
+    &'static [u64],
+    Result<u128, CheckFault>,
+);
+
+/// Plans and prices that the checker is given.
+const CHECKED: &[Checked] = &[
+    (TWO, &[(1, 0), (0, 1)], &[5, 0], &[15, 25], Ok(35)),
+    (
+        TWO,
+        &[(0, 0)],
+        &[5, 0],
+        &[15, 25],
+        Err(SumsDiffer(1015, 40)),
+    ),
+    (ROW, &[(0, 1)], &[40], &[50, 60], Ok(70)),
+    (ROW, &[(0, 0)], &[490], &[500, 500], Err(OverPenalty(0))),
+    (UNSERVED, &[], &[], &[900], Ok(900)),
+    (EVEN, &[(0, 0)], &[0], &[30], Ok(30)),
+    (EVEN, &[], &[0], &[30], Ok(30)),
+    (LACKING, &[(0, 0)], &[40], &[50], Ok(60)),
+    (LACKING, &[], &[40], &[50], Err(SumsDiffer(140, 100))),
+    (
+        COLUMN,
+        &[(1, 0)],
+        &[u64::MAX, u64::MAX],
+        &[10],
+        Err(SumsDiffer(36_893_488_147_419_103_242, 10)),
+    ),
+    (
+        THREE,
+        &[(0, 0), (1, 0), (2, 1)],
+        &[28, 18, 0],
+        &[38, 40],
+        Ok(70),
+    ),
+    (
+        ("[10,12],[20,30],[null,40]", "100,100", "1,1"),
+        &[(0, 0), (1, 0), (2, 1)],
+        &[28, 18, 0],
+        &[38, 40],
+        Err(UsedTwice(1, 0)),
+    ),
+];
+
+/// What the checker says of pairs with prices.
 fn checked(
     alloc: Global,
-    cells: &Cells,
+    parts: Parts,
     pairs: &[(usize, usize)],
     u: &[u64],
     v: &[u64],
 ) -> Result<Result<u128, CheckFault>, Fail> {
     let u = Vec::from_slice(alloc, u)?;
     let v = Vec::from_slice(alloc, v)?;
-    let answer = check(cells, pairs, &Prices { u, v });
+    let answer = check(&table_of(alloc, parts)?, pairs, &Prices { u, v });
     Ok(answer.map(|certified| certified.cost()))
 }
 
 #[test]
-fn checked_pairs(rt: HostRuntime) -> Result<(), Fail> {
-    let alloc = rt.alloc();
-    let cells = table(alloc, "[10,20],[15,null]", "1000,1000", "1,1")?;
-    for (pairs, answer) in [
-        ([(1, 0), (0, 1)].as_slice(), Ok(35)),
-        ([(0, 0)].as_slice(), Err(CheckFault::SumsDiffer(1015, 40))),
-    ] {
-        assert_eq!(rt; checked(alloc, &cells, pairs, &[5, 0], &[15, 25])?, answer);
-    }
-    Ok(())
-}
-
-#[test]
-fn checked_refusals(rt: HostRuntime) -> Result<(), Fail> {
-    let alloc = rt.alloc();
-    let cells = table(alloc, "[10,20]", "50,500", "1,1")?;
-    for (order, u, v, answer) in [
-        (1, 40, [50, 60], Ok(70)),
-        (0, 490, [500, 500], Err(CheckFault::OverPenalty(0))),
-    ] {
-        assert_eq!(rt; checked(alloc, &cells, &[(0, order)], &[u], &v)?, answer);
-    }
-    Ok(())
-}
-
-#[test]
-fn checked_single_orders(rt: HostRuntime) -> Result<(), Fail> {
-    let alloc = rt.alloc();
-    for (rows, penalty, lack, pairs, u, v, answer) in [
-        ("", "900", "1", [].as_slice(), [].as_slice(), 900, Ok(900)),
-        (
-            "[30]",
-            "30",
-            "1",
-            [(0, 0)].as_slice(),
-            [0].as_slice(),
-            30,
-            Ok(30),
-        ),
-        ("[30]", "30", "1", [].as_slice(), [0].as_slice(), 30, Ok(30)),
-        (
-            "[10]",
-            "50",
-            "2",
-            [(0, 0)].as_slice(),
-            [40].as_slice(),
-            50,
-            Ok(60),
-        ),
-        (
-            "[10]",
-            "50",
-            "2",
-            [].as_slice(),
-            [40].as_slice(),
-            50,
-            Err(CheckFault::SumsDiffer(140, 100)),
-        ),
-        (
-            "[10],[12]",
-            "100",
-            "1",
-            [(1, 0)].as_slice(),
-            [u64::MAX, u64::MAX].as_slice(),
-            10,
-            Err(CheckFault::SumsDiffer(36_893_488_147_419_103_242, 10)),
-        ),
-    ] {
-        let cells = table(alloc, rows, penalty, lack)?;
-        assert_eq!(rt; checked(alloc, &cells, pairs, u, &[v])?, answer, "{rows}");
-    }
-    Ok(())
-}
-
-#[test]
-fn an_order_that_lacks_two(rt: HostRuntime) -> Result<(), Fail> {
-    let alloc = rt.alloc();
-    for (lacks, answer) in [("2,1", Ok(70)), ("1,1", Err(CheckFault::UsedTwice(1, 0)))] {
-        let cells = table(alloc, "[10,12],[20,30],[null,40]", "100,100", lacks)?;
-        let pairs = [(0, 0), (1, 0), (2, 1)];
-        assert_eq!(rt;
-            checked(alloc, &cells, &pairs, &[28, 18, 0], &[38, 40])?,
-            answer
-        );
+fn checked_plans(rt: HostRuntime) -> Result<(), Fail> {
+    for (parts, pairs, u, v, answer) in CHECKED {
+        let said = checked(rt.alloc(), *parts, pairs, u, v)?;
+        assert_eq!(rt; said, *answer, "{} {pairs:?}", parts.0);
     }
     Ok(())
 }

@@ -2,14 +2,4 @@
 #![tactic(auto)]
 
 #[cfg(test)]
-mod cuts;
-#[cfg(test)]
-mod failures;
-#[cfg(test)]
-mod limits;
-#[cfg(test)]
-mod messages;
-#[cfg(test)]
-mod runs;
-#[cfg(test)]
-mod scripts;
+mod tests;

@@ -1,12 +1,12 @@
 //! Offices, and what their seats call.
 
-mod answers;
-mod books;
 mod calls;
 mod closing;
 mod crowds;
+mod desks;
 mod faults;
 mod opening;
 mod planning;
 mod races;
-mod steps;
+mod scenes;
+mod turns;

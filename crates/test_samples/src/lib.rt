@@ -2,6 +2,7 @@
 #![tactic(auto)]
 
 mod codes;
+mod devices;
 mod messages;
 mod orders;
 mod reading;

@@ -2,6 +2,7 @@
 
 ghost use Rattle.std.specs.Prelude.{◌≡◌, ◌≤◌, false, None, IfSome, length};
 
+use crate::devices::answer;
 use line_engine::{DeviceFailed, Source};
 use std::io;
 use std::io::Read;
@@ -19,6 +20,20 @@ struct Supply<'a> {
 }
 
 impl<'a> Supply<'a> {
+    fn new(
+        rest: &'a [u8],
+        step: usize,
+        until_failure: Option<usize>,
+        fails_once: bool,
+    ) -> Supply<'a> {
+        Supply {
+            rest,
+            step,
+            until_failure,
+            fails_once,
+        }
+    }
+
     /// The next bytes, into the piece's front, and how many; `None` where the read fails.
     fn read(&mut self, piece: &mut [u8]) -> Option<usize>
         ensures { IfSome result (λ count. count ≤ length piece.new) }
@@ -52,12 +67,7 @@ impl<'a> MemorySource<'a> {
         ensures { ⟦<MemorySource<'a> as Source>⟧.has_failed result ≡ false }
     {
         MemorySource {
-            supply: Supply {
-                rest: bytes,
-                step,
-                until_failure: None,
-                fails_once: false,
-            },
+            supply: Supply::new(bytes, step, None, false),
             has_failed: false,
         }
     }
@@ -67,12 +77,7 @@ impl<'a> MemorySource<'a> {
         ensures { ⟦<MemorySource<'a> as Source>⟧.has_failed result ≡ false }
     {
         MemorySource {
-            supply: Supply {
-                rest: bytes,
-                step,
-                until_failure: Some(given),
-                fails_once: once,
-            },
+            supply: Supply::new(bytes, step, Some(given), once),
             has_failed: false,
         }
     }
@@ -84,13 +89,8 @@ impl Source for MemorySource<'_> {
     ghost has_failed = { λ s. s.has_failed };
 
     fn read(&mut self, piece: &mut [u8]) -> Result<usize, DeviceFailed> {
-        match self.supply.read(piece) {
-            Some(count) => Ok(count),
-            None => {
-                self.has_failed = true;
-                Err(DeviceFailed)
-            }
-        }
+        let count = self.supply.read(piece);
+        answer(count, &mut self.has_failed)
     }
 
     fn failed(&self) -> bool {
@@ -108,12 +108,7 @@ impl<'a> MemoryReader<'a> {
     /// Gives so many bytes, then fails: once, and goes on behind it, or each time.
     pub fn failing(bytes: &'a [u8], given: usize, once: bool) -> MemoryReader<'a> {
         MemoryReader {
-            supply: Supply {
-                rest: bytes,
-                step: usize::MAX,
-                until_failure: Some(given),
-                fails_once: once,
-            },
+            supply: Supply::new(bytes, usize::MAX, Some(given), once),
         }
     }
 }

@@ -2,6 +2,7 @@
 
 ghost use Rattle.std.specs.Prelude.{◌≡◌, ◌≤◌, ◌<◌, false, None, IfSome, length};
 
+use crate::devices::answer;
 use line_engine::{DeviceFailed, Sink};
 use std::alloc::Global;
 use std::io;
@@ -101,13 +102,8 @@ impl Sink for MemorySink {
     ghost has_failed = { λ s. s.has_failed };
 
     fn write(&mut self, piece: &[u8]) -> Result<usize, DeviceFailed> {
-        match self.store.write(piece) {
-            Some(count) => Ok(count),
-            None => {
-                self.has_failed = true;
-                Err(DeviceFailed)
-            }
-        }
+        let count = self.store.write(piece);
+        answer(count, &mut self.has_failed)
     }
 
     fn failed(&self) -> bool {

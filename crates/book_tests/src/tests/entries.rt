@@ -1,19 +1,19 @@
 //! Entries of a book, and a run of calls.
 
 use super::books::run;
-use super::steps::Step::{Accepted, Begun, Entries, Entry, Event, Refused};
-use super::steps::{Case, first_other};
-use book_samples::{BEGIN, COMMIT, DEPARTURE, OTHER_PLACE, SAMPLE, Start, book_of};
+use super::steps::Step::{Accepted, Begun, Entries, Entry, Event, RefusedNaming};
+use super::steps::{Case, go};
+use book_samples::{BEGIN, COMMIT, DEPARTURE, Line, ORDER, OTHER_PLACE, SAMPLE, Start, book_of};
 use commit_book::{Answer, Refusal, Reply};
 use std::alloc::Global;
 use std::test::Fail;
-use test_samples::ORDER;
+use test_samples::NEAR;
 
 /// Whether a book that starts so answers this to a run of these lines' calls.
 fn answers(
     alloc: Global,
     start: Start<'_>,
-    lines: &[&str],
+    lines: &[Line<'_>],
     wanted: &[Answer],
 ) -> Result<bool, Fail> {
     let mut book = book_of(alloc, start)?;
@@ -47,16 +47,16 @@ fn a_run_of_messages(rt: HostRuntime) -> Result<(), Fail> {
     Ok(())
 }
 
-const CASES: &[Case] = &[Case {
-    name: "entries are counted from 1",
-    start: SAMPLE,
-    steps: &[
+const CASES: &[Case] = &[(
+    "entries are counted from 1",
+    SAMPLE,
+    &[
         Entries(0),
         Entry(1, false),
         Accepted(ORDER, 1),
         Begun(BEGIN, 1),
         Accepted(COMMIT, 2),
-        Refused(COMMIT, 82, "218124712173"),
+        RefusedNaming(COMMIT, 82, NEAR),
         Entries(2),
         Entry(0, false),
         Entry(1, true),
@@ -65,13 +65,9 @@ const CASES: &[Case] = &[Case {
         Entry(u64::MAX, false),
         Event(2, COMMIT),
     ],
-}];
+)];
 
 #[test]
 fn entries_are_counted_from_1(rt: HostRuntime) -> Result<(), Fail> {
-    for case in CASES {
-        let name = case.name;
-        assert_eq!(rt; first_other(rt.alloc(), case)?, None, "{name}");
-    }
-    Ok(())
+    go(rt.alloc(), CASES)
 }

@@ -1,111 +1,165 @@
 //! Steps of a book: calls with their answers, and what the book holds between them.
 
-use super::books::{Told, reply_to, version_begun, what_is_told};
-use super::orders::are_placed;
+use super::books::told;
 use super::plans::is_planned;
-use super::states::{has_entry, has_problem, has_state, is_loading, is_promised, is_ready};
-use book_samples::{Start, book_of};
-use commit_book::{Book, Reply};
-use load_orders::OrderState;
+use super::states::{has_entry, has_problem};
+use book_samples::{Line, Start, State, book_of, holds};
+use commit_book::Book;
 use std::alloc::Global;
 use std::test::Fail;
+use test_samples::NEAR;
 
 /// What is called on a book, with what it answers, or what it holds then.
 #[derive(Clone, Copy)]
 pub(crate) enum Step<'a> {
     /// A line, and the entry that it becomes.
-    Accepted(&'a str, u64),
+    Accepted(Line<'a>, u64),
+    /// Lines, and the entry that the first of them becomes; the others become the next ones.
+    AllAccepted(&'a [Line<'a>], u64),
+    /// The nearer wagon departs at two, arrives at a place at three and is delivered there at half past three, by messages 5
+    /// to 7, of which the first becomes this entry.
+    Delivered(&'a str, u64),
+    /// A line, the entry that it becomes, and the wagons and orders of the problem that is begun at one o'clock then.
+    AcceptedLeaving(Line<'a>, u64, usize, usize),
     /// A line, and the entry that it is already.
-    Repeated(&'a str, u64),
+    Repeated(Line<'a>, u64),
     /// A line, and the version of the problem that it begins.
-    Begun(&'a str, u64),
+    Begun(Line<'a>, u64),
+    /// A line, and the number of its refusal, which names nothing.
+    Refused(Line<'a>, u32),
+    /// Lines, and the number of each one's refusal, which names nothing.
+    AllRefused(&'a [Line<'a>], u32),
     /// A line, the number of its refusal, and what that names.
-    Refused(&'a str, u32, &'a str),
+    RefusedNaming(Line<'a>, u32, &'a str),
     /// So many orders, O1 and so on, for so many wagons each, are placed and become the first entries.
     PlacedAll(u64, u32),
     /// The version of the problem that is begun at one o'clock, its network, its wagons and its orders.
     Problem(u64, u32, usize, usize),
     /// The problem at one o'clock is planned, at this cost, and the plan's commit is this line's and becomes this entry.
-    Planned(u128, &'a str, u64),
+    Planned(u128, Line<'a>, u64),
     /// There are so many entries.
     Entries(u64),
     /// There is an entry of this number; or not.
     Entry(u64, bool),
     /// The entry of this number is a line's event.
-    Event(u64, &'a str),
-    /// A wagon that isn't held is empty at a place since a moment.
-    Ready(&'a str, &'a str, &'a str),
-    /// A wagon is loaded at a place.
-    Loading(&'a str, &'a str),
-    /// A wagon is promised to an order, and the order has it; or neither.
-    Promised(&'a str, &'a str, bool),
-    /// An order is in this state, and has been filled by so many wagons.
-    State(&'a str, OrderState, usize),
+    Event(u64, Line<'a>),
+    /// The book's office holds these.
+    Office(&'a [State<'a>]),
 }
 
 /// Whether it goes so, or is so.
 fn goes(alloc: Global, book: &mut Book, step: Step<'_>) -> Result<bool, Fail> {
     match step {
-        Step::Accepted(line, entry) => {
-            Ok(reply_to(alloc, book, line)? == Some(Reply::Accepted(entry)))
+        Step::Accepted(line, entry) => are_accepted(alloc, book, &[line], entry),
+        Step::AllAccepted(lines, entry) => are_accepted(alloc, book, lines, entry),
+        Step::Delivered(place, entry) => {
+            let lines = [
+                Line::Tell("departure", 5, NEAR, "DE00002", "02:00:00"),
+                Line::Tell("arrival", 6, NEAR, place, "03:00:00"),
+                Line::Tell("delivery", 7, NEAR, place, "03:30:00"),
+            ];
+            are_accepted(alloc, book, &lines, entry)
+        }
+        Step::AcceptedLeaving(line, entry, wagons, orders) => {
+            let accepted = are_accepted(alloc, book, &[line], entry)?;
+            Ok(accepted && has_problem(alloc, book, entry, 1, wagons, orders)?)
         }
         Step::Repeated(line, entry) => {
-            Ok(reply_to(alloc, book, line)? == Some(Reply::Repeated(entry)))
+            answers(alloc, book, &[line], format!(in alloc; "repeated {entry}")?)
         }
-        Step::Begun(line, version) => Ok(version_begun(alloc, book, line)? == Some(version)),
-        Step::Refused(line, number, named) => is_refused(alloc, book, line, number, named),
-        Step::Problem(version, network, wagons, orders) => {
-            has_problem(alloc, book, version, network, wagons, orders)
+        Step::Begun(line, version) => {
+            answers(alloc, book, &[line], format!(in alloc; "begun {version}")?)
         }
-        Step::PlacedAll(orders, wagons) => are_placed(alloc, book, orders, wagons),
-        Step::Planned(cost, line, entry) => is_planned(alloc, book, cost, line, entry),
+        Step::Refused(line, number) => {
+            answers(alloc, book, &[line], format!(in alloc; "refused {number}")?)
+        }
+        Step::AllRefused(lines, number) => {
+            answers(alloc, book, lines, format!(in alloc; "refused {number}")?)
+        }
+        Step::RefusedNaming(line, number, named) => {
+            answers(
+                alloc,
+                book,
+                &[line],
+                format!(in alloc; "refused {number} {named}")?,
+            )
+        }
         _ => is_so(alloc, book, step),
     }
 }
 
 /// Whether it is so.
-fn is_so(alloc: Global, book: &Book, step: Step<'_>) -> Result<bool, Fail> {
+fn is_so(alloc: Global, book: &mut Book, step: Step<'_>) -> Result<bool, Fail> {
     match step {
+        Step::Problem(version, network, wagons, orders) => {
+            has_problem(alloc, book, version, network, wagons, orders)
+        }
+        Step::PlacedAll(orders, wagons) => are_placed(alloc, book, orders, wagons),
+        Step::Planned(cost, line, entry) => is_planned(alloc, book, cost, line, entry),
         Step::Entries(count) => Ok(book.len() == count),
         Step::Entry(n, there) => Ok(book.entry(n).is_some() == there),
         Step::Event(n, line) => has_entry(alloc, book, n, line),
-        Step::Ready(wagon, place, since) => is_ready(book, wagon, place, since),
-        Step::Loading(wagon, place) => is_loading(book, wagon, place),
-        Step::Promised(wagon, order, promised) => is_promised(book, wagon, order, promised),
-        Step::State(order, state, filled) => has_state(book, order, state, filled),
+        Step::Office(states) => holds(book.state(), states),
         _ => Ok(false),
     }
 }
 
-/// Whether a line is refused with this number, and the refusal names this.
-fn is_refused(
-    alloc: Global,
-    book: &mut Book,
-    line: &str,
-    number: u32,
-    named: &str,
-) -> Result<bool, Fail> {
-    match what_is_told(alloc, book, line)? {
-        Told::Refused(code, name) => Ok(code == number && name.as_str() == named),
-        Told::Done(_) | Told::Begun(_) => Ok(false),
-    }
-}
-
-/// A book that starts so, and its steps.
-#[derive(Clone, Copy)]
-pub(crate) struct Case {
-    pub(crate) name: &'static str,
-    pub(crate) start: Start<'static>,
-    pub(crate) steps: &'static [Step<'static>],
-}
-
-/// The first step of a case that goes otherwise, counted from 0.
-pub(crate) fn first_other(alloc: Global, case: &Case) -> Result<Option<usize>, Fail> {
-    let mut book = book_of(alloc, case.start)?;
-    for (k, step) in case.steps.iter().enumerate() {
-        if !goes(alloc, &mut book, *step)? {
-            return Ok(Some(k));
+/// Whether a book answers this text to each of these lines' calls.
+fn answers(alloc: Global, book: &mut Book, lines: &[Line<'_>], text: String) -> Result<bool, Fail> {
+    for line in lines {
+        if told(alloc, book, *line)?.as_str() != text.as_str() {
+            return Ok(false);
         }
     }
-    Ok(None)
+    Ok(true)
+}
+
+/// Whether these lines become entries, from this one on.
+fn are_accepted(
+    alloc: Global,
+    book: &mut Book,
+    lines: &[Line<'_>],
+    entry: u64,
+) -> Result<bool, Fail> {
+    for (k, line) in lines.iter().enumerate() {
+        let number = entry.saturating_add(k as u64);
+        if !answers(
+            alloc,
+            book,
+            &[*line],
+            format!(in alloc; "accepted {number}")?,
+        )? {
+            return Ok(false);
+        }
+    }
+    Ok(true)
+}
+
+/// Whether so many orders, O1 and so on, for so many wagons each become the first entries.
+fn are_placed(alloc: Global, book: &mut Book, orders: u64, wagons: u32) -> Result<bool, Fail> {
+    for k in 0..orders {
+        let number = k + 1;
+        let name = format!(in alloc; "O{number}")?;
+        let line = Line::Order(name.as_str(), "04:00:00", 1_000, wagons);
+        if !are_accepted(alloc, book, &[line], number)? {
+            return Ok(false);
+        }
+    }
+    Ok(true)
+}
+
+/// A name, a book that starts so, and its steps.
+pub(crate) type Case = (&'static str, Start<'static>, &'static [Step<'static>]);
+
+/// Fails with the name of the first of these cases in which a step goes otherwise, and that step, counted from 0.
+pub(crate) fn go(alloc: Global, cases: &[Case]) -> Result<(), Fail> {
+    for (name, start, steps) in cases {
+        let mut book = book_of(alloc, *start)?;
+        for (k, step) in steps.iter().enumerate() {
+            if !goes(alloc, &mut book, *step)? {
+                return Err(Fail::new(format_args!("{name}: step {k}")));
+            }
+        }
+    }
+    Ok(())
 }

@@ -1,10 +1,13 @@
 //! What seats call, and each reason why a call is refused.
 
-use super::books::BOTH;
-use super::steps::{Case, Step, first_other};
-use book_samples::{BEGIN, COMMIT, DEPARTURE, OTHER_PLACE, REVISION, SAMPLE, Start, WITHDRAWAL};
+use super::turns::{Case, Told, Turn, play};
+use book_samples::Line::{Commit, Hold, Revise, Tell, Text, Withdraw};
+use book_samples::{
+    BEGIN, BOTH, COMMIT, DEPARTURE, FARTHER, Line, NEAREST, ONE_ENTRY, ORDER, OTHER_PLACE,
+    REVISION, SAMPLE, Start, WITHDRAWAL,
+};
 use std::test::Fail;
-use test_samples::ORDER;
+use test_samples::{FAR, NEAR, UNKNOWN};
 
 /// The farther wagon is loading at the order's place.
 const LOADING: Start<'static> = Start {
@@ -12,219 +15,175 @@ const LOADING: Start<'static> = Start {
     ..SAMPLE
 };
 
-const HELD: &str =
-    r#"{"type":"exception","company":"0080","number":1,"wagon":"218124712173","place":"DE00002","moment":"2026-03-01T00:00:00Z","hold":true}"#;
+const HELD: Line<'static> = Hold(1, NEAR, "DE00002", "00:00:00", true);
 
-const LET_GO: &str =
-    r#"{"type":"exception","company":"0080","number":2,"wagon":"218124712173","place":"DE00002","moment":"2026-03-01T00:00:00Z","hold":false}"#;
+const LET_GO: Line<'static> = Hold(2, NEAR, "DE00002", "00:00:00", false);
+
+/// A wagon that the roster doesn't have departs.
+const STRANGER: Line<'static> = Text(
+    r#"{"type":"departure","company":"0081","number":2,"wagon":"338447961040","place":"DE00001","moment":"2026-03-01T03:00:00Z"}"#,
+);
+
+/// What a seat is told when it begins at version 1, and at version 2, in the first network.
+const BEGUN: Told = (BEGIN, "begun 1 network 1");
+
+const BEGUN_LATER: Told = (BEGIN, "begun 2 network 1");
+
+/// The first seat places the sample's order and begins.
+const PLACED: Turn = Turn(1, &[(ORDER, "accepted 1"), BEGUN], 1);
+
+/// The first seat sends the sample's departure twice.
+const SENT_TWICE: Turn = Turn(
+    1,
+    &[(DEPARTURE, "accepted 1"), (DEPARTURE, "repeated 1")],
+    1,
+);
 
 const CASES: &[Case] = &[
     // Two seats plan the same problem.
-    Case {
-        name: "a wagon is promised twice",
-        start: SAMPLE,
-        seats: 2,
-        steps: &[
-            Step(1, ORDER, "accepted 1", 1),
-            Step(1, BEGIN, "begun 1 network 1", 1),
-            Step(2, BEGIN, "begun 1 network 1", 0),
-            Step(2, COMMIT, "accepted 2", 1),
-            Step(1, COMMIT, "refused 82 218124712173", 1),
+    (
+        "a wagon is promised twice",
+        SAMPLE,
+        &[
+            PLACED,
+            Turn(2, &[BEGUN, (COMMIT, "accepted 2")], 1),
+            Turn(1, &[(COMMIT, "refused 82 218124712173")], 1),
         ],
-        entries: 2,
-    },
+    ),
     // Where one problem is kept, the second drops the first.
-    Case {
-        name: "a problem is dropped",
-        start: Start { kept: 1, ..SAMPLE },
-        seats: 1,
-        steps: &[
-            Step(1, ORDER, "accepted 1", 1),
-            Step(1, BEGIN, "begun 1 network 1", 1),
-            Step(1, DEPARTURE, "accepted 2", 2),
-            Step(1, BEGIN, "begun 2 network 1", 2),
-            Step(1, COMMIT, "refused 81", 2),
+    (
+        "a problem is dropped",
+        Start { kept: 1, ..SAMPLE },
+        &[
+            PLACED,
+            Turn(1, &[(DEPARTURE, "accepted 2"), BEGUN_LATER], 2),
+            Turn(1, &[(COMMIT, "refused 81")], 2),
         ],
-        entries: 2,
-    },
-    Case {
-        name: "a full book",
-        start: Start {
-            entries: 1,
-            ..SAMPLE
-        },
-        seats: 1,
-        steps: &[
-            Step(1, ORDER, "accepted 1", 1),
-            Step(1, BEGIN, "begun 1 network 1", 1),
-            Step(1, WITHDRAWAL, "refused 72", 1),
-            Step(1, ORDER, "refused 72", 1),
-            Step(1, DEPARTURE, "refused 72", 1),
-            Step(1, REVISION, "refused 72", 1),
-            Step(1, COMMIT, "refused 72", 1),
-        ],
-        entries: 1,
-    },
-    Case {
-        name: "an order comes and goes",
-        start: SAMPLE,
-        seats: 1,
-        steps: &[
-            Step(1, ORDER, "accepted 1", 1),
-            Step(1, ORDER, "refused 74", 1),
-            Step(1, WITHDRAWAL, "accepted 2", 2),
-            Step(1, WITHDRAWAL, "refused 77", 2),
-            Step(1, r#"{"type":"withdraw","order":"O9"}"#, "refused 76", 2),
-        ],
-        entries: 2,
-    },
-    Case {
-        name: "a message comes again",
-        start: SAMPLE,
-        seats: 2,
-        steps: &[
-            Step(1, DEPARTURE, "accepted 1", 1),
-            Step(1, DEPARTURE, "repeated 1", 1),
-            Step(2, DEPARTURE, "repeated 1", 0),
-            Step(2, OTHER_PLACE, "refused 71", 0),
-            Step(
+    ),
+    (
+        "a full book",
+        ONE_ENTRY,
+        &[Turn(
+            1,
+            &[
+                (ORDER, "accepted 1"),
+                BEGUN,
+                (WITHDRAWAL, "refused 72"),
+                (ORDER, "refused 72"),
+                (DEPARTURE, "refused 72"),
+                (REVISION, "refused 72"),
+                (COMMIT, "refused 72"),
+            ],
+            1,
+        )],
+    ),
+    (
+        "an order comes and goes",
+        SAMPLE,
+        &[
+            Turn(1, &[(ORDER, "accepted 1"), (ORDER, "refused 74")], 1),
+            Turn(
+                1,
+                &[(WITHDRAWAL, "accepted 2"), (WITHDRAWAL, "refused 77")],
                 2,
-                r#"{"type":"departure","company":"0081","number":2,"wagon":"338447961040","place":"DE00001","moment":"2026-03-01T03:00:00Z"}"#,
-                "refused 73",
-                0,
             ),
+            Turn(1, &[(Withdraw("O9"), "refused 76")], 2),
         ],
-        entries: 1,
-    },
-    Case {
-        name: "messages that the status table refuses",
-        start: LOADING,
-        seats: 1,
-        steps: &[
-            Step(
-                1,
-                r#"{"type":"release","company":"0080","number":1,"wagon":"338447961008","place":"DE00003","moment":"2026-03-01T05:00:00Z"}"#,
-                "refused 31",
+    ),
+    (
+        "a message comes again",
+        SAMPLE,
+        &[
+            SENT_TWICE,
+            Turn(
+                2,
+                &[(DEPARTURE, "repeated 1"), (OTHER_PLACE, "refused 71")],
                 0,
             ),
-            Step(
-                1,
-                r#"{"type":"departure","company":"0080","number":1,"wagon":"338447961008","place":"DE00003","moment":"2026-03-01T06:00:00Z"}"#,
-                "refused 32",
-                0,
-            ),
-            Step(
-                1,
-                r#"{"type":"release","company":"0080","number":1,"wagon":"338447961008","place":"DE00002","moment":"2026-03-01T06:00:00Z"}"#,
-                "refused 33",
-                0,
-            ),
-            Step(
-                1,
-                r#"{"type":"release","company":"0080","number":1,"wagon":"338447961008","place":"DE00003","moment":"2026-03-01T06:00:00Z"}"#,
-                "accepted 1",
-                1,
-            ),
+            Turn(2, &[(STRANGER, "refused 73")], 0),
         ],
-        entries: 1,
-    },
+    ),
+    (
+        "messages that the status table refuses",
+        LOADING,
+        &[Turn(
+            1,
+            &[
+                (Tell("release", 1, FAR, "DE00003", "05:00:00"), "refused 31"),
+                (
+                    Tell("departure", 1, FAR, "DE00003", "06:00:00"),
+                    "refused 32",
+                ),
+                (Tell("release", 1, FAR, "DE00002", "06:00:00"), "refused 33"),
+                (Tell("release", 1, FAR, "DE00003", "06:00:00"), "accepted 1"),
+            ],
+            1,
+        )],
+    ),
     // The wagon is free again as it was; its order waits no more.
-    Case {
-        name: "an order is promised already",
-        start: SAMPLE,
-        seats: 2,
-        steps: &[
-            Step(1, ORDER, "accepted 1", 1),
-            Step(1, BEGIN, "begun 1 network 1", 1),
-            Step(2, HELD, "accepted 2", 1),
-            Step(2, BEGIN, "begun 2 network 1", 1),
-            Step(
-                2,
-                r#"{"type":"commit","version":2,"at":"2026-03-01T01:00:00Z","pairs":[["338447961008","O1"]],"u":[0],"v":[150]}"#,
-                "accepted 3",
-                2,
-            ),
-            Step(2, LET_GO, "accepted 4", 3),
-            Step(1, COMMIT, "refused 83 O1", 1),
+    (
+        "an order is promised already",
+        SAMPLE,
+        &[
+            PLACED,
+            Turn(2, &[(HELD, "accepted 2"), BEGUN_LATER], 1),
+            Turn(2, &[(Commit(2, FARTHER, &[0], &[150]), "accepted 3")], 2),
+            Turn(2, &[(LET_GO, "accepted 4")], 3),
+            Turn(1, &[(COMMIT, "refused 83 O1")], 1),
         ],
-        entries: 4,
-    },
+    ),
     // Commits of the sample's first problem that are no certificate, or name what isn't in the problem.
-    Case {
-        name: "no certificates",
-        start: SAMPLE,
-        seats: 1,
-        steps: &[
-            Step(1, ORDER, "accepted 1", 1),
-            Step(1, BEGIN, "begun 1 network 1", 1),
-            Step(
+    (
+        "no certificates",
+        SAMPLE,
+        &[
+            PLACED,
+            Turn(
                 1,
-                r#"{"type":"commit","version":1,"at":"2026-03-01T01:00:00Z","pairs":[["218124712173","O1"]],"u":[0],"v":[50]}"#,
-                "refused 61",
-                1,
-            ),
-            Step(
-                1,
-                r#"{"type":"commit","version":1,"at":"2026-03-01T01:00:00Z","pairs":[["218124712173","O1"],["338447961008","O1"]],"u":[0,0],"v":[50]}"#,
-                "refused 63",
-                1,
-            ),
-            Step(
-                1,
-                r#"{"type":"commit","version":1,"at":"2026-03-01T01:00:00Z","pairs":[["218124712173","O1"]],"u":[0,0],"v":[51]}"#,
-                "refused 64",
-                1,
-            ),
-            Step(
-                1,
-                r#"{"type":"commit","version":1,"at":"2026-03-01T01:00:00Z","pairs":[["218124712173","O1"]],"u":[951,951],"v":[1001]}"#,
-                "refused 65",
-                1,
-            ),
-            Step(
-                1,
-                r#"{"type":"commit","version":1,"at":"2026-03-01T01:00:00Z","pairs":[["218124712173","O1"]],"u":[0,0],"v":[40]}"#,
-                "refused 66",
-                1,
-            ),
-            Step(
-                1,
-                r#"{"type":"commit","version":1,"at":"2026-03-01T01:00:00Z","pairs":[["338447961040","O1"]],"u":[0,0],"v":[50]}"#,
-                "refused 84",
-                1,
-            ),
-            Step(1, COMMIT, "accepted 2", 2),
-        ],
-        entries: 2,
-    },
-    // In the second network the farther wagon comes late.
-    Case {
-        name: "a second network",
-        start: BOTH,
-        seats: 1,
-        steps: &[
-            Step(1, REVISION, "accepted 1", 1),
-            Step(1, REVISION, "refused 80", 1),
-            Step(1, r#"{"type":"network","revision":3}"#, "refused 79", 1),
-            Step(1, BEGIN, "begun 1 network 2", 1),
-            Step(1, ORDER, "accepted 2", 2),
-            Step(1, BEGIN, "begun 2 network 2", 2),
-            Step(
-                1,
-                r#"{"type":"commit","version":2,"at":"2026-03-01T01:00:00Z","pairs":[["338447961008","O1"]],"u":[0,0],"v":[70]}"#,
-                "refused 62",
+                &[
+                    (Commit(1, NEAREST, &[0], &[50]), "refused 61"),
+                    (
+                        Commit(1, &[(NEAR, "O1"), (FAR, "O1")], &[0, 0], &[50]),
+                        "refused 63",
+                    ),
+                    (Commit(1, NEAREST, &[0, 0], &[51]), "refused 64"),
+                    (Commit(1, NEAREST, &[951, 951], &[1001]), "refused 65"),
+                    (Commit(1, NEAREST, &[0, 0], &[40]), "refused 66"),
+                    (Commit(1, &[(UNKNOWN, "O1")], &[0, 0], &[50]), "refused 84"),
+                    (COMMIT, "accepted 2"),
+                ],
                 2,
             ),
         ],
-        entries: 2,
-    },
+    ),
+    // In the second network the farther wagon comes late.
+    (
+        "a second network",
+        BOTH,
+        &[
+            Turn(1, &[(REVISION, "accepted 1"), (REVISION, "refused 80")], 1),
+            Turn(
+                1,
+                &[(Revise(3), "refused 79"), (BEGIN, "begun 1 network 2")],
+                1,
+            ),
+            Turn(1, &[(ORDER, "accepted 2"), (BEGIN, "begun 2 network 2")], 2),
+            Turn(1, &[(Commit(2, FARTHER, &[0, 0], &[70]), "refused 62")], 2),
+        ],
+    ),
+    (
+        "one of two seats begins",
+        SAMPLE,
+        &[PLACED, Turn(2, &[], 0)],
+    ),
+    (
+        "one of two seats repeats",
+        SAMPLE,
+        &[SENT_TWICE, Turn(2, &[], 0)],
+    ),
 ];
 
 #[test]
 fn calls(rt: HostRuntime) -> Result<(), Fail> {
-    for case in CASES {
-        let name = case.name;
-        assert_eq!(rt; first_other(&rt, rt.alloc(), case)?, None, "{name}");
-    }
-    Ok(())
+    play(&rt, rt.alloc(), CASES)
 }

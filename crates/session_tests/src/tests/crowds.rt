@@ -1,15 +1,15 @@
 //! 64 seats on 8 threads, which make 50 calls each.
-ghost use Rattle.std.specs.Prelude.{◌≡◌, []};
 
-use book_samples::{SAMPLE, book_of};
-use commit_book::{Book, Reply};
+use super::desks::Desk;
+use super::scenes::{Action, played};
+use book_samples::SAMPLE;
+use commit_book::Reply;
 use move_messages::{Message, MessageKind};
 use rail_codes::{Company, MessageId, Moment, Place, WagonNumber};
-use sessions::{Office, Seat, close, open};
+use sessions::{Office, Seat};
 use std::alloc::Global;
-use std::marker::Brand;
 use std::sync::Wait;
-use std::sync::ledger::{Blank, Ledger};
+use std::sync::ledger::Ledger;
 use std::test::Fail;
 use std::thread::{Threads, map_vec};
 use test_samples::{NEAR, UNKNOWN, company, moment, place, wagon};
@@ -55,15 +55,9 @@ fn hold(codes: &Codes, number: u32, wagon: WagonNumber) -> Message {
 }
 
 /// Whether a begin answers a version not below the seat's count.
-fn begins<L: Ledger, R: Wait>(
-    rt: &R,
-    alloc: Global,
-    office: &Office<L>,
-    seat: &mut Seat<L>,
-    at: Moment,
-) -> bool {
+fn begins<L: Ledger, R: Wait>(desk: &Desk<'_, L, R>, seat: &mut Seat<L>, at: Moment) -> bool {
     let count = seat.count();
-    match office.begin(rt, alloc, seat, at) {
+    match desk.office.begin(desk.rt, desk.alloc, seat, at) {
         Ok(snap) => snap.version() >= count,
         Err(_) => false,
     }
@@ -72,23 +66,21 @@ fn begins<L: Ledger, R: Wait>(
 /// Whether one of a seat's calls is answered as it must be, whatever other seats call: a new message, the same again, a
 /// begin, and a message of a wagon that the roster doesn't have, in turn.
 fn calls<L: Ledger, R: Wait>(
-    rt: &R,
-    alloc: Global,
-    office: &Office<L>,
+    desk: &Desk<'_, L, R>,
     seat: &mut Seat<L>,
     codes: &Codes,
     k: u32,
 ) -> bool {
     let number = seat.number().wrapping_mul(64).wrapping_add(k / 4);
     if k % 4 == 2 {
-        return begins(rt, alloc, office, seat, codes.moment);
+        return begins(desk, seat, codes.moment);
     }
     let message = if k % 4 == 3 {
         hold(codes, number.wrapping_add(32), codes.unknown)
     } else {
         hold(codes, number, codes.near)
     };
-    match office.send(rt, alloc, seat, &message) {
+    match desk.office.send(desk.rt, desk.alloc, seat, &message) {
         Ok(Reply::Accepted(_)) => k % 4 == 0,
         Ok(Reply::Repeated(_)) => k % 4 == 1,
         Err(refusal) => k % 4 == 3 && refusal.number() == 73,
@@ -105,17 +97,17 @@ fn all_calls<L: Ledger, R: Wait>(
 ) -> (Vec<Seat<L>>, bool) {
     let mut seats = seats;
     let mut are_right = true;
+    let desk = Desk { rt, alloc, office };
     for seat in seats.iter_mut() {
         for k in 0..CALLS {
-            are_right = calls(rt, alloc, office, seat, codes, k) && are_right;
+            are_right = calls(&desk, seat, codes, k) && are_right;
         }
     }
     (seats, are_right)
 }
 
-/// The seats of each thread.
-fn groups<L: Ledger>(alloc: Global, seats: Vec<Seat<L>>) -> Option<Vec<Vec<Seat<L>>>> {
-    let mut seats = seats;
+/// Deals the seats out, the same number to each thread.
+fn dealt<L: Ledger>(alloc: Global, seats: &mut Vec<Seat<L>>) -> Option<Vec<Vec<Seat<L>>>> {
     let mut groups = Vec::new(alloc);
     for _ in 0..SEATS {
         let mut group = Vec::new(alloc);
@@ -127,12 +119,8 @@ fn groups<L: Ledger>(alloc: Global, seats: Vec<Seat<L>>) -> Option<Vec<Vec<Seat<
     Some(groups)
 }
 
-/// All seats, and the sum of their counts; none where a call was answered otherwise.
-fn gathered<L: Ledger>(
-    alloc: Global,
-    done: Vec<(Vec<Seat<L>>, bool)>,
-) -> Option<(Vec<Seat<L>>, u64)> {
-    let mut seats = Vec::new(alloc);
+/// Gathers the seats, and answers the sum of their counts; none where a call was answered otherwise.
+fn gathered<L: Ledger>(seats: &mut Vec<Seat<L>>, done: Vec<(Vec<Seat<L>>, bool)>) -> Option<u64> {
     let mut count = 0u64;
     for (group, are_right) in done {
         if !are_right {
@@ -143,46 +131,28 @@ fn gathered<L: Ledger>(
             seats.push(seat).ok()?;
         }
     }
-    Some((seats, count))
+    Some(count)
 }
 
-/// Whether the counts of all seats add up to the book that is left, of 64 times 13 entries.
-fn add_up<L: Ledger + Send + Sync, R: Threads + Wait + Sync>(
-    rt: &R,
-    alloc: Global,
-    blank: Blank,
-    book: Book,
-) -> Result<bool, Fail>
-    requires ledger { blank.name ≡ L.name }
-    requires parts { blank.parts ≡ L.parts }
-    requires one_each { blank.parts ≡ 64 }
-    requires no_entry { book.state.history ≡ [] }
-{
-    let Ok((office, seats)) = open::<L>(alloc, blank, book, 64) else {
-        return Err(Fail::new("no office"));
-    };
-    let groups = groups(alloc, seats).ok_or("too few seats")?;
-    let codes = read_codes()?;
-    let (shared, codes) = (&office, &codes);
+/// Whether the counts of all seats add up to 64 times 13 entries.
+pub(crate) fn add_up<L: Ledger + Send + Sync, R: Threads + Wait + Sync>(
+    desk: &Desk<'_, L, R>,
+    seats: &mut Vec<Seat<L>>,
+) -> Result<bool, Fail> {
+    let (rt, alloc, office) = (desk.rt, desk.alloc, desk.office);
+    let groups = dealt(alloc, seats).ok_or("too few seats")?;
+    let codes = &read_codes()?;
     let done = map_vec(
         rt,
         groups,
-        &|group| { all_calls(rt, alloc, shared, group, codes) },
+        &|group| { all_calls(rt, alloc, office, group, codes) },
     )?;
-    let (seats, count) = gathered(alloc, done).ok_or("another answer")?;
-    match close(office, seats) {
-        Ok(book) => Ok(book.len() == count && count == 832),
-        Err(_) => Ok(false),
-    }
-}
-
-fn add_up_in_sample<R: Threads + Wait + Sync>(rt: &R, alloc: Global) -> Result<bool, Fail> {
-    let book = book_of(alloc, SAMPLE)?;
-    add_up::<Brand, R>(rt, alloc, Blank::new(64), book)
+    Ok(gathered(seats, done).ok_or("another answer")? == 832)
 }
 
 #[test]
 fn counts_add_up(rt: HostRuntime) -> Result<(), Fail> {
-    assert!(rt; add_up_in_sample(&rt, rt.alloc())?);
+    let book = played(&rt, rt.alloc(), SAMPLE, 64, Action::Crowding)?;
+    assert_eq!(rt; book.len(), 832);
     Ok(())
 }

@@ -1,117 +1,80 @@
 //! Two threads that plan the same problem.
-ghost use Rattle.std.specs.Prelude.{◌≡◌, []};
 
-use super::answers::{told, told_of};
-use book_samples::{COMMIT, SAMPLE, book_of};
-use commit_book::{Book, Refusal, Reply};
-use move_messages::{Command, CommitText, read_line};
-use rail_codes::Moment;
-use sessions::{Office, Seat, close, open};
+use super::desks::Desk;
+use super::scenes::{Action, played};
+use book_samples::{BEGIN, COMMIT, Line, ORDER, SAMPLE, call};
+use commit_book::Call;
+use sessions::{Office, Seat};
 use std::alloc::Global;
-use std::marker::Brand;
 use std::sync::Wait;
-use std::sync::ledger::{Blank, Ledger};
+use std::sync::ledger::Ledger;
 use std::test::Fail;
 use std::thread::{Threads, join};
-use test_samples::{ORDER, time};
 
-/// A seat's begin, as a thread makes it: the seat, and the version.
-fn begins<L: Ledger, R: Wait>(
+/// A seat's call, as a thread makes it: the seat, and what it is told, unless memory is out.
+fn calls<L: Ledger, R: Wait>(
     rt: &R,
     alloc: Global,
     office: &Office<L>,
     seat: Seat<L>,
-    at: Moment,
-) -> (Seat<L>, Option<u64>) {
+    call: Call,
+) -> (Seat<L>, Option<String>) {
     let mut seat = seat;
-    match office.begin(rt, alloc, &mut seat, at) {
-        Ok(snap) => (seat, Some(snap.version())),
-        Err(_) => (seat, None),
-    }
+    let desk = Desk { rt, alloc, office };
+    let told = desk.answer(&mut seat, call).ok();
+    (seat, told)
 }
 
-/// A seat's commit, as a thread makes it: the seat, and the answer.
-fn commits<L: Ledger, R: Wait>(
-    rt: &R,
-    alloc: Global,
-    office: &Office<L>,
-    seat: Seat<L>,
-    commit: &CommitText,
-) -> (Seat<L>, Result<Reply, Refusal>) {
-    let mut seat = seat;
-    let answer = office.commit(rt, alloc, &mut seat, commit);
-    (seat, answer)
-}
-
-/// The commit of a line.
-fn commit_of(alloc: Global, line: &str) -> Result<CommitText, Fail> {
-    let Command::Commit(commit) = read_line(alloc, line.as_bytes())? else {
-        return Err(Fail::new("no commit"));
-    };
-    Ok(commit)
-}
-
-/// Whether one of two commits is accepted as entry 2, and the other refused for its wagon.
-fn is_one(
-    alloc: Global,
-    first: Result<Reply, Refusal>,
-    second: Result<Reply, Refusal>,
-) -> Result<bool, Fail> {
-    let (first, second) = (told_of(alloc, first)?, told_of(alloc, second)?);
-    let (accepted, refused) = ("accepted 2", "refused 82 218124712173");
-    let is_first = first.as_str() == accepted && second.as_str() == refused;
-    Ok(is_first || (first.as_str() == refused && second.as_str() == accepted))
-}
-
-/// Whether two threads begin at version 1, and one of them commits the plan while the other is refused.
-fn races<L: Ledger + Send + Sync, R: Threads + Wait + Sync>(
-    rt: &R,
-    alloc: Global,
-    blank: Blank,
-    book: Book,
-) -> Result<bool, Fail>
-    requires ledger { blank.name ≡ L.name }
-    requires parts { blank.parts ≡ L.parts }
-    requires one_each { blank.parts ≡ 2 }
-    requires no_entry { book.state.history ≡ [] }
-{
-    let Ok((office, mut seats)) = open::<L>(alloc, blank, book, 2) else {
-        return Err(Fail::new("no office"));
-    };
-    let other = seats.pop().ok_or("no second seat")?;
-    let mut one = seats.pop().ok_or("no first seat")?;
-    let placed = told(rt, alloc, &office, &mut one, ORDER)?;
-    let (at, commit) = (time(alloc, "01:00")?, commit_of(alloc, COMMIT)?);
-    let (shared, commit) = (&office, &commit);
-    let ((one, first), (other, second)) = join(
+/// Makes a line's call on two seats, a thread for each, and puts what they are told behind the texts.
+fn call_twice<L: Ledger + Send + Sync, R: Threads + Wait + Sync>(
+    desk: &Desk<'_, L, R>,
+    seats: &mut Vec<Seat<L>>,
+    line: Line<'_>,
+) -> Result<(String, String), Fail> {
+    let (rt, alloc, office) = (desk.rt, desk.alloc, desk.office);
+    let (one, other) = (call(alloc, line)?, call(alloc, line)?);
+    let second = seats.pop().ok_or("no second seat")?;
+    let first = seats.pop().ok_or("no first seat")?;
+    let ((first, told), (second, other_told)) = join(
         rt,
-        move || begins(rt, alloc, shared, one, at),
-        move || begins(rt, alloc, shared, other, at),
+        move || calls(rt, alloc, office, first, one),
+        move || calls(rt, alloc, office, second, other),
     );
-    let begun = first == Some(1) && second == Some(1);
-    let ((one, first), (other, second)) = join(
-        rt,
-        move || commits(rt, alloc, shared, one, commit),
-        move || commits(rt, alloc, shared, other, commit),
-    );
-    let raced = is_one(alloc, first, second)?;
-    let count = one.count() + other.count();
-    if seats.push(one).is_err() || seats.push(other).is_err() {
+    if seats.push(first).is_err() || seats.push(second).is_err() {
         return Err(Fail::new("no memory"));
     }
-    match close(office, seats) {
-        Ok(book) => Ok(placed.as_str() == "accepted 1" && begun && raced && book.len() == count),
-        Err(_) => Ok(false),
-    }
+    Ok((told.ok_or("no answer")?, other_told.ok_or("no answer")?))
 }
 
-fn races_in_sample<R: Threads + Wait + Sync>(rt: &R, alloc: Global) -> Result<bool, Fail> {
-    let book = book_of(alloc, SAMPLE)?;
-    races::<Brand, R>(rt, alloc, Blank::new(2), book)
+/// How many calls of all seats were accepted.
+fn count_of<L: Ledger>(seats: &[Seat<L>]) -> u64 {
+    let mut count = 0u64;
+    for seat in seats {
+        count = count.saturating_add(seat.count());
+    }
+    count
+}
+
+/// Whether two threads begin at version 1, and one of them commits the plan as entry 2, while the other is refused for its
+/// wagon.
+pub(crate) fn races<L: Ledger + Send + Sync, R: Threads + Wait + Sync>(
+    desk: &Desk<'_, L, R>,
+    seats: &mut Vec<Seat<L>>,
+) -> Result<bool, Fail> {
+    let placed = desk.told(seats.first_mut().ok_or("no seat")?, ORDER)?;
+    let (first, second) = call_twice(desk, seats, BEGIN)?;
+    let begun = "begun 1 network 1";
+    let are_begun = first.as_str() == begun && second.as_str() == begun;
+    let (first, second) = call_twice(desk, seats, COMMIT)?;
+    let (accepted, refused) = ("accepted 2", "refused 82 218124712173");
+    let is_one = (first.as_str() == accepted && second.as_str() == refused)
+        || (first.as_str() == refused && second.as_str() == accepted);
+    Ok(placed.as_str() == "accepted 1" && are_begun && is_one && count_of(seats) == 2)
 }
 
 #[test]
 fn one_of_two_commits(rt: HostRuntime) -> Result<(), Fail> {
-    assert!(rt; races_in_sample(&rt, rt.alloc())?);
+    let book = played(&rt, rt.alloc(), SAMPLE, 2, Action::Racing)?;
+    assert_eq!(rt; book.len(), 2);
     Ok(())
 }

@@ -1,0 +1,96 @@
+//! Whole runs: pieces of any size, blank lines, and limits.
+
+use office::{MAX_LINE_BYTES, RunCount, RunFault, check_run};
+use std::alloc::Global;
+use std::test::Fail;
+use test_samples::{MemorySink, MemorySource};
+
+/// Three lines: one that isn't JSON, a blank one, and one that is no object.
+pub(crate) const INPUT: &[u8] = b"{\n \t\r\n[]";
+
+pub(crate) const OUTPUT: &[u8] = b"1 refused 21\n3 refused 22\n";
+
+/// Whether a run over the three lines, which are read and written in pieces of this size, goes to its end.
+fn is_answered(alloc: Global, step: usize) -> Result<bool, Fail> {
+    let mut reader = MemorySource::new(INPUT, step);
+    let mut writer = MemorySink::new(alloc, step);
+    let count = check_run(alloc, &mut reader, &mut writer)?;
+    Ok((count.lines, count.refused) == (3, 2) && writer.bytes() == OUTPUT)
+}
+
+#[test]
+fn pieces(rt: HostRuntime) -> Result<(), Fail> {
+    for step in [1, 2, 3, 100] {
+        assert!(rt; is_answered(rt.alloc(), step)?, "{step}");
+    }
+    Ok(())
+}
+
+/// How often a run over the three lines writes, where the writer takes all of a piece.
+fn writes(alloc: Global) -> Result<u64, Fail> {
+    let mut reader = MemorySource::new(INPUT, 1);
+    let mut writer = MemorySink::new(alloc, usize::MAX);
+    check_run(alloc, &mut reader, &mut writer)?;
+    Ok(writer.writes())
+}
+
+/// Each reply is one write.
+#[test]
+fn one_write_a_reply(rt: HostRuntime) -> Result<(), Fail> {
+    assert_eq!(rt; writes(rt.alloc())?, 2);
+    Ok(())
+}
+
+/// How a run over memory ends: the lines and the refusals, or the stop's number and line.
+fn end_of(alloc: Global, input: &[u8]) -> Result<(u64, u64), (u32, Option<u64>)> {
+    let mut reader = MemorySource::new(input, usize::MAX);
+    let mut writer = MemorySink::new(alloc, usize::MAX);
+    match check_run(alloc, &mut reader, &mut writer) {
+        Ok(RunCount { lines, refused }) => Ok((lines, refused)),
+        Err(fault) => Err((fault.number(), fault.line())),
+    }
+}
+
+/// So many bytes of one kind, and then these.
+fn bytes(alloc: Global, byte: u8, count: usize, last: &[u8]) -> Result<Vec<u8>, Fail> {
+    let mut bytes = vec![in alloc; byte; count]?;
+    bytes.extend_from_slice(last)?;
+    Ok(bytes)
+}
+
+/// So many bytes of one kind and then these, each with how a run over them ends: a line past the millionth is one too
+/// many, with a line feed at its end or without.
+#[test]
+fn long_lines_and_many(rt: HostRuntime) -> Result<(), Fail> {
+    assert_eq!(rt; MAX_LINE_BYTES, 65_536);
+    for (byte, count, last, end) in [
+        (b'x', 65_536, "", Ok((1, 1))),
+        (b'x', 65_536, "\n", Ok((1, 1))),
+        (b'x', 65_537, "", Err((92, Some(1)))),
+        (b'x', 65_537, "\n", Err((92, Some(1)))),
+        (b'\n', 0, "", Ok((0, 0))),
+        (b'\n', 1_000_000, "", Ok((1_000_000, 0))),
+        (b'\n', 999_999, " ", Ok((1_000_000, 0))),
+        (b'\n', 1_000_001, "", Err((91, Some(1_000_001)))),
+        (b'\n', 1_000_000, " ", Err((91, Some(1_000_001)))),
+        (b'\n', 1_000_000, "[]", Err((91, Some(1_000_001)))),
+    ] {
+        let input = bytes(rt.alloc(), byte, count, last.as_bytes())?;
+        assert_eq!(rt; end_of(rt.alloc(), &input), end, "{byte} {count}");
+    }
+    Ok(())
+}
+
+/// A stop has the number of its line, but where no line was begun.
+#[test]
+fn numbers_of_stops(rt: HostRuntime) {
+    for (fault, number, line) in [
+        (RunFault::OutOfMemory, 1, None),
+        (RunFault::TooManyLines(1_000_001), 91, Some(1_000_001)),
+        (RunFault::LineTooLong(7), 92, Some(7)),
+        (RunFault::ReadFailed(8), 93, Some(8)),
+        (RunFault::WriteFailed(9), 94, Some(9)),
+    ] {
+        assert_eq!(rt; (fault.number(), fault.line()), (number, line));
+    }
+}
