@@ -1,2 +1,3 @@
 pub mod WagonNumbers
 pub mod Moments
+pub mod Words

@@ -59,6 +59,13 @@ impl<const ROOM: usize> ShortText<ROOM> {
     {
         &self.bytes[..usize::from(self.used)]
     }
+
+    /// The same as text.
+    fn as_str(&self) -> &str
+        ensures { result.now ≡ self.now }
+    {
+        ascii_str(self.as_bytes())
+    }
 }
 
 impl<const ROOM: usize> PartialEq for ShortText<ROOM> {
@@ -67,8 +74,8 @@ impl<const ROOM: usize> PartialEq for ShortText<ROOM> {
     ghost laws = { partial_equiv_from_equiv nat_list_eq_equiv };
 
     fn eq(&self, other: &Self) -> bool {
-        // arrays of one length are compared by words
-        self.used == other.used && self.bytes == other.bytes
+        // texts are compared by words
+        self.as_str() == other.as_str()
     }
 }
 
@@ -96,8 +103,7 @@ impl<const ROOM: usize> Ord for ShortText<ROOM> {
     ghost matches_eq = { texts_ties };
 
     fn cmp(&self, other: &Self) -> Ordering {
-        // texts are compared by words
-        ascii_str(self.as_bytes()).cmp(ascii_str(other.as_bytes()))
+        self.as_str().cmp(other.as_str())
     }
 }
 
