@@ -13,13 +13,13 @@ use move_messages::{CommitText, Message, OrderText};
 use operating_db::Event;
 use rail_codes::{Moment, OrderId};
 use std::alloc::{AllocError, Global};
-use std::hint::spin_loop;
 use std::marker::Model;
 use std::sync::ledger::Ledger;
 use std::sync::{Mutex, MutexGuard, Wait};
+use std::thread::yield_now;
 
-/// How often a call tries to take the lock before it waits in turn: for some 20 microseconds where nobody else tries,
-/// which is longer than most calls hold it.
+/// How often a call tries to take the lock before it waits in turn. With a yield after each try that is longer than most
+/// calls hold it.
 const TRIES: u32 = 2_000;
 
 /// A book that several seats share. A contract sees how many seats it was opened with.
@@ -162,12 +162,13 @@ impl<L: Ledger> Office<L> {
 
     /// The book behind the lock. May wait.
     fn locked(&self, rt: &impl Wait) -> MutexGuard<'_, SharedBook<L>> {
-        // Most calls are short, and to sleep and be woken takes a call of the kernel each.
+        // Most calls are short, and to sleep and be woken takes long. A try takes the lock's cache line from the thread
+        // that holds it, so a yield, for which no other thread need wait, keeps the tries apart.
         for _ in 0..TRIES {
             if let Some(book) = self.book.try_lock() {
                 return book;
             }
-            spin_loop();
+            yield_now();
         }
         self.book.lock(rt)
     }

@@ -8,6 +8,7 @@ use commit_book::Book;
 use line_network::Network;
 use office::{FromRead, ToWrite};
 use std::io::{Read, Write};
+use std::mem;
 use std::rt::Files;
 use std::sync::Wait;
 use std::thread::Threads;
@@ -38,4 +39,10 @@ pub(crate) fn bring<R: Files + Threads + Wait + AllocGlobal, I: Read + Drop, O: 
         networks,
         status: status_of_run(count)?,
     })
+}
+
+/// Leaves a book to the end of the program, which follows at once and gives all memory back as a whole. To take a long
+/// history and its index apart first would only take time.
+pub(crate) fn leave(book: Book) {
+    mem::forget(book);
 }

@@ -1,6 +1,7 @@
 //! The word `feed`.
 ghost use Rattle.std.specs.Prelude.{◌≡◌, All, IfOk, false};
 
+use crate::bringing::leave;
 use crate::new_book::{NewBook, OfficeFiles, new_book, open, read_files};
 use crate::office_options::FeedOptions;
 use crate::printing::print_whole;
@@ -29,7 +30,11 @@ where
         return Err(Stop::OpenFailed);
     }
     match office::feed(rt, rt.alloc(), readers, book, &networks) {
-        Ok(report) => print_report(rt, &report),
+        Ok(report) => {
+            let status = print_report(rt, &report);
+            leave(report.book);
+            status
+        }
         Err(fault) => Err(Stop::Feed(fault)),
     }
 }

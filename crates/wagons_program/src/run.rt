@@ -1,6 +1,6 @@
 //! The word `run`.
 
-use crate::bringing::bring;
+use crate::bringing::{Brought, bring, leave};
 use crate::office_options::OfficeOptions;
 use crate::stop::Stop;
 use std::io;
@@ -15,5 +15,11 @@ pub(crate) fn run<R: Print + Files + Threads + Wait + AllocGlobal, I: Read + Dro
     options: &OfficeOptions<'_>,
     input: I,
 ) -> Result<u8, Stop> {
-    Ok(bring(rt, options, input, io::writer(rt))?.status)
+    let Brought {
+        book,
+        networks: _,
+        status,
+    } = bring(rt, options, input, io::writer(rt))?;
+    leave(book);
+    Ok(status)
 }
