@@ -7,21 +7,15 @@
 mod ascii_array;
 mod ascii_text;
 mod characters;
-mod class_code;
 mod code_fault;
-mod company;
+mod codes;
 mod message_id;
 mod moment;
-mod order_id;
-mod place;
 mod short_text;
 mod wagon_number;
 
-pub use class_code::ClassCode;
 pub use code_fault::CodeFault;
-pub use company::Company;
+pub use codes::{ClassCode, Company, OrderId, Place};
 pub use message_id::MessageId;
 pub use moment::Moment;
-pub use order_id::OrderId;
-pub use place::Place;
 pub use wagon_number::WagonNumber;
