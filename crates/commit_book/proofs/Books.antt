@@ -12,7 +12,7 @@ use Rattle.commit_book.specs.History.{IsLeast, IsTableAt, problem_at, replay}
 use Rattle.commit_book.specs.inner.Kept.{IsBook, IsKeptAt, which_of, with_kept}
 use Rattle.commit_book.specs.Setting.{Setting}
 use Rattle.commit_book.specs.declared.kept_problems.KeptProblem.{KeptProblem}
-use Rattle.commit_book.specs.declared.refusal.Refusal.{Refusal}
+use Rattle.faults.specs.declared.faults.Refusal.{Refusal}
 use Rattle.commit_book.proofs.CommitLaws.{both_true, commit_owed, same_number}
 use Rattle.commit_book.proofs.Histories.{empty_legal, problem_kept, table_kept}
 use Rattle.commit_book.proofs.Runs.{IsLegalEntry, entered_legal}

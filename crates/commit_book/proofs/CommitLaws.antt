@@ -13,8 +13,8 @@ use Rattle.cost_table.specs.Problem.{ProblemValue, names_of_problem}
 use Rattle.cost_table.specs.Table.{Table}
 use Rattle.price_checker.specs.Faults.{first_fault}
 use Rattle.named_pairs.specs.NamedPairs.{checked, positions_of}
-use Rattle.named_pairs.specs.declared.named_fault.NamedFault.{NamedFault}
-use Rattle.named_pairs.specs.declared.named_fault.NamedFault.TheVariants as named
+use Rattle.faults.specs.declared.faults.NamedFault.{NamedFault}
+use Rattle.faults.specs.declared.faults.NamedFault.TheVariants as named
 use Rattle.named_pairs.proofs.Checked.{passes}
 use Rattle.price_checker.proofs.Duality.{certificates_optimal}
 use Rattle.price_checker.proofs.FaultFree.{in_range_certified}
@@ -26,10 +26,10 @@ use Rattle.operating_db.proofs.Names.{same, same_is}
 use Rattle.commit_book.specs.BookStep.{refusal_by, refusal_in}
 use Rattle.commit_book.specs.Commits.{free_in, is_same_free, is_same_wagon, order_changed, wagon_changed, wagon_of}
 use Rattle.commit_book.specs.History.{IsLeast, IsTableAt, IsUnchanged, problem_at, replay}
-use Rattle.commit_book.specs.Refusal.{refusal_of_fault}
+use Rattle.faults.specs.Conversions.{refusal_of_fault}
 use Rattle.commit_book.specs.Setting.{Setting}
-use Rattle.commit_book.specs.declared.refusal.Refusal.{Refusal}
-use Rattle.commit_book.specs.declared.refusal.Refusal.TheVariants.{OrderChanged, OutOfMemory, WagonChanged}
+use Rattle.faults.specs.declared.faults.Refusal.{Refusal}
+use Rattle.faults.specs.declared.faults.Refusal.TheVariants.{OrderChanged, OutOfMemory, WagonChanged}
 use Rattle.commit_book.proofs.Placed.{named_once, placed_in_range, positions_placed}
 
 tail_allowed : {A : Type 0} (b : Bool) (rest : Option A) (x : A) → cond b rest (Some x) ≡ None → (b ≡ true) × (rest ≡ None)

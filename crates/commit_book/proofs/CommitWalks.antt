@@ -7,8 +7,8 @@ use Rattle.cost_table.specs.Problem.{ProblemValue}
 use Rattle.operating_db.specs.Commits.{Pair, times_of_order, lack_in}
 use Rattle.operating_db.specs.Office.{Office}
 use Rattle.commit_book.specs.Commits.{free_in, is_same_free, order_changed, wagon_changed, wagon_of}
-use Rattle.commit_book.specs.declared.refusal.Refusal.{Refusal}
-use Rattle.commit_book.specs.declared.refusal.Refusal.TheVariants.{WagonChanged, OrderChanged}
+use Rattle.faults.specs.declared.faults.Refusal.{Refusal}
+use Rattle.faults.specs.declared.faults.Refusal.TheVariants.{WagonChanged, OrderChanged}
 
 parts : (pairs : List Pair) (i : ℕ) (pair : Pair) → i < length pairs → pair ≡ get_or pairs i pair → drop i pairs ≡ pair ∷ drop (i + 1) pairs
 parts pairs i pair lt is = drop-cons pairs i pair lt ∙ rw (← is, add-one) refl

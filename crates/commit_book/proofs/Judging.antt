@@ -13,8 +13,8 @@ use Rattle.commit_book.specs.inner.Kept.{IsBook, which_of}
 use Rattle.commit_book.specs.Setting.{Setting}
 use Rattle.commit_book.specs.declared.answer.Answer.TheVariants.{Refused}
 use Rattle.commit_book.specs.declared.kept_problems.KeptProblem.{KeptProblem}
-use Rattle.commit_book.specs.declared.refusal.Refusal.{Refusal}
-use Rattle.commit_book.specs.declared.refusal.Refusal.TheVariants.{OutOfMemory, NotKept, BookFull}
+use Rattle.faults.specs.declared.faults.Refusal.{Refusal}
+use Rattle.faults.specs.declared.faults.Refusal.TheVariants.{OutOfMemory, NotKept, BookFull}
 use Rattle.commit_book.proofs.BookCalls.{commit_step, memory_or}
 use Rattle.commit_book.proofs.Books.{commit_judged, commit_passed, kept_as, kept_is_found, named_problem}
 

@@ -9,21 +9,21 @@ use Rattle.cost_table.specs.Table.{Table}
 use Rattle.operating_db.specs.After.{after_call}
 use Rattle.operating_db.specs.Office.{Office}
 use Rattle.operating_db.specs.Steps.{IsPromised}
-use Rattle.operating_db.specs.declared.apply_fault.ApplyFault.{ApplyFault}
+use Rattle.faults.specs.declared.faults.ApplyFault.{ApplyFault}
 use Rattle.operating_db.specs.declared.event.Event.{Event}
 use Rattle.operating_db.specs.declared.event.Event.TheVariants as event
 use Rattle.commit_book.specs.BookStep.{BookState, IsAnswer, IsCall, IsCommitAnswer, IsMessageAnswer, IsRun, accepted_unless, book_after, entered, entered_as, event_answer, is_full, is_kept, is_this, refusal_in}
 use Rattle.wagon_roster.specs.Roster.{IsRoster}
 use Rattle.commit_book.specs.Headline.{Headline, IsProved}
 use Rattle.commit_book.specs.History.{IsEntry, IsLegal, IsTableAt, Owes, problem_at, replay}
-use Rattle.commit_book.specs.Refusal.{refusal_of}
+use Rattle.faults.specs.Conversions.{refusal_of}
 use Rattle.commit_book.specs.Setting.{Setting}
 use Rattle.commit_book.specs.declared.answer.Answer.{Answer}
 use Rattle.commit_book.specs.declared.answer.Answer.TheVariants.{Done, Begun, Refused}
 use Rattle.commit_book.specs.declared.call.Call.{Call}
 use Rattle.commit_book.specs.declared.call.Call.TheVariants as call
-use Rattle.commit_book.specs.declared.refusal.Refusal.{Refusal}
-use Rattle.commit_book.specs.declared.refusal.Refusal.TheVariants.{BookFull, IdReused, NotKept}
+use Rattle.faults.specs.declared.faults.Refusal.{Refusal}
+use Rattle.faults.specs.declared.faults.Refusal.TheVariants.{BookFull, IdReused, NotKept}
 use Rattle.commit_book.specs.declared.reply.Reply.TheVariants.{Accepted, Repeated}
 use Rattle.commit_book.proofs.CommitLaws.{both_true, commit_owed, same_number}
 use Rattle.commit_book.proofs.Histories.{empty_legal, legal_push}

@@ -7,23 +7,23 @@ use Rattle.move_messages.specs.declared.commit_text.CommitText.{CommitText}
 use Rattle.cost_table.specs.Problem.{ProblemValue, names_of_problem}
 use Rattle.cost_table.specs.Table.{Table}
 use Rattle.named_pairs.specs.NamedPairs.{checked}
-use Rattle.named_pairs.specs.declared.named_fault.NamedFault.{NamedFault}
+use Rattle.faults.specs.declared.faults.NamedFault.{NamedFault}
 use Rattle.operating_db.specs.After.{after_call}
 use Rattle.operating_db.specs.Commits.{Pair}
 use Rattle.operating_db.specs.Office.{Office}
-use Rattle.operating_db.specs.declared.apply_fault.ApplyFault.{ApplyFault}
+use Rattle.faults.specs.declared.faults.ApplyFault.{ApplyFault}
 use Rattle.operating_db.specs.declared.event.Event.{Event}
 use Rattle.operating_db.specs.declared.event.Event.TheVariants as event
 use Rattle.commit_book.specs.Commits.{wagon_changed, order_changed}
 use Rattle.commit_book.specs.History.{replay, problem_at, IsTableAt, IsFresh}
-use Rattle.commit_book.specs.Refusal.{refusal_of, refusal_of_fault}
+use Rattle.faults.specs.Conversions.{refusal_of, refusal_of_fault}
 use Rattle.commit_book.specs.Setting.{Setting}
 use Rattle.commit_book.specs.declared.answer.Answer.{Answer}
 use Rattle.commit_book.specs.declared.answer.Answer.TheVariants.{Done, Begun, Refused}
 use Rattle.commit_book.specs.declared.call.Call.{Call}
 use Rattle.commit_book.specs.declared.call.Call.TheVariants.{Message, Place, Withdraw, Begin, Commit, Revise}
-use Rattle.commit_book.specs.declared.refusal.Refusal.{Refusal}
-use Rattle.commit_book.specs.declared.refusal.Refusal.TheVariants.{OutOfMemory, IdReused, BookFull, NotKept}
+use Rattle.faults.specs.declared.faults.Refusal.{Refusal}
+use Rattle.faults.specs.declared.faults.Refusal.TheVariants.{OutOfMemory, IdReused, BookFull, NotKept}
 use Rattle.std.specs.declared.alloc.AllocError.{AllocError}
 use Rattle.commit_book.specs.Snap.{SnapValue}
 use Rattle.commit_book.specs.declared.reply.Reply.{Reply}

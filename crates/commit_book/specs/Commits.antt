@@ -10,8 +10,8 @@ use Rattle.cost_table.specs.Names.{is_name}
 use Rattle.cost_table.specs.Problem.{ProblemValue}
 use Rattle.operating_db.specs.Commits.{Pair, times_of_order, lack_in}
 use Rattle.operating_db.specs.Office.{Office}
-use Rattle.commit_book.specs.declared.refusal.Refusal.{Refusal}
-use Rattle.commit_book.specs.declared.refusal.Refusal.TheVariants.{WagonChanged, OrderChanged}
+use Rattle.faults.specs.declared.faults.Refusal.{Refusal}
+use Rattle.faults.specs.declared.faults.Refusal.TheVariants.{WagonChanged, OrderChanged}
 
 -- a problem's wagon of a number
 abbrev pub wagon_of : ProblemValue → List ℕ → Option FreeWagon

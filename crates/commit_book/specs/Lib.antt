@@ -3,7 +3,6 @@ pub mod Commits
 pub mod Headline
 pub mod History
 pub mod Limits
-pub mod Refusal
 pub mod Requests
 pub mod Setting
 pub mod Snap

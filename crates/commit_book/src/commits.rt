@@ -4,7 +4,7 @@ ghost use Rattle.std.specs.Result.{result_err};
 ghost use Rattle.cost_table.specs.Table.{order_count, wagon_count};
 ghost use Rattle.commit_book.specs.BookStep.{refusal_in};
 ghost use Rattle.commit_book.specs.Commits.{free_in, is_same_free, order_changed, wagon_changed, wagon_of as wagon_in_problem};
-ghost use Rattle.commit_book.specs.declared.refusal.Refusal.TheVariants.{OutOfMemory};
+ghost use Rattle.faults.specs.declared.faults.Refusal.TheVariants.{OutOfMemory};
 ghost use Rattle.operating_db.specs.Commits.{lack_in, times_of_order as times_in};
 ghost use Rattle.database_rows.specs.Rows.{order_in};
 

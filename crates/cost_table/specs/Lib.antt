@@ -3,7 +3,6 @@ pub mod Table
 pub mod Plan
 pub mod Rows
 pub mod Names
-pub mod TableFault
 pub mod Problem
 pub mod Allowed
 pub mod inner

@@ -3,8 +3,8 @@ use Rattle.std.specs.Prelude.{ℕ, if◌then◌else◌, nat_eq, nat_lt, ◌||◌
 use Rattle.std.specs.List.{list_any}
 use Rattle.std.specs.Cmp.Lexicographic.{pointwise}
 use Rattle.cost_table.specs.TableLimits.{max_table_wagons, max_table_orders}
-use Rattle.cost_table.specs.declared.table_fault.TableFault.{TableFault}
-use Rattle.cost_table.specs.declared.table_fault.TableFault.TheVariants.{DuplicateWagon, DuplicateOrder, TooLarge}
+use Rattle.faults.specs.declared.faults.TableFault.{TableFault}
+use Rattle.faults.specs.declared.faults.TableFault.TheVariants.{DuplicateWagon, DuplicateOrder, TooLarge}
 
 -- the names of a table's wagons and orders, each by its characters, in the table's order
 pub record NameLists : Type 0 where

@@ -3,8 +3,8 @@ use Rattle.std.specs.Prelude.{◌≡◌, ◌≤◌, ℕ, if◌then◌else◌, na
 use Rattle.wagon_state.specs.declared.free_wagon.FreeWagon.{FreeWagon}
 use Rattle.load_orders.specs.Wanted.{WantedOrder}
 use Rattle.cost_table.specs.TableLimits.{max_table_wagons, max_table_orders, max_table_lack}
-use Rattle.cost_table.specs.declared.table_fault.TableFault.{TableFault}
-use Rattle.cost_table.specs.declared.table_fault.TableFault.TheVariants.{TooLarge}
+use Rattle.faults.specs.declared.faults.TableFault.{TableFault}
+use Rattle.faults.specs.declared.faults.TableFault.TheVariants.{TooLarge}
 use Rattle.cost_table.specs.Names.{NameLists, first_repeated, unrepeated}
 
 -- what is to be distributed at a moment: free wagons, and orders with what they lack

@@ -3,8 +3,8 @@ use Rattle.std.specs.Prelude.{◌≤◌, ◌+◌, ℕ, if◌then◌else◌, ◌=
 use Rattle.std.specs.List.{list_all}
 use Rattle.std.specs.declared.alloc.Global.{Global}
 use Rattle.cost_table.specs.TableLimits.{max_table_wagons, max_table_orders, max_cost, max_table_lack}
-use Rattle.cost_table.specs.declared.table_fault.TableFault.{TableFault}
-use Rattle.cost_table.specs.declared.table_fault.TableFault.TheVariants.{TooLarge, UnevenRows}
+use Rattle.faults.specs.declared.faults.TableFault.{TableFault}
+use Rattle.faults.specs.declared.faults.TableFault.TheVariants.{TooLarge, UnevenRows}
 use Rattle.cost_table.specs.Table.{Table}
 
 -- rows as they are handed in: for each order a cost, or none where the pair is not allowed

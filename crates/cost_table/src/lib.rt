@@ -11,9 +11,9 @@ mod plan_cost;
 mod problem;
 mod rows;
 mod table_cells;
-mod table_fault;
 
 pub use allowed::cells;
+pub use faults::TableFault;
 pub use limits::{MAX_COST, MAX_TABLE_LACK, MAX_TABLE_ORDERS, MAX_TABLE_WAGONS};
 pub use names::Names;
 pub use pair_names::PairNames;
@@ -21,4 +21,3 @@ pub use plan::Plan;
 pub use plan_cost::cost;
 pub use problem::Problem;
 pub use table_cells::Cells;
-pub use table_fault::TableFault;

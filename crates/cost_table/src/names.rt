@@ -4,7 +4,7 @@ ghost use Rattle.cost_table.specs.Names.{is_name, names_of, pair_of, repeated_fr
 
 use crate::limits::{MAX_TABLE_ORDERS, MAX_TABLE_WAGONS};
 use crate::pair_names::PairNames;
-use crate::table_fault::TableFault;
+use faults::TableFault;
 use rail_codes::{OrderId, WagonNumber};
 use std::marker::Model;
 

@@ -7,7 +7,7 @@ ghost use Rattle.cost_table.specs.Problem.{problem_of, wagon_names, order_names,
 
 use crate::limits::{MAX_TABLE_LACK, MAX_TABLE_ORDERS, MAX_TABLE_WAGONS};
 use crate::pair_names::PairNames;
-use crate::table_fault::TableFault;
+use faults::TableFault;
 use load_orders::Wanted;
 use rail_codes::{Moment, OrderId, WagonNumber};
 use std::alloc::{AllocError, Global};

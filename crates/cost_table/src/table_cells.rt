@@ -3,14 +3,14 @@ ghost use Rattle.std.specs.Prelude.{◌≡◌, ◌<◌, ◌≤◌, ℕ, [], ◌�
 ghost use Rattle.std.specs.Result.{result_err};
 ghost use Rattle.cost_table.specs.TableLimits.{max_cost};
 ghost use Rattle.cost_table.specs.Rows.{IsNumber, table_of, number_at, rows_fault};
-ghost use Rattle.cost_table.specs.declared.table_fault.TableFault.TheVariants.{OutOfMemory};
+ghost use Rattle.faults.specs.declared.faults.TableFault.TheVariants.{OutOfMemory};
 ghost use Rattle.cost_table.specs.Table.{IsTable, IsRow, row_at, cost_in, cost_at, penalty_at, lack_at, wagon_count, order_count};
 ghost use Rattle.load_orders.specs.Wanted.{IsLack};
 ghost use Rattle.cost_table.specs.inner.Searched.{IsAscendingRow};
 ghost use Rattle.cost_table.specs.inner.Flat.{rows_of, AreEnds};
 
 use crate::rows::{are_even, are_too_large, flatten};
-use crate::table_fault::TableFault;
+use faults::TableFault;
 use std::alloc::{AllocError, Global};
 use std::marker::Model;
 

@@ -2,8 +2,8 @@
 ghost use Rattle.std.specs.Prelude.{◌≡◌, ◌≤◌, ◌<◌, ◌+◌, ◌^◌, ◌++◌, ◌∷◌, [], ℕ, IfErr, IfOk, List, length};
 ghost use Rattle.csv.specs.Records.{fields_of};
 ghost use Rattle.csv_records.specs.Fields.{Record};
-ghost use Rattle.csv_records.specs.declared.record_fault.RecordFault.{RecordFault};
-ghost use Rattle.csv_records.specs.declared.record_fault.RecordFault.TheVariants.{OutOfMemory, ReadFailed};
+ghost use Rattle.faults.specs.declared.faults.RecordFault.{RecordFault};
+ghost use Rattle.faults.specs.declared.faults.RecordFault.TheVariants.{OutOfMemory, ReadFailed};
 
 use crate::RecordFault;
 use csv::ByteRecord;

@@ -4,9 +4,8 @@
 mod fields;
 mod from_records;
 mod reading;
-mod record_fault;
 
+pub use faults::RecordFault;
 pub use fields::{MAX_NUMBER_DIGITS, is_text, place_of, text_of, whole_number};
 pub use from_records::FromRecords;
 pub use reading::{open_records, read_records};
-pub use record_fault::RecordFault;

@@ -2,6 +2,5 @@ pub mod Distance
 pub mod Laws
 pub mod Networks
 pub mod Walk
-pub mod WorkFault
 pub mod Workers
 pub mod inner

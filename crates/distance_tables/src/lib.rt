@@ -15,13 +15,12 @@ mod search;
 mod share;
 mod step;
 mod turn;
-mod work_fault;
 
 pub use distances::Tables;
+pub use faults::WorkFault;
 pub use gate::{Gate, OpenGate};
 pub use laws::{distance_is_unique, place_is_at_itself, triangle_holds};
 pub use many_threads::{MAX_WORKERS, tables_by_workers};
 pub use networks::{MAX_NETWORKS, Networks};
 pub use networks_fault::NetworksFault;
 pub use one_thread::tables;
-pub use work_fault::WorkFault;

@@ -12,7 +12,7 @@ use Rattle.csv_records.specs.Fields.{Record}
 use Rattle.csv_records.specs.Files.{AreRecordsOf}
 use Rattle.line_network.specs.declared.line.Line.{Line}
 use Rattle.line_network.specs.declared.line_record.LineRecord.{LineRecord}
-use Rattle.line_network.specs.declared.network_fault.NetworkFault.{NetworkFault}
+use Rattle.faults.specs.declared.faults.NetworkFault.{NetworkFault}
 
 -- naming the ends of all records is naming those of each in turn
 ends_in_turn : (places : List (List ℕ)) (records : List LineRecord) → fold with_place places (flat_map ends_of records) ≡ fold with_ends places records

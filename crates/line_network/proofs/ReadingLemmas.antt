@@ -6,7 +6,7 @@ use Rattle.csv_records.specs.inner.Requests.{IsAnswer}
 use Rattle.line_network.specs.Network.{NetworkValue}
 use Rattle.line_network.specs.Reading.{Gives, Stops, network_of}
 use Rattle.line_network.specs.inner.Reading.{IsReadSoFar}
-use Rattle.line_network.specs.declared.network_fault.NetworkFault.{NetworkFault}
+use Rattle.faults.specs.declared.faults.NetworkFault.{NetworkFault}
 
 pub gives_from : (result : Result NetworkValue NetworkFault) (rows : List Record) → IsAnswer IsReadSoFar (λ fault records. Stops fault (network_of records)) result rows
     → Gives result (network_of rows)

@@ -1,5 +1,4 @@
 pub mod Network
-pub mod NetworkFault
 pub mod NetworkOf
 pub mod Reading
 pub mod Records

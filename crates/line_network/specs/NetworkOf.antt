@@ -7,7 +7,7 @@ use Rattle.line_network.specs.Network.{NetworkValue, max_places}
 use Rattle.line_network.specs.Reading.{Gives, lines_of, max_line_records, network_of, with_place}
 use Rattle.line_network.specs.Records.{is_header, line_record}
 use Rattle.line_network.specs.declared.line_record.LineRecord.{LineRecord}
-use Rattle.line_network.specs.declared.network_fault.NetworkFault.{NetworkFault}
+use Rattle.faults.specs.declared.faults.NetworkFault.{NetworkFault}
 
 abbrev pub ends_of : LineRecord → List (List ℕ)
 ends_of r = r.from ∷ r.to ∷ []

@@ -8,8 +8,8 @@ use Rattle.line_network.specs.declared.line.Line.{Line}
 use Rattle.line_network.specs.declared.line_record.LineRecord.{LineRecord}
 use Rattle.line_network.specs.declared.line_record.Way.{Way}
 use Rattle.line_network.specs.declared.line_record.Way.TheVariants.{One, Both}
-use Rattle.line_network.specs.declared.network_fault.NetworkFault.{NetworkFault}
-use Rattle.line_network.specs.declared.network_fault.NetworkFault.TheVariants.{OutOfMemory, BadRow, TooManyPlaces, TooManyLines, ReadFailed}
+use Rattle.faults.specs.declared.faults.NetworkFault.{NetworkFault}
+use Rattle.faults.specs.declared.faults.NetworkFault.TheVariants.{OutOfMemory, BadRow, TooManyPlaces, TooManyLines, ReadFailed}
 
 -- the most records of lines, below the header
 abbrev pub max_line_records : ℕ

@@ -5,11 +5,10 @@ mod limits;
 mod line;
 mod line_record;
 mod network;
-mod network_fault;
 mod reading;
 
+pub use faults::NetworkFault;
 pub use limits::{MAX_LINE_KM, MAX_LINE_MINUTES, MAX_LINE_RECORDS, MAX_PLACES};
 pub use line::Line;
 pub use network::Network;
-pub use network_fault::NetworkFault;
 pub use reading::read_lines;

@@ -5,9 +5,9 @@ use Rattle.cost_table.specs.Names.{NameLists, pair_of}
 use Rattle.cost_table.specs.Table.{Table}
 use Rattle.cost_table.specs.Plan.{cost_of}
 use Rattle.price_checker.specs.Faults.{first_fault}
-use Rattle.price_checker.specs.declared.check_fault.CheckFault.{CheckFault}
+use Rattle.faults.specs.declared.faults.CheckFault.{CheckFault}
 use Rattle.named_pairs.specs.NamedPairs.{NamedPair, before_rest, checked, checked_at, cost_unless, found_or, positions_of}
-use Rattle.named_pairs.specs.declared.named_fault.NamedFault.{NamedFault}
+use Rattle.faults.specs.declared.faults.NamedFault.{NamedFault}
 
 -- the position of the first pair, and those of the rest
 pub record FirstPosition (names : NameLists) (pair : NamedPair) (pairs : List NamedPair) (positions : List (ℕ × ℕ)) : Type 0 where

@@ -1,6 +1,6 @@
 -- The positions of pairs while they are looked up one by one.
 use Rattle.std.specs.Prelude.{ℕ, List, ◌++◌, Result, Ok, Err}
-use Rattle.named_pairs.specs.declared.named_fault.NamedFault.{NamedFault}
+use Rattle.faults.specs.declared.faults.NamedFault.{NamedFault}
 
 -- what was found before, and what is still found
 abbrev pub with_front : List (ℕ × ℕ) → Result (List (ℕ × ℕ)) NamedFault → Result (List (ℕ × ℕ)) NamedFault

@@ -8,8 +8,8 @@ use Rattle.cost_table.specs.Names.{NameLists, is_name, both}
 use Rattle.std.specs.Prelude.{position}
 use Rattle.std.proofs.lemmas.List.Quantifiers.{position-Some}
 use Rattle.price_checker.specs.Faults.{first_fault, wrong_lengths, not_allowed, used_twice, is_spent, price_gap, gap_at, over_penalty, first_below, paid_by_orders}
-use Rattle.price_checker.specs.declared.check_fault.CheckFault.{CheckFault}
-use Rattle.price_checker.specs.declared.check_fault.CheckFault.TheVariants as check
+use Rattle.faults.specs.declared.faults.CheckFault.{CheckFault}
+use Rattle.faults.specs.declared.faults.CheckFault.TheVariants as check
 use Rattle.named_pairs.specs.NamedPairs.{NamedPair, positions_of}
 use Rattle.named_pairs.specs.inner.Naming.{AreNamed, IsNamed}
 use Rattle.named_pairs.proofs.Checked.{first_position}

@@ -1,21 +1,10 @@
--- The faults of pairs that are given by name: their numbers, and the names in a fault of the price checker.
+-- The names in a fault of the price checker.
 use Rattle.std.specs.Prelude.{ℕ, List, [], slice_index_or}
 use Rattle.cost_table.specs.Names.{NameLists}
-use Rattle.price_checker.specs.declared.check_fault.CheckFault.{CheckFault}
-use Rattle.price_checker.specs.declared.check_fault.CheckFault.TheVariants as check
-use Rattle.named_pairs.specs.declared.named_fault.NamedFault.{NamedFault}
-use Rattle.named_pairs.specs.declared.named_fault.NamedFault.TheVariants.{OutOfMemory, WrongLengths, NotAllowed, UsedTwice, PriceGap, OverPenalty, SumsDiffer, NotInProblem}
-
--- the number that stands for a fault in a reply
-abbrev pub named_fault_number : NamedFault → ℕ
-named_fault_number OutOfMemory = 1
-named_fault_number WrongLengths = 61
-named_fault_number (NotAllowed wagon order) = 62
-named_fault_number (UsedTwice wagon order) = 63
-named_fault_number (PriceGap wagon order) = 64
-named_fault_number (OverPenalty order) = 65
-named_fault_number (SumsDiffer left right) = 66
-named_fault_number (NotInProblem wagon order) = 84
+use Rattle.faults.specs.declared.faults.CheckFault.{CheckFault}
+use Rattle.faults.specs.declared.faults.CheckFault.TheVariants as check
+use Rattle.faults.specs.declared.faults.NamedFault.{NamedFault}
+use Rattle.faults.specs.declared.faults.NamedFault.TheVariants.{OutOfMemory, WrongLengths, NotAllowed, UsedTwice, PriceGap, OverPenalty, SumsDiffer, NotInProblem}
 
 -- the name at a position
 abbrev pub name_at : List (List ℕ) → ℕ → List ℕ

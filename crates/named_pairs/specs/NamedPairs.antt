@@ -5,10 +5,10 @@ use Rattle.cost_table.specs.Plan.{IsOptimal, cost_of}
 use Rattle.cost_table.specs.Names.{NameLists, pair_of}
 use Rattle.price_checker.specs.Certificate.{IsCertificate}
 use Rattle.price_checker.specs.Faults.{first_fault}
-use Rattle.price_checker.specs.declared.check_fault.CheckFault.{CheckFault}
+use Rattle.faults.specs.declared.faults.CheckFault.{CheckFault}
 use Rattle.named_pairs.specs.NamedFaults.{named}
-use Rattle.named_pairs.specs.declared.named_fault.NamedFault.{NamedFault}
-use Rattle.named_pairs.specs.declared.named_fault.NamedFault.TheVariants.{NotInProblem}
+use Rattle.faults.specs.declared.faults.NamedFault.{NamedFault}
+use Rattle.faults.specs.declared.faults.NamedFault.TheVariants.{NotInProblem}
 
 -- a wagon's number and an order's id
 abbrev pub NamedPair : Type 0

@@ -4,11 +4,11 @@ ghost use Rattle.cost_table.specs.Table.{order_count, wagon_count};
 ghost use Rattle.named_pairs.specs.NamedFaults.{named};
 ghost use Rattle.named_pairs.specs.NamedPairs.{checked, CertifiesPairs};
 ghost use Rattle.named_pairs.specs.inner.Naming.{AreNamed};
-ghost use Rattle.named_pairs.specs.declared.named_fault.NamedFault.TheVariants.{OutOfMemory};
+ghost use Rattle.faults.specs.declared.faults.NamedFault.TheVariants.{OutOfMemory};
 
-use crate::named_fault::NamedFault;
 use crate::positions::{order_name, positions_of, wagon_name};
 use cost_table::{Cells, PairNames};
+use faults::NamedFault;
 use price_checker::{Certified, CheckFault, Prices, check};
 use rail_codes::{OrderId, WagonNumber};
 use std::alloc::Global;

@@ -2,9 +2,8 @@
 #![tactic(auto)]
 
 mod checking;
-mod named_fault;
 mod positions;
 
 pub use checking::check_named;
-pub use named_fault::NamedFault;
+pub use faults::NamedFault;
 pub use positions::{order_name, positions_of, wagon_name};

@@ -2,10 +2,10 @@
 ghost use Rattle.std.specs.Prelude.{◌≡◌, ◌≢◌, ◌<◌, IfErr, IfOk, Err, Ok, length};
 ghost use Rattle.named_pairs.specs.NamedFaults.{name_at};
 ghost use Rattle.named_pairs.specs.NamedPairs.{positions_of};
-ghost use Rattle.named_pairs.specs.declared.named_fault.NamedFault.TheVariants.{OutOfMemory};
+ghost use Rattle.faults.specs.declared.faults.NamedFault.TheVariants.{OutOfMemory};
 
-use crate::named_fault::NamedFault;
 use cost_table::PairNames;
+use faults::NamedFault;
 use rail_codes::{OrderId, WagonNumber};
 use std::alloc::Global;
 

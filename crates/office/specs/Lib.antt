@@ -1,6 +1,5 @@
 pub mod CommandReplies
 pub mod FeedCounts
-pub mod FeedFault
 pub mod Replies
 pub mod ReportText
 pub mod inner

@@ -3,7 +3,7 @@ ghost use Rattle.std.specs.Prelude.{◌≡◌, ◌≢◌, ◌⊎◌, ◌≤◌, 
 ghost use Rattle.commit_book.specs.BookStep.{answer_of, is_kept};
 ghost use Rattle.commit_book.specs.Headline.{IsProved};
 ghost use Rattle.commit_book.specs.declared.answer.Answer.TheVariants.{Refused};
-ghost use Rattle.commit_book.specs.declared.refusal.Refusal.TheVariants.{OutOfMemory};
+ghost use Rattle.faults.specs.declared.faults.Refusal.TheVariants.{OutOfMemory};
 ghost use Rattle.line_engine.specs.Outcome.{is_refusal};
 ghost use Rattle.line_engine.specs.Replies.{max_head_bytes};
 ghost use Rattle.line_engine.specs.Runs.{Ends, Stops};

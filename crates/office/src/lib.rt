@@ -3,14 +3,13 @@
 
 mod command_lines;
 mod fed_file;
-mod feed_fault;
 mod feed_lines;
 mod feed_report;
 mod feeding;
 mod table_checker;
 
 pub use command_lines::{CommandLines, run};
-pub use feed_fault::FeedFault;
+pub use faults::FeedFault;
 pub use feed_report::{FeedReport, FileCount, report_text};
 pub use feeding::{MAX_FILES, feed};
 pub use line_engine::{

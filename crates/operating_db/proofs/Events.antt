@@ -7,8 +7,8 @@ use Rattle.move_messages.specs.declared.message.Message as message
 use Rattle.wagon_state.specs.declared.change.Change.{Change}
 use Rattle.wagon_state.specs.declared.change.Effect.{Effect}
 use Rattle.wagon_state.specs.declared.change.Effect.TheVariants as effect
-use Rattle.wagon_state.specs.declared.step_fault.StepFault.{StepFault}
-use Rattle.wagon_state.specs.declared.step_fault.StepFault.TheVariants.{Earlier, WrongPlace}
+use Rattle.faults.specs.declared.faults.StepFault.{StepFault}
+use Rattle.faults.specs.declared.faults.StepFault.TheVariants.{Earlier, WrongPlace}
 use Rattle.wagon_state.specs.declared.wagon_row.WagonRow.{WagonRow}
 use Rattle.wagon_state.specs.StatusTable.{step_of, fitted, change_by, promise_after, effect_on, table_line, is_at}
 use Rattle.wagon_roster.specs.Roster.{IsRosterRow}
@@ -16,7 +16,7 @@ use Rattle.load_orders.specs.Lack.{is_open}
 use Rattle.load_orders.specs.OrderRow.{OrderRowValue, placed_row}
 use Rattle.database_rows.proofs.Wagons.{number-wagon_in}
 use Rattle.database_rows.specs.Rows.{wagon_in, order_in, at_wagon, at_order, max_open_wagons, open_wagons, filled_by, freed_of, taken_back, promised_to}
-use Rattle.operating_db.specs.declared.apply_fault.ApplyFault.TheVariants.{OrderKnown, TooManyOpen, OrderClosed, UnknownNetwork, SameNetwork}
+use Rattle.faults.specs.declared.faults.ApplyFault.TheVariants.{OrderKnown, TooManyOpen, OrderClosed, UnknownNetwork, SameNetwork}
 use Rattle.operating_db.specs.declared.event.Event.{Event}
 use Rattle.operating_db.specs.declared.event.Event.TheVariants.{Message, Place, Withdraw, Commit, Revise}
 use Rattle.operating_db.specs.After.{orders_after, order_place, moved, message_to, unpromised, withdrawn_from, after_call}

@@ -14,8 +14,8 @@ use Rattle.database_rows.proofs.Wagons.{number-wagon_in, wagon_in-at_wagon}
 use Rattle.database_rows.specs.EmptyWagons.{IsNewStand, stand_in, stand_of}
 use Rattle.database_rows.specs.Rows.{wagon_in, order_in, at_wagon, at_order, max_open_wagons, open_wagons, promised_to, taken_back, with_promise}
 use Rattle.operating_db.specs.inner.EventParts.{IsChange, IsNext, unpromised_among}
-use Rattle.operating_db.specs.declared.apply_fault.ApplyFault.{ApplyFault}
-use Rattle.operating_db.specs.declared.apply_fault.ApplyFault.TheVariants.{OrderClosed, OrderKnown, TooManyOpen}
+use Rattle.faults.specs.declared.faults.ApplyFault.{ApplyFault}
+use Rattle.faults.specs.declared.faults.ApplyFault.TheVariants.{OrderClosed, OrderKnown, TooManyOpen}
 use Rattle.operating_db.specs.After.{after_order, message_to, moved, order_place, orders_after, unpromised, withdrawn_from}
 use Rattle.operating_db.specs.ApplyFault.{EmptiesWagon}
 use Rattle.operating_db.specs.Commits.{Pair}

@@ -5,14 +5,14 @@ use Rattle.move_messages.specs.declared.message.Message as message
 use Rattle.wagon_state.specs.declared.change.Effect.{Effect}
 use Rattle.wagon_state.specs.declared.change.Effect.TheVariants as effect
 use Rattle.wagon_state.specs.declared.change.Change.{Change}
-use Rattle.wagon_state.specs.declared.step_fault.StepFault.{StepFault}
+use Rattle.faults.specs.declared.faults.StepFault.{StepFault}
 use Rattle.wagon_state.specs.declared.wagon_row.WagonRow.{WagonRow}
 use Rattle.wagon_state.specs.StatusTable.{step_of}
 use Rattle.load_orders.specs.Lack.{is_open}
 use Rattle.load_orders.specs.OrderRow.{OrderRowValue, placed_row}
 use Rattle.database_rows.specs.Rows.{wagon_in, order_in, at_wagon, at_order, max_open_wagons, open_wagons, filled_by, freed_of, taken_back}
-use Rattle.operating_db.specs.declared.apply_fault.ApplyFault.{ApplyFault}
-use Rattle.operating_db.specs.declared.apply_fault.ApplyFault.TheVariants.{UnknownWagon, Step, OrderKnown, TooManyOpen, UnknownOrder, OrderClosed, UnknownNetwork, SameNetwork}
+use Rattle.faults.specs.declared.faults.ApplyFault.{ApplyFault}
+use Rattle.faults.specs.declared.faults.ApplyFault.TheVariants.{UnknownWagon, Step, OrderKnown, TooManyOpen, UnknownOrder, OrderClosed, UnknownNetwork, SameNetwork}
 use Rattle.operating_db.specs.declared.event.Event.{Event}
 use Rattle.operating_db.specs.declared.event.Event.TheVariants.{Message, Place, Withdraw, Commit, Revise}
 use Rattle.operating_db.specs.Commits.{promise_all}

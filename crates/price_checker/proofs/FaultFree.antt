@@ -3,7 +3,7 @@ use Rattle.std.specs.Prelude.{◌==◌, ◌&&◌, nat_lt, Option, Some, None, is
 use Rattle.std.specs.List.{sum_by}
 use Rattle.std.proofs.lemmas.List.Sums.{sum_by_push, sum_by-append, sum_by-cons}
 use Rattle.std.proofs.lemmas.Bool.Decides.{nat_tests}
-use Rattle.price_checker.specs.declared.check_fault.CheckFault.TheVariants.{WrongLengths, NotAllowed, UsedTwice, PriceGap, OverPenalty, SumsDiffer}
+use Rattle.faults.specs.declared.faults.CheckFault.TheVariants.{WrongLengths, NotAllowed, UsedTwice, PriceGap, OverPenalty, SumsDiffer}
 use Rattle.cost_table.specs.Table.{Table, IsTable, cost_at, lack_at, penalty_at, wagon_count, order_count}
 use Rattle.cost_table.specs.Plan.{IsPlan, uses, serves, AllAllowed, cost_of}
 use Rattle.cost_table.proofs.TableLemmas.{cost_at_within}

@@ -6,8 +6,8 @@ use Rattle.std.proofs.Math.Nat.{eq-or-lt_of_le}
 use Rattle.std.proofs.lemmas.Bool.Decides.{nat_tests}
 use Rattle.std.proofs.lemmas.List.Elements.{All-from_recursion}
 use Rattle.cost_table.specs.Table.{Table, IsRow, cost_in, row_at, order_count}
-use Rattle.price_checker.specs.declared.check_fault.CheckFault.{CheckFault}
-use Rattle.price_checker.specs.declared.check_fault.CheckFault.TheVariants.{PriceGap}
+use Rattle.faults.specs.declared.faults.CheckFault.{CheckFault}
+use Rattle.faults.specs.declared.faults.CheckFault.TheVariants.{PriceGap}
 use Rattle.price_checker.specs.Faults.{first_below, gap_at, gap_of_wagon}
 use Rattle.price_checker.specs.inner.RowWalk.{gap_of_row}
 use Rattle.price_checker.proofs.FirstBelow.{first_from, first_below-from, first_from-same}

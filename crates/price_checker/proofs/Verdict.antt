@@ -3,7 +3,7 @@ use Rattle.std.specs.Prelude.{◌↔◌, IsOk, OnOk}
 use Rattle.std.specs.Result.{result_err}
 use Rattle.cost_table.specs.Table.{Table, IsTable}
 use Rattle.cost_table.specs.Plan.{IsOptimal}
-use Rattle.price_checker.specs.declared.check_fault.CheckFault.{CheckFault}
+use Rattle.faults.specs.declared.faults.CheckFault.{CheckFault}
 use Rattle.price_checker.specs.Certificate.{IsCertificate}
 use Rattle.price_checker.specs.Faults.{first_fault}
 use Rattle.price_checker.proofs.FaultFree.{certified, fault_free}

@@ -1,19 +1,10 @@
--- The faults of pairs and prices, each with its number, in the order in which they are looked for.
+-- The faults of pairs and prices, in the order in which they are looked for.
 use Rattle.std.specs.Prelude.{◌+◌, ◌*◌, ◌==◌, nat_lt, nat_le, ℕ, zero, suc, ◌&&◌, ◌||◌, if◌then◌else◌, Bool, List, [], ◌∷◌, ◌++◌, length, Option, Some, None, is_some, slice_index, sum}
 use Rattle.std.specs.Option.{option_or}
 use Rattle.cost_table.specs.Table.{Table, cost_at, lack_at, penalty_at, wagon_count, order_count}
 use Rattle.cost_table.specs.Plan.{uses, serves, cost_of, sum_below}
-use Rattle.price_checker.specs.declared.check_fault.CheckFault.{CheckFault}
-use Rattle.price_checker.specs.declared.check_fault.CheckFault.TheVariants.{WrongLengths, NotAllowed, UsedTwice, PriceGap, OverPenalty, SumsDiffer}
-
--- the number that stands for a fault in a reply
-abbrev pub fault_number : CheckFault → ℕ
-fault_number WrongLengths = 61
-fault_number (NotAllowed i j) = 62
-fault_number (UsedTwice i j) = 63
-fault_number (PriceGap i j) = 64
-fault_number (OverPenalty j) = 65
-fault_number (SumsDiffer left right) = 66
+use Rattle.faults.specs.declared.faults.CheckFault.{CheckFault}
+use Rattle.faults.specs.declared.faults.CheckFault.TheVariants.{WrongLengths, NotAllowed, UsedTwice, PriceGap, OverPenalty, SumsDiffer}
 
 -- what f finds at the least number below n where it finds something
 abbrev pub first_below : {A : Type 0} → ℕ → (ℕ → Option A) → Option A

@@ -2,11 +2,10 @@
 #![tactic(auto)]
 
 mod certified;
-mod check_fault;
 mod checker;
 mod prices;
 
 pub use certified::Certified;
-pub use check_fault::CheckFault;
 pub use checker::check;
+pub use faults::CheckFault;
 pub use prices::Prices;

@@ -4,29 +4,29 @@ use Rattle.std.specs.Prelude.{IsTrue}
 use Rattle.sessions.specs.Seat.{SeatValue}
 use Rattle.rail_codes.specs.declared.code_fault.CodeFault.{CodeFault}
 use Rattle.json_fields.specs.declared.fault.LineFault.{LineFault}
-use Rattle.wagon_state.specs.declared.step_fault.StepFault.{StepFault}
-use Rattle.cost_table.specs.declared.table_fault.TableFault.{TableFault}
-use Rattle.named_pairs.specs.declared.named_fault.NamedFault.{NamedFault}
+use Rattle.faults.specs.declared.faults.StepFault.{StepFault}
+use Rattle.faults.specs.declared.faults.TableFault.{TableFault}
+use Rattle.faults.specs.declared.faults.NamedFault.{NamedFault}
 use Rattle.refusal_manual.specs.Numbers.{is_refusal_number}
 use Rattle.json_fields.specs.declared.field.Field.TheVariants.{Wagon}
 use Rattle.distance_tables.specs.declared.networks_fault.NetworksFault.TheVariants.{BadNetworkCount}
 use Rattle.rail_codes.specs.declared.code_fault.CodeFault.TheVariants as code
 use Rattle.json_fields.specs.declared.fault.FieldFault.TheVariants as field
 use Rattle.json_fields.specs.declared.fault.LineFault.TheVariants as line
-use Rattle.wagon_state.specs.declared.step_fault.StepFault.TheVariants as step
-use Rattle.wagon_roster.specs.declared.roster_fault.RosterFault.TheVariants as roster
+use Rattle.faults.specs.declared.faults.StepFault.TheVariants as step
+use Rattle.faults.specs.declared.faults.RosterFault.TheVariants as roster
 use Rattle.line_engine.specs.declared.run.RunFault.TheVariants as run
-use Rattle.line_network.specs.declared.network_fault.NetworkFault.TheVariants as network
-use Rattle.distance_tables.specs.declared.work_fault.WorkFault.TheVariants as work
-use Rattle.cost_table.specs.declared.table_fault.TableFault.TheVariants as table
-use Rattle.price_checker.specs.declared.check_fault.CheckFault.TheVariants as check
-use Rattle.named_pairs.specs.declared.named_fault.NamedFault.TheVariants as named
+use Rattle.faults.specs.declared.faults.NetworkFault.TheVariants as network
+use Rattle.faults.specs.declared.faults.WorkFault.TheVariants as work
+use Rattle.faults.specs.declared.faults.TableFault.TheVariants as table
+use Rattle.faults.specs.declared.faults.CheckFault.TheVariants as check
+use Rattle.faults.specs.declared.faults.NamedFault.TheVariants as named
 use Rattle.table_lines.specs.declared.table_refusal.TableRefusal.TheVariants as table_line
-use Rattle.operating_db.specs.declared.apply_fault.ApplyFault.TheVariants as event
-use Rattle.commit_book.specs.declared.refusal.Refusal.TheVariants as call
-use Rattle.sessions.specs.declared.plan_fault.PlanFault.TheVariants as plan
+use Rattle.faults.specs.declared.faults.ApplyFault.TheVariants as event
+use Rattle.faults.specs.declared.faults.Refusal.TheVariants as call
+use Rattle.faults.specs.declared.faults.PlanFault.TheVariants as plan
 use Rattle.sessions.specs.declared.close_fault.CloseFault.TheVariants as close
-use Rattle.office.specs.declared.feed_fault.FeedFault.TheVariants as feed
+use Rattle.faults.specs.declared.faults.FeedFault.TheVariants as feed
 use Rattle.refusal_manual.specs.Laws.{AnyFault, of_code, of_field, of_line, of_step, of_roster, of_run, of_network, of_networks, of_work, of_table, of_check, of_named, of_table_line, of_event, of_call, of_plan, of_opening, of_closing, of_feed, EachFaultIsListed, EachNumberIsAFaults, AreFaults, number_of}
 
 abbrev IsListed : (L : Type 0) → AnyFault L → Type 0

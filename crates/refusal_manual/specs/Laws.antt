@@ -3,40 +3,30 @@ use Rattle.std.specs.Prelude.{◌≡◌, ℕ, List, IsTrue, All, Vec}
 use Rattle.std.specs.declared.alloc.Global.{Global}
 use Rattle.rail_codes.specs.declared.code_fault.CodeFault.{CodeFault}
 use Rattle.rail_codes.specs.CodeFault as code
+use Rattle.faults.specs.Numbers.{step_fault_number, roster_fault_number, network_fault_number, work_fault_number, table_fault_number, check_fault_number, named_fault_number, apply_fault_number, refusal_number, plan_fault_number, feed_fault_number}
 use Rattle.json_fields.specs.declared.fault.FieldFault.{FieldFault}
 use Rattle.json_fields.specs.declared.fault.LineFault.{LineFault}
 use Rattle.json_fields.specs.Faults.{field_fault_number, line_fault_number}
-use Rattle.wagon_state.specs.declared.step_fault.StepFault.{StepFault}
-use Rattle.wagon_state.specs.StepFault as step
-use Rattle.wagon_roster.specs.declared.roster_fault.RosterFault.{RosterFault}
-use Rattle.wagon_roster.specs.RosterFault as roster
+use Rattle.faults.specs.declared.faults.StepFault.{StepFault}
+use Rattle.faults.specs.declared.faults.RosterFault.{RosterFault}
 use Rattle.line_engine.specs.declared.run.RunFault.{RunFault}
 use Rattle.line_engine.specs.RunFault as run
-use Rattle.line_network.specs.declared.network_fault.NetworkFault.{NetworkFault}
-use Rattle.line_network.specs.NetworkFault as network
+use Rattle.faults.specs.declared.faults.NetworkFault.{NetworkFault}
 use Rattle.distance_tables.specs.declared.networks_fault.NetworksFault.{NetworksFault}
-use Rattle.distance_tables.specs.declared.work_fault.WorkFault.{WorkFault}
-use Rattle.distance_tables.specs.WorkFault as work
-use Rattle.cost_table.specs.declared.table_fault.TableFault.{TableFault}
-use Rattle.cost_table.specs.TableFault as table
-use Rattle.price_checker.specs.declared.check_fault.CheckFault.{CheckFault}
-use Rattle.price_checker.specs.Faults as check
-use Rattle.named_pairs.specs.declared.named_fault.NamedFault.{NamedFault}
-use Rattle.named_pairs.specs.NamedFaults.{named_fault_number}
+use Rattle.faults.specs.declared.faults.WorkFault.{WorkFault}
+use Rattle.faults.specs.declared.faults.TableFault.{TableFault}
+use Rattle.faults.specs.declared.faults.CheckFault.{CheckFault}
+use Rattle.faults.specs.declared.faults.NamedFault.{NamedFault}
 use Rattle.table_lines.specs.declared.table_refusal.TableRefusal.{TableRefusal}
 use Rattle.table_lines.specs.TableRefusals.{table_refusal_number}
-use Rattle.operating_db.specs.declared.apply_fault.ApplyFault.{ApplyFault}
-use Rattle.operating_db.specs.ApplyFault as apply
-use Rattle.commit_book.specs.declared.refusal.Refusal.{Refusal}
-use Rattle.commit_book.specs.Refusal.{refusal_number}
-use Rattle.sessions.specs.declared.plan_fault.PlanFault.{PlanFault}
-use Rattle.sessions.specs.PlanFault as plan
+use Rattle.faults.specs.declared.faults.ApplyFault.{ApplyFault}
+use Rattle.faults.specs.declared.faults.Refusal.{Refusal}
+use Rattle.faults.specs.declared.faults.PlanFault.{PlanFault}
 use Rattle.sessions.specs.declared.open_fault.OpenFault.{OpenFault}
 use Rattle.sessions.specs.declared.close_fault.CloseFault.{CloseFault}
 use Rattle.sessions.specs.CloseFault as close
 use Rattle.sessions.specs.Seat.{SeatValue}
-use Rattle.office.specs.declared.feed_fault.FeedFault.{FeedFault}
-use Rattle.office.specs.FeedFault as feed
+use Rattle.faults.specs.declared.faults.FeedFault.{FeedFault}
 use Rattle.refusal_manual.specs.Numbers.{is_refusal_number, refusal_numbers}
 
 -- a fault of any of the libraries' types, in the order of the libraries; L is the ledger of a shared office
@@ -66,22 +56,22 @@ abbrev pub number_of : {L : Type 0} → AnyFault L → ℕ
 number_of (of_code fault) = code.fault_number fault
 number_of (of_field fault) = field_fault_number fault
 number_of (of_line fault) = line_fault_number fault
-number_of (of_step fault) = step.fault_number fault
-number_of (of_roster fault) = roster.fault_number fault
+number_of (of_step fault) = step_fault_number fault
+number_of (of_roster fault) = roster_fault_number fault
 number_of (of_run fault) = run.number_of fault
-number_of (of_network fault) = network.fault_number fault
+number_of (of_network fault) = network_fault_number fault
 number_of (of_networks fault) = 47
-number_of (of_work fault) = work.fault_number fault
-number_of (of_table fault) = table.fault_number fault
-number_of (of_check fault) = check.fault_number fault
+number_of (of_work fault) = work_fault_number fault
+number_of (of_table fault) = table_fault_number fault
+number_of (of_check fault) = check_fault_number fault
 number_of (of_named fault) = named_fault_number fault
 number_of (of_table_line fault) = table_refusal_number fault
-number_of (of_event fault) = apply.fault_number fault
+number_of (of_event fault) = apply_fault_number fault
 number_of (of_call fault) = refusal_number fault
-number_of (of_plan fault) = plan.fault_number fault
+number_of (of_plan fault) = plan_fault_number fault
 number_of (of_opening fault) = 1
 number_of (of_closing fault) = close.fault_number fault
-number_of (of_feed fault) = feed.fault_number fault
+number_of (of_feed fault) = feed_fault_number fault
 
 -- the number of each fault is in the list
 abbrev pub EachFaultIsListed : Type 0 → Type 0

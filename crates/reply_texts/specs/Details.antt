@@ -4,12 +4,12 @@ use Rattle.json_fields.specs.Field.{field_name}
 use Rattle.json_fields.specs.Faults.{field_fault_number}
 use Rattle.json_fields.specs.declared.fault.LineFault.{LineFault}
 use Rattle.json_fields.specs.declared.fault.LineFault.TheVariants as line
-use Rattle.cost_table.specs.declared.table_fault.TableFault.{TableFault}
-use Rattle.cost_table.specs.declared.table_fault.TableFault.TheVariants as table
-use Rattle.named_pairs.specs.declared.named_fault.NamedFault.{NamedFault}
-use Rattle.named_pairs.specs.declared.named_fault.NamedFault.TheVariants as check
-use Rattle.commit_book.specs.declared.refusal.Refusal.{Refusal}
-use Rattle.commit_book.specs.declared.refusal.Refusal.TheVariants as book
+use Rattle.faults.specs.declared.faults.TableFault.{TableFault}
+use Rattle.faults.specs.declared.faults.TableFault.TheVariants as table
+use Rattle.faults.specs.declared.faults.NamedFault.{NamedFault}
+use Rattle.faults.specs.declared.faults.NamedFault.TheVariants as check
+use Rattle.faults.specs.declared.faults.Refusal.{Refusal}
+use Rattle.faults.specs.declared.faults.Refusal.TheVariants as book
 use Rattle.table_lines.specs.declared.table_refusal.TableRefusal.{TableRefusal}
 use Rattle.table_lines.specs.declared.table_refusal.TableRefusal.TheVariants.{OutOfMemory, Line, Table, Check}
 

@@ -2,8 +2,8 @@
 use Rattle.std.specs.Prelude.{ℕ, List, [], ◌∷◌, ◌++◌, codes, decimal}
 use Rattle.json_fields.specs.Faults.{line_fault_number}
 use Rattle.json_fields.specs.declared.fault.LineFault.{LineFault}
-use Rattle.commit_book.specs.Refusal.{refusal_number}
-use Rattle.commit_book.specs.declared.refusal.Refusal.{Refusal}
+use Rattle.faults.specs.Numbers.{refusal_number}
+use Rattle.faults.specs.declared.faults.Refusal.{Refusal}
 use Rattle.table_lines.specs.TableRefusals.{table_refusal_number}
 use Rattle.table_lines.specs.declared.table_refusal.TableRefusal.{TableRefusal}
 use Rattle.reply_texts.specs.Details.{then, book_details, line_details, table_line_details}

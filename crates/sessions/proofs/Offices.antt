@@ -10,7 +10,7 @@ use Rattle.operating_db.specs.After.{after_call}
 use Rattle.operating_db.specs.Office.{Office, first_office, numbers_of}
 use Rattle.operating_db.specs.Promises.{PromisesAgree}
 use Rattle.operating_db.specs.Steps.{IsPromised}
-use Rattle.operating_db.specs.declared.apply_fault.ApplyFault.{ApplyFault}
+use Rattle.faults.specs.declared.faults.ApplyFault.{ApplyFault}
 use Rattle.operating_db.specs.declared.event.Event.{Event}
 use Rattle.operating_db.proofs.Events.{step_kept}
 use Rattle.commit_book.specs.History.{IsLegal, replay, version}

@@ -11,7 +11,7 @@ use Rattle.cost_table.specs.Plan.{cost_of}
 use Rattle.cost_table.specs.Problem.{ProblemValue, names_of_problem, order_names, wagon_names}
 use Rattle.cost_table.specs.Table.{Table}
 use Rattle.price_checker.specs.Certificate.{IsCertificate}
-use Rattle.price_checker.specs.declared.check_fault.CheckFault.{CheckFault}
+use Rattle.faults.specs.declared.faults.CheckFault.{CheckFault}
 use Rattle.price_checker.proofs.FaultFree.{fault_free}
 use Rattle.price_checker.proofs.FirstBelow.{none_both}
 use Rattle.named_pairs.specs.NamedPairs.{checked, checked_at, cost_unless, positions_of}
@@ -25,8 +25,8 @@ use Rattle.commit_book.specs.Setting.{Setting}
 use Rattle.commit_book.specs.declared.answer.Answer.{Answer}
 use Rattle.commit_book.specs.declared.answer.Answer.TheVariants.{Begun, Done, Refused}
 use Rattle.commit_book.specs.declared.call.Call.TheVariants as call
-use Rattle.commit_book.specs.declared.refusal.Refusal.{Refusal}
-use Rattle.commit_book.specs.declared.refusal.Refusal.TheVariants.{BookFull, OutOfMemory}
+use Rattle.faults.specs.declared.faults.Refusal.{Refusal}
+use Rattle.faults.specs.declared.faults.Refusal.TheVariants.{BookFull, OutOfMemory}
 use Rattle.commit_book.specs.declared.reply.Reply.TheVariants.{Accepted}
 use Rattle.commit_book.proofs.BookParts.{last_version}
 use Rattle.commit_book.proofs.Placed.{positions_placed}

@@ -16,8 +16,8 @@ use Rattle.operating_db.specs.Office.{Office}
 use Rattle.operating_db.specs.Problem.{problem_of}
 use Rattle.operating_db.proofs.Names.{same_self}
 use Rattle.commit_book.specs.Commits.{free_in, is_same_free, order_changed, wagon_changed, wagon_of}
-use Rattle.commit_book.specs.declared.refusal.Refusal.{Refusal}
-use Rattle.commit_book.specs.declared.refusal.Refusal.TheVariants.{OrderChanged, WagonChanged}
+use Rattle.faults.specs.declared.faults.Refusal.{Refusal}
+use Rattle.faults.specs.declared.faults.Refusal.TheVariants.{OrderChanged, WagonChanged}
 use Rattle.commit_book.proofs.Placed.{ArePlaced, order_there, order_times, wagon_there}
 use Rattle.sessions.proofs.Found.{order_same, wagon_same}
 use Rattle.sessions.proofs.Offices.{IsNamedOnce, same}

@@ -7,8 +7,8 @@ use Rattle.commit_book.specs.Setting.{Setting}
 use Rattle.commit_book.specs.Snap.{SnapValue, snap_of}
 use Rattle.commit_book.specs.declared.answer.Answer.{Answer}
 use Rattle.commit_book.specs.declared.call.Call.{Call}
-use Rattle.commit_book.specs.declared.refusal.Refusal.{Refusal}
-use Rattle.commit_book.specs.declared.refusal.Refusal.TheVariants.{OutOfMemory}
+use Rattle.faults.specs.declared.faults.Refusal.{Refusal}
+use Rattle.faults.specs.declared.faults.Refusal.TheVariants.{OutOfMemory}
 use Rattle.commit_book.specs.declared.reply.Reply.{Reply}
 
 -- a book with a legal history, of at least so many entries, answers a call so

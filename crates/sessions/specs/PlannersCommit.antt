@@ -14,7 +14,7 @@ use Rattle.commit_book.specs.Snap.{SnapValue, named_pair, snap_of}
 use Rattle.commit_book.specs.declared.answer.Answer.{Answer}
 use Rattle.commit_book.specs.declared.answer.Answer.TheVariants.{Begun, Done, Refused}
 use Rattle.commit_book.specs.declared.call.Call.TheVariants as call
-use Rattle.commit_book.specs.declared.refusal.Refusal.TheVariants.{BookFull, OutOfMemory}
+use Rattle.faults.specs.declared.faults.Refusal.TheVariants.{BookFull, OutOfMemory}
 use Rattle.commit_book.specs.declared.reply.Reply.TheVariants.{Accepted}
 use Rattle.sessions.specs.Planning.{IsPlanned}
 

@@ -1,7 +1,7 @@
 -- Seats: what each caller at a shared book holds, and how its calls change it.
 use Rattle.std.specs.Prelude.{◌≡◌, ◌≤◌, ℕ, zero, suc, List, [], ◌∷◌, ◌++◌, length, Result, Ok, Err}
 use Rattle.operating_db.specs.declared.event.Event.{Event}
-use Rattle.commit_book.specs.declared.refusal.Refusal.{Refusal}
+use Rattle.faults.specs.declared.faults.Refusal.{Refusal}
 use Rattle.commit_book.specs.declared.reply.Reply.{Reply}
 use Rattle.commit_book.specs.declared.reply.Reply.TheVariants.{Accepted, Repeated}
 use Rattle.sessions.specs.declared.receipt.Receipt.{Receipt}

@@ -10,8 +10,8 @@ use Rattle.json_fields.specs.Values.{◌>>=◌}
 use Rattle.table_lines.specs.TableLine.{TableText}
 use Rattle.cost_table.specs.Rows.{Rows, cells_of, table_of, is_even as are_even, is_too_large as are_too_large, rows_fault}
 use Rattle.cost_table.specs.TableLimits.{max_table_lack, max_table_orders, max_table_wagons}
-use Rattle.cost_table.specs.declared.table_fault.TableFault.{TableFault}
-use Rattle.cost_table.specs.declared.table_fault.TableFault.TheVariants as table
+use Rattle.faults.specs.declared.faults.TableFault.{TableFault}
+use Rattle.faults.specs.declared.faults.TableFault.TheVariants as table
 use Rattle.table_lines.specs.TableRefusals.{refusal_of_table}
 use Rattle.table_lines.specs.TableCost.{is_even, even_table, is_too_large, lacks_in, table_in, with_check_fault, cost_in, IsCertified}
 use Rattle.named_pairs.specs.NamedPairs.{checked, CertifiesPairs}

@@ -3,8 +3,8 @@ use Rattle.std.proofs.Common.{◌≡◌, ℕ, Bool, true, false, cond, List, Res
 use Rattle.serde_json.specs.Data.{Data}
 use Rattle.cost_table.specs.Names.{NameLists, names_of}
 use Rattle.cost_table.specs.Table.{Table}
-use Rattle.cost_table.specs.declared.table_fault.TableFault.{TableFault}
-use Rattle.cost_table.specs.declared.table_fault.TableFault.TheVariants.{TooLarge}
+use Rattle.faults.specs.declared.faults.TableFault.{TableFault}
+use Rattle.faults.specs.declared.faults.TableFault.TheVariants.{TooLarge}
 use Rattle.json_fields.specs.declared.fault.LineFault.{LineFault}
 use Rattle.json_fields.specs.Values.{◌>>=◌}
 use Rattle.json_fields.specs.Line.{object_of}

@@ -2,7 +2,7 @@
 use Rattle.std.specs.Prelude.{◌≡◌, ℕ, List, length, if◌then◌else◌, Result, Ok, Err}
 use Rattle.cost_table.specs.Names.{NameLists, names_of}
 use Rattle.cost_table.specs.Table.{Table}
-use Rattle.cost_table.specs.declared.table_fault.TableFault.TheVariants.{TooLarge}
+use Rattle.faults.specs.declared.faults.TableFault.TheVariants.{TooLarge}
 use Rattle.json_fields.specs.Values.{◌>>=◌}
 use Rattle.named_pairs.specs.NamedPairs.{checked}
 use Rattle.table_lines.specs.TableLine.{TableText, with_plan}

@@ -7,11 +7,11 @@ use Rattle.cost_table.specs.TableLimits.{max_table_lack, max_table_orders, max_t
 use Rattle.cost_table.specs.Rows.{cells_of}
 use Rattle.cost_table.specs.Plan.{IsOptimal, cost_of}
 use Rattle.cost_table.specs.Names.{NameLists, names_of}
-use Rattle.cost_table.specs.declared.table_fault.TableFault.{TableFault}
-use Rattle.cost_table.specs.declared.table_fault.TableFault.TheVariants.{TooLarge, UnevenRows}
+use Rattle.faults.specs.declared.faults.TableFault.{TableFault}
+use Rattle.faults.specs.declared.faults.TableFault.TheVariants.{TooLarge, UnevenRows}
 use Rattle.price_checker.specs.Certificate.{IsCertificate}
 use Rattle.named_pairs.specs.NamedPairs.{checked, positions_of}
-use Rattle.named_pairs.specs.declared.named_fault.NamedFault.{NamedFault}
+use Rattle.faults.specs.declared.faults.NamedFault.{NamedFault}
 use Rattle.json_fields.specs.Values.{◌>>=◌}
 use Rattle.json_fields.specs.declared.fault.LineFault.{LineFault}
 use Rattle.table_lines.specs.TableLine.{TableText, table_line_of}

@@ -3,12 +3,11 @@ use Rattle.std.specs.Prelude.{ℕ}
 use Rattle.json_fields.specs.Faults.{line_fault_number}
 use Rattle.json_fields.specs.declared.fault.LineFault.{LineFault}
 use Rattle.json_fields.specs.declared.fault.LineFault.TheVariants as line
-use Rattle.cost_table.specs.TableFault.{fault_number}
-use Rattle.cost_table.specs.declared.table_fault.TableFault.{TableFault}
-use Rattle.cost_table.specs.declared.table_fault.TableFault.TheVariants as table
-use Rattle.named_pairs.specs.NamedFaults.{named_fault_number}
-use Rattle.named_pairs.specs.declared.named_fault.NamedFault.{NamedFault}
-use Rattle.named_pairs.specs.declared.named_fault.NamedFault.TheVariants as check
+use Rattle.faults.specs.Numbers.{table_fault_number, named_fault_number}
+use Rattle.faults.specs.declared.faults.TableFault.{TableFault}
+use Rattle.faults.specs.declared.faults.TableFault.TheVariants as table
+use Rattle.faults.specs.declared.faults.NamedFault.{NamedFault}
+use Rattle.faults.specs.declared.faults.NamedFault.TheVariants as check
 use Rattle.table_lines.specs.declared.table_refusal.TableRefusal.{TableRefusal}
 use Rattle.table_lines.specs.declared.table_refusal.TableRefusal.TheVariants.{OutOfMemory, Line, Table, Check}
 
@@ -16,7 +15,7 @@ use Rattle.table_lines.specs.declared.table_refusal.TableRefusal.TheVariants.{Ou
 abbrev pub table_refusal_number : TableRefusal → ℕ
 table_refusal_number OutOfMemory = 1
 table_refusal_number (Line fault) = line_fault_number fault
-table_refusal_number (Table fault) = fault_number fault
+table_refusal_number (Table fault) = table_fault_number fault
 table_refusal_number (Check fault) = named_fault_number fault
 
 -- a fault of the line

@@ -6,10 +6,10 @@ use Rattle.std.proofs.lemmas.Option.{slice_get-get_or}
 use Rattle.cost_table.specs.Names.{NameLists, first_repeated, is_name, names_of, pair_of, unrepeated}
 use Rattle.cost_table.specs.Plan.{AllAllowed, IsOptimal, cost_of}
 use Rattle.cost_table.specs.Table.{Table, order_count, wagon_count}
-use Rattle.cost_table.specs.declared.table_fault.TableFault.TheVariants.{TooLarge}
+use Rattle.faults.specs.declared.faults.TableFault.TheVariants.{TooLarge}
 use Rattle.cost_table.proofs.NameLemmas.{held_at}
 use Rattle.price_checker.specs.Certificate.{IsCertificate}
-use Rattle.price_checker.specs.declared.check_fault.CheckFault.{CheckFault}
+use Rattle.faults.specs.declared.faults.CheckFault.{CheckFault}
 use Rattle.price_checker.proofs.FaultFree.{fault_free}
 use Rattle.named_pairs.specs.NamedFaults.{name_at}
 use Rattle.named_pairs.specs.NamedPairs.{before_rest, checked, checked_at, cost_unless, found_or, positions_of}

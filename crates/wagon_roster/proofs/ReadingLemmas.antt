@@ -10,8 +10,8 @@ use Rattle.wagon_roster.specs.Reading.{Gives, Stops, rows_of, with_record, with_
 use Rattle.wagon_roster.specs.Records.{wagon_record}
 use Rattle.wagon_roster.specs.Roster.{IsRoster, has_wagon, is_same_number, max_roster_wagons}
 use Rattle.wagon_roster.specs.inner.Reading.{IsReadSoFar, RefusesWagon}
-use Rattle.wagon_roster.specs.declared.roster_fault.RosterFault.{RosterFault}
-use Rattle.wagon_roster.specs.declared.roster_fault.RosterFault.TheVariants.{OutOfMemory, DuplicateWagon, TooLarge, BadRosterRow, ReadFailed}
+use Rattle.faults.specs.declared.faults.RosterFault.{RosterFault}
+use Rattle.faults.specs.declared.faults.RosterFault.TheVariants.{OutOfMemory, DuplicateWagon, TooLarge, BadRosterRow, ReadFailed}
 
 with_record-known : (number : ℕ) (rows : List WagonRow) (fields : Record) (row : WagonRow) → number ≤ max_roster_wagons + 1 → wagon_record fields ≡ Some row
     → with_record number rows fields ≡ with_wagon rows row

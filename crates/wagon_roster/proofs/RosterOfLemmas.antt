@@ -16,8 +16,8 @@ use Rattle.wagon_roster.specs.Reading.{◌>>=◌, Gives, Stops, is_failure, rows
 use Rattle.wagon_roster.specs.Records.{is_header, wagon_record}
 use Rattle.wagon_roster.specs.Roster.{IsRoster, has_wagon, is_same_wagon, max_roster_wagons}
 use Rattle.wagon_roster.specs.RosterOf.{IsAnswered, IsReadFrom, IsRosterOf}
-use Rattle.wagon_roster.specs.declared.roster_fault.RosterFault.{RosterFault}
-use Rattle.wagon_roster.specs.declared.roster_fault.RosterFault.TheVariants.{OutOfMemory, DuplicateWagon, TooLarge, BadRosterRow, ReadFailed}
+use Rattle.faults.specs.declared.faults.RosterFault.{RosterFault}
+use Rattle.faults.specs.declared.faults.RosterFault.TheVariants.{OutOfMemory, DuplicateWagon, TooLarge, BadRosterRow, ReadFailed}
 
 same_wagon : IsEquivalence is_same_wagon
 same_wagon = on_equiv (λ (row : WagonRow). row.number) (lists_equiv nat_eq_equiv)

@@ -1,6 +1,5 @@
 pub mod Reading
 pub mod Records
 pub mod Roster
-pub mod RosterFault
 pub mod RosterOf
 pub mod inner

@@ -5,8 +5,8 @@ use Rattle.csv_records.specs.Fields.{Record}
 use Rattle.wagon_state.specs.declared.wagon_row.WagonRow.{WagonRow}
 use Rattle.wagon_roster.specs.Records.{is_header, wagon_record}
 use Rattle.wagon_roster.specs.Roster.{has_wagon, max_roster_wagons}
-use Rattle.wagon_roster.specs.declared.roster_fault.RosterFault.{RosterFault}
-use Rattle.wagon_roster.specs.declared.roster_fault.RosterFault.TheVariants.{OutOfMemory, DuplicateWagon, TooLarge, BadRosterRow, ReadFailed}
+use Rattle.faults.specs.declared.faults.RosterFault.{RosterFault}
+use Rattle.faults.specs.declared.faults.RosterFault.TheVariants.{OutOfMemory, DuplicateWagon, TooLarge, BadRosterRow, ReadFailed}
 
 -- rows and the row of one more wagon, which is none of theirs
 abbrev pub with_wagon : List WagonRow → WagonRow → Result (List WagonRow) RosterFault

@@ -8,7 +8,7 @@ use Rattle.wagon_state.specs.declared.wagon_row.WagonRow.{WagonRow}
 use Rattle.wagon_roster.specs.Reading.{Gives, is_failure, rows_of}
 use Rattle.wagon_roster.specs.Records.{is_header, wagon_record}
 use Rattle.wagon_roster.specs.Roster.{IsRoster, is_same_wagon, max_roster_wagons}
-use Rattle.wagon_roster.specs.declared.roster_fault.RosterFault.{RosterFault}
+use Rattle.faults.specs.declared.faults.RosterFault.{RosterFault}
 
 -- The records are the header and below it one for each wagon, in any order, and the roster has exactly their rows,
 -- ascending by number.

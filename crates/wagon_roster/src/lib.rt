@@ -4,9 +4,8 @@
 mod limits;
 mod reading;
 mod roster;
-mod roster_fault;
 mod wagon_record;
 
+pub use faults::RosterFault;
 pub use limits::MAX_ROSTER_WAGONS;
 pub use roster::Roster;
-pub use roster_fault::RosterFault;

@@ -1,4 +1,3 @@
 pub mod Free
 pub mod Laws
 pub mod StatusTable
-pub mod StepFault

@@ -11,8 +11,8 @@ use Rattle.wagon_state.specs.declared.change.Effect.{Effect}
 use Rattle.wagon_state.specs.declared.change.Effect.TheVariants as effect
 use Rattle.wagon_state.specs.declared.change.Change.{Change}
 use Rattle.wagon_state.specs.declared.wagon_row.WagonRow.{WagonRow}
-use Rattle.wagon_state.specs.declared.step_fault.StepFault.{StepFault}
-use Rattle.wagon_state.specs.declared.step_fault.StepFault.TheVariants.{Earlier, WrongStatus, WrongPlace}
+use Rattle.faults.specs.declared.faults.StepFault.{StepFault}
+use Rattle.faults.specs.declared.faults.StepFault.TheVariants.{Earlier, WrongStatus, WrongPlace}
 use Rattle.wagon_state.specs.declared.status_table.Line.{Line}
 
 -- A line of the table says the status that follows, what becomes of a promise, and whether the message must name

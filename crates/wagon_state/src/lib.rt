@@ -8,13 +8,12 @@ mod free_wagon;
 mod load;
 mod status;
 mod status_table;
-mod step_fault;
 mod wagon_row;
 
 pub use change::{Change, Effect};
+pub use faults::StepFault;
 pub use free_wagon::{FreeWagon, free};
 pub use load::Load;
 pub use status::Status;
 pub use status_table::step;
-pub use step_fault::StepFault;
 pub use wagon_row::WagonRow;

@@ -6,8 +6,8 @@ use Rattle.commit_book.specs.BookStep.{BookState, IsCommitAnswer, is_kept, is_fu
 use Rattle.commit_book.specs.History.{IsLeast, replay}
 use Rattle.commit_book.specs.Setting.{Setting}
 use Rattle.commit_book.specs.declared.answer.Answer.TheVariants.{Done, Refused}
-use Rattle.commit_book.specs.declared.refusal.Refusal.{Refusal}
-use Rattle.commit_book.specs.declared.refusal.Refusal.TheVariants.{OutOfMemory}
+use Rattle.faults.specs.declared.faults.Refusal.{Refusal}
+use Rattle.faults.specs.declared.faults.Refusal.TheVariants.{OutOfMemory}
 use Rattle.commit_book.specs.declared.reply.Reply.TheVariants.{Accepted}
 
 -- the problem of a commit is kept, and the book isn't full

@@ -5,8 +5,8 @@ use Rattle.commit_book.specs.BookStep.{BookState, entered, event_answer}
 use Rattle.commit_book.specs.Setting.{Setting}
 use Rattle.commit_book.specs.declared.answer.Answer.{Answer}
 use Rattle.commit_book.specs.declared.answer.Answer.TheVariants.{Done, Refused}
-use Rattle.commit_book.specs.declared.refusal.Refusal.{Refusal}
-use Rattle.commit_book.specs.declared.refusal.Refusal.TheVariants.{OutOfMemory}
+use Rattle.faults.specs.declared.faults.Refusal.{Refusal}
+use Rattle.faults.specs.declared.faults.Refusal.TheVariants.{OutOfMemory}
 use Rattle.commit_book.specs.declared.reply.Reply.TheVariants.{Accepted}
 
 -- what a call of a list returned, as an answer

@@ -1,13 +1,14 @@
 -- What reading a network keeps from record to record, and why a place is not added.
 use Rattle.std.specs.Prelude.{◌≡◌, ℕ, ◌+◌, ◌*◌, ◌<◌, ◌≤◌, ◌++◌, List, length, Result}
 use Rattle.csv_records.specs.Fields.{Record}
-use Rattle.csv_records.specs.declared.record_fault.RecordFault.{RecordFault}
-use Rattle.csv_records.specs.declared.record_fault.RecordFault.TheVariants as rf
+use Rattle.faults.specs.Conversions.{network_fault_of}
+use Rattle.faults.specs.declared.faults.RecordFault.{RecordFault}
+use Rattle.faults.specs.declared.faults.RecordFault.TheVariants as rf
 use Rattle.line_network.specs.Network.{NetworkValue, max_line_km, max_line_minutes, max_places}
 use Rattle.line_network.specs.Reading.{Stops, network_of, with_rows}
 use Rattle.line_network.specs.declared.line_record.LineRecord.{LineRecord}
-use Rattle.line_network.specs.declared.network_fault.NetworkFault.{NetworkFault}
-use Rattle.line_network.specs.declared.network_fault.NetworkFault.TheVariants.{OutOfMemory, BadRow, TooManyPlaces, TooManyLines, ReadFailed}
+use Rattle.faults.specs.declared.faults.NetworkFault.{NetworkFault}
+use Rattle.faults.specs.declared.faults.NetworkFault.TheVariants.{OutOfMemory, BadRow, TooManyPlaces, TooManyLines, ReadFailed}
 
 -- These records, the header among them, say this network, whatever follows them.
 pub record IsReadSoFar (network : NetworkValue) (records : List Record) : Type 0 where
@@ -29,13 +30,8 @@ RefusesPlace (BadRow n) places = ⊥
 RefusesPlace TooManyLines places = ⊥
 RefusesPlace ReadFailed places = ⊥
 
--- what a failure of reading records is called here
-abbrev pub fault_of : RecordFault → NetworkFault
-fault_of rf.OutOfMemory = OutOfMemory
-fault_of rf.ReadFailed = ReadFailed
-
 -- a failure says nothing of the records
-pub stops_failure : (failure : RecordFault) (fault : NetworkFault) (answer : Result NetworkValue NetworkFault) → fault ≡ fault_of failure → Stops fault answer
+pub stops_failure : (failure : RecordFault) (fault : NetworkFault) (answer : Result NetworkValue NetworkFault) → fault ≡ network_fault_of failure → Stops fault answer
 stops_failure rf.OutOfMemory fault answer e = rw e tt
 stops_failure rf.ReadFailed fault answer e = rw e tt
 

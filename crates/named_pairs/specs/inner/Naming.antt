@@ -1,8 +1,8 @@
 -- Whether the positions in a fault of the price checker have names.
 use Rattle.std.specs.Prelude.{◌<◌, ℕ, length}
 use Rattle.cost_table.specs.Names.{NameLists}
-use Rattle.price_checker.specs.declared.check_fault.CheckFault.{CheckFault}
-use Rattle.price_checker.specs.declared.check_fault.CheckFault.TheVariants as check
+use Rattle.faults.specs.declared.faults.CheckFault.{CheckFault}
+use Rattle.faults.specs.declared.faults.CheckFault.TheVariants as check
 
 -- the wagon and the order at a position are named
 abbrev pub IsNamed : NameLists → ℕ × ℕ → Type 0

@@ -1,7 +1,7 @@
 -- How a file's lines change what is counted of the file.
 use Rattle.std.specs.Prelude.{◌≡◌, ◌+◌, ◌<◌, ◌≤◌, ◌^◌, ℕ, true, List, Result, Ok, Err}
 use Rattle.move_messages.specs.Commands.{command_of}
-use Rattle.commit_book.specs.declared.refusal.Refusal.{Refusal}
+use Rattle.faults.specs.declared.faults.Refusal.{Refusal}
 use Rattle.commit_book.specs.declared.reply.Reply.{Reply}
 use Rattle.commit_book.specs.declared.reply.Reply.TheVariants as reply
 use Rattle.sessions.specs.Seat.{count_of}

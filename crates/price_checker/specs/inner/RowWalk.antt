@@ -1,7 +1,7 @@
 -- A wagon's row, walked cell by cell.
 use Rattle.std.specs.Prelude.{◌+◌, nat_lt, ℕ, if◌then◌else◌, List, [], ◌∷◌, Option, Some, None, slice_index}
-use Rattle.price_checker.specs.declared.check_fault.CheckFault.{CheckFault}
-use Rattle.price_checker.specs.declared.check_fault.CheckFault.TheVariants.{PriceGap}
+use Rattle.faults.specs.declared.faults.CheckFault.{CheckFault}
+use Rattle.faults.specs.declared.faults.CheckFault.TheVariants.{PriceGap}
 
 -- the first cell of wagon i's row whose order's price passes its cost and the wagon's price u
 abbrev pub gap_of_row : ℕ → List (ℕ × ℕ) → ℕ → List ℕ → Option CheckFault

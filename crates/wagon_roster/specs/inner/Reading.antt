@@ -2,13 +2,14 @@
 use Rattle.std.specs.Prelude.{◌≡◌, ◌+◌, true, ◌++◌, List, length, Result}
 use Rattle.std.specs.List.Sorted.{IsPermutation}
 use Rattle.csv_records.specs.Fields.{Record}
-use Rattle.csv_records.specs.declared.record_fault.RecordFault.{RecordFault}
-use Rattle.csv_records.specs.declared.record_fault.RecordFault.TheVariants as rf
+use Rattle.faults.specs.Conversions.{roster_fault_of}
+use Rattle.faults.specs.declared.faults.RecordFault.{RecordFault}
+use Rattle.faults.specs.declared.faults.RecordFault.TheVariants as rf
 use Rattle.wagon_state.specs.declared.wagon_row.WagonRow.{WagonRow}
 use Rattle.wagon_roster.specs.Reading.{Stops, rows_of, with_records}
 use Rattle.wagon_roster.specs.Roster.{IsRoster, has_wagon}
-use Rattle.wagon_roster.specs.declared.roster_fault.RosterFault.{RosterFault}
-use Rattle.wagon_roster.specs.declared.roster_fault.RosterFault.TheVariants.{OutOfMemory, DuplicateWagon, TooLarge, BadRosterRow, ReadFailed}
+use Rattle.faults.specs.declared.faults.RosterFault.{RosterFault}
+use Rattle.faults.specs.declared.faults.RosterFault.TheVariants.{OutOfMemory, DuplicateWagon, TooLarge, BadRosterRow, ReadFailed}
 
 -- These records, the header among them, say the rows of this roster, whatever follows them.
 pub record IsReadSoFar (roster : List WagonRow) (records : List Record) : Type 0 where
@@ -26,13 +27,8 @@ RefusesWagon TooLarge rows row = ⊥
 RefusesWagon (BadRosterRow n) rows row = ⊥
 RefusesWagon ReadFailed rows row = ⊥
 
--- what a failure of reading records is called here
-abbrev pub fault_of : RecordFault → RosterFault
-fault_of rf.OutOfMemory = OutOfMemory
-fault_of rf.ReadFailed = ReadFailed
-
 -- a failure says nothing of the records
-pub stops_failure : (failure : RecordFault) (fault : RosterFault) (answer : Result (List WagonRow) RosterFault) → fault ≡ fault_of failure → Stops fault answer
+pub stops_failure : (failure : RecordFault) (fault : RosterFault) (answer : Result (List WagonRow) RosterFault) → fault ≡ roster_fault_of failure → Stops fault answer
 stops_failure rf.OutOfMemory fault answer e = rw e tt
 stops_failure rf.ReadFailed fault answer e = rw e tt
 

@@ -1,7 +1,7 @@
 use Rattle.std.proofs.Common.{◌≡◌, ◌<◌, Some, arith, sym}
 use Rattle.std.proofs.lemmas.Bool.Decides.{nat_tests}
 use Rattle.cost_table.specs.Table.{order_count}
-use Rattle.price_checker.specs.declared.check_fault.CheckFault.TheVariants.{OverPenalty}
+use Rattle.faults.specs.declared.faults.CheckFault.TheVariants.{OverPenalty}
 use Rattle.price_checker.specs.Faults.{penalty_gap}
 use Rattle.price_checker.proofs.FirstBelow.{first_below_some}
 use Rattle.price_checker.proofs.checker.check_penalties.Goals as goal
