@@ -1,7 +1,6 @@
 //! The lines of an office's wagons.
 ghost use Rattle.std.specs.Prelude.{◌≡◌, ◌++◌, OnOk, string_bytes};
 ghost use Rattle.wagon_state.specs.StatusTable.{place_of};
-ghost use Rattle.wagon_state.specs.declared.load.Load.TheVariants.{Loaded, Unladen};
 ghost use Rattle.dispatch_sheet.specs.Sheet.{hold_word, promise_word, status_word, IsWagonLine};
 ghost use Rattle.dispatch_sheet.specs.Words.{next_word};
 ghost use Rattle.dispatch_sheet.specs.inner.Parts.{wagon_back, wagon_front};
@@ -11,7 +10,7 @@ use crate::row_lines::Lined;
 use crate::words::{push_code, push_moment, push_number, push_word};
 use rail_codes::OrderId;
 use std::alloc::AllocError;
-use wagon_state::{Load, Status, WagonRow};
+use wagon_state::{Status, WagonRow};
 
 impl Lined for WagonRow {
     ghost is_line = { IsWagonLine };
@@ -61,21 +60,10 @@ fn status_word(status: &Status) -> &'static str
         Status::Empty(_, _) => "empty",
         Status::Loading(_) => "loading",
         Status::Ready(_) => "ready",
-        Status::Journey(load, _) => by_load(load, "journey_loaded", "journey_empty"),
-        Status::Yard(load, _) => by_load(load, "yard_loaded", "yard_empty"),
-        Status::Arrived(load, _) => by_load(load, "arrived_loaded", "arrived_empty"),
+        Status::Journey(load, _) => load.word("journey_loaded", "journey_empty"),
+        Status::Yard(load, _) => load.word("yard_loaded", "yard_empty"),
+        Status::Arrived(load, _) => load.word("arrived_loaded", "arrived_empty"),
         Status::Unloading(_) => "unloading",
-    }
-}
-
-/// The word of a wagon that carries a load, or of one that doesn't.
-fn by_load(load: Load, loaded: &'static str, unladen: &'static str) -> &'static str
-    ensures loaded { load ≡ Loaded → result.now ≡ loaded.now }
-    ensures unladen { load ≡ Unladen → result.now ≡ unladen.now }
-{
-    match load {
-        Load::Loaded => loaded,
-        Load::Unladen => unladen,
     }
 }
 

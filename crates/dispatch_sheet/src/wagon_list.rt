@@ -4,9 +4,9 @@ ghost use Rattle.dispatch_sheet.specs.Sheet.{list_word, listed_wagons};
 ghost use Rattle.dispatch_sheet.specs.Words.{next_word};
 ghost use Rattle.dispatch_sheet.specs.inner.Pushed.{listed};
 
-use crate::words::{push_ascii, push_word};
+use crate::words::push_word;
 use load_orders::OrderRow;
-use rail_codes::WagonNumber;
+use rail_codes::{WagonNumber, push_ascii};
 use std::alloc::AllocError;
 
 /// Adds the list of an order's wagons: the promised ones, then those that filled the order, each of these marked.

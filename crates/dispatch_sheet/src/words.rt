@@ -5,17 +5,9 @@ ghost use Rattle.dispatch_sheet.specs.Words.{next_word};
 ghost use Rattle.dispatch_sheet.specs.inner.Parts.{IsMomentWord};
 ghost use Rattle.dispatch_sheet.specs.inner.Pushed.{Adds};
 
-use rail_codes::Moment;
+use rail_codes::{Moment, push_ascii};
 use std::alloc::AllocError;
 use std::fmt::Write;
-
-/// Adds ASCII characters.
-pub(crate) fn push_ascii(text: &mut String, characters: &[u8]) -> Result<(), AllocError>
-    requires { IsAscii characters.now }
-    ensures { OnOk result (string_bytes text.new ≡ string_bytes text.old ++ characters.now) }
-{
-    text.push_str(str::from_utf8(characters).unwrap())
-}
 
 /// Adds a code's characters.
 pub(crate) fn push_code(text: &mut String, characters: &[u8]) -> Result<(), AllocError>

@@ -3,9 +3,9 @@ ghost use Rattle.std.specs.Prelude.{◌≡◌, ◌++◌, IfOk, OnOk, filter, str
 ghost use Rattle.fleet_map.specs.Places.{back_of, front_of, has_free, is_at, lack_line, place_node, style_words, waiting_lines, waits_at};
 
 use crate::wagon_groups::push_wagon_lines;
-use crate::words::{push_ascii, push_number, push_quoted};
+use crate::words::{push_number, push_quoted};
 use load_orders::Wanted;
-use rail_codes::Place;
+use rail_codes::{Place, push_ascii};
 use std::alloc::{AllocError, Global};
 use wagon_state::{WagonRow, free};
 

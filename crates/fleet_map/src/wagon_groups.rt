@@ -1,12 +1,12 @@
 //! The wagons of a place: how many of each class are doing what.
 ghost use Rattle.std.specs.Prelude.{◌≡◌, ◌++◌, ◌<◌, count_by, length, OnOk, string_bytes};
 ghost use Rattle.std.specs.List.{list_any};
-ghost use Rattle.wagon_state.specs.declared.load.Load.TheVariants.{Loaded, Unladen};
 ghost use Rattle.fleet_map.specs.Wagons.{doing_word, group_at, group_line, hold_words, is_alike, wagon_lines, wagon_words};
 
-use crate::words::{push_ascii, push_number};
+use crate::words::push_number;
+use rail_codes::push_ascii;
 use std::alloc::AllocError;
-use wagon_state::{Load, Status, WagonRow};
+use wagon_state::{Status, WagonRow};
 
 /// Adds a line of a label for each kind of wagon among these: how many there are, and what they are.
 pub(crate) fn push_wagon_lines(text: &mut String, rows: &[WagonRow]) -> Result<(), AllocError>
@@ -83,21 +83,10 @@ fn doing_word(status: &Status) -> &'static str
         Status::Empty(_, _) => "empty",
         Status::Loading(_) => "loading",
         Status::Ready(_) => "loaded, ready",
-        Status::Journey(load, _) => by_load(load, "left loaded", "left empty"),
-        Status::Yard(load, _) => by_load(load, "in yard loaded", "in yard empty"),
-        Status::Arrived(load, _) => by_load(load, "arrived loaded", "arrived empty"),
+        Status::Journey(load, _) => load.word("left loaded", "left empty"),
+        Status::Yard(load, _) => load.word("in yard loaded", "in yard empty"),
+        Status::Arrived(load, _) => load.word("arrived loaded", "arrived empty"),
         Status::Unloading(_) => "unloading",
-    }
-}
-
-/// The word of a wagon that carries a load, or of one that doesn't.
-fn by_load(load: Load, loaded: &'static str, unladen: &'static str) -> &'static str
-    ensures loaded { load ≡ Loaded → result.now ≡ loaded.now }
-    ensures unladen { load ≡ Unladen → result.now ≡ unladen.now }
-{
-    match load {
-        Load::Loaded => loaded,
-        Load::Unladen => unladen,
     }
 }
 

@@ -3,16 +3,9 @@ ghost use Rattle.std.specs.Prelude.{◌≡◌, ◌++◌, decimal, OnOk, string_b
 ghost use Rattle.std.specs.Str.{IsAscii};
 ghost use Rattle.fleet_map.specs.Words.{quoted};
 
+use rail_codes::push_ascii;
 use std::alloc::AllocError;
 use std::fmt::Write;
-
-/// Adds ASCII characters.
-pub(crate) fn push_ascii(text: &mut String, characters: &[u8]) -> Result<(), AllocError>
-    requires { IsAscii characters.now }
-    ensures { OnOk result (string_bytes text.new ≡ string_bytes text.old ++ characters.now) }
-{
-    text.push_str(str::from_utf8(characters).unwrap())
-}
 
 /// Adds a name in quotes.
 pub(crate) fn push_quoted(text: &mut String, name: &[u8]) -> Result<(), AllocError>

@@ -1,5 +1,5 @@
-//! A code's text as a `str` and as a `String`.
-ghost use Rattle.std.specs.Prelude.{◌≡◌, IfOk, string_bytes};
+//! A code's text as a `str`, as a `String`, and at the end of one.
+ghost use Rattle.std.specs.Prelude.{◌≡◌, ◌++◌, IfOk, OnOk, string_bytes};
 ghost use Rattle.std.specs.Str.{IsAscii};
 
 use std::alloc::{AllocError, Global};
@@ -18,4 +18,12 @@ pub(crate) fn ascii_text(alloc: Global, characters: &[u8]) -> Result<String, All
     ensures { IfOk result (λ s. string_bytes s ≡ characters.now) }
 {
     String::from_str(alloc, ascii_str(characters))
+}
+
+/// Adds these ASCII characters to a text.
+pub fn push_ascii(text: &mut String, characters: &[u8]) -> Result<(), AllocError>
+    requires { IsAscii characters.now }
+    ensures { OnOk result (string_bytes text.new ≡ string_bytes text.old ++ characters.now) }
+{
+    text.push_str(ascii_str(characters))
 }

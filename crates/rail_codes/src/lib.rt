@@ -14,6 +14,7 @@ mod moment;
 mod short_text;
 mod wagon_number;
 
+pub use ascii_text::push_ascii;
 pub use code_fault::CodeFault;
 pub use codes::{ClassCode, Company, OrderId, Place};
 pub use message_id::MessageId;
