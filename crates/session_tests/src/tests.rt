@@ -4,7 +4,7 @@ mod calls;
 mod closing;
 mod crowds;
 mod desks;
-mod faults;
+mod fault_names;
 mod opening;
 mod planning;
 mod races;
