@@ -207,6 +207,16 @@ module _ (R : FreeWagon → WantedOrder → ℕ → Type 0) (problem : ProblemVa
       subst (λ (rows : List (List (ℕ × ℕ))). (cost_in (get_or rows i []) j ≡ Some km) ↔ R wagon wanted km) (sym h.rows.hold.rows_are)
       ((h.rows.each i wagon at).cells j km wanted to)
 
+-- what every problem keeps doesn't depend on its moment
+pub IsProblem-at : (problem : ProblemValue) (m : ℕ) → IsProblem problem → IsProblem (record problem { at = m })
+IsProblem-at problem m h = record {
+  few_wagons = h.few_wagons;
+  few_orders = h.few_orders;
+  lack_in_all = h.lack_in_all;
+  each_wagon_once = h.each_wagon_once;
+  each_order_once = h.each_order_once;
+}
+
 -- the table of a problem
 pub IsTableOf-parts : (net : NetworkValue) (problem : ProblemValue) (entries : List (ℕ × ℕ)) (ends penalties lacks : List ℕ) → AreParts (λ wagon wanted. Reaches net problem.at wagon wanted.order) problem entries ends penalties lacks → IsTableOf net problem (record { rows = rows_of entries 0 ends; penalties = penalties; lacks = lacks })
 IsTableOf-parts net problem entries ends penalties lacks h = record {

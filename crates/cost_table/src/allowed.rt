@@ -1,5 +1,5 @@
 //! The table of a problem over a network.
-ghost use Rattle.std.specs.Prelude.{◌≡◌, ◌+◌, ◌*◌, ◌<◌, ◌≤◌, ◌↔◌, ℕ, List, All, IfOk, OnOk, IfSome, IsTrue, Option, Some, length, map, max};
+ghost use Rattle.std.specs.Prelude.{◌≡◌, ◌+◌, ◌*◌, ◌<◌, ◌≤◌, ◌↔◌, ℕ, List, All, IfNone, IfOk, IfSome, Option, Some, length, map, max, option_map};
 ghost use Rattle.line_network.specs.Network.{place_index};
 ghost use Rattle.cost_table.specs.Allowed.{Reaches, IsTableOf};
 ghost use Rattle.cost_table.specs.inner.AllowedRows.{AddsRow, AreRowsOf};
@@ -18,17 +18,40 @@ use rail_codes::Moment;
 use std::alloc::{AllocError, Global};
 use wagon_state::FreeWagon;
 
+/// The table of a problem, and up to which moment it is the table of the same wagons and orders.
+#[derive(Debug, Drop)]
+pub struct TimedCells {
+    pub cells: Cells,
+    /// In seconds since 1970-01-01T00:00:00Z.
+    pub until: u64,
+}
+
 /// The table of a problem over the network of these tables: a cell exactly where the wagon suits the order and,
 /// starting at the problem's moment or when it is ready, reaches its place by the latest moment, with the
 /// kilometres of the way; each order's penalty and lack.
 pub fn cells(alloc: Global, problem: &Problem, tables: &Tables) -> Result<Cells, AllocError>
     ensures table { IfOk result (IsTableOf tables.now problem.now) }
 {
+    Ok(timed_cells(alloc, problem, tables)?.cells)
+}
+
+/// The same, and up to which later moment, in place of the problem's, it is the table too: no wagon that is in time
+/// has to start before.
+pub fn timed_cells(
+    alloc: Global,
+    problem: &Problem,
+    tables: &Tables,
+) -> Result<TimedCells, AllocError>
+    ensures table { IfOk result (λ made. IsTableOf tables.now problem.now made.cells) }
+    ensures within { IfOk result (λ made. problem.now.at ≤ made.until) }
+    ensures lasts { IfOk result (λ made. (m : ℕ) → problem.now.at ≤ m → m ≤ made.until → IsTableOf tables.now (record problem.now { at = m }) made.cells) }
+{
     let orders = problem.orders();
-    let (entries, ends) = rows(alloc, problem, tables)?;
+    let (entries, ends, until) = rows(alloc, problem, tables)?;
     let penalties = penalties(alloc, orders)?;
     let lacks = lacks(alloc, orders)?;
-    Ok(Cells::of_rows(entries, ends, penalties, lacks))
+    let cells = Cells::of_rows(entries, ends, penalties, lacks);
+    Ok(TimedCells { cells, until })
 }
 
 /// The penalty of each order.
@@ -55,13 +78,14 @@ fn lacks(alloc: Global, orders: &[Wanted]) -> Result<Vec<u32>, AllocError>
     Ok(lacks)
 }
 
-/// The rows of all wagons one after another, and where each ends.
+/// The rows of all wagons one after another, where each ends, and up to which moment they are those rows.
 fn rows(
     alloc: Global,
     problem: &Problem,
     tables: &Tables,
-) -> Result<(Vec<(u32, u32)>, Vec<usize>), AllocError>
-    ensures { IfOk result (λ r. AreRowsOf (λ wagon wanted. Reaches tables.now problem.now.at wagon wanted.order) problem.now.wagons problem.now.orders r.0.items r.1.items) }
+) -> Result<(Vec<(u32, u32)>, Vec<usize>, u64), AllocError>
+    ensures rows { IfOk result (λ r. (m : ℕ) → problem.now.at ≤ m → m ≤ r.2 → AreRowsOf (λ wagon wanted. Reaches tables.now m wagon wanted.order) problem.now.wagons problem.now.orders r.0.items r.1.items) }
+    ensures within { IfOk result (λ r. problem.now.at ≤ r.2) }
 {
     let wagons = problem.wagons();
     let orders = problem.orders();
@@ -69,68 +93,85 @@ fn rows(
     let mut classes = Vec::new(alloc);
     let mut entries = Vec::new(alloc);
     let mut ends = Vec::with_capacity(alloc, wagons.len())?;
+    // For the prover alone: a moment is below the greatest number.
+    let _at = problem.at();
+    let mut until = u64::MAX;
     for wagon in wagons {
         let k = class_position(alloc, &mut classes, wagon.class, network, orders)?;
-        push_row(&mut entries, problem, wagon, &classes[k].goals, tables)?;
+        let last = push_row(&mut entries, problem, wagon, &classes[k].goals, tables)?;
+        until = until.min(last);
         ends.push(entries.len())?;
     }
-    Ok((entries, ends))
+    Ok((entries, ends, until))
 }
 
-/// Appends the row of one wagon, by the goals of its class.
+/// Appends the row of one wagon, by the goals of its class, and says up to which moment it is that row.
 fn push_row(
     entries: &mut Vec<(u32, u32)>,
     problem: &Problem,
     wagon: &FreeWagon,
     goals: &[Goal],
     tables: &Tables,
-) -> Result<(), AllocError>
+) -> Result<u64, AllocError>
     requires goals { goals.now ≡ goals_of tables.now wagon.now.class problem.now.orders }
-    ensures { OnOk result (AddsRow (λ wanted. Reaches tables.now problem.now.at wagon.now wanted.order) problem.now.orders entries.old.items entries.new.items) }
+    ensures row { IfOk result (λ until. (m : ℕ) → problem.now.at ≤ m → m ≤ until → AddsRow (λ wanted. Reaches tables.now m wagon.now wanted.order) problem.now.orders entries.old.items entries.new.items) }
+    ensures within { IfOk result (λ until. problem.now.at ≤ until) }
 {
-    if goals.is_empty() {
-        return Ok(());
-    }
     let at = problem.at();
+    let mut until = u64::MAX;
+    if goals.is_empty() {
+        return Ok(until);
+    }
     let from = tables.network().index_of(wagon.place);
     entries.reserve(goals.len())?;
     for goal in goals {
-        if let Some(km) = reached(tables, from, *goal, at, wagon) {
-            entries.push_reserved((goal.order, km));
+        if let Some(way) = way_to(tables, from, *goal, at, wagon) {
+            entries.push_reserved((goal.order, way.km));
+            until = until.min(way.last_start);
         }
     }
-    Ok(())
+    Ok(until)
 }
 
-/// The kilometres from a wagon to a goal of its class, if its load is within the wagon's limit and it is reached in
-/// time. The number of the wagon's place is handed in.
-fn reached(
+/// The way of a wagon to a goal that it reaches in time: the kilometres, and the last moment at which it may start, in
+/// seconds since 1970.
+#[derive(Clone, Copy, Debug)]
+struct Way {
+    km: u32,
+    last_start: u64,
+}
+
+/// The way of a wagon to a goal of its class, if its load is within the wagon's limit and it is reached in time. The
+/// number of the wagon's place is handed in.
+fn way_to(
     tables: &Tables,
     from: Option<usize>,
     goal: Goal,
     at: Moment,
     wagon: &FreeWagon,
-) -> Option<u32>
+) -> Option<Way>
     requires from { from ≡ place_index tables.now.places wagon.now.place }
     requires goal { goal.place < length tables.now.places }
-    ensures meaning { (wanted : WantedOrder) → Some goal ≡ goal_of tables.now wagon.now.class goal.order wanted → (km : ℕ) → (result ≡ Some km) ↔ Reaches tables.now at wagon.now wanted.order km }
-    ensures limit { IfSome result (λ km. km ≤ max_cost) }
+    ensures meaning { (m : ℕ) → at ≤ m → IfSome result (λ way. m ≤ way.last_start) → (wanted : WantedOrder) → Some goal ≡ goal_of tables.now wagon.now.class goal.order wanted → (km : ℕ) → (option_map (λ way. way.km) result ≡ Some km) ↔ Reaches tables.now m wagon.now wanted.order km }
+    ensures within { IfSome result (λ way. at ≤ way.last_start) }
+    ensures limit { IfSome result (λ way. way.km ≤ max_cost) }
 {
     if !carries(wagon, goal.load) {
         return None;
     }
     let (km, minutes) = tables.between_numbers(from?, goal.place)?;
-    if is_in_time(wagon.ready, at, minutes, goal.latest) {
-        Some(km)
-    } else {
-        None
-    }
+    let last_start = last_start(wagon.ready, at, minutes, goal.latest)?;
+    Some(Way { km, last_start })
 }
 
-/// Whether a wagon that is ready at one moment and starts at another or later is there by the latest one.
-fn is_in_time(ready: Moment, at: Moment, minutes: u32, latest: Moment) -> bool
-    ensures { IsTrue result ↔ (max ready at + 60 * minutes ≤ latest) }
+/// The last moment at which a wagon may start to be there by the latest one, in seconds since 1970; none where it is
+/// ready, or may start, only later.
+fn last_start(ready: Moment, at: Moment, minutes: u32, latest: Moment) -> Option<u64>
+    ensures last { IfSome result (λ last. last + 60 * minutes ≡ latest) }
+    ensures in_time { IfSome result (λ last. max ready at ≤ last) }
+    ensures late { IfNone result (latest < max ready at + 60 * minutes) }
 {
     let start = ready.seconds().max(at.seconds());
-    start + 60 * u64::from(minutes) <= latest.seconds()
+    let last = latest.seconds().checked_sub(60 * u64::from(minutes))?;
+    if start <= last { Some(last) } else { None }
 }

@@ -12,7 +12,7 @@ mod problem;
 mod rows;
 mod table_cells;
 
-pub use allowed::cells;
+pub use allowed::{TimedCells, cells, timed_cells};
 pub use faults::TableFault;
 pub use limits::{MAX_COST, MAX_TABLE_LACK, MAX_TABLE_ORDERS, MAX_TABLE_WAGONS};
 pub use names::Names;

@@ -69,9 +69,16 @@ impl Problem {
     pub fn copy(&self, alloc: Global) -> Result<Problem, AllocError>
         ensures { IfOk result (λ problem. problem ≡ self.now) }
     {
+        self.copy_at(alloc, self.at)
+    }
+
+    /// The same wagons and orders at another moment.
+    pub fn copy_at(&self, alloc: Global, at: Moment) -> Result<Problem, AllocError>
+        ensures { IfOk result (λ problem. problem ≡ record self.now { at = at }) }
+    {
         let wagons = Vec::from_slice(alloc, &self.wagons)?;
         let orders = Vec::from_slice(alloc, &self.orders)?;
-        Ok(Problem::of_distinct(self.at, wagons, orders))
+        Ok(Problem::of_distinct(at, wagons, orders))
     }
 
     /// The moment.
