@@ -111,6 +111,41 @@ const CASES: &[Case] = &[
             Accepted(COMMIT, 2),
         ],
     ),
+    // The same wagons are in time up to one o'clock, so the second problem's table is the first one's.
+    (
+        "a problem is begun at a later moment",
+        SAMPLE,
+        &[
+            Accepted(ORDER, 1),
+            Begun(Begin("00:30:00"), 1),
+            Begun(BEGIN, 1),
+            RefusedNaming(Commit(1, FARTHER, &[0, 0], &[150]), 64, NEAR_O1),
+            Accepted(COMMIT, 2),
+            Begun(Begin("01:00:01"), 2),
+        ],
+    ),
+    // The farther wagon is in time a second before one o'clock, and no longer.
+    (
+        "a problem is begun when a wagon is late",
+        SAMPLE,
+        &[
+            Accepted(Order("O1", "03:59:59", 1_000, 1), 1),
+            Begun(Begin("00:59:59"), 1),
+            Begun(BEGIN, 1),
+            RefusedNaming(Commit(1, FARTHER, &[0, 0], &[50]), 62, "338447961008 O1"),
+        ],
+    ),
+    // The farther wagon is late at two o'clock, and in time at one.
+    (
+        "a problem is begun at an earlier moment",
+        SAMPLE,
+        &[
+            Accepted(ORDER, 1),
+            Begun(Begin("02:00:00"), 1),
+            Begun(BEGIN, 1),
+            RefusedNaming(Commit(1, FARTHER, &[0, 0], &[150]), 64, NEAR_O1),
+        ],
+    ),
     // The farther wagon would be there at 04:00:00.
     (
         "a wagon comes late",
