@@ -1,5 +1,6 @@
 -- A book's parts, when an event is entered and when a problem is kept.
-use Rattle.std.proofs.Common.{◌≡◌, ◌∙◌, ℕ, false, List, [], ◌∷◌, ◌++◌, length, map, Option, Some, None, is_some, refl, sym, ap, arith, subst}
+use Rattle.std.proofs.Common.{◌≡◌, ◌∙◌, ◌≤◌, ℕ, false, List, [], ◌∷◌, ◌++◌, length, map, Option, Some, None, is_some, refl, sym, ap, arith, subst}
+use Rattle.std.specs.List.{find}
 use Rattle.std.specs.Prelude.{IsOk, option_map}
 use Rattle.move_messages.specs.declared.commit_text.CommitText.{CommitText}
 use Rattle.std.proofs.Math.Seq.{take-length}
@@ -14,12 +15,13 @@ use Rattle.operating_db.specs.Steps.{IsPromised}
 use Rattle.operating_db.specs.declared.event.Event.{Event}
 use Rattle.commit_book.specs.BookStep.{is_full, is_kept}
 use Rattle.commit_book.specs.History.{IsEntry, IsTableAt, Owes, after_all, problem_at, replay, version}
-use Rattle.commit_book.specs.inner.Kept.{IsBook, IsBookOf, IsKeptAt, setting_of, which_of, with_kept}
+use Rattle.commit_book.specs.inner.Kept.{IsBook, IsBookOf, IsInSpan, IsKeptAt, IsMade, is_covering, setting_of, which_of, with_kept}
 use Rattle.commit_book.specs.inner.Ledger.{LedgerValue, office_of}
 use Rattle.commit_book.specs.Limits.{LimitNumbers}
 use Rattle.commit_book.specs.Setting.{Setting}
 use Rattle.commit_book.specs.declared.kept_problems.KeptProblem.{KeptProblem}
-use Rattle.commit_book.proofs.Books.{book_keep, book_push, kept_as, kept_is_found, named_problem}
+use Rattle.commit_book.specs.declared.kept_problems.MadeProblem.{MadeProblem}
+use Rattle.commit_book.proofs.Books.{IsCovering, at_moment, book_keep, book_push, found_covering, kept_as, kept_is_found, named_problem}
 use Rattle.commit_book.proofs.Runs.{IsLegalEntry, room_of}
 
 -- the office of a ledger is the replay
@@ -46,18 +48,36 @@ parts_kept ledger networks limits kept most one is h =
 pub last_version : (setting : Setting) (history : List Event) → version setting history (length history) ≡ replay setting history
 last_version setting history = ap (replay setting) (take-length history)
 
--- the problem of the last version is that of a version
-pub present_kept : (setting : Setting) (history : List Event) (at : ℕ) (one : KeptProblem) (network : NetworkValue) → one.version ≡ length history → one.problem ≡ problem_of (replay setting history) at
-    → network_at setting.networks (replay setting history).network ≡ Some network → IsTableOf network one.problem one.cells → IsKeptAt setting history one
-present_kept setting history at one network version_is problem_is in_force of_problem =
-    let office : version setting history one.version ≡ replay setting history = ap (λ (n : ℕ). version setting history n) version_is ∙ last_version setting history in
-    let its_at : one.problem.at ≡ at = ap (λ (p : ProblemValue). p.at) problem_is in
-    let problem : one.problem ≡ problem_at setting history one.version one.problem.at = problem_is ∙ ap (λ (k : ℕ). problem_of (replay setting history) k) (sym its_at) ∙ ap (λ (o : Office). problem_of o one.problem.at) (sym office) in
+-- the problem of the last version and a table that lasts, as they are kept
+pub present_made : (setting : Setting) (history : List Event) (made : MadeProblem) (network : NetworkValue) → made.problem ≡ problem_of (replay setting history) made.problem.at
+    → network_at setting.networks (replay setting history).network ≡ Some network → ((m : ℕ) → made.problem.at ≤ m → m ≤ made.until → IsTableOf network (record made.problem { at = m }) made.cells)
+    → IsMade setting history (length history) made
+present_made setting history made network problem_is in_force lasts =
+    let office : replay setting history ≡ version setting history (length history) = sym (last_version setting history) in
+    let problem : made.problem ≡ problem_at setting history (length history) made.problem.at = problem_is ∙ ap (λ (o : Office). problem_of o made.problem.at) office in
     record {
-      had = omega (arith, version_is);
       is_problem = problem;
-      is_table = record { network = network; in_force = rw office in_force; of_problem = subst (λ (p : ProblemValue). IsTableOf network p one.cells) problem of_problem };
+      is_table = λ m span.
+          let same : record made.problem { at = m } ≡ problem_at setting history (length history) m = ap (λ (p : ProblemValue). record p { at = m }) problem in
+          record { network = network; in_force = rw (last_version setting history) in_force; of_problem = subst (λ (p : ProblemValue). IsTableOf network p made.cells) same (lasts m span.first span.last) };
     }
+
+-- what is kept of the last version, at another moment, is the problem of that moment
+pub present_problem : (setting : Setting) (history : List Event) (made : MadeProblem) (at : ℕ) → IsMade setting history (length history) made → record made.problem { at = at } ≡ problem_of (replay setting history) at
+present_problem setting history made at h = at_moment setting history (length history) made at h ∙ ap (λ (o : Office). problem_of o at) (last_version setting history)
+
+-- what was found of the last version, whose table is that of a moment
+pub found_present : (setting : Setting) (history : List Event) (kept : List KeptProblem) (n at : ℕ) (one : KeptProblem) → n ≡ length history → IsBook setting history kept → find (is_covering n at) kept ≡ Some one → IsCovering setting history (length history) at one.made.value
+found_present setting history kept n at one is book found =
+    subst (λ (k : ℕ). IsCovering setting history k at one.made.value) is (found_covering setting history kept n at one book found)
+
+-- what is made of the last version is kept as the problem of a moment of its span
+pub present_kept : (setting : Setting) (history : List Event) (one : KeptProblem) → one.version ≡ length history → IsMade setting history (length history) one.made.value → IsInSpan one.made.value one.at → IsKeptAt setting history one
+present_kept setting history one version_is made span = record {
+  had = omega (arith, version_is);
+  made = subst (λ (n : ℕ). IsMade setting history n one.made.value) (sym version_is) made;
+  span = span;
+}
 
 pub some_mapped : {A B : Type 0} (f : A → B) (o : Option A) → is_some (option_map f o) ≡ is_some o
 some_mapped f None = refl
@@ -71,7 +91,7 @@ pub kept_none : {A : Type 0} (f : A → KeptProblem) (kept : List KeptProblem) (
 kept_none f kept which o h = kept_is_found kept which ∙ ap is_some (sym h) ∙ some_mapped f o
 
 -- the table of a kept problem, where it was found
-pub kept_table : (setting : Setting) (history : List Event) (kept : List KeptProblem) (version at : ℕ) (one : KeptProblem) → IsBook setting history kept → kept_as kept (version, at) ≡ Some one → IsTableAt setting history version at one.cells
+pub kept_table : (setting : Setting) (history : List Event) (kept : List KeptProblem) (version at : ℕ) (one : KeptProblem) → IsBook setting history kept → kept_as kept (version, at) ≡ Some one → IsTableAt setting history version at one.made.value.cells
 kept_table setting history kept version at one book found =
     let commit : CommitText = record { version = version; at = at; pairs = []; u = []; v = [] } in
     (named_problem setting history kept commit one book found).is_table

@@ -1,18 +1,27 @@
 -- What a book keeps, call by call, and what it says of a commit of a kept problem.
 use Rattle.std.proofs.Common.{◌≡◌, ◌∙◌, ◌+◌, ◌≤◌, ℕ, Bool, true, false, cond, ◌||◌, List, [], ◌∷◌, ◌++◌, length, drop, map, refl, sym, ap, arith, subst, length-append}
-use Rattle.std.specs.Prelude.{◌==◌, nat_lt, Option, Some, None, is_some, All}
+use Rattle.std.specs.Prelude.{◌==◌, nat_le, nat_lt, Option, Some, None, Result, Ok, Err, is_some, All}
 use Rattle.std.specs.List.{find}
+use Rattle.std.specs.Option.{option_or}
+use Rattle.std.proofs.lemmas.Bool.Decides.{nat_tests}
 use Rattle.std.proofs.lemmas.List.{length-map}
 use Rattle.std.proofs.lemmas.List.Elements.{All-drop, All-head, All-nil, All-push, All-tail, All-weaker}
 use Rattle.move_messages.specs.declared.commit_text.CommitText.{CommitText}
-use Rattle.operating_db.specs.Commits.{CanPromise}
+use Rattle.cost_table.specs.Problem.{ProblemValue, names_of_problem}
+use Rattle.named_pairs.specs.NamedPairs.{checked}
+use Rattle.faults.specs.declared.faults.NamedFault.{NamedFault}
+use Rattle.operating_db.specs.Commits.{CanPromise, Pair}
+use Rattle.operating_db.specs.Office.{Office}
 use Rattle.operating_db.specs.declared.event.Event.{Event}
-use Rattle.commit_book.specs.BookStep.{IsJudged, accepted_unless, is_kept, is_this, kept_after, refusal_in}
+use Rattle.commit_book.specs.BookStep.{IsJudged, accepted_unless, is_kept, is_this, kept_after, refusal_by, refusal_in}
+use Rattle.commit_book.specs.Commits.{free_in, is_same_free, order_changed, wagon_changed, wagon_of}
 use Rattle.commit_book.specs.History.{IsLeast, IsTableAt, problem_at, replay}
-use Rattle.commit_book.specs.inner.Kept.{IsBook, IsKeptAt, which_of, with_kept}
+use Rattle.commit_book.specs.inner.Kept.{IsBook, IsInSpan, IsKeptAt, IsMade, is_covering, covers, which_of, with_kept}
 use Rattle.commit_book.specs.Setting.{Setting}
 use Rattle.commit_book.specs.declared.kept_problems.KeptProblem.{KeptProblem}
+use Rattle.commit_book.specs.declared.kept_problems.MadeProblem.{MadeProblem}
 use Rattle.faults.specs.declared.faults.Refusal.{Refusal}
+use Rattle.faults.specs.declared.faults.Refusal.TheVariants.{WagonChanged}
 use Rattle.commit_book.proofs.CommitLaws.{both_true, commit_owed, same_number}
 use Rattle.commit_book.proofs.Histories.{empty_legal, problem_kept, table_kept}
 use Rattle.commit_book.proofs.Runs.{IsLegalEntry, entered_legal}
@@ -22,11 +31,17 @@ empty_book setting = record { legal = empty_legal setting; problems = All-nil (I
 
 -- ---- one more entry
 
+made_kept : (setting : Setting) (history : List Event) (event : Event) (version : ℕ) (made : MadeProblem) → version ≤ length history → IsMade setting history version made → IsMade setting (history ++ event ∷ []) version made
+made_kept setting history event version made had h = record {
+  is_problem = h.is_problem ∙ sym (problem_kept setting history event version made.problem.at had);
+  is_table = λ m span. table_kept setting history event version m made.cells had (h.is_table m span);
+}
+
 still_kept : (setting : Setting) (history : List Event) (event : Event) (kept : KeptProblem) → IsKeptAt setting history kept → IsKeptAt setting (history ++ event ∷ []) kept
 still_kept setting history event kept h = record {
   had = let longer = length-append history (event ∷ []) in let had = h.had in omega (arith, longer, had);
-  is_problem = h.is_problem ∙ sym (problem_kept setting history event kept.version kept.problem.at h.had);
-  is_table = table_kept setting history event kept.version kept.problem.at kept.cells h.had h.is_table;
+  made = made_kept setting history event kept.version kept.made.value h.had h.made;
+  span = h.span;
 }
 
 pub book_push : (setting : Setting) (history : List Event) (event : Event) (kept : List KeptProblem) → IsBook setting history kept → IsLegalEntry setting history event → IsBook setting (history ++ event ∷ []) kept
@@ -100,56 +115,100 @@ same_which which kept h =
 same_problem : (a b : KeptProblem) → let o : Option KeptProblem = Some a in o ≡ Some b → a ≡ b
 same_problem a b h = cc
 
--- what is found is that problem, and kept
-pub record IsFound (P : KeptProblem → Type 0) (which : ℕ × ℕ) (one : KeptProblem) : Type 0 where
+-- what is found passes the test, and is kept
+pub record IsFound (P : KeptProblem → Type 0) (test : KeptProblem → Bool) (one : KeptProblem) : Type 0 where
   pub holds : P one
-  pub is_which : which_of one ≡ which
+  pub passes : test one ≡ true
 
-found_step : (P : KeptProblem → Type 0) (which : ℕ × ℕ) (first one : KeptProblem) (rest : Option KeptProblem) (this : Bool) → is_this which (which_of first) ≡ this → P first → (rest ≡ Some one → IsFound P which one) → cond this (Some first) rest ≡ Some one → IsFound P which one
-found_step P which first one rest true is here later h = subst (IsFound P which) (same_problem first one h) (record { holds = here; is_which = same_which which (which_of first) is })
-found_step P which first one rest false is here later h = later h
+found_step : (P : KeptProblem → Type 0) (test : KeptProblem → Bool) (first one : KeptProblem) (rest : Option KeptProblem) (this : Bool) → test first ≡ this → P first → (rest ≡ Some one → IsFound P test one) → cond this (Some first) rest ≡ Some one → IsFound P test one
+found_step P test first one rest true is here later h = subst (IsFound P test) (same_problem first one h) (record { holds = here; passes = is })
+found_step P test first one rest false is here later h = later h
 
-pub found_kept : (P : KeptProblem → Type 0) (kept : List KeptProblem) (which : ℕ × ℕ) (one : KeptProblem) → All P kept → kept_as kept which ≡ Some one → IsFound P which one
-found_kept P [] which one all h = absurd cc
-found_kept P (first ∷ kept) which one all h =
-    found_step P which first one (kept_as kept which) (is_this which (which_of first)) refl (All-head P first kept all) (found_kept P kept which one (All-tail P first kept all)) h
+pub found_kept : (P : KeptProblem → Type 0) (test : KeptProblem → Bool) (kept : List KeptProblem) (one : KeptProblem) → All P kept → find test kept ≡ Some one → IsFound P test one
+found_kept P test [] one all h = absurd cc
+found_kept P test (first ∷ kept) one all h =
+    found_step P test first one (find test kept) (test first) refl (All-head P first kept all) (found_kept P test kept one (All-tail P first kept all)) h
+
+-- ---- what is shared
+
+-- a problem of a version is that of another moment, once it has that moment
+pub at_moment : (setting : Setting) (history : List Event) (version : ℕ) (made : MadeProblem) (m : ℕ) → IsMade setting history version made → record made.problem { at = m } ≡ problem_at setting history version m
+at_moment setting history version made m h = ap (λ (p : ProblemValue). record p { at = m }) h.is_problem
+
+span_of : (made : MadeProblem) (at : ℕ) → covers made at ≡ true → IsInSpan made at
+span_of made at h =
+    let f = both_true (nat_le made.problem.at at) (nat_le at made.until) h in
+    record { first = grind (arith, nat_tests, f.0); last = grind (arith, nat_tests, f.1) }
+
+-- what was found of a version, whose table is that of a moment
+pub record IsCovering (setting : Setting) (history : List Event) (version at : ℕ) (made : MadeProblem) : Type 0 where
+  pub is_made : IsMade setting history version made
+  pub in_span : IsInSpan made at
+
+pub found_covering : (setting : Setting) (history : List Event) (kept : List KeptProblem) (version at : ℕ) (one : KeptProblem) → IsBook setting history kept → find (is_covering version at) kept ≡ Some one → IsCovering setting history version at one.made.value
+found_covering setting history kept version at one book h =
+    let found = found_kept (IsKeptAt setting history) (is_covering version at) kept one book.problems h in
+    let f = both_true (one.version == version) (covers one.made.value at) found.passes in
+    record {
+      is_made = subst (λ (n : ℕ). IsMade setting history n one.made.value) (same_number one.version version f.0) found.holds.made;
+      in_span = span_of one.made.value at f.1;
+    }
 
 -- ---- a commit of a kept problem
 
 -- the problem that a commit names, and its table
-pub record IsNamed (setting : Setting) (history : List Event) (commit : CommitText) (one : KeptProblem) : Type 0 where
+pub record IsNamed (setting : Setting) (history : List Event) (commit : CommitText) (made : MadeProblem) : Type 0 where
   pub had : commit.version ≤ length history
-  pub is_problem : one.problem ≡ problem_at setting history commit.version commit.at
-  pub is_table : IsTableAt setting history commit.version commit.at one.cells
+  pub is_problem : record made.problem { at = commit.at } ≡ problem_at setting history commit.version commit.at
+  pub is_table : IsTableAt setting history commit.version commit.at made.cells
 
-named_by : (setting : Setting) (history : List Event) (commit : CommitText) (one : KeptProblem) (version at : ℕ) → commit.version ≡ version → commit.at ≡ at → version ≤ length history → one.problem ≡ problem_at setting history version at → IsTableAt setting history version at one.cells → IsNamed setting history commit one
-named_by setting history commit one version at same_version same_at had is_problem is_table = record {
-  had = omega (arith, same_version, had);
-  is_problem = is_problem ∙ sym (ap (λ (n : ℕ). problem_at setting history n at) same_version) ∙ sym (ap (problem_at setting history commit.version) same_at);
-  is_table = subst (λ (n : ℕ). IsTableAt setting history n commit.at one.cells) (sym same_version) (subst (λ (m : ℕ). IsTableAt setting history version m one.cells) (sym same_at) is_table);
-}
+named_by : (setting : Setting) (history : List Event) (commit : CommitText) (one : KeptProblem) → which_of one ≡ (commit.version, commit.at) → IsKeptAt setting history one → IsNamed setting history commit one.made.value
+named_by setting history commit one is h =
+    let version : one.version ≡ commit.version = ap (λ (w : ℕ × ℕ). w.0) is in
+    let at : one.at ≡ commit.at = ap (λ (w : ℕ × ℕ). w.1) is in
+    let made = subst (λ (n : ℕ). IsMade setting history n one.made.value) version h.made in
+    let had = h.had in
+    record {
+      had = omega (arith, version, had);
+      is_problem = at_moment setting history commit.version one.made.value commit.at made;
+      is_table = made.is_table commit.at (subst (IsInSpan one.made.value) at h.span);
+    }
 
-pub named_problem : (setting : Setting) (history : List Event) (kept : List KeptProblem) (commit : CommitText) (one : KeptProblem) → IsBook setting history kept → kept_as kept (commit.version, commit.at) ≡ Some one → IsNamed setting history commit one
+pub named_problem : (setting : Setting) (history : List Event) (kept : List KeptProblem) (commit : CommitText) (one : KeptProblem) → IsBook setting history kept → kept_as kept (commit.version, commit.at) ≡ Some one → IsNamed setting history commit one.made.value
 named_problem setting history kept commit one book h =
-    let found = found_kept (IsKeptAt setting history) kept (commit.version, commit.at) one book.problems h in
-    let version : commit.version ≡ one.version = ap (λ (w : ℕ × ℕ). w.0) (sym found.is_which) in
-    let at : commit.at ≡ one.problem.at = ap (λ (w : ℕ × ℕ). w.1) (sym found.is_which) in
-    named_by setting history commit one one.version one.problem.at version at found.holds.had found.holds.is_problem found.holds.is_table
+    let which : ℕ × ℕ = (commit.version, commit.at) in
+    let found = found_kept (IsKeptAt setting history) (λ one. is_this which (which_of one)) kept one book.problems h in
+    named_by setting history commit one (same_which which (which_of one) found.passes) found.holds
+
+-- what a commit is refused for doesn't depend on the problem's moment
+wagon_changed_at : (problem : ProblemValue) (at : ℕ) (now : Office) (pairs : List Pair) → wagon_changed (record problem { at = at }) now pairs ≡ wagon_changed problem now pairs
+wagon_changed_at problem at now [] = refl
+wagon_changed_at problem at now (pair ∷ pairs) = ap (λ (rest : Option Refusal). cond (is_same_free (wagon_of problem pair.0) (free_in now pair.0)) rest (Some (WagonChanged pair.0))) (wagon_changed_at problem at now pairs)
+
+refusal_by_at : (problem : ProblemValue) (at : ℕ) (now : Office) (pairs : List Pair) (checked : Result ℕ NamedFault) → refusal_by (record problem { at = at }) now pairs checked ≡ refusal_by problem now pairs checked
+refusal_by_at problem at now pairs (Ok cost) = ap (λ (changed : Option Refusal). option_or changed (order_changed now [] pairs)) (wagon_changed_at problem at now pairs)
+refusal_by_at problem at now pairs (Err fault) = refl
+
+-- what is found of what a kept problem shares is what is found of the problem that is named
+pub refusal_named : (setting : Setting) (history : List Event) (commit : CommitText) (made : MadeProblem) (now : Office) → IsNamed setting history commit made → refusal_in (problem_at setting history commit.version commit.at) now commit made.cells ≡ refusal_in made.problem now commit made.cells
+refusal_named setting history commit made now named =
+    ap (λ (problem : ProblemValue). refusal_in problem now commit made.cells) (sym named.is_problem)
+    ∙ refusal_by_at made.problem commit.at now commit.pairs (checked (names_of_problem made.problem) made.cells commit.pairs commit.u commit.v)
 
 -- what the tests of a commit find is what it is answered
 pub commit_judged : (setting : Setting) (history : List Event) (kept : List KeptProblem) (commit : CommitText) (one : KeptProblem) (refusal : Option Refusal) → IsBook setting history kept → kept_as kept (commit.version, commit.at) ≡ Some one
-    → refusal_in one.problem (replay setting history) commit one.cells ≡ refusal → IsJudged setting history commit (accepted_unless (length history + 1) refusal)
+    → refusal_in one.made.value.problem (replay setting history) commit one.made.value.cells ≡ refusal → IsJudged setting history commit (accepted_unless (length history + 1) refusal)
 commit_judged setting history kept commit one refusal book found h =
     let named = named_problem setting history kept commit one book found in
     record {
-      table = one.cells;
+      table = one.made.value.cells;
       is_table = named.is_table;
-      answered = ap (accepted_unless (length history + 1)) (sym h ∙ ap (λ problem. refusal_in problem (replay setting history) commit one.cells) named.is_problem);
+      answered = ap (accepted_unless (length history + 1)) (sym (refusal_named setting history commit one.made.value (replay setting history) named ∙ h));
     }
 
 -- where they find nothing, it pays what it owes, and can be promised
 pub commit_passed : (setting : Setting) (history : List Event) (kept : List KeptProblem) (commit : CommitText) (one : KeptProblem) → IsBook setting history kept → kept_as kept (commit.version, commit.at) ≡ Some one
-    → refusal_in one.problem (replay setting history) commit one.cells ≡ None → IsLeast setting history commit × CanPromise (replay setting history) commit.pairs
+    → refusal_in one.made.value.problem (replay setting history) commit one.made.value.cells ≡ None → IsLeast setting history commit × CanPromise (replay setting history) commit.pairs
 commit_passed setting history kept commit one book found h =
     let named = named_problem setting history kept commit one book found in
-    commit_owed setting history commit one.cells named.had named.is_table (sym (ap (λ problem. refusal_in problem (replay setting history) commit one.cells) named.is_problem) ∙ h)
+    commit_owed setting history commit one.made.value.cells named.had named.is_table (refusal_named setting history commit one.made.value (replay setting history) named ∙ h)

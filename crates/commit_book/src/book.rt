@@ -8,18 +8,18 @@ ghost use Rattle.commit_book.specs.inner.Entered.{IsEntered};
 ghost use Rattle.commit_book.specs.inner.CommitTests.{IsAccepted, IsRefused};
 ghost use Rattle.commit_book.specs.Headline.{IsProved};
 ghost use Rattle.commit_book.specs.History.{IsTableAt, Owes, entry_at, replay};
-ghost use Rattle.commit_book.specs.inner.Kept.{IsKeptAt, which_of};
+ghost use Rattle.commit_book.specs.inner.Kept.{IsInSpan, IsKeptAt, IsMade, which_of};
 ghost use Rattle.commit_book.specs.inner.Ledger.{IsMessageAt, IsNoMessage};
 ghost use Rattle.commit_book.specs.Snap.{IsVersionNumber, snap_of};
 ghost use Rattle.commit_book.specs.declared.call.Call.TheVariants as call;
 
 use crate::commits::judge;
 use crate::indexed_problem::IndexedProblem;
-use crate::kept_problems::{KeptProblem, find_kept, keep};
+use crate::kept_problems::{KeptProblem, MadeProblem, find_covering, find_kept, keep};
 use crate::ledger::{Ledger, MessageEntry};
 use crate::same_messages::is_same_message;
 use crate::{Limits, Refusal, Reply, Snap};
-use cost_table::{Cells, Problem, cells};
+use cost_table::{Cells, Problem, TimedCells, timed_cells};
 use distance_tables::{Networks, Tables};
 use move_messages::{CommitText, Message, OrderText};
 use operating_db::{Event, OfficeState};
@@ -77,6 +77,7 @@ impl Book {
         ensures value { result ≡ length self.now.state.history }
         ensures limit { IsVersionNumber result }
     {
+        // For the prover alone: there are at most 1,000,000 entries.
         let _most = self.limits.entries();
         self.ledger.len() as u64
     }
@@ -94,6 +95,7 @@ impl Book {
         ensures state { result.now ≡ record { office = replay self.now.setting self.now.state.history; networks = length self.now.setting.networks } }
         ensures proved { IsProved self.now.setting self.now.state.history }
     {
+        // For the prover alone: what every roster keeps.
         let _rows = self.ledger.roster().rows();
         self.ledger.state()
     }
@@ -142,8 +144,9 @@ impl Book {
     }
 
     /// The problem of the present version at a moment, which is kept so that a commit may name it. It goes behind the
-    /// kept ones, unless it is among them; where there are as many as the limit says, the oldest is dropped. `Err` only
-    /// when out of memory; nothing has changed then.
+    /// kept ones, unless it is among them; where there are as many as the limit says, the oldest is dropped. Where a kept
+    /// problem of this version has a table that is that of this moment too, the two share it, and none is made. `Err`
+    /// only when out of memory; nothing has changed then.
     pub fn begin(&mut self, alloc: Global, at: Moment) -> Result<Snap, AllocError>
         ensures call { IsCall self.old.setting self.old.state (call.Begin at) (begun_of result) self.new.state }
         ensures snap { IfOk result (λ snap. snap ≡ snap_of self.old.setting self.old.state.history at) }
@@ -182,7 +185,7 @@ impl Book {
         ensures table { IfSome result (λ cells. IsTableAt self.now.setting self.now.state.history version at cells.now) }
     {
         match find_kept(&self.kept, version, at) {
-            Some(kept) => Some(&kept.cells),
+            Some(kept) => Some(&kept.made.cells),
             None => None,
         }
     }
@@ -199,7 +202,7 @@ impl Book {
         if self.is_full() {
             return Err(Refusal::BookFull);
         }
-        judge(alloc, kept, self.state(), commit)
+        judge(alloc, &kept.made, self.state(), commit)
     }
 
     /// Whether there are as many entries as there may be.
@@ -254,12 +257,22 @@ impl Book {
     fn snap(&self, alloc: Global, at: Moment) -> Result<Snap, AllocError>
         ensures { IfOk result (λ snap. snap ≡ snap_of self.now.setting self.now.state.history at) }
     {
-        let state = self.state();
-        let problem = state.problem(alloc, at)?;
-        Ok(Snap::of(self.len(), state.network(), problem))
+        let problem = self.present_problem(alloc, at)?;
+        Ok(Snap::of(self.len(), self.state().network(), problem))
     }
 
-    /// Keeps a copy of the problem of the present version at a moment, unless that problem is kept.
+    /// The problem of the present version at a moment: a copy of what a kept one has, where its table is that of this
+    /// moment too, else as the office's rows say.
+    fn present_problem(&self, alloc: Global, at: Moment) -> Result<Problem, AllocError>
+        ensures { IfOk result (λ problem. problem ≡ problem_of (replay self.now.setting self.now.state.history) at) }
+    {
+        match self.made_for(at) {
+            Some(made) => made.problem.copy_at(alloc, at),
+            None => self.state().problem(alloc, at),
+        }
+    }
+
+    /// Keeps the problem of the present version at a moment, unless that problem is kept.
     fn keep_present(&mut self, alloc: Global, problem: &Problem) -> Result<(), AllocError>
         requires { problem.now ≡ problem_of (replay self.old.setting self.old.state.history) problem.now.at }
         ensures kept { OnOk result (self.new.state ≡ record self.old.state { kept = kept_after self.old.setting self.old.state.kept (length self.old.state.history, problem.now.at) }) }
@@ -269,7 +282,7 @@ impl Book {
         if self.is_kept(self.len(), problem.at()) {
             return Ok(());
         }
-        let one = self.with_table(alloc, problem)?;
+        let one = self.kept_present(alloc, problem)?;
         let most = self.limits.kept() as usize;
         keep(&mut self.kept, most, one)?;
         Ok(())
@@ -282,20 +295,60 @@ impl Book {
         self.kept_cells(version, at).is_some()
     }
 
-    /// A copy of the problem of the present version at a moment, with its table over the network in force.
-    fn with_table(&self, alloc: Global, problem: &Problem) -> Result<KeptProblem, AllocError>
+    /// The problem of the present version at a moment, to be kept.
+    fn kept_present(&self, alloc: Global, problem: &Problem) -> Result<KeptProblem, AllocError>
         requires { problem.now ≡ problem_of (replay self.now.setting self.now.state.history) problem.now.at }
         ensures kept { IfOk result (λ one. IsKeptAt self.now.setting self.now.state.history one) }
         ensures which { IfOk result (λ one. which_of one ≡ (length self.now.state.history, problem.now.at)) }
     {
-        let _rows = self.state().wagon_rows();
-        let cells = cells(alloc, problem, self.tables())?;
-        let problem = IndexedProblem::of(alloc, problem.copy(alloc)?)?;
+        let made = self.made(alloc, problem)?;
         Ok(KeptProblem {
             version: self.len(),
+            at: problem.at(),
+            made,
+        })
+    }
+
+    /// What the problem of the present version at a moment is kept with: what a kept one has whose table is that of this
+    /// moment too, which is shared; else what is made of the problem.
+    fn made(&self, alloc: Global, problem: &Problem) -> Result<Arc<MadeProblem>, AllocError>
+        requires { problem.now ≡ problem_of (replay self.now.setting self.now.state.history) problem.now.at }
+        ensures made { IfOk result (λ made. IsMade self.now.setting self.now.state.history (length self.now.state.history) made.value) }
+        ensures span { IfOk result (λ made. IsInSpan made.value problem.now.at) }
+    {
+        match self.made_for(problem.at()) {
+            Some(made) => Arc::try_clone(made),
+            None => self.with_table(alloc, problem),
+        }
+    }
+
+    /// What a kept problem of the present version has whose table is that of this moment too, where there is one.
+    fn made_for(&self, at: Moment) -> Option<&Arc<MadeProblem>>
+        ensures made { IfSome result (λ made. IsMade self.now.setting self.now.state.history (length self.now.state.history) made.now.value) }
+        ensures span { IfSome result (λ made. IsInSpan made.now.value at) }
+    {
+        match find_covering(&self.kept, self.len(), at) {
+            Some(kept) => Some(&kept.made),
+            None => None,
+        }
+    }
+
+    /// A copy of the problem of the present version at a moment, with its table over the network in force, to be shared.
+    fn with_table(&self, alloc: Global, problem: &Problem) -> Result<Arc<MadeProblem>, AllocError>
+        requires { problem.now ≡ problem_of (replay self.now.setting self.now.state.history) problem.now.at }
+        ensures made { IfOk result (λ made. IsMade self.now.setting self.now.state.history (length self.now.state.history) made.value) }
+        ensures span { IfOk result (λ made. IsInSpan made.value problem.now.at) }
+    {
+        // For the prover alone: wagons ascend by number.
+        let _rows = self.state().wagon_rows();
+        let TimedCells { cells, until } = timed_cells(alloc, problem, self.tables())?;
+        let problem = IndexedProblem::of(alloc, problem.copy(alloc)?)?;
+        let made = MadeProblem {
             problem,
             cells,
-        })
+            until,
+        };
+        Ok(Arc::new(alloc, made)?)
     }
 
     /// The distances of the network in force.

@@ -10,7 +10,7 @@ ghost use Rattle.database_rows.specs.Rows.{order_in};
 
 use crate::Refusal;
 use crate::indexed_problem::IndexedProblem;
-use crate::kept_problems::KeptProblem;
+use crate::kept_problems::MadeProblem;
 use move_messages::CommitText;
 use named_pairs::check_named;
 use operating_db::{OfficeState, times_of_order};
@@ -19,24 +19,24 @@ use rail_codes::{OrderId, WagonNumber};
 use std::alloc::{AllocError, Global};
 use wagon_state::{FreeWagon, free};
 
-/// Tests a commit of a kept problem in the office as it is now: its pairs are of the problem (84); they and its prices
-/// are a certificate of the problem's table (61 to 66); its wagons are free as they were (82); its orders lack as many
-/// wagons as they are given (83).
+/// Tests a commit of a kept problem in the office as it is now, by what that problem may share with others; of its moment
+/// all depends on the table alone. Its pairs are of the problem (84); they and its prices are a certificate of the table
+/// (61 to 66); its wagons are free as they were (82); its orders lack as many wagons as they are given (83).
 pub(crate) fn judge(
     alloc: Global,
-    kept: &KeptProblem,
+    made: &MadeProblem,
     now: &OfficeState,
     commit: &CommitText,
 ) -> Result<(), Refusal>
-    requires wagons { wagon_count kept.now.cells ≡ length kept.now.problem.wagons }
-    requires orders { order_count kept.now.cells ≡ length kept.now.problem.orders }
-    ensures accepted { OnOk result (refusal_in kept.now.problem now.now.office commit.now kept.now.cells ≡ None) }
-    ensures refused { IfErr result (λ refusal. refusal ≢ OutOfMemory → refusal_in kept.now.problem now.now.office commit.now kept.now.cells ≡ Some refusal) }
+    requires wagons { wagon_count made.now.cells ≡ length made.now.problem.wagons }
+    requires orders { order_count made.now.cells ≡ length made.now.problem.orders }
+    ensures accepted { OnOk result (refusal_in made.now.problem now.now.office commit.now made.now.cells ≡ None) }
+    ensures refused { IfErr result (λ refusal. refusal ≢ OutOfMemory → refusal_in made.now.problem now.now.office commit.now made.now.cells ≡ Some refusal) }
 {
     let pairs = commit.pairs.as_slice();
     let prices = prices_of(alloc, commit)?;
-    let _cost = check_named(alloc, &kept.problem, &kept.cells, pairs, &prices)?;
-    wagons_unchanged(&kept.problem, now, pairs)?;
+    let _cost = check_named(alloc, &made.problem, &made.cells, pairs, &prices)?;
+    wagons_unchanged(&made.problem, now, pairs)?;
     orders_unchanged(now, pairs)
 }
 

@@ -56,6 +56,13 @@ impl IndexedProblem {
         self.problem.at()
     }
 
+    /// The same wagons and orders at another moment.
+    pub fn copy_at(&self, alloc: Global, at: Moment) -> Result<Problem, AllocError>
+        ensures { IfOk result (λ problem. problem ≡ record self.now { at = at }) }
+    {
+        self.problem.copy_at(alloc, at)
+    }
+
     /// The wagon of a number, where the problem has it.
     pub fn wagon(&self, number: WagonNumber) -> Option<&FreeWagon>
         ensures { option_copied result ≡ wagon_of self.now number }

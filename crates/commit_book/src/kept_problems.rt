@@ -2,27 +2,69 @@
 ghost use Rattle.std.specs.Prelude.{◌≡◌, ◌≤◌, OnErr, OnOk, length, option_map};
 ghost use Rattle.std.specs.List.{find};
 ghost use Rattle.commit_book.specs.BookStep.{is_this};
-ghost use Rattle.commit_book.specs.inner.Kept.{which_of, with_kept};
+ghost use Rattle.commit_book.specs.inner.Kept.{is_covering, covers, which_of, with_kept};
 
 use crate::indexed_problem::IndexedProblem;
 use cost_table::Cells;
 use rail_codes::Moment;
 use std::alloc::AllocError;
+use std::sync::Arc;
+
+/// What kept problems of one version share: the problem at the first of their moments, its table, and up to which
+/// moment that is the table of the same wagons and orders.
+#[derive(Debug, Drop)]
+pub(crate) struct MadeProblem {
+    pub problem: IndexedProblem,
+    pub cells: Cells,
+    /// In seconds since 1970-01-01T00:00:00Z.
+    pub until: u64,
+}
+
+impl MadeProblem {
+    /// Whether the table is that of the same wagons and orders at this moment, too.
+    fn covers(&self, at: Moment) -> bool
+        ensures { result ≡ covers self.now at }
+    {
+        self.problem.at() <= at && at.seconds() <= self.until
+    }
+}
 
 /// A kept problem: that of a version at a moment, with its table.
 #[derive(Debug, Drop)]
 pub(crate) struct KeptProblem {
     pub version: u64,
-    pub problem: IndexedProblem,
-    pub cells: Cells,
+    pub at: Moment,
+    pub made: Arc<MadeProblem>,
+}
+
+impl KeptProblem {
+    /// Whether this is the problem of a version at a moment.
+    fn is_of(&self, version: u64, at: Moment) -> bool
+        ensures { result ≡ is_this (version, at) (which_of self.now) }
+    {
+        self.version == version && self.at == at
+    }
+
+    /// Whether this is a problem of a version whose table is that of this moment too.
+    fn is_covering(&self, version: u64, at: Moment) -> bool
+        ensures { result ≡ is_covering version at self.now }
+    {
+        self.version == version && self.made.covers(at)
+    }
 }
 
 /// The problem of a version at a moment, where it is kept.
 pub(crate) fn find_kept(kept: &[KeptProblem], version: u64, at: Moment) -> Option<&KeptProblem>
     ensures { option_map (λ one. one.now) result ≡ find (λ one. is_this (version, at) (which_of one)) kept.now }
 {
-    kept.iter()
-        .find(|one| one.version == version && one.problem.at() == at)
+    kept.iter().find(|one| one.is_of(version, at))
+}
+
+/// A kept problem of a version whose table is that of this moment too, where there is one.
+pub(crate) fn find_covering(kept: &[KeptProblem], version: u64, at: Moment) -> Option<&KeptProblem>
+    ensures { option_map (λ one. one.now) result ≡ find (is_covering version at) kept.now }
+{
+    kept.iter().find(|one| one.is_covering(version, at))
 }
 
 /// Keeps one more problem, as the last one. Where there are as many as may be, the first makes room. Where memory is

@@ -2,11 +2,12 @@
 
 use commit_book::Refusal;
 use cost_table::TableFault;
+use csv_records::RecordFault;
 use distance_tables::{NetworksFault, WorkFault};
 use json_fields::{Field, FieldFault, LineFault};
 use line_network::NetworkFault;
 use named_pairs::NamedFault;
-use office::RunFault;
+use office::{FeedFault, RunFault};
 use operating_db::ApplyFault;
 use price_checker::CheckFault;
 use rail_codes::CodeFault;
@@ -77,6 +78,8 @@ fn faults_of_runs(rt: HostRuntime) -> Result<(), Fail> {
     assert_named!(rt, TableRefusal: OutOfMemory);
     assert_named!(rt, RunFault: OutOfMemory, TooManyLines(1_000_001), LineTooLong(7),
         ReadFailed(8), WriteFailed(9));
+    assert_named!(rt, FeedFault: OutOfMemory, NoThread, ReceiptLost(1, 2));
+    assert_named!(rt, RecordFault: OutOfMemory, ReadFailed);
     Ok(())
 }
 

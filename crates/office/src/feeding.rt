@@ -23,10 +23,13 @@ use std::thread::{PromisedHandle, Scope, Threads};
 /// The most files.
 pub const MAX_FILES: usize = 16;
 
+// No clause names it, since who feeds an office tests the number of files by it.
+const _: () = prove!(MAX_FILES == 16);
+
 /// A thread that brings a file's lines to its seat.
 type Running<L, R> = PromisedHandle<FedFile<L, R>, FileOf<R>>;
 
-/// Memory for what comes of the files, got before any thread is started.
+/// Memory for what comes of the files, allocated before any thread is started.
 #[derive(Drop)]
 struct Room<L: Ledger, R: Source> {
     running: Vec<Running<L, R>>,
@@ -272,6 +275,7 @@ fn closed<L: Ledger, R: Drop>(office: Office<L>, fed: Fed<L, R>) -> Result<FeedR
     let Fed { files, seats } = fed;
     match close(office, seats) {
         Ok(book) => {
+            // For the prover alone: the history is as the headline says.
             let _state = book.state();
             Ok(FeedReport { files, book })
         }

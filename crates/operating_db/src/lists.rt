@@ -55,6 +55,7 @@ fn wanted(row: &OrderRow) -> Option<Wanted>
     ensures { result ≡ wanted_in row.now }
 {
     let text = *row.text();
+    // For the prover alone: an order wants at most 20 wagons.
     let _at_most = text.wagons();
     Wanted::new(text, row.lack())
 }

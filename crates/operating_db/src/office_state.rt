@@ -60,6 +60,7 @@ impl OfficeState {
         requires few { networks ≤ max_networks }
         ensures { IfOk result (λ state. state ≡ record { office = first_office roster.now; networks = networks }) }
     {
+        // For the prover alone: no number stands twice in a roster.
         let _rows = roster.rows();
         Ok(OfficeState {
             wagons: WagonRows::from_roster(alloc, roster)?,
@@ -121,6 +122,7 @@ impl OfficeState {
     pub fn problem(&self, alloc: Global, at: Moment) -> Result<Problem, AllocError>
         ensures { IfOk result (λ problem. problem ≡ problem_of self.now.office at) }
     {
+        // For the prover alone: no name stands twice among the orders, and the open ones want at most 500 wagons.
         let _rows = self.orders.as_slice();
         let wagons = free_wagons(alloc, self.wagons.as_slice())?;
         let orders = waiting_orders(alloc, &self.orders)?;
@@ -330,6 +332,7 @@ impl OfficeState {
         if !row.is_open() {
             return Err(ApplyFault::OrderClosed);
         }
+        // For the prover alone: no number stands twice among the wagons.
         let _rows = self.wagons.as_slice();
         end_promises(&mut self.wagons, row.promised());
         self.orders.withdraw(place);

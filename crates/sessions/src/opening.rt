@@ -12,6 +12,9 @@ use std::sync::ledger::{Blank, Ledger, Share};
 /// The most seats.
 pub const MAX_SEATS: u32 = 64;
 
+// No clause names it, since who opens an office tests its number by it.
+const _: () = prove!(MAX_SEATS == 64);
+
 /// Opens an office over a book without entries, with so many seats, 1 to 64, numbered from 1. The blank is that of the
 /// ledger `L`, made with one part for each seat. Where memory is refused, blank and book are handed back.
 pub fn open<L: Ledger>(

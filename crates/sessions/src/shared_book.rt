@@ -85,6 +85,7 @@ impl<L: Ledger> SharedBook<L> {
         ensures amount { share.new.amount ≡ share.old.amount }
         ensures parts { share.new.parts ≡ share.old.parts }
     {
+        // For the prover alone: the history is as the headline says.
         let _proved = self.book.state();
         self.total.audit(share);
     }

@@ -61,6 +61,7 @@ fn small_cost(cells: &Cells, plan: &Plan, prices: &Prices, certified: Certified)
     requires cost { certified ≡ cost_of cells.now plan.now }
     ensures { result ≡ cost_of cells.now plan.now }
 {
+    // For the prover alone: a table's numbers are within its limits.
     let _orders = cells.orders();
     certified.cost() as u64
 }

@@ -1,5 +1,5 @@
 -- What a book keeps beside its history.
-use Rattle.std.specs.Prelude.{◌≡◌, ◌≤◌, nat_lt, ℕ, if◌then◌else◌, List, [], ◌∷◌, ◌++◌, length, drop, map, All}
+use Rattle.std.specs.Prelude.{◌≡◌, ◌≤◌, ◌==◌, ◌&&◌, nat_le, nat_lt, ℕ, Bool, if◌then◌else◌, List, [], ◌∷◌, ◌++◌, length, drop, map, All}
 use Rattle.line_network.specs.Network.{NetworkValue}
 use Rattle.operating_db.specs.declared.event.Event.{Event}
 use Rattle.commit_book.specs.BookStep.{BookValue}
@@ -8,20 +8,40 @@ use Rattle.commit_book.specs.inner.Ledger.{LedgerValue}
 use Rattle.commit_book.specs.Limits.{LimitNumbers}
 use Rattle.commit_book.specs.Setting.{Setting}
 use Rattle.commit_book.specs.declared.kept_problems.KeptProblem.{KeptProblem}
+use Rattle.commit_book.specs.declared.kept_problems.MadeProblem.{MadeProblem}
 
 -- the version and the moment of a kept problem
 abbrev pub which_of : KeptProblem → ℕ × ℕ
-which_of kept = (kept.version, kept.problem.at)
+which_of kept = (kept.version, kept.at)
 
 -- one more, as the last; the first makes room where there are as many as may be
 abbrev pub with_kept : ℕ → List KeptProblem → KeptProblem → List KeptProblem
 with_kept most kept one = if nat_lt (length kept) most then kept ++ one ∷ [] else drop 1 kept ++ one ∷ []
 
--- the problem and the table are those of a version that the book has had
+-- whether a moment is within the span of what kept problems share
+abbrev pub covers : MadeProblem → ℕ → Bool
+covers made at = nat_le made.problem.at at && nat_le at made.until
+
+-- whether a kept problem is of a version, and its table is that of this moment too
+abbrev pub is_covering : (version at : ℕ) → KeptProblem → Bool
+is_covering version at kept = kept.version == version && covers kept.made.value at
+
+-- a moment is within the span: it is the problem's or a later one, up to the last
+pub record IsInSpan (made : MadeProblem) (at : ℕ) : Type 0 where
+  pub first : made.problem.at ≤ at
+  pub last : at ≤ made.until
+
+-- what kept problems of a version share: the problem of that version at a moment, and a table that is that version's at
+-- each moment of the span
+pub record IsMade (setting : Setting) (history : List Event) (version : ℕ) (made : MadeProblem) : Type 0 where
+  pub is_problem : made.problem ≡ problem_at setting history version made.problem.at
+  pub is_table : (m : ℕ) → IsInSpan made m → IsTableAt setting history version m made.cells
+
+-- the problem is that of a version that the book has had, at a moment of the span
 pub record IsKeptAt (setting : Setting) (history : List Event) (kept : KeptProblem) : Type 0 where
   pub had : kept.version ≤ length history
-  pub is_problem : kept.problem ≡ problem_at setting history kept.version kept.problem.at
-  pub is_table : IsTableAt setting history kept.version kept.problem.at kept.cells
+  pub made : IsMade setting history kept.version kept.made.value
+  pub span : IsInSpan kept.made.value kept.at
 
 -- What every book keeps: its history is legal, and each kept problem is that of its version.
 pub record IsBook (setting : Setting) (history : List Event) (kept : List KeptProblem) : Type 0 where

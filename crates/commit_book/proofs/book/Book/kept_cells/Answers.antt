@@ -13,4 +13,4 @@ returns-in-None-clause-kept c =
 
 pub returns-in-Some-clause-table : goal.returns-in-Some-clause-table
 returns-in-Some-clause-table c =
-    rw (← c.self.view_is) (kept_table _ c.self.inside.ledger.events c.self.inside.kept.items c.args.version c.args.at c.in-Some.kept.now c.self.invariant.book (sym (c.in-Some.ensures ∙ ap (λ ks. kept_as ks (c.args.version, c.args.at)) c.deref.ensures.value)))
+    rw (c.deref-in-Some.ensures, ← c.self.view_is) (kept_table _ c.self.inside.ledger.events c.self.inside.kept.items c.args.version c.args.at c.in-Some.kept.now c.self.invariant.book (sym (c.in-Some.ensures ∙ ap (λ ks. kept_as ks (c.args.version, c.args.at)) c.deref.ensures.value)))
