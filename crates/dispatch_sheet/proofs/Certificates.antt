@@ -1,69 +1,101 @@
--- The line of a commit: what its JSON is, and that it reads as the commit.
-use Rattle.std.proofs.Common.{◌≡◌, ℕ, ◌-◌, ◌^◌, ◌≤◌, false, List, [], ◌∷◌, map, Some, Ok, refl, arith}
+-- The line of a commit: that it reads as the commit.
+use Rattle.std.proofs.Common.{◌≡◌, ℕ, ◌-◌, ◌^◌, ◌<◌, ◌≤◌, List, [], ◌∷◌, map, Some, Ok, refl, sym, ap, ◌∙◌, subst, append-nil, arith}
+use Rattle.std.specs.Prelude.{option_and_then, option_map}
+use Rattle.std.specs.List.{AllByRecursion}
 use Rattle.std.specs.Str.{IsUtf8}
-use Rattle.serde_json.specs.Data.{string, depth}
-use Rattle.serde_json.specs.Read.{read, max_depth}
-use Rattle.serde_json.specs.Written.{has_float}
+use Rattle.std.proofs.lemmas.List.Elements.{recursion_from_All}
+use Rattle.json.specs.Json as json
+use Rattle.json.specs.Lex.{tokens}
+use Rattle.json.specs.Tree as tree
+use Rattle.json.proofs.Printed.Trees.{value-json_tokens}
+use Rattle.serde_json.specs.Data.{Data, item, string}
+use Rattle.serde_json.specs.Read.{of_items, of_json, read, max_depth}
+use Rattle.serde_json.specs.View.{items_of}
+use Rattle.serde_json.specs.Written.{items_outline, outline}
+use Rattle.serde_json.proofs.Numbers.{number_of-decimal}
 use Rattle.rail_codes.specs.Moment.{moment_of}
+use Rattle.rail_codes.specs.OrderId.{order_id_of, IsOrderId}
+use Rattle.rail_codes.specs.WagonNumber.{IsWagonNumber}
+use Rattle.rail_codes.proofs.WagonNumbers.{wagon_number_of-IsWagonNumber}
 use Rattle.json_fields.specs.Values.{list_of_each, number_within, text_of, moment_from, pair_of}
 use Rattle.json_fields.specs.Written.{list_data, number_data, pair_data}
 use Rattle.json_fields.specs.Field.{field_name}
 use Rattle.json_fields.specs.Fields.{member, field_of}
 use Rattle.json_fields.proofs.Lines.{object_of-ok}
-use Rattle.json_fields.proofs.Writing.{number_reads}
+use Rattle.json_fields.proofs.Writing.{list-reads, number_reads, pair_reads}
 use Rattle.move_messages.specs.declared.commit_text.CommitText.{CommitText}
 use Rattle.move_messages.specs.declared.command.Command.TheVariants.{Commit}
 use Rattle.move_messages.specs.LineType.{line_type_of, type_name}
 use Rattle.move_messages.specs.Commands.{command_of, command_of_type, commit_text_of, max_version}
-use Rattle.commit_book.specs.Snap.{SnapValue, named_pair}
-use Rattle.dispatch_sheet.specs.Certificate.{commit_of, commit_data}
+use Rattle.dispatch_sheet.specs.Certificate.{commit_data}
+use Rattle.dispatch_sheet.specs.inner.Readable.{AreReadablePrices, IsReadable, IsReadablePair}
+use Rattle.dispatch_sheet.specs.inner.Tokens.{data_tokens}
 
--- ---- no part is a float, and it nests little
+-- ---- it nests little
 
-pairs_have_no_float : (pairs : List (List ℕ × List ℕ)) → has_float (list_data pair_data pairs) ≡ false
-pairs_have_no_float [] = refl
-pairs_have_no_float (p ∷ pairs) = pairs_have_no_float pairs
-
-prices_have_no_float : (prices : List ℕ) → has_float (list_data number_data prices) ≡ false
-prices_have_no_float [] = refl
-prices_have_no_float (p ∷ prices) = prices_have_no_float prices
-
-pub commit_has_no_float : (commit : CommitText) (at : List ℕ) → has_float (commit_data commit at) ≡ false
-commit_has_no_float commit at = rw (pairs_have_no_float commit.pairs, prices_have_no_float commit.u, prices_have_no_float commit.v) refl
-
-pairs_nest : (pairs : List (List ℕ × List ℕ)) → depth (list_data pair_data pairs) ≤ 2
+pairs_nest : (pairs : List (List ℕ × List ℕ)) → tree.depth (outline (list_data pair_data pairs)) ≤ 2
 pairs_nest [] = omega arith
 pairs_nest (p ∷ pairs) = let more = pairs_nest pairs in omega arith
 
-prices_nest : (prices : List ℕ) → depth (list_data number_data prices) ≤ 1
+prices_nest : (prices : List ℕ) → tree.depth (outline (list_data number_data prices)) ≤ 1
 prices_nest [] = omega arith
 prices_nest (p ∷ prices) = let more = prices_nest prices in omega arith
 
-pub commit_nests : (commit : CommitText) (at : List ℕ) → depth (commit_data commit at) ≤ max_depth
+commit_nests : (commit : CommitText) (at : List ℕ) → tree.depth (outline (commit_data commit at)) ≤ max_depth
 commit_nests commit at =
     let pairs = pairs_nest commit.pairs in
     let u = prices_nest commit.u in
     let v = prices_nest commit.v in
     omega arith
 
--- ---- the commit
+-- ---- its tokens spell it
+
+pairs_spell : (pairs : List (List ℕ × List ℕ)) → of_items (items_outline (items_of (map pair_data pairs))) ≡ Some (items_of (map pair_data pairs))
+pairs_spell [] = refl
+pairs_spell (p ∷ pairs) = ap (option_map (item (pair_data p))) (pairs_spell pairs)
+
+prices_spell : (prices : List ℕ) → AllByRecursion (λ price. price < 2 ^ 64) prices → of_items (items_outline (items_of (map number_data prices))) ≡ Some (items_of (map number_data prices))
+prices_spell [] fit = refl
+prices_spell (p ∷ prices) fit = rw (number_of-decimal p fit.0, prices_spell prices fit.1) refl
+
+commit_spells : (commit : CommitText) (at : List ℕ) → IsReadable commit → of_json (outline (commit_data commit at)) ≡ Some (commit_data commit at)
+commit_spells commit at readable =
+    let small = λ (price : ℕ). price < 2 ^ 64 in
+    rw (pairs_spell commit.pairs, prices_spell commit.u (recursion_from_All small commit.u readable.u), prices_spell commit.v (recursion_from_All small commit.v readable.v), number_of-decimal commit.version (omega (arith, readable.version))) refl
+
+read-tokens : (j : json.Json) (d : Data) (text : List ℕ) → tokens text ≡ tree.json_tokens j → tree.depth j ≤ max_depth → of_json j ≡ Some d → read text ≡ Some d
+read-tokens j d text same shallow is =
+    ap (λ ts. option_and_then of_json (option_and_then (λ p. json.if_last p.0 p.1) (json.value max_depth ts))) (same ∙ sym (append-nil (tree.json_tokens j)))
+    ∙ ap (λ o. option_and_then of_json (option_and_then (λ p. json.if_last p.0 p.1) o)) (value-json_tokens j max_depth [] shallow) ∙ is
+
+-- ---- the value reads as the commit
+
+-- a wagon number and an order's name are read as themselves
+order-reads : (id : List ℕ) → IsOrderId id → order_id_of id ≡ Ok id
+order-reads id valid = rw valid refl
+
+pub pair-reads : (wagon order wagon_text order_text : List ℕ) → wagon_text ≡ wagon → IsWagonNumber wagon_text → order_text ≡ order → IsOrderId order_text → IsReadablePair (wagon, order)
+pair-reads wagon order wagon_text order_text wagon_same wagon_valid order_same order_valid =
+    pair_reads wagon order (wagon_number_of-IsWagonNumber wagon (subst IsWagonNumber wagon_same wagon_valid)) (order-reads order (subst IsOrderId order_same order_valid))
 
 moment-reads : (at : List ℕ) (moment : ℕ) → moment_of at ≡ Ok moment → moment_from (string at) ≡ Ok moment
 unfolding moment_from text_of
 moment-reads at moment e = rw e refl
 
-pub commit-reads : (commit : CommitText) (at : List ℕ) → commit.version ≤ max_version → moment_of at ≡ Ok commit.at → list_of_each pair_of (list_data pair_data commit.pairs) ≡ Ok commit.pairs
-    → list_of_each (number_within 0 (2 ^ 64 - 1)) (list_data number_data commit.u) ≡ Ok commit.u
-    → list_of_each (number_within 0 (2 ^ 64 - 1)) (list_data number_data commit.v) ≡ Ok commit.v
-    → commit_text_of (commit_data commit at) ≡ Ok commit
+prices-read : (prices : List ℕ) → AreReadablePrices prices → list_of_each (number_within 0 (2 ^ 64 - 1)) (list_data number_data prices) ≡ Ok prices
+prices-read prices fit = list-reads (number_within 0 (2 ^ 64 - 1)) number_data prices (λ k d lt. number_reads 0 (2 ^ 64 - 1) _ (omega arith) (omega (arith, fit k d lt)))
+
+commit-reads : (commit : CommitText) (at : List ℕ) → IsReadable commit → moment_of at ≡ Ok commit.at → commit_text_of (commit_data commit at) ≡ Ok commit
 unfolding commit_text_of field_of member field_name
-commit-reads commit at version moment pairs u v =
-    rw (number_reads 0 max_version commit.version (omega arith) version, moment-reads at commit.at moment, pairs, u, v) refl
+commit-reads commit at readable moment =
+    let version = number_reads 0 max_version commit.version (omega arith) readable.version in
+    rw (version, moment-reads at commit.at moment, list-reads pair_of pair_data commit.pairs readable.pairs, prices-read commit.u readable.u, prices-read commit.v readable.v) refl
 
-pub line-reads : (bytes : List ℕ) (commit : CommitText) (at : List ℕ) → IsUtf8 bytes → read bytes ≡ Some (commit_data commit at) → commit_text_of (commit_data commit at) ≡ Ok commit → command_of bytes ≡ Ok (Commit commit)
+command-reads : (bytes : List ℕ) (commit : CommitText) (at : List ℕ) → IsUtf8 bytes → read bytes ≡ Some (commit_data commit at) → commit_text_of (commit_data commit at) ≡ Ok commit → command_of bytes ≡ Ok (Commit commit)
 unfolding command_of command_of_type field_of member field_name text_of line_type_of type_name
-line-reads bytes commit at utf8 is reads = rw (object_of-ok bytes (commit_data commit at) utf8 is refl, reads) refl
+command-reads bytes commit at utf8 is reads = rw (object_of-ok bytes (commit_data commit at) utf8 is refl, reads) refl
 
--- a commit of these parts
-pub commit-same : (commit : CommitText) (snap : SnapValue) (plan : List (ℕ × ℕ)) (u v : List ℕ) → commit.version ≡ snap.version → commit.at ≡ snap.problem.at → commit.pairs ≡ map (named_pair snap.problem) plan → commit.u ≡ u → commit.v ≡ v → commit ≡ commit_of snap plan u v
-commit-same commit snap plan u v version at pairs of_wagons of_orders = λ i. record { version = version i; at = at i; pairs = pairs i; u = of_wagons i; v = of_orders i }
+-- a text of the commit's tokens
+pub line-reads : (bytes : List ℕ) (commit : CommitText) (at : List ℕ) → IsUtf8 bytes → tokens bytes ≡ data_tokens (commit_data commit at) → IsReadable commit → moment_of at ≡ Ok commit.at → command_of bytes ≡ Ok (Commit commit)
+line-reads bytes commit at utf8 same readable moment =
+    command-reads bytes commit at utf8 (read-tokens (outline (commit_data commit at)) (commit_data commit at) bytes same (commit_nests commit at) (commit_spells commit at readable)) (commit-reads commit at readable moment)

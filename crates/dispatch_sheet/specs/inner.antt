@@ -2,4 +2,6 @@
 pub mod PairLines
 pub mod Parts
 pub mod Pushed
+pub mod Readable
 pub mod RosterWords
+pub mod Tokens

@@ -4,6 +4,7 @@
 #![tactic(auto)]
 
 mod certificate;
+mod commit_tokens;
 mod order_line;
 mod plan_lines;
 mod row_lines;

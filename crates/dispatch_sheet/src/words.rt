@@ -5,9 +5,9 @@ ghost use Rattle.dispatch_sheet.specs.Words.{next_word};
 ghost use Rattle.dispatch_sheet.specs.inner.Parts.{IsMomentWord};
 ghost use Rattle.dispatch_sheet.specs.inner.Pushed.{Adds};
 
+use itoa::Buffer;
 use rail_codes::{Moment, push_ascii};
 use std::alloc::AllocError;
-use std::fmt::Write;
 
 /// Adds a code's characters.
 pub(crate) fn push_code(text: &mut String, characters: &[u8]) -> Result<(), AllocError>
@@ -30,7 +30,8 @@ pub(crate) fn push_word(text: &mut String, word: &str) -> Result<(), AllocError>
 pub(crate) fn push_number(text: &mut String, number: u64) -> Result<(), AllocError>
     ensures { OnOk result (string_bytes text.new ≡ string_bytes text.old ++ next_word (decimal number)) }
 {
-    write!(text, " {number}")
+    let mut digits = Buffer::new();
+    push_word(text, digits.format(number))
 }
 
 /// Adds a moment.
@@ -39,4 +40,12 @@ pub(crate) fn push_moment(text: &mut String, moment: Moment) -> Result<(), Alloc
 {
     text.push_str(" ")?;
     moment.push_text(text)
+}
+
+/// ASCII characters as text, which nothing has to look at again.
+pub(crate) fn ascii_str(characters: &[u8]) -> &str
+    requires { IsAscii characters.now }
+    ensures { result.now ≡ characters.now }
+{
+    unsafe { str::from_utf8_unchecked(characters) }
 }
