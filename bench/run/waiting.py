@@ -2,8 +2,9 @@
 """Makes scripts of 300 waiting orders over the fleet of day.py, all of whose wagons are free when it begins.
 
 waiting.py FOLDER LINES reads roster.csv and network.csv in FOLDER, and writes into it orders.jsonl, the orders alone;
-begins.jsonl and plans.jsonl, the orders and then so many `begin` or `plan` lines; and table.json, the table that each
-of these lines plans, as a table line.
+begins.jsonl and plans.jsonl, the orders and then so many `begin` or `plan` lines, a second apart; changed_begins.jsonl
+and changed_plans.jsonl, the same with a message of a wagon before each, so that each is of another version; and
+table.json, the table that each of these lines plans, as a table line.
 """
 
 import csv
@@ -60,8 +61,23 @@ def table(folder, orders):
     return line(fields | {"lacks": [1] * len(orders), "pairs": [], "u": [], "v": []})
 
 
+def ask(kind, k):
+    return line({"type": kind, "at": f"2026-03-03T00:00:{k % 60:02}Z"})
+
+
 def asks(kind, lines):
-    return "".join(line({"type": kind, "at": f"2026-03-03T00:00:{k % 60:02}Z"}) for k in range(lines))
+    return "".join(ask(kind, k) for k in range(lines))
+
+
+def asks_after_messages(folder, kind, lines):
+    """A message that a wagon isn't held, which makes it ready at that moment, before each line."""
+    with open(f"{folder}/roster.csv") as file:
+        wagons = list(csv.DictReader(file))
+    message = {"type": "exception", "company": "9999", "moment": "2026-03-03T00:00:00Z", "hold": False}
+    told = [
+        line(message | {"number": k, "wagon": wagons[k]["wagon"], "place": wagons[k]["place"]}) for k in range(lines)
+    ]
+    return "".join(told[k] + ask(kind, k) for k in range(lines))
 
 
 def main():
@@ -71,7 +87,9 @@ def main():
     with open(f"{folder}/table.json", "w") as out:
         out.write(table(folder, waiting))
     orders = "".join(map(line, waiting))
-    for name, more in ("orders", ""), ("begins", asks("begin", lines)), ("plans", asks("plan", lines)):
+    scripts = [("orders", ""), ("begins", asks("begin", lines)), ("plans", asks("plan", lines))]
+    scripts += [(f"changed_{kind}s", asks_after_messages(folder, kind, lines)) for kind in ("begin", "plan")]
+    for name, more in scripts:
         with open(f"{folder}/{name}.jsonl", "w") as out:
             out.write(orders + more)
 
