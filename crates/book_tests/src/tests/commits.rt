@@ -17,6 +17,15 @@ const OTHER_WAGON: Line<'static> = Commit(2, FARTHER, &[0], &[150]);
 
 const LET_GO: Line<'static> = Hold(2, NEAR, "DE00002", "00:00:00", false);
 
+/// The commit of the sample at moments before one o'clock.
+const HALF_PAST_MIDNIGHT: Line<'static> = Line::Text(
+    r#"{"type":"commit","version":1,"at":"2026-03-01T00:30:00Z","pairs":[["218124712173","O1"]],"u":[0,0],"v":[50]}"#,
+);
+
+const QUARTER_TO_ONE: Line<'static> = Line::Text(
+    r#"{"type":"commit","version":1,"at":"2026-03-01T00:45:00Z","pairs":[["218124712173","O1"]],"u":[0,0],"v":[50]}"#,
+);
+
 /// The sample's order has two wagons, and one twice.
 const TWO: &[(&str, &str)] = &[(FAR, "O1"), (NEAR, "O1")];
 
@@ -120,7 +129,9 @@ const CASES: &[Case] = &[
             Begun(Begin("00:30:00"), 1),
             Begun(BEGIN, 1),
             RefusedNaming(Commit(1, FARTHER, &[0, 0], &[150]), 64, NEAR_O1),
+            Refused(QUARTER_TO_ONE, 81),
             Accepted(COMMIT, 2),
+            RefusedNaming(HALF_PAST_MIDNIGHT, 82, NEAR),
             Begun(Begin("01:00:01"), 2),
         ],
     ),
