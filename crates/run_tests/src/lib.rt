@@ -1,5 +1,10 @@
-//! Tests of runs over command lines: worked scripts, with replies from the manual and not from the program.
+//! Tests of runs over command lines and over table lines, and of feeds: worked scripts and examples, with expected values
+//! from the manual and not from the program.
 #![tactic(auto)]
 
 #[cfg(test)]
-mod tests;
+mod checks;
+#[cfg(test)]
+mod commands;
+#[cfg(test)]
+mod feeding;

@@ -41,23 +41,48 @@ fn begun<L: Ledger, R: Wait>(desk: &Desk<'_, L, R>, seat: &mut Seat<L>) -> Resul
     Ok(desk.office.begin(desk.rt, desk.alloc, seat, at)?)
 }
 
+/// Whether a plan gives the first wagon to the first order, at 50 km.
+fn is_least(
+    alloc: Global,
+    snap: &Snap,
+    networks: &Networks,
+    plan: &Plan,
+    prices: &Prices,
+) -> Result<bool, Fail> {
+    let is_first = plan.pairs().len() == 1 && plan.pairs().first() == Some(&(0, 0));
+    Ok(is_first && cost_of(alloc, snap, networks, plan, prices)? == 50)
+}
+
+/// The commit of what is planned for a snapshot, and whether that is the nearer wagon.
+fn planned(alloc: Global, snap: &Snap, networks: &Networks) -> Result<(CommitText, bool), Fail> {
+    let (plan, prices) = work(alloc, snap, networks)?;
+    let is_least = is_least(alloc, snap, networks, &plan, &prices)?;
+    Ok((snap.commit_text(alloc, &plan, &prices)?, is_least))
+}
+
+/// Whether a seat has the nearer wagon planned for the sample's order, and commits that as the second entry.
+fn commits<L: Ledger, R: Wait>(
+    desk: &Desk<'_, L, R>,
+    seat: &mut Seat<L>,
+    snap: &Snap,
+) -> Result<bool, Fail> {
+    let networks = networks_of(desk.alloc, SAMPLE.networks)?;
+    let (commit, is_least) = planned(desk.alloc, snap, &networks)?;
+    let reply = desk.office.commit(desk.rt, desk.alloc, seat, &commit);
+    let told = text_of(desk.alloc, reply)?;
+    Ok(is_least && told.as_str() == "accepted 2" && is_nearest(&commit)?)
+}
+
 /// Whether a seat begins, has the nearer wagon planned for the sample's order, and commits that.
 pub(crate) fn plans<L: Ledger, R: Wait>(
     desk: &Desk<'_, L, R>,
     seats: &mut [Seat<L>],
 ) -> Result<bool, Fail> {
-    let alloc = desk.alloc;
-    let networks = networks_of(alloc, SAMPLE.networks)?;
     let seat = seats.first_mut().ok_or("no seat")?;
     let placed = desk.told(seat, ORDER)?;
     let snap = begun(desk, seat)?;
-    let (plan, prices) = work(alloc, &snap, &networks)?;
-    let cost = cost_of(alloc, &snap, &networks, &plan, &prices)?;
-    let is_first = plan.pairs().len() == 1 && plan.pairs().first() == Some(&(0, 0));
-    let commit = snap.commit_text(alloc, &plan, &prices)?;
-    let told = text_of(alloc, desk.office.commit(desk.rt, alloc, seat, &commit))?;
-    let is_told = placed.as_str() == "accepted 1" && told.as_str() == "accepted 2";
-    Ok(is_told && is_first && cost == 50 && is_nearest(&commit)? && seat.count() == 2)
+    let are_planned = commits(desk, seat, &snap)?;
+    Ok(are_planned && placed.as_str() == "accepted 1" && seat.count() == 2)
 }
 
 /// Whether a seat revises to the second network, so that a plan wants more than the first.

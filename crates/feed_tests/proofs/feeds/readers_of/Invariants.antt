@@ -1,8 +1,0 @@
-use Rattle.std.proofs.Common.{◌≡◌, All, false, vec_len}
-use Rattle.feed_tests.proofs.feeds.readers_of.Given as goal
-
-abbrev pub invariant-loop-text : goal.invariant-loop-text
-invariant-loop-text l = record {
-  count : vec_len l.readers ≡ l.text-index;
-  fresh : All (λ reader. reader.has_failed ≡ false) l.readers.items;
-}

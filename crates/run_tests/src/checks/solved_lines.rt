@@ -1,0 +1,168 @@
+//! Tables without a plan in, the same with one out, and what the check of them replies: costs are worked out by hand.
+
+use super::check_lines::{lacking, repeated};
+use office::check_run;
+use std::alloc::Global;
+use std::test::Fail;
+use table_solver::solve_run;
+use test_samples::{MemorySink, MemorySource, numbers_list};
+
+/// What is replied to an input: the solved lines.
+fn solved(alloc: Global, input: &[u8]) -> Result<Vec<u8>, Fail> {
+    let mut reader = MemorySource::new(input, usize::MAX);
+    let mut writer = MemorySink::new(alloc, usize::MAX);
+    solve_run(alloc, &mut reader, &mut writer)?;
+    Ok(Vec::from_slice(alloc, writer.bytes())?)
+}
+
+/// Whether this is the reply to an input.
+fn is_solved(alloc: Global, input: &[u8], reply: &str) -> Result<bool, Fail> {
+    let output = solved(alloc, input)?;
+    Ok(output.as_slice() == reply.as_bytes())
+}
+
+/// Whether the check of the solved input replies so.
+fn is_optimal(alloc: Global, input: &[u8], replies: &str) -> Result<bool, Fail> {
+    let output = solved(alloc, input)?;
+    let mut reader = MemorySource::new(&output, usize::MAX);
+    let mut writer = MemorySink::new(alloc, usize::MAX);
+    check_run(alloc, &mut reader, &mut writer)?;
+    Ok(writer.bytes() == replies.as_bytes())
+}
+
+/// Seven tables, two of them twice, the last without a line feed.
+const TABLES: &str =
+    r#"{"wagons":["338447961008","218124712173"],"orders":["O1","O2"],"cells":[[10,20],[15,null]],"penalties":[1000,1000]}
+{"wagons":["338447961008"],"orders":["O1","O2"],"cells":[[10,20]],"penalties":[50,500]}
+{"wagons":["338447961008"],"orders":["O1","O2"],"cells":[[10,20]],"penalties":[50,500]}
+{"wagons":["338447961008","218124712173"],"orders":["O1"],"cells":[[10],[12]],"penalties":[100]}
+{"wagons":[],"orders":["O1"],"cells":[],"penalties":[900]}
+{"wagons":["338447961008"],"orders":["O1"],"cells":[[30]],"penalties":[30]}
+{"wagons":["338447961008"],"orders":["O1"],"cells":[[30]],"penalties":[30]}"#;
+
+#[test]
+fn seven_tables(rt: HostRuntime) -> Result<(), Fail> {
+    let costs =
+        "1 optimal 35\n2 optimal 70\n3 optimal 70\n4 optimal 10\n5 optimal 900\n6 optimal 30\n7 optimal 30\n";
+    assert!(rt; is_optimal(rt.alloc(), TABLES.as_bytes(), costs)?);
+    Ok(())
+}
+
+/// Tables with one plan and one list of prices each, alone as line 1, and refused lines of each kind.
+const LINES: &[(&str, &str)] = &[
+    (
+        r#"{"wagons":[],"orders":["O1"],"cells":[],"penalties":[900],"pairs":7,"u":null,"v":[1],"note":"x"}"#,
+        "{\"cells\":[],\"cost\":900,\"orders\":[\"O1\"],\"pairs\":[],\"penalties\":[900],\"u\":[],\"v\":[900],\"wagons\":[]}\n",
+    ),
+    // One wagon for 10 km, and 50 km for the one that is missing. v is at most 50 and at most 10 + u, and 60 + u is twice
+    // v: so v is 50 and u is 40.
+    (
+        r#" {"lacks": [2], "wagons":["33 84 4796 100-8"],"orders":["O1"],"cells":[[10]],"penalties":[5],"penalties":[50]}"#,
+        "{\"cells\":[[10]],\"cost\":60,\"lacks\":[2],\"orders\":[\"O1\"],\"pairs\":[[\"338447961008\",\"O1\"]],\"penalties\":[50],\"u\":[40],\"v\":[50],\"wagons\":[\"338447961008\"]}\n",
+    ),
+    (
+        r#"{"wagons":["338447961008"],"orders":["O1"],"cells":[[null]],"penalties":[5]}"#,
+        "{\"cells\":[[null]],\"cost\":5,\"orders\":[\"O1\"],\"pairs\":[],\"penalties\":[5],\"u\":[0],\"v\":[5],\"wagons\":[\"338447961008\"]}\n",
+    ),
+    (
+        "\n{\n \t\r\n[]\n{} {}",
+        "{\"line\":2,\"refused\":\"21\"}\n{\"line\":4,\"refused\":\"22\"}\n{\"line\":5,\"refused\":\"21\"}\n",
+    ),
+    ("\n\n \t\r", ""),
+    (
+        r#"{"orders":[]}"#,
+        "{\"line\":1,\"refused\":\"24 wagons\"}\n",
+    ),
+    (
+        r#"{"wagons":["338447961009"]}"#,
+        "{\"line\":1,\"refused\":\"25 wagons 12\"}\n",
+    ),
+    (
+        r#"{"wagons":["338447961008"],"orders":["O1"],"cells":[[1000000001]],"penalties":[5]}"#,
+        "{\"line\":1,\"refused\":\"25 cells 20\"}\n",
+    ),
+    (
+        r#"{"wagons":["338447961008","33 84 4796 100-8"],"orders":["O1","O1"],"cells":[],"penalties":[]}"#,
+        "{\"line\":1,\"refused\":\"51 338447961008\"}\n",
+    ),
+    (
+        r#"{"wagons":[],"orders":["O1","O2","O1"],"cells":[[]],"penalties":[5,5,5]}"#,
+        "{\"line\":1,\"refused\":\"52 O1\"}\n",
+    ),
+    (
+        r#"{"wagons":["338447961008"],"orders":["O1"],"cells":[[]],"penalties":[5]}"#,
+        "{\"line\":1,\"refused\":\"54\"}\n",
+    ),
+];
+
+#[test]
+fn lines(rt: HostRuntime) -> Result<(), Fail> {
+    for (line, reply) in LINES {
+        assert!(rt; is_solved(rt.alloc(), line.as_bytes(), reply)?, "{line}");
+    }
+    let line = lacking(rt.alloc(), 26)?;
+    assert!(rt; is_solved(rt.alloc(), &line, "{\"line\":1,\"refused\":\"53\"}\n")?);
+    Ok(())
+}
+
+/// GLPK's transport example: Seattle has 350 cases and San Diego 600, New York wants 325 of them, Chicago 300 and Topeka
+/// 275, over 2.5, 1.7, 1.8 and 2.5, 1.8, 1.4 thousand miles. Here a wagon takes 25 cases: 14 and 24 wagons, orders of 13,
+/// 12 and 11, in hundreds of miles. By hand: Topeka is nearest to San Diego by 0.4, Chicago to Seattle by 0.1, and New
+/// York is as far from both, so 11 * 14 + 12 * 17 + 13 * 25 = 683; GLPK answers 153.675 thousand dollars for 90 dollars
+/// a case and thousand miles, which is 683 * 25 / 10 * 90 / 1000.
+#[test]
+fn transport(rt: HostRuntime) -> Result<(), Fail> {
+    let alloc = rt.alloc();
+    let numbers = numbers_list(alloc, 38)?;
+    let seattle = repeated(alloc, "[25,17,18]", 14)?;
+    let san_diego = repeated(alloc, "[25,18,14]", 24)?;
+    let line = format!(in alloc;
+        r#"{{"wagons":{numbers},"orders":["NEW-YORK","CHICAGO","TOPEKA"],"cells":[{seattle},{san_diego}],"penalties":[1000,1000,1000],"lacks":[13,12,11]}}"#
+    )?;
+    assert!(rt; is_optimal(alloc, line.as_bytes(), "1 optimal 683\n")?);
+    Ok(())
+}
+
+/// Three wagons for an order of two wagons and one of one: 10 km and 20 km for the first order, 40 km for the second.
+#[test]
+fn lacks(rt: HostRuntime) -> Result<(), Fail> {
+    let line =
+        r#"{"wagons":["338447961008","218124712173","338447961040"],"orders":["O1","O2"],"cells":[[10,12],[20,30],[null,40]],"penalties":[100,100],"lacks":[2,1]}"#;
+    assert!(rt; is_optimal(rt.alloc(), line.as_bytes(), "1 optimal 70\n")?);
+    Ok(())
+}
+
+/// How a run over two lines ends where the reader fails behind so many bytes, and what it wrote: the line of the stop.
+fn stops_reading(alloc: Global, given: usize, output: &[u8]) -> Option<u64> {
+    let mut reader = MemorySource::failing(b"{\n[]\n", 1, given, true);
+    let mut writer = MemorySink::new(alloc, usize::MAX);
+    match solve_run(alloc, &mut reader, &mut writer) {
+        Err(fault) if fault.number() == 93 && writer.bytes() == output => fault.line(),
+        _ => None,
+    }
+}
+
+/// The same where the writer fails behind so many bytes.
+fn stops_writing(alloc: Global, room: usize, output: &[u8]) -> Option<u64> {
+    let mut reader = MemorySource::new(b"{\n[]\n", 1);
+    let mut writer = MemorySink::failing(alloc, 1, room, true);
+    match solve_run(alloc, &mut reader, &mut writer) {
+        Err(fault) if fault.number() == 94 && writer.bytes() == output => fault.line(),
+        _ => None,
+    }
+}
+
+#[test]
+fn failures(rt: HostRuntime) {
+    let alloc = rt.alloc();
+    assert_eq!(rt; stops_reading(alloc, 1, b""), Some(1));
+    assert_eq!(rt;
+        stops_reading(alloc, 3, b"{\"line\":1,\"refused\":\"21\"}\n"),
+        Some(2)
+    );
+    assert_eq!(rt; stops_writing(alloc, 8, b"{\"line\":"), Some(1));
+    assert_eq!(rt;
+        stops_writing(alloc, 33, b"{\"line\":1,\"refused\":\"21\"}\n{\"line\""),
+        Some(2)
+    );
+}
