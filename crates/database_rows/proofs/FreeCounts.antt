@@ -11,6 +11,7 @@ use Rattle.std.specs.Ordering.{is_eq, is_gt, is_le, nat_cmp, ordering_then}
 use Rattle.std.specs.declared.cmp.Ordering.{Ordering}
 use Rattle.std.specs.declared.cmp.Ordering.TheVariants.{Less, Equal, Greater}
 use Rattle.std.specs.declared.ops.Bound.TheVariants.{Included, Excluded}
+use Rattle.std.proofs.Math.Bool.{and_comm}
 use Rattle.std.proofs.lemmas.Bool.{lt-ltb}
 use Rattle.std.proofs.lemmas.Bool.Decides.{nat_tests}
 use Rattle.std.proofs.lemmas.Cmp.{nat_list_cmp_total, tied_itself}
@@ -44,8 +45,8 @@ is_less k j lt = rw (lt-ltb k j lt) refl
 
 below : (c p : List ℕ) (k j : ℕ) → k < j → compare_standings (stand c p k) (stand c p j) ≡ Less
 below c p k j lt =
-    ap (λ o. ordering_then o (ordering_then (slice_cmp nat_cmp p p) (nat_cmp k j))) (tied_itself nat_list_cmp_total c)
-    ∙ (ap (λ o. ordering_then o (nat_cmp k j)) (tied_itself nat_list_cmp_total p) ∙ is_less k j lt)
+    ap (λ o. ordering_then o (ordering_then (slice_cmp nat_cmp c c) (nat_cmp k j))) (tied_itself nat_list_cmp_total p)
+    ∙ (ap (λ o. ordering_then o (nat_cmp k j)) (tied_itself nat_list_cmp_total c) ∙ is_less k j lt)
 
 after_step : (c p : List ℕ) (k : ℕ) (b : Bool) (s : Standing) (rest : List Standing) → compare_standings (stand c p k) s ≡ Less → AllAfter c p k rest → AllAfter c p k (cond b (s ∷ rest) rest)
 after_step c p k true s rest h later = (h, later)
@@ -89,11 +90,18 @@ both_here true true = refl
 both_here true false = refl
 both_here false b = refl
 
+first_last : (a b c : Bool) → (a && (b && c)) ≡ (b && (a && c))
+first_last true true c = refl
+first_last true false c = refl
+first_last false true c = refl
+first_last false false c = refl
+
 -- one is that of a row
 is_row : (c p : List ℕ) (k : ℕ) (q : Standing) → is_eq (compare_standings q (stand c p k)) ≡ (is_same c q.class && (is_same p q.place && nat_eq q.row k))
 is_row c p k q =
     ties q (stand c p k)
-    ∙ (ap (λ t. t && (is_same q.place p && nat_eq q.row k)) (same_name.symm q.class c) ∙ ap (λ t. is_same c q.class && (t && nat_eq q.row k)) (same_name.symm q.place p))
+    ∙ (first_last (is_same q.place p) (is_same q.class c) (nat_eq q.row k)
+    ∙ (ap (λ t. t && (is_same q.place p && nat_eq q.row k)) (same_name.symm q.class c) ∙ ap (λ t. is_same c q.class && (t && nat_eq q.row k)) (same_name.symm q.place p)))
 
 not_row : (c p : List ℕ) (k : ℕ) (q : Standing) → nat_eq q.row k ≡ false → is_eq (compare_standings q (stand c p k)) ≡ false
 not_row c p k q h = is_row c p k q ∙ (ap (λ t. is_same c q.class && (is_same p q.place && t)) h ∙ both_false (is_same c q.class) (is_same p q.place))
@@ -144,8 +152,9 @@ by_orders Equal Equal k n = by_rows k n
 
 lies_here : (c p : List ℕ) (n : ℕ) (q : Standing) → lies c p n q ≡ (is_here c p q && nat_lt q.row n)
 lies_here c p n q =
-    by_orders (slice_cmp nat_cmp c q.class) (slice_cmp nat_cmp p q.place) q.row n
-    ∙ (ap (λ t. (t && is_eq (slice_cmp nat_cmp p q.place)) && nat_lt q.row n) (sym (texts_ties c q.class)) ∙ ap (λ t. (is_same c q.class && t) && nat_lt q.row n) (sym (texts_ties p q.place)))
+    by_orders (slice_cmp nat_cmp p q.place) (slice_cmp nat_cmp c q.class) q.row n
+    ∙ (ap (λ t. (t && is_eq (slice_cmp nat_cmp c q.class)) && nat_lt q.row n) (sym (texts_ties p q.place)) ∙ ap (λ t. (is_same p q.place && t) && nat_lt q.row n) (sym (texts_ties c q.class))
+    ∙ ap (λ t. t && nat_lt q.row n) (and_comm (is_same p q.place) (is_same c q.class)))
 
 in_part : (c p : List ℕ) (n : ℕ) (keys : List Standing) (q : Standing) → has q (filter (lies c p n) keys) ≡ (lies c p n q && has q keys)
 in_part c p n keys q = any-filter_same (is_at (compare_standings q)) (lies c p n) (lies c p n q) (λ s tied. ap (lies c p n) (sym (tied_is q s tied))) keys
@@ -205,5 +214,5 @@ free_counted c p rows n set all sorted h =
 -- the first lies no further than the end
 pub goes_forward : (c p : List ℕ) (n : ℕ) → is_gt (compare_standings (stand c p 0) (stand c p n)) ≡ false
 goes_forward c p n =
-    ap (λ o. is_gt (ordering_then o (ordering_then (slice_cmp nat_cmp p p) (nat_cmp 0 n)))) (tied_itself nat_list_cmp_total c)
-    ∙ (ap (λ o. is_gt (ordering_then o (nat_cmp 0 n))) (tied_itself nat_list_cmp_total p) ∙ grind (arith, nat_tests))
+    ap (λ o. is_gt (ordering_then o (ordering_then (slice_cmp nat_cmp c c) (nat_cmp 0 n)))) (tied_itself nat_list_cmp_total p)
+    ∙ (ap (λ o. is_gt (ordering_then o (nat_cmp 0 n))) (tied_itself nat_list_cmp_total c) ∙ grind (arith, nat_tests))

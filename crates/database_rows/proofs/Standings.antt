@@ -31,28 +31,30 @@ both_true : (a b : Bool) → (a && b) ≡ true → (a ≡ true) × (b ≡ true)
 both_true true b h = (refl, h)
 both_true false b h = absurd cc
 
-and_assoc : (a b c : Bool) → (a && (b && c)) ≡ ((a && b) && c)
-and_assoc true b c = refl
-and_assoc false b c = refl
+both_first : (a b c : Bool) → (a && (b && c)) ≡ ((b && a) && c)
+both_first true true c = refl
+both_first true false c = refl
+both_first false true c = refl
+both_first false false c = refl
 
 -- whether two standings are one
 abbrev pub is_one : Standing → Standing → Bool
-is_one a b = is_same a.class b.class && (is_same a.place b.place && nat_eq a.row b.row)
+is_one a b = is_same a.place b.place && (is_same a.class b.class && nat_eq a.row b.row)
 
 pub ties : (a b : Standing) → is_eq (compare_standings a b) ≡ is_one a b
 ties a b =
-    let later : is_eq (ordering_then (slice_cmp nat_cmp a.place b.place) (nat_cmp a.row b.row)) ≡ (is_same a.place b.place && nat_eq a.row b.row) =
-    equal_first (slice_cmp nat_cmp a.place b.place) (nat_cmp a.row b.row)
-    ∙ (ap (λ t. t && is_eq (nat_cmp a.row b.row)) (sym (texts_ties a.place b.place)) ∙ ap (λ t. is_same a.place b.place && t) (sym (unsigned_ties a.row b.row))) in
-    equal_first (slice_cmp nat_cmp a.class b.class) (ordering_then (slice_cmp nat_cmp a.place b.place) (nat_cmp a.row b.row))
-    ∙ (ap (λ t. t && is_eq (ordering_then (slice_cmp nat_cmp a.place b.place) (nat_cmp a.row b.row))) (sym (texts_ties a.class b.class)) ∙ ap (λ t. is_same a.class b.class && t) later)
+    let later : is_eq (ordering_then (slice_cmp nat_cmp a.class b.class) (nat_cmp a.row b.row)) ≡ (is_same a.class b.class && nat_eq a.row b.row) =
+    equal_first (slice_cmp nat_cmp a.class b.class) (nat_cmp a.row b.row)
+    ∙ (ap (λ t. t && is_eq (nat_cmp a.row b.row)) (sym (texts_ties a.class b.class)) ∙ ap (λ t. is_same a.class b.class && t) (sym (unsigned_ties a.row b.row))) in
+    equal_first (slice_cmp nat_cmp a.place b.place) (ordering_then (slice_cmp nat_cmp a.class b.class) (nat_cmp a.row b.row))
+    ∙ (ap (λ t. t && is_eq (ordering_then (slice_cmp nat_cmp a.class b.class) (nat_cmp a.row b.row))) (sym (texts_ties a.place b.place)) ∙ ap (λ t. is_same a.place b.place && t) later)
 
 one_is : (a b : Standing) → is_one a b ≡ true → a ≡ b
 one_is a b h =
-    let t = both_true (is_same a.class b.class) (is_same a.place b.place && nat_eq a.row b.row) h in
-    let u = both_true (is_same a.place b.place) (nat_eq a.row b.row) t.1 in
-    let class : a.class ≡ b.class = (bytes_decides a.class b.class).0 t.0 in
-    let place : a.place ≡ b.place = (bytes_decides a.place b.place).0 u.0 in
+    let t = both_true (is_same a.place b.place) (is_same a.class b.class && nat_eq a.row b.row) h in
+    let u = both_true (is_same a.class b.class) (nat_eq a.row b.row) t.1 in
+    let place : a.place ≡ b.place = (bytes_decides a.place b.place).0 t.0 in
+    let class : a.class ≡ b.class = (bytes_decides a.class b.class).0 u.0 in
     let row : a.row ≡ b.row = grind (arith, nat_tests, u) in
     let fields : ◌≡◌ {A = Standing} (record { class = a.class; place = a.place; row = a.row }) (record { class = b.class; place = b.place; row = b.row }) = rw (class, place, row) refl in
     fields
@@ -78,13 +80,13 @@ exact a b e = tied_is a b (ap is_eq e)
 
 pub total : IsTotalOrder compare_standings
 total =
-    then_total (on_total (λ (s : Standing). s.class) nat_list_cmp_total)
-    (then_total (on_total (λ (s : Standing). s.place) nat_list_cmp_total) (on_total (λ (s : Standing). s.row) nat_cmp_total))
+    then_total (on_total (λ (s : Standing). s.place) nat_list_cmp_total)
+    (then_total (on_total (λ (s : Standing). s.class) nat_list_cmp_total) (on_total (λ (s : Standing). s.row) nat_cmp_total))
 
 -- whether the wagon of a row is the one that stands there
 at_row : (k : ℕ) (x : Option (List ℕ × List ℕ)) (q : Standing) → is_standing (standing_by k x) q ≡ (is_stand q.class q.place x && nat_eq k q.row)
 at_row k None q = refl
-at_row k (Some at) q = ties (record { class = at.0; place = at.1; row = k }) q ∙ and_assoc (is_same at.0 q.class) (is_same at.1 q.place) (nat_eq k q.row)
+at_row k (Some at) q = ties (record { class = at.0; place = at.1; row = k }) q ∙ both_first (is_same at.1 q.place) (is_same at.0 q.class) (nat_eq k q.row)
 
 there_is : (k : ℕ) (x y : Option (List ℕ × List ℕ)) (was : Bool) (q : Standing)
     → is_there (standing_by k x) (standing_by k y) was q ≡ ((is_stand q.class q.place y && nat_eq k q.row) || (was && not (is_stand q.class q.place x && nat_eq k q.row)))

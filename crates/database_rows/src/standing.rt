@@ -10,13 +10,14 @@ use std::alloc::{AllocError, Global};
 use std::collections::BTreeSet;
 use wagon_state::{Status, WagonRow};
 
-/// Where an empty wagon stands that isn't held.
+/// Where an empty wagon stands that isn't held. Places come first, since two of them differ far more often than two
+/// classes, and are compared as numbers.
 #[derive(Clone, Copy, Debug, PartialEq, Eq, PartialOrd, Ord)]
 pub(crate) struct Standing {
-    /// The wagon's class.
-    pub class: ClassCode,
     /// The place where it stands.
     pub place: Place,
+    /// The wagon's class.
+    pub class: ClassCode,
     /// Where its row is among the rows.
     pub row: usize,
 }

@@ -20,7 +20,7 @@ use wagon_state::WagonRow;
 #[derive(Debug, Drop)]
 pub struct WagonRows {
     rows: Vec<WagonRow>,
-    // Where the empty wagons stand that aren't held, by class, then by place, then by number. Whether one of them is
+    // Where the empty wagons stand that aren't held, by place, then by class, then by number. Whether one of them is
     // promised is asked of its row, so that the end of a promise wants no memory.
     empty: BTreeSet<Standing>,
 }
@@ -84,8 +84,8 @@ impl WagonRows {
         ensures { result ≡ count_by (is_free_at class place) self.now }
     {
         let first = Standing {
-            class,
             place,
+            class,
             row: 0,
         };
         let end = Standing {

@@ -8,9 +8,9 @@ use Rattle.database_rows.specs.EmptyWagons.{is_empty_at}
 use Rattle.database_rows.specs.Kept.{IsWagonRows}
 use Rattle.database_rows.specs.declared.standing.Standing.{Standing}
 
--- by class, then by place, then by the place of the row, so by number
+-- by place, then by class, then by the place of the row, so by number
 abbrev pub compare_standings : Standing → Standing → Ordering
-compare_standings a b = ordering_then (slice_cmp nat_cmp a.class b.class) (ordering_then (slice_cmp nat_cmp a.place b.place) (nat_cmp a.row b.row))
+compare_standings a b = ordering_then (slice_cmp nat_cmp a.place b.place) (ordering_then (slice_cmp nat_cmp a.class b.class) (nat_cmp a.row b.row))
 
 -- where a wagon stands whose row has this place among the rows
 abbrev pub standing_by : (row : ℕ) → Option (List ℕ × List ℕ) → Option Standing
