@@ -80,13 +80,20 @@ fn members_without_lacks(
     ensures prices_of_orders { OnOk result (All (λ price. number_within 0 (2 ^ 64 - 1) (number_data price) ≡ Ok price) prices.now.v.items) }
 {
     let mut members = Map::new(alloc);
-    put(&mut members, alloc, "cells", cells_value(alloc, table)?)?;
+    let cells = cells_value(alloc, table)?;
+    put(&mut members, alloc, "cells", cells)?;
     put(&mut members, alloc, "cost", Value::from(cost))?;
-    put(&mut members, alloc, "orders", list_value(alloc, &table.orders)?)?;
-    put(&mut members, alloc, "pairs", list_value(alloc, pairs)?)?;
-    put(&mut members, alloc, "penalties", list_value(alloc, &table.penalties)?)?;
-    put(&mut members, alloc, "u", list_value(alloc, &prices.u)?)?;
-    put(&mut members, alloc, "v", list_value(alloc, &prices.v)?)?;
-    put(&mut members, alloc, "wagons", list_value(alloc, &table.wagons)?)?;
+    let orders = list_value(alloc, &table.orders)?;
+    put(&mut members, alloc, "orders", orders)?;
+    let pairs = list_value(alloc, pairs)?;
+    put(&mut members, alloc, "pairs", pairs)?;
+    let penalties = list_value(alloc, &table.penalties)?;
+    put(&mut members, alloc, "penalties", penalties)?;
+    let u = list_value(alloc, &prices.u)?;
+    put(&mut members, alloc, "u", u)?;
+    let v = list_value(alloc, &prices.v)?;
+    put(&mut members, alloc, "v", v)?;
+    let wagons = list_value(alloc, &table.wagons)?;
+    put(&mut members, alloc, "wagons", wagons)?;
     Ok(members)
 }
