@@ -12,25 +12,65 @@ mod times;
 use anyhow::{Context, Result};
 use growth::Growth;
 use rounds::round;
+use std::alloc::Global;
 use std::env;
-use times::write_times;
+use times::{KINDS, write_times};
+
+/// What the words ask for.
+#[derive(Clone, Copy, Debug, PartialEq, Eq)]
+struct Sizes {
+    entries: u32,
+    wagons: u32,
+    waiting: u32,
+    rounds: u32,
+}
 
 fn main(rt: HostRuntime) -> Result<()> {
-    let words: Vec<String> = env::args(&rt)?.collect(rt.alloc())?;
-    let entries = number(&words, 1)?;
-    let wagons = number(&words, 2)?;
-    let waiting = number(&words, 3)?;
-    let rounds = number(&words, 4)?;
-    let mut growth = Growth::new(rt.alloc(), wagons)?;
-    growth.let_wait(rt.alloc(), waiting)?;
-    growth.fill(rt.alloc(), entries, rounds)?;
-    let mut times = Vec::new(rt.alloc());
-    for _ in 0..rounds {
-        times.push(round(&rt, rt.alloc(), &mut growth)?)?;
-    }
-    let (free, lacking) = growth.last_problem(rt.alloc())?;
-    println!(rt; "{} {free} {lacking}", growth.entries())?;
+    let sizes = read_sizes(&rt)?;
+    let mut growth = grown(rt.alloc(), sizes)?;
+    let times = timed(&rt, rt.alloc(), &mut growth, sizes.rounds)?;
+    print_problem(&rt, rt.alloc(), &mut growth)?;
     write_times(&rt, rt.alloc(), &times)
+}
+
+/// What the program's words ask for.
+fn read_sizes(rt: &HostRuntime) -> Result<Sizes> {
+    let words: Vec<String> = env::args(rt)?.collect(rt.alloc())?;
+    Ok(Sizes {
+        entries: number(&words, 1)?,
+        wagons: number(&words, 2)?,
+        waiting: number(&words, 3)?,
+        rounds: number(&words, 4)?,
+    })
+}
+
+/// A book with its history, up to the rounds that are timed.
+fn grown(alloc: Global, sizes: Sizes) -> Result<Growth> {
+    let mut growth = Growth::new(alloc, sizes.wagons)?;
+    growth.let_wait(alloc, sizes.waiting)?;
+    growth.fill(alloc, sizes.entries, sizes.rounds)?;
+    Ok(growth)
+}
+
+/// The times of so many rounds.
+fn timed(
+    rt: &HostRuntime,
+    alloc: Global,
+    growth: &mut Growth,
+    rounds: u32,
+) -> Result<Vec<[u128; KINDS]>> {
+    let mut times = Vec::new(alloc);
+    for _ in 0..rounds {
+        times.push(round(rt, alloc, growth)?)?;
+    }
+    Ok(times)
+}
+
+/// Prints how many entries there are, and how many wagons and orders the last problem has.
+fn print_problem(rt: &HostRuntime, alloc: Global, growth: &mut Growth) -> Result<()> {
+    let (free, lacking) = growth.last_problem(alloc)?;
+    println!(rt; "{} {free} {lacking}", growth.entries())?;
+    Ok(())
 }
 
 /// The number that a word says.

@@ -25,21 +25,36 @@ fn calls<L: Ledger, R: Wait>(
     (seat, told)
 }
 
+/// The last two seats.
+fn last_two<L: Ledger>(seats: &mut Vec<Seat<L>>) -> Option<(Seat<L>, Seat<L>)> {
+    let second = seats.pop()?;
+    let first = seats.pop()?;
+    Some((first, second))
+}
+
+/// Makes a line's call on two seats, a thread for each.
+fn call_at_once<L: Ledger + Send + Sync, R: Threads + Wait + Sync>(
+    desk: &Desk<'_, L, R>,
+    (first, second): (Seat<L>, Seat<L>),
+    (one, other): (Call, Call),
+) -> ((Seat<L>, Option<String>), (Seat<L>, Option<String>)) {
+    let (rt, alloc, office) = (desk.rt, desk.alloc, desk.office);
+    join(
+        rt,
+        move || calls(rt, alloc, office, first, one),
+        move || calls(rt, alloc, office, second, other),
+    )
+}
+
 /// Makes a line's call on two seats, a thread for each, and puts what they are told behind the texts.
 fn call_twice<L: Ledger + Send + Sync, R: Threads + Wait + Sync>(
     desk: &Desk<'_, L, R>,
     seats: &mut Vec<Seat<L>>,
     line: Line<'_>,
 ) -> Result<(String, String), Fail> {
-    let (rt, alloc, office) = (desk.rt, desk.alloc, desk.office);
-    let (one, other) = (call(alloc, line)?, call(alloc, line)?);
-    let second = seats.pop().ok_or("no second seat")?;
-    let first = seats.pop().ok_or("no first seat")?;
-    let ((first, told), (second, other_told)) = join(
-        rt,
-        move || calls(rt, alloc, office, first, one),
-        move || calls(rt, alloc, office, second, other),
-    );
+    let both = (call(desk.alloc, line)?, call(desk.alloc, line)?);
+    let two = last_two(seats).ok_or("two seats are wanted")?;
+    let ((first, told), (second, other_told)) = call_at_once(desk, two, both);
     if seats.push(first).is_err() || seats.push(second).is_err() {
         return Err(Fail::new("no memory"));
     }
