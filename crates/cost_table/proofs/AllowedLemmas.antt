@@ -1,20 +1,21 @@
 -- How the rows of a problem's table grow.
-use Rattle.std.proofs.Common.{◌≡◌, ◌+◌, ◌<◌, ◌≤◌, ℕ, zero, suc, Bool, true, false, Option, Some, None, cond, List, [], ◌∷◌, ◌++◌, length, get_or, take, refl, sym, ap, ◌∙◌, subst, arith, append-nil, append_assoc, length-take-le}
+use Rattle.std.proofs.Common.{◌≡◌, ◌+◌, ◌<◌, ◌≤◌, ℕ, zero, suc, Bool, true, false, Option, Some, None, cond, inl, inr, List, [], ◌∷◌, ◌++◌, length, get_or, take, drop, min, refl, sym, ap, ◌∙◌, subst, arith, append-nil, append_assoc, length-take-le}
 use Rattle.std.specs.Prelude.{◌↔◌, All, IfSome, slice_get, sum, ◌==◌}
 use Rattle.std.specs.Option.{option_or}
-use Rattle.std.proofs.lemmas.List.{take_more, get_or_push, get_or_append_left, get_or_default, take_all, length-append, length-map}
+use Rattle.std.proofs.lemmas.List.{drop_at, take_more, get_or_past, get_or_push, get_or_append_left, get_or_default, take_all, length-append, length-map}
+use Rattle.std.proofs.lemmas.List.Elements.{All-push, All-weaker}
+use Rattle.std.proofs.lemmas.Bool.{cases_lt}
 use Rattle.std.proofs.lemmas.Bool.Decides.{nat_tests}
+use Rattle.std.proofs.lemmas.Option.{slice_get_within}
 use Rattle.wagon_state.specs.declared.free_wagon.FreeWagon.{FreeWagon}
 use Rattle.load_orders.specs.Wanted.{WantedOrder}
-use Rattle.cost_table.specs.inner.Flat.{rows_of}
 use Rattle.cost_table.specs.TableLimits.{max_cost, max_table_lack}
-use Rattle.cost_table.specs.Table.{IsTable, IsRow, cost_in}
+use Rattle.cost_table.specs.Table.{Table, IsTable, IsRow, cost_in}
 use Rattle.load_orders.specs.Wanted.{IsLack}
 use Rattle.cost_table.specs.Problem.{ProblemValue, IsProblem, penalties_of, lacks_of}
-use Rattle.cost_table.specs.Allowed.{Reaches, IsTableOf}
-use Rattle.cost_table.specs.inner.AllowedRows.{IsRowOf, AddsRow, AreRowsOf}
+use Rattle.cost_table.specs.Allowed.{IsLastingTable, Reaches, IsTableOf}
+use Rattle.cost_table.specs.inner.AllowedRows.{AddsLastingRow, AddsRow, AreLastingRows, IsLastingRow, IsRowOf}
 use Rattle.line_network.specs.Network.{NetworkValue}
-use Rattle.cost_table.proofs.RowLemmas.{HoldRows-more}
 use Rattle.cost_table.proofs.TableLemmas.{cost_in_within}
 
 -- what stands in a list with one more: what stood there, or the one more
@@ -116,96 +117,76 @@ module _ (R : WantedOrder → ℕ → Type 0) where
     is = IsRowOf-push orders wanted h.row o h.is means limit (length-append orders (wanted ∷ []));
   }
 
-module _ (R : FreeWagon → WantedOrder → ℕ → Type 0) where
-  pub AreRowsOf-start : (orders : List WantedOrder) → AreRowsOf R [] orders [] []
-  AreRowsOf-start orders = record {
-    rows = [];
-    hold = record { rows_are = refl; ends_ascend = tt; last = refl };
+-- ---- rows that last
+
+-- a row that was put behind others, at each moment up to a last one
+pub record Added (net : NetworkValue) (at : ℕ) (wagon : FreeWagon) (orders : List WantedOrder) (old new : List (ℕ × ℕ)) (end : ℕ) : Type 0 where
+  pub row : List (ℕ × ℕ)
+  pub behind : new ≡ old ++ row
+  pub is : IsLastingRow net at wagon orders row end
+
+pub added : (net : NetworkValue) (at : ℕ) (wagon : FreeWagon) (orders : List WantedOrder) (old new : List (ℕ × ℕ)) (end : ℕ) → at ≤ end → ((m : ℕ) → at ≤ m → m ≤ end → AddsRow (λ wanted. Reaches net m wagon wanted.order) orders old new) → Added net at wagon orders old new end
+added net at wagon orders old new end within adds =
+    let first = adds at (omega arith) within in
+    record {
+      row = first.row;
+      behind = first.behind;
+      is = λ m l u.
+          let here = adds m l u in
+          let same : here.row ≡ first.row = sym (drop_at old here.row (length old) refl) ∙ (ap (drop (length old)) (sym here.behind ∙ first.behind) ∙ drop_at old first.row (length old) refl) in
+          subst (IsRowOf (λ wanted. Reaches net m wagon wanted.order) orders) same here.is;
+    }
+
+-- a row that was put first
+pub added_first : (net : NetworkValue) (at : ℕ) (wagon : FreeWagon) (orders : List WantedOrder) (old new : List (ℕ × ℕ)) (end : ℕ) → old ≡ [] → at ≤ end → ((m : ℕ) → at ≤ m → m ≤ end → AddsRow (λ wanted. Reaches net m wagon wanted.order) orders old new) → IsLastingRow net at wagon orders new end
+added_first net at wagon orders old new end none within adds =
+    let first = added net at wagon orders old new end within adds in
+    let same : first.row ≡ new = sym (first.behind ∙ ap (λ (before : List (ℕ × ℕ)). before ++ first.row) none) in
+    subst (λ (row : List (ℕ × ℕ)). IsLastingRow net at wagon orders row end) same first.is
+
+module _ (net : NetworkValue) (at : ℕ) where
+  pub lasting_start : (orders : List WantedOrder) → AreLastingRows net at [] orders [] []
+  lasting_start orders = record {
     count = refl;
+    moments = refl;
+    within = λ k d l. absurd (omega arith);
     each = λ i wagon there. absurd (none-at wagon there);
   } where
     none-at : (x : FreeWagon) → None ≡ Some x → ⊥
     none-at x h = cc
 
   -- the row of one wagon more
-  pub AreRowsOf-next : (wagons : List FreeWagon) (orders : List WantedOrder) (k : ℕ) (wagon : FreeWagon) (entries entries' : List (ℕ × ℕ)) (ends ends' : List ℕ) → k < length wagons → wagon ≡ get_or wagons k wagon → AreRowsOf R (take k wagons) orders entries ends → AddsRow (R wagon) orders entries entries' → ends' ≡ ends ++ length entries' ∷ [] → AreRowsOf R (take (k + 1) wagons) orders entries' ends'
-  AreRowsOf-next wagons orders k wagon entries entries' ends ends' within at h adds ended =
+  pub lasting_next : (wagons : List FreeWagon) (orders : List WantedOrder) (k : ℕ) (wagon : FreeWagon) (rows rows' : List (List (ℕ × ℕ))) (lasts lasts' : List ℕ) → k < length wagons → wagon ≡ get_or wagons k wagon → AreLastingRows net at (take k wagons) orders rows lasts → AddsLastingRow net at wagon orders rows rows' lasts lasts' → AreLastingRows net at (take (k + 1) wagons) orders rows' lasts'
+  lasting_next wagons orders k wagon rows rows' lasts lasts' within is_at h adds =
       let short : length (take k wagons) ≡ k = length-take-le k wagons (omega arith) in
-      let more : take (k + 1) wagons ≡ take k wagons ++ wagon ∷ [] = take_more wagons k wagon within ∙ ap (λ y. take k wagons ++ y ∷ []) (sym at) in
+      let more : take (k + 1) wagons ≡ take k wagons ++ wagon ∷ [] = take_more wagons k wagon within ∙ ap (λ y. take k wagons ++ y ∷ []) (sym is_at) in
       let long : length (take (k + 1) wagons) ≡ k + 1 = length-take-le (k + 1) wagons (omega arith) in
-      let count : length h.rows ≡ k = h.count ∙ short in
-      let row_count : length (h.rows ++ adds.row ∷ []) ≡ k + 1 = omega (arith, length-append h.rows (adds.row ∷ []), count) in
-      record {
-        rows = h.rows ++ adds.row ∷ [];
-        hold = HoldRows-more entries entries' adds.row ends ends' h.rows _ adds.behind ended refl h.hold;
-        count = row_count ∙ sym long;
-        each = λ i x there. by i x (stands (take k wagons) wagon i x (subst (λ (ws : List FreeWagon). slice_get ws i ≡ Some x) more there)) short count;
-      } where
-        by : (i : ℕ) (x : FreeWagon) → Stands (take k wagons) wagon i x → length (take k wagons) ≡ k → length h.rows ≡ k → IsRowOf (R x) orders (get_or (h.rows ++ adds.row ∷ []) i [])
-        by i x (before l e) short count =
-            subst (IsRowOf (R x) orders) (sym (get_or_append_left h.rows (adds.row ∷ []) [] i (omega (arith, l, short, count)))) (h.each i x e)
-        by i x (last l e) short count =
-            let here : get_or (h.rows ++ adds.row ∷ []) i [] ≡ adds.row = get_or_push h.rows adds.row [] i (omega (arith, l, short, count)) in
-            subst (IsRowOf (R x) orders) (sym here) (subst (λ (w : FreeWagon). IsRowOf (R w) orders adds.row) e adds.is)
+      let count : length rows ≡ k = h.count ∙ short in
+      let moments : length lasts ≡ k = h.moments ∙ short in
+      rw (adds.rows, adds.moments) (record {
+        count = omega (arith, length-append rows (adds.row ∷ []), count, long);
+        moments = omega (arith, length-append lasts (adds.last ∷ []), moments, long);
+        within = All-push (λ last. at ≤ last) lasts adds.last h.within adds.within;
+        each = λ i x there. by i x (stands (take k wagons) wagon i x (subst (λ (ws : List FreeWagon). slice_get ws i ≡ Some x) more there)) short count moments;
+      }) where
+        by : (i : ℕ) (x : FreeWagon) → Stands (take k wagons) wagon i x → length (take k wagons) ≡ k → length rows ≡ k → length lasts ≡ k → IsLastingRow net at x orders (get_or (rows ++ adds.row ∷ []) i []) (get_or (lasts ++ adds.last ∷ []) i 0)
+        by i x (before l e) short count moments =
+            rw (get_or_append_left rows (adds.row ∷ []) [] i (omega (arith, l, short, count)), get_or_append_left lasts (adds.last ∷ []) 0 i (omega (arith, l, short, moments))) (h.each i x e)
+        by i x (last l e) short count moments =
+            rw (get_or_push rows adds.row [] i (omega (arith, l, short, count)), get_or_push lasts adds.last 0 i (omega (arith, l, short, moments)))
+            (subst (λ (w : FreeWagon). IsLastingRow net at w orders adds.row adds.last) e adds.is)
 
-  pub AreRowsOf-whole : (wagons : List FreeWagon) (orders : List WantedOrder) (k : ℕ) (entries : List (ℕ × ℕ)) (ends : List ℕ) → length wagons ≤ k → AreRowsOf R (take k wagons) orders entries ends → AreRowsOf R wagons orders entries ends
-  AreRowsOf-whole wagons orders k entries ends l h = subst (λ (ws : List FreeWagon). AreRowsOf R ws orders entries ends) (take_all k wagons l) h
+  pub lasting_whole : (wagons : List FreeWagon) (orders : List WantedOrder) (k : ℕ) (rows : List (List (ℕ × ℕ))) (lasts : List ℕ) → length wagons ≤ k → AreLastingRows net at (take k wagons) orders rows lasts → AreLastingRows net at wagons orders rows lasts
+  lasting_whole wagons orders k rows lasts l h = subst (λ (ws : List FreeWagon). AreLastingRows net at ws orders rows lasts) (take_all k wagons l) h
 
-  -- each row of such rows ascends
-  pub rows_ascend : (wagons : List FreeWagon) (orders : List WantedOrder) (entries : List (ℕ × ℕ)) (ends : List ℕ) → AreRowsOf R wagons orders entries ends → All (IsRow (length orders) 0) (rows_of entries 0 ends)
-  rows_ascend wagons orders entries ends h =
-      subst (All (IsRow (length orders) 0)) (sym h.hold.rows_are)
-      (λ k d l.
-      let at = some_at wagons k (omega (arith, l, h.count)) in
-      subst (IsRow (length orders) 0) (get_or_default h.rows k [] d l) (h.each k at.0 at.1).ascends)
+  -- each of these rows ascends
+  pub lasting_ascend : (wagons : List FreeWagon) (orders : List WantedOrder) (rows : List (List (ℕ × ℕ))) (lasts : List ℕ) → AreLastingRows net at wagons orders rows lasts → All (IsRow (length orders) 0) rows
+  lasting_ascend wagons orders rows lasts h = λ k d l.
+      let there = some_at wagons k (omega (arith, l, h.count)) in
+      let within : at ≤ get_or lasts k 0 = h.within k 0 (omega (arith, l, h.count, h.moments)) in
+      subst (IsRow (length orders) 0) (get_or_default rows k [] d l) (h.each k there.0 there.1 at (omega arith) within).ascends
 
--- the parts of a problem's table
-pub record AreParts (R : FreeWagon → WantedOrder → ℕ → Type 0) (problem : ProblemValue) (entries : List (ℕ × ℕ)) (ends penalties lacks : List ℕ) : Type 0 where
-  pub rows : AreRowsOf R problem.wagons problem.orders entries ends
-  pub kept : IsProblem problem
-  pub penalty_list : penalties ≡ penalties_of problem.orders
-  pub penalty_limit : All (λ penalty. penalty ≤ max_cost) penalties
-  pub lack_list : lacks ≡ lacks_of problem.orders
-  pub lack_limit : All IsLack lacks
-
--- lists that were made of the problem's orders are such parts
-pub AreParts-of : (R : FreeWagon → WantedOrder → ℕ → Type 0) (problem : ProblemValue) (orders : List WantedOrder) (entries : List (ℕ × ℕ)) (ends penalties lacks : List ℕ) → orders ≡ problem.orders → IsProblem problem
-    → AreRowsOf R problem.wagons problem.orders entries ends → penalties ≡ penalties_of orders → All (λ penalty. penalty ≤ max_cost) penalties → lacks ≡ lacks_of orders → All IsLack lacks
-    → AreParts R problem entries ends penalties lacks
-AreParts-of R problem orders entries ends penalties lacks same kept rows penalty_list penalty_limit lack_list lack_limit = record {
-  rows = rows;
-  kept = kept;
-  penalty_list = rw same at penalty_list;
-  penalty_limit = penalty_limit;
-  lack_list = rw same at lack_list;
-  lack_limit = lack_limit;
-}
-
-module _ (R : FreeWagon → WantedOrder → ℕ → Type 0) (problem : ProblemValue) (entries : List (ℕ × ℕ)) (ends penalties lacks : List ℕ) (h : AreParts R problem entries ends penalties lacks) where
-  lack_count : length lacks ≡ length problem.orders
-  lack_count = ap length h.lack_list ∙ length-map problem.orders (λ (o : WantedOrder). o.lack)
-
-  penalty_count : length penalties ≡ length problem.orders
-  penalty_count = ap length h.penalty_list ∙ length-map problem.orders (λ (o : WantedOrder). o.order.penalty)
-
-  row_count : length (rows_of entries 0 ends) ≡ length problem.wagons
-  row_count = ap length h.rows.hold.rows_are ∙ h.rows.count
-
-  pub IsTable-parts : IsTable (record { rows = rows_of entries 0 ends; penalties = penalties; lacks = lacks })
-  IsTable-parts = record {
-    wagons = omega (arith, row_count, h.kept.few_wagons);
-    orders = omega (arith, lack_count, h.kept.few_orders);
-    penalty_count = penalty_count ∙ sym lack_count;
-    rows = subst (λ (n : ℕ). All (IsRow n 0) (rows_of entries 0 ends)) (sym lack_count) (rows_ascend R problem.wagons problem.orders entries ends h.rows);
-    penalties = h.penalty_limit;
-    lacks = h.lack_limit;
-    lack_in_all = subst (λ (ls : List ℕ). sum ls ≤ max_table_lack) (sym h.lack_list) h.kept.lack_in_all;
-  }
-
-  pub cells_are : (i j km : ℕ) (wagon : FreeWagon) (wanted : WantedOrder) → slice_get problem.wagons i ≡ Some wagon → slice_get problem.orders j ≡ Some wanted → (cost_in (get_or (rows_of entries 0 ends) i []) j ≡ Some km) ↔ R wagon wanted km
-  cells_are i j km wagon wanted at to =
-      subst (λ (rows : List (List (ℕ × ℕ))). (cost_in (get_or rows i []) j ≡ Some km) ↔ R wagon wanted km) (sym h.rows.hold.rows_are)
-      ((h.rows.each i wagon at).cells j km wanted to)
+-- ---- the table of a problem
 
 -- what every problem keeps doesn't depend on its moment
 pub IsProblem-at : (problem : ProblemValue) (m : ℕ) → IsProblem problem → IsProblem (record problem { at = m })
@@ -217,11 +198,89 @@ IsProblem-at problem m h = record {
   each_order_once = h.each_order_once;
 }
 
--- the table of a problem
-pub IsTableOf-parts : (net : NetworkValue) (problem : ProblemValue) (entries : List (ℕ × ℕ)) (ends penalties lacks : List ℕ) → AreParts (λ wagon wanted. Reaches net problem.at wagon wanted.order) problem entries ends penalties lacks → IsTableOf net problem (record { rows = rows_of entries 0 ends; penalties = penalties; lacks = lacks })
-IsTableOf-parts net problem entries ends penalties lacks h = record {
-  wagons = row_count _ problem entries ends penalties lacks h;
-  penalties = h.penalty_list;
-  lacks = h.lack_list;
-  cells = cells_are _ problem entries ends penalties lacks h;
+abbrev pub table_with : ProblemValue → List (List (ℕ × ℕ)) → Table
+table_with problem rows = record { rows = rows; penalties = penalties_of problem.orders; lacks = lacks_of problem.orders }
+
+lack_count : (problem : ProblemValue) → length (lacks_of problem.orders) ≡ length problem.orders
+lack_count problem = length-map problem.orders (λ (o : WantedOrder). o.lack)
+
+-- rows of a problem are a table
+pub IsTable-with : (problem : ProblemValue) (rows : List (List (ℕ × ℕ))) → IsProblem problem → length rows ≡ length problem.wagons → All (IsRow (length problem.orders) 0) rows → All (λ penalty. penalty ≤ max_cost) (penalties_of problem.orders) → All IsLack (lacks_of problem.orders) → IsTable (table_with problem rows)
+IsTable-with problem rows kept count ascend costs all_lacks =
+    let penalty_count : length (penalties_of problem.orders) ≡ length problem.orders = length-map problem.orders (λ (o : WantedOrder). o.order.penalty) in
+    record {
+      wagons = omega (arith, count, kept.few_wagons);
+      orders = omega (arith, lack_count problem, kept.few_orders);
+      penalty_count = penalty_count ∙ sym (lack_count problem);
+      rows = subst (λ (n : ℕ). All (IsRow n 0) rows) (sym (lack_count problem)) ascend;
+      penalties = costs;
+      lacks = all_lacks;
+      lack_in_all = kept.lack_in_all;
+    }
+
+-- rows that last are a table that lasts
+pub lasting_table : (net : NetworkValue) (problem : ProblemValue) (rows : List (List (ℕ × ℕ))) (lasts : List ℕ) → AreLastingRows net problem.at problem.wagons problem.orders rows lasts → IsLastingTable net problem (table_with problem rows) lasts
+lasting_table net problem rows lasts h = record {
+  wagons = h.count;
+  moments = h.moments;
+  within = h.within;
+  penalties = refl;
+  lacks = refl;
+  cells = λ i j km wagon wanted at to m l u. (h.each i wagon at m l u).cells j km wanted to;
 }
+
+-- and the other way round
+pub lasting_rows : (net : NetworkValue) (problem : ProblemValue) (t : Table) (lasts : List ℕ) → IsTable t → IsLastingTable net problem t lasts → AreLastingRows net problem.at problem.wagons problem.orders t.rows lasts
+lasting_rows net problem t lasts legal h =
+    let orders : length t.lacks ≡ length problem.orders = ap length h.lacks ∙ lack_count problem in
+    record {
+      count = h.wagons;
+      moments = h.moments;
+      within = h.within;
+      each = λ i wagon at m l u. record {
+        ascends = subst (λ (n : ℕ). IsRow n 0 (get_or t.rows i [])) orders (ascends_at i);
+        cells = λ j km wanted to. h.cells i j km wagon wanted at to m l u;
+      };
+    } where
+      empty_past : (i : ℕ) → length t.rows ≤ i → IsRow (length t.lacks) 0 (get_or t.rows i [])
+      empty_past i l = subst (IsRow (length t.lacks) 0) (sym (get_or_past t.rows i [] l)) tt
+
+      ascends_at : (i : ℕ) → IsRow (length t.lacks) 0 (get_or t.rows i [])
+      ascends_at i = elim (cases_lt i (length t.rows)) [
+        | inl l ↦ legal.rows i [] l
+        | inr l ↦ empty_past i l
+      ]
+
+-- a table that lasts is the table of each moment up to the least of the last ones
+pub lasting_at : (net : NetworkValue) (problem : ProblemValue) (t : Table) (lasts : List ℕ) (m : ℕ) → IsLastingTable net problem t lasts → problem.at ≤ m → All (λ last. m ≤ last) lasts → IsTableOf net (record problem { at = m }) t
+lasting_at net problem t lasts m h from up = record {
+  wagons = h.wagons;
+  penalties = h.penalties;
+  lacks = h.lacks;
+  cells = λ i j km wagon wanted at to. h.cells i j km wagon wanted at to m from (up i 0 (omega (arith, within i wagon at, h.moments)));
+} where
+  within : (i : ℕ) (wagon : FreeWagon) → slice_get problem.wagons i ≡ Some wagon → i < length problem.wagons
+  within i wagon at = slice_get_within problem.wagons i wagon at
+
+-- ---- the least of some moments
+
+pub least_more : (lasts : List ℕ) (k least less : ℕ) → k < length lasts → less ≡ min least (get_or lasts k 0) → All (λ end. least ≤ end) (take k lasts) → All (λ end. less ≤ end) (take (k + 1) lasts)
+least_more lasts k least less within is all =
+    subst (All (λ end. less ≤ end)) (sym (take_more lasts k 0 within))
+    (All-push (λ end. less ≤ end) (take k lasts) (get_or lasts k 0) (All-weaker (λ end. least ≤ end) (λ end. less ≤ end) (λ end l. omega (arith, l, is)) (take k lasts) all) (omega (arith, is)))
+
+pub least_all : (lasts : List ℕ) (k least : ℕ) → length lasts ≤ k → All (λ end. least ≤ end) (take k lasts) → All (λ end. least ≤ end) lasts
+least_all lasts k least l all = subst (All (λ end. least ≤ end)) (take_all k lasts l) all
+
+-- ---- what was made
+
+-- a table of rows that last, and up to when it does
+pub made_lasting : (net : NetworkValue) (problem : ProblemValue) (rows : List (List (ℕ × ℕ))) (lasts : List ℕ) (t : Table) (lasts' : List ℕ) → AreLastingRows net problem.at problem.wagons problem.orders rows lasts → t ≡ table_with problem rows → lasts' ≡ lasts → IsLastingTable net problem t lasts'
+made_lasting net problem rows lasts t lasts' h is are = rw (is, are) (lasting_table net problem rows lasts h)
+
+pub made_at : (net : NetworkValue) (problem : ProblemValue) (rows : List (List (ℕ × ℕ))) (lasts : List ℕ) (t : Table) (until m : ℕ) → AreLastingRows net problem.at problem.wagons problem.orders rows lasts → t ≡ table_with problem rows → All (λ end. until ≤ end) lasts → problem.at ≤ m → m ≤ until → IsTableOf net (record problem { at = m }) t
+made_at net problem rows lasts t until m h is least from up =
+    rw is (lasting_at net problem (table_with problem rows) lasts m (lasting_table net problem rows lasts h) from (All-weaker (λ end. until ≤ end) (λ end. m ≤ end) (λ end l. omega (arith, l, up)) lasts least))
+
+pub made_now : (net : NetworkValue) (problem : ProblemValue) (rows : List (List (ℕ × ℕ))) (lasts : List ℕ) (t : Table) → AreLastingRows net problem.at problem.wagons problem.orders rows lasts → t ≡ table_with problem rows → IsTableOf net problem t
+made_now net problem rows lasts t h is = rw is (lasting_at net problem (table_with problem rows) lasts problem.at (lasting_table net problem rows lasts h) (omega arith) h.within)

@@ -69,6 +69,10 @@ pub HoldRows-more : (entries entries' more : List (ℕ × ℕ)) (ends ends' : Li
 HoldRows-more entries entries' more ends ends' rows rows' e d r h =
     rw (r, d, e) (HoldRows-push entries more ends rows h)
 
+-- rows that are held are those that lie there
+pub held : (entries : List (ℕ × ℕ)) (ends : List ℕ) (rows : List (List (ℕ × ℕ))) → HoldRows entries ends rows → HoldRows entries ends (rows_of entries 0 ends)
+held entries ends rows h = record { rows_are = refl; ends_ascend = h.ends_ascend; last = h.last }
+
 -- each lacks one wagon or more
 length-le-lacks : (lacks : List ℕ) → AllByRecursion IsLack lacks → length lacks ≤ sum lacks
 length-le-lacks [] h = omega arith

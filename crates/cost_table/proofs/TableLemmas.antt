@@ -6,7 +6,6 @@ use Rattle.std.specs.List.{AllByRecursion}
 use Rattle.std.proofs.lemmas.List.Sums.{AllPass-from_list_all}
 use Rattle.std.proofs.lemmas.List.Elements.{recursion_from_All, All-map}
 use Rattle.std.proofs.lemmas.Bool.Decides.{nat_tests}
-use Rattle.cost_table.specs.inner.Flat.{rows_of, AreEnds, HoldRows}
 use Rattle.cost_table.specs.Table.{Table, IsTable, IsRow, cost_in, cost_at}
 use Rattle.load_orders.specs.Wanted.{IsLack}
 use Rattle.cost_table.specs.TableLimits.{max_cost, max_table_lack, max_table_orders, max_table_wagons}
@@ -86,11 +85,9 @@ table_kept rows penalties lacks p numbers costs all_lacks =
       lack_in_all = p.in_all;
     }
 
--- the fields that hold the rows hold the table
-pub fields_kept : (entries : List (ℕ × ℕ)) (ends : List ℕ) (rows : Rows) (penalties lacks : List ℕ) → HoldRows entries ends (map (λ row. cells_of 0 row.items) rows) → IsTable (table_of rows penalties lacks) → AreEnds (length entries) 0 ends × IsTable (record { rows = rows_of entries 0 ends; penalties = penalties; lacks = lacks })
-fields_kept entries ends rows penalties lacks h t =
-    let r : rows_of entries 0 ends ≡ map (λ row. cells_of 0 row.items) rows = h.rows_are in
-    (h.ends_ascend, rw r t)
+-- rows that are those of the lists make the table
+pub fields_kept : (held : List (List (ℕ × ℕ))) (rows : Rows) (penalties lacks : List ℕ) → held ≡ map (λ row. cells_of 0 row.items) rows → IsTable (table_of rows penalties lacks) → IsTable (record { rows = held; penalties = penalties; lacks = lacks })
+fields_kept held rows penalties lacks are t = rw are t
 
 -- what a cost of the table is known to be
 pub record CostWithin (t : Table) (i j c : ℕ) : Type 0 where

@@ -1,5 +1,5 @@
 -- The table of a problem over a network: which cells it has.
-use Rattle.std.specs.Prelude.{◌≡◌, ◌+◌, ◌*◌, ◌≤◌, ◌↔◌, max, ℕ, length, Some, slice_get}
+use Rattle.std.specs.Prelude.{◌≡◌, ◌+◌, ◌*◌, ◌≤◌, ◌↔◌, max, ℕ, All, List, length, Some, slice_get, slice_index}
 use Rattle.move_messages.specs.Order.{Order}
 use Rattle.wagon_state.specs.declared.free_wagon.FreeWagon.{FreeWagon}
 use Rattle.load_orders.specs.Suits.{Suits}
@@ -26,3 +26,15 @@ pub record IsTableOf (net : NetworkValue) (problem : ProblemValue) (t : Table) :
   pub cells :
       (i j km : ℕ) (wagon : FreeWagon) (wanted : WantedOrder) → slice_get problem.wagons i ≡ Some wagon → slice_get problem.orders j ≡ Some wanted
       → (cost_at t i j ≡ Some km) ↔ Reaches net problem.at wagon wanted.order km
+
+-- The table of a problem over a network that has a last moment for each wagon: at each moment from the problem's up to
+-- that one, the wagon's cells are those of the table of that moment.
+pub record IsLastingTable (net : NetworkValue) (problem : ProblemValue) (t : Table) (lasts : List ℕ) : Type 0 where
+  pub wagons : wagon_count t ≡ length problem.wagons
+  pub moments : length lasts ≡ length problem.wagons
+  pub within : All (λ last. problem.at ≤ last) lasts
+  pub penalties : t.penalties ≡ penalties_of problem.orders
+  pub lacks : t.lacks ≡ lacks_of problem.orders
+  pub cells :
+      (i j km : ℕ) (wagon : FreeWagon) (wanted : WantedOrder) → slice_get problem.wagons i ≡ Some wagon → slice_get problem.orders j ≡ Some wanted
+      → (m : ℕ) → problem.at ≤ m → m ≤ slice_index lasts i → (cost_at t i j ≡ Some km) ↔ Reaches net m wagon wanted.order km

@@ -1,5 +1,6 @@
 -- What only proofs and private functions need.
 pub mod AllowedRows
+pub mod Among
 pub mod Flat
 pub mod Goals
 pub mod Searched

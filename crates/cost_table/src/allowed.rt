@@ -1,30 +1,23 @@
 //! The table of a problem over a network.
-ghost use Rattle.std.specs.Prelude.{◌≡◌, ◌+◌, ◌*◌, ◌<◌, ◌≤◌, ◌↔◌, ℕ, List, All, IfNone, IfOk, IfSome, Option, Some, length, map, max, option_map};
+ghost use Rattle.std.specs.Prelude.{◌≡◌, ◌+◌, ◌*◌, ◌<◌, ◌≤◌, ◌↔◌, ℕ, IfNone, IfOk, IfSome, Option, Some, length, max, option_map};
 ghost use Rattle.line_network.specs.Network.{place_index};
-ghost use Rattle.cost_table.specs.Allowed.{Reaches, IsTableOf};
-ghost use Rattle.cost_table.specs.inner.AllowedRows.{AddsRow, AreRowsOf};
+ghost use Rattle.cost_table.specs.Allowed.{IsLastingTable, IsTableOf, Reaches};
+ghost use Rattle.cost_table.specs.inner.AllowedRows.{AddsRow, AreLastingRows};
 ghost use Rattle.cost_table.specs.inner.Goals.{goal_of, goals_of};
 ghost use Rattle.load_orders.specs.Wanted.{WantedOrder};
-ghost use Rattle.cost_table.specs.Problem.{penalties_of, lacks_of};
 ghost use Rattle.cost_table.specs.TableLimits.{max_cost};
-ghost use Rattle.load_orders.specs.Wanted.{IsLack};
 
 use crate::goals::{Goal, class_position};
+use crate::lasting::{TimedCells, timed};
 use crate::problem::Problem;
+use crate::row_block::RowBlock;
 use crate::table_cells::Cells;
+use crate::table_rows::TableRows;
 use distance_tables::Tables;
-use load_orders::{Wanted, carries};
+use load_orders::carries;
 use rail_codes::Moment;
 use std::alloc::{AllocError, Global};
 use wagon_state::FreeWagon;
-
-/// The table of a problem, and up to which moment it is the table of the same wagons and orders.
-#[derive(Debug, Drop)]
-pub struct TimedCells {
-    pub cells: Cells,
-    /// In seconds since 1970-01-01T00:00:00Z.
-    pub until: u64,
-}
 
 /// The table of a problem over the network of these tables: a cell exactly where the wagon suits the order and,
 /// starting at the problem's moment or when it is ready, reaches its place by the latest moment, with the
@@ -35,8 +28,8 @@ pub fn cells(alloc: Global, problem: &Problem, tables: &Tables) -> Result<Cells,
     Ok(timed_cells(alloc, problem, tables)?.cells)
 }
 
-/// The same, and up to which later moment, in place of the problem's, it is the table too: no wagon that is in time
-/// has to start before.
+/// The same, and up to which later moments, in place of the problem's, each wagon's cells and the whole are the table's
+/// too: no wagon that is in time has to start before.
 pub fn timed_cells(
     alloc: Global,
     problem: &Problem,
@@ -45,47 +38,20 @@ pub fn timed_cells(
     ensures table { IfOk result (λ made. IsTableOf tables.now problem.now made.cells) }
     ensures within { IfOk result (λ made. problem.now.at ≤ made.until) }
     ensures lasts { IfOk result (λ made. (m : ℕ) → problem.now.at ≤ m → m ≤ made.until → IsTableOf tables.now (record problem.now { at = m }) made.cells) }
+    ensures by_wagon { IfOk result (λ made. IsLastingTable tables.now problem.now made.cells made.lasts.items) }
 {
-    let orders = problem.orders();
-    let (entries, ends, until) = rows(alloc, problem, tables)?;
-    let penalties = penalties(alloc, orders)?;
-    let lacks = lacks(alloc, orders)?;
-    let cells = Cells::of_rows(entries, ends, penalties, lacks);
-    Ok(TimedCells { cells, until })
+    let (block, lasts) = rows(alloc, problem, tables)?;
+    let rows = TableRows::of_block(alloc, block)?;
+    timed(alloc, problem, rows, lasts)
 }
 
-/// The penalty of each order.
-fn penalties(alloc: Global, orders: &[Wanted]) -> Result<Vec<u64>, AllocError>
-    ensures value { IfOk result (λ penalties. penalties.items ≡ penalties_of orders.now) }
-    ensures limit { IfOk result (λ penalties. All (λ penalty. penalty ≤ max_cost) penalties.items) }
-{
-    let mut penalties = Vec::with_capacity(alloc, orders.len())?;
-    for wanted in orders {
-        penalties.push(wanted.order().penalty())?;
-    }
-    Ok(penalties)
-}
-
-/// How many wagons each order lacks.
-fn lacks(alloc: Global, orders: &[Wanted]) -> Result<Vec<u32>, AllocError>
-    ensures value { IfOk result (λ lacks. lacks.items ≡ lacks_of orders.now) }
-    ensures limit { IfOk result (λ lacks. All IsLack lacks.items) }
-{
-    let mut lacks = Vec::with_capacity(alloc, orders.len())?;
-    for wanted in orders {
-        lacks.push(wanted.lack())?;
-    }
-    Ok(lacks)
-}
-
-/// The rows of all wagons one after another, where each ends, and up to which moment they are those rows.
+/// The rows of all wagons one after another, and up to which moment each is that row.
 fn rows(
     alloc: Global,
     problem: &Problem,
     tables: &Tables,
-) -> Result<(Vec<(u32, u32)>, Vec<usize>, u64), AllocError>
-    ensures rows { IfOk result (λ r. (m : ℕ) → problem.now.at ≤ m → m ≤ r.2 → AreRowsOf (λ wagon wanted. Reaches tables.now m wagon wanted.order) problem.now.wagons problem.now.orders r.0.items r.1.items) }
-    ensures within { IfOk result (λ r. problem.now.at ≤ r.2) }
+) -> Result<(RowBlock, Vec<u64>), AllocError>
+    ensures { IfOk result (λ r. AreLastingRows tables.now problem.now.at problem.now.wagons problem.now.orders r.0 r.1.items) }
 {
     let wagons = problem.wagons();
     let orders = problem.orders();
@@ -93,20 +59,18 @@ fn rows(
     let mut classes = Vec::new(alloc);
     let mut entries = Vec::new(alloc);
     let mut ends = Vec::with_capacity(alloc, wagons.len())?;
-    // For the prover alone: a moment is below the greatest number.
-    let _at = problem.at();
-    let mut until = u64::MAX;
+    let mut lasts = Vec::with_capacity(alloc, wagons.len())?;
     for wagon in wagons {
         let k = class_position(alloc, &mut classes, wagon.class, network, orders)?;
         let last = push_row(&mut entries, problem, wagon, &classes[k].goals, tables)?;
-        until = until.min(last);
         ends.push(entries.len())?;
+        lasts.push(last)?;
     }
-    Ok((entries, ends, until))
+    Ok((RowBlock::of(entries, ends), lasts))
 }
 
 /// Appends the row of one wagon, by the goals of its class, and says up to which moment it is that row.
-fn push_row(
+pub(crate) fn push_row(
     entries: &mut Vec<(u32, u32)>,
     problem: &Problem,
     wagon: &FreeWagon,

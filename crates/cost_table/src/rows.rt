@@ -2,11 +2,11 @@
 ghost use Rattle.std.specs.Prelude.{◌≡◌, ◌≤◌, ◌++◌, All, IfOk, OnOk, IsTrue, ◌↔◌, length, map, sum, ◌==◌};
 ghost use Rattle.std.specs.List.{list_all};
 ghost use Rattle.load_orders.specs.Wanted.{IsLack};
-ghost use Rattle.cost_table.specs.inner.Flat.{HoldRows};
 ghost use Rattle.cost_table.specs.TableLimits.{max_table_orders};
 ghost use Rattle.cost_table.specs.Rows.{IsNumber, cells_of, is_too_large, is_even};
 
 use crate::limits::{MAX_TABLE_LACK, MAX_TABLE_ORDERS, MAX_TABLE_WAGONS};
+use crate::row_block::RowBlock;
 use std::alloc::{AllocError, Global};
 
 /// All numbers of a short list together.
@@ -60,14 +60,11 @@ fn push_row(entries: &mut Vec<(u32, u32)>, numbers: &[Option<u64>]) -> Result<()
     Ok(())
 }
 
-/// The cells of all rows one after another, and where each row ends.
-pub(crate) fn flatten(
-    alloc: Global,
-    rows: &[Vec<Option<u64>>],
-) -> Result<(Vec<(u32, u32)>, Vec<usize>), AllocError>
+/// The cells of all rows one after another.
+pub(crate) fn flatten(alloc: Global, rows: &[Vec<Option<u64>>]) -> Result<RowBlock, AllocError>
     requires few { All (λ row. length row.items ≤ max_table_orders) rows.now }
     requires numbers { All (λ row. All IsNumber row.items) rows.now }
-    ensures { IfOk result (λ r. HoldRows r.0.items r.1.items (map (λ row. cells_of 0 row.items) rows.now)) }
+    ensures { IfOk result (λ block. block ≡ map (λ row. cells_of 0 row.items) rows.now) }
 {
     let orders = rows.first().map_or(0, Vec::len);
     let mut entries = Vec::with_capacity(alloc, rows.len().saturating_mul(orders))?;
@@ -76,5 +73,5 @@ pub(crate) fn flatten(
         push_row(&mut entries, row)?;
         ends.push(entries.len())?;
     }
-    Ok((entries, ends))
+    Ok(RowBlock::of(entries, ends))
 }

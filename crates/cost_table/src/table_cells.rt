@@ -1,5 +1,5 @@
 //! The table of a distribution.
-ghost use Rattle.std.specs.Prelude.{◌≡◌, ◌<◌, ◌≤◌, ℕ, [], ◌∷◌, length, slice_index, slice_index_or, All, IfOk, OnOk, IfSome, OnSome, IfErr, unwrap_or};
+ghost use Rattle.std.specs.Prelude.{◌≡◌, ◌<◌, ◌≤◌, ℕ, All, IfOk, OnOk, IfSome, OnSome, IfErr, unwrap_or};
 ghost use Rattle.std.specs.Result.{result_err};
 ghost use Rattle.cost_table.specs.TableLimits.{max_cost};
 ghost use Rattle.cost_table.specs.Rows.{IsNumber, table_of, number_at, rows_fault};
@@ -7,9 +7,10 @@ ghost use Rattle.faults.specs.declared.faults.TableFault.TheVariants.{OutOfMemor
 ghost use Rattle.cost_table.specs.Table.{IsTable, IsRow, row_at, cost_in, cost_at, penalty_at, lack_at, wagon_count, order_count};
 ghost use Rattle.load_orders.specs.Wanted.{IsLack};
 ghost use Rattle.cost_table.specs.inner.Searched.{IsAscendingRow};
-ghost use Rattle.cost_table.specs.inner.Flat.{rows_of, AreEnds};
+ghost use Rattle.cost_table.specs.inner.Among.{ArePlaced, rows_in};
 
 use crate::rows::{are_even, are_too_large, flatten};
+use crate::table_rows::TableRows;
 use faults::TableFault;
 use std::alloc::{AllocError, Global};
 use std::marker::Model;
@@ -19,42 +20,43 @@ use std::marker::Model;
 /// each lack is 1 to 20; at most 1,000 wagons, 500 orders, and 500 lacking wagons in all.
 #[derive(Debug, Drop)]
 pub struct Cells {
-    entries: Vec<(u32, u32)>,
-    ends: Vec<usize>,
+    rows: TableRows,
     penalties: Vec<u64>,
     lacks: Vec<u32>,
 }
 
 impl Model for Cells {
-    ghost use Rattle.std.specs.Prelude.{length};
     ghost use Rattle.cost_table.specs.Table.{Table, IsTable};
-    ghost use Rattle.cost_table.specs.inner.Flat.{rows_of, AreEnds};
+    ghost use Rattle.cost_table.specs.inner.Among.{ArePlaced, rows_in};
 
     ghost Value = { Table };
 
-    ghost view = { λ c. record { rows = rows_of c.entries.items 0 c.ends.items; penalties = c.penalties.items; lacks = c.lacks.items } };
+    ghost view = { λ c. record { rows = rows_in c.rows; penalties = c.penalties.items; lacks = c.lacks.items } };
 
-    ghost invariant = { λ c. AreEnds (length c.entries.items) 0 c.ends.items × IsTable (record { rows = rows_of c.entries.items 0 c.ends.items; penalties = c.penalties.items; lacks = c.lacks.items }) };
+    ghost invariant = { λ c. ArePlaced c.rows × IsTable (record { rows = rows_in c.rows; penalties = c.penalties.items; lacks = c.lacks.items }) };
 }
 
 impl Cells {
-    /// The table of rows that lie one after another.
-    pub(crate) fn of_rows(
-        entries: Vec<(u32, u32)>,
-        ends: Vec<usize>,
-        penalties: Vec<u64>,
-        lacks: Vec<u32>,
-    ) -> Cells
-        requires ends { AreEnds (length entries.items) 0 ends.items }
-        requires table { IsTable (record { rows = rows_of entries.items 0 ends.items; penalties = penalties.items; lacks = lacks.items }) }
-        ensures { result ≡ record { rows = rows_of entries.items 0 ends.items; penalties = penalties.items; lacks = lacks.items } }
+    /// The table of rows that are found.
+    pub(crate) fn of_rows(rows: TableRows, penalties: Vec<u64>, lacks: Vec<u32>) -> Cells
+        requires placed { ArePlaced rows }
+        requires table { IsTable (record { rows = rows_in rows; penalties = penalties.items; lacks = lacks.items }) }
+        ensures { result ≡ record { rows = rows_in rows; penalties = penalties.items; lacks = lacks.items } }
     {
         Cells {
-            entries,
-            ends,
+            rows,
             penalties,
             lacks,
         }
+    }
+
+    /// The rows.
+    pub(crate) fn rows(&self) -> &TableRows
+        ensures rows { rows_in result.now ≡ self.now.rows }
+        ensures placed { ArePlaced result.now }
+        ensures table { IsTable self.now }
+    {
+        &self.rows
     }
 
     /// The table of these rows: `rows[i][j]` is the cost of wagon `i` for order `j` in kilometres, `None` where it
@@ -105,7 +107,7 @@ impl Cells {
         ensures count { result ≡ wagon_count self.now }
         ensures table { IsTable self.now }
     {
-        self.ends.len()
+        self.rows.len()
     }
 
     /// How many orders the table has.
@@ -140,7 +142,7 @@ impl Cells {
         ensures row { result.now ≡ row_at self.now i }
         ensures cells { IsRow (order_count self.now) 0 result.now }
     {
-        row_of(&self.entries, &self.ends, i)
+        self.rows.row(i)
     }
 
     /// The cost of wagon `i` for order `j` in kilometres, `None` where it may not serve it or one is out of range.
@@ -183,45 +185,12 @@ fn of_lists(
     requires lacks { All IsLack lacks.items }
     ensures { IfOk result (λ cells. cells ≡ table_of rows.now penalties.items lacks.items) }
 {
-    let (entries, ends) = flatten(alloc, rows)?;
+    let rows = TableRows::of_block(alloc, flatten(alloc, rows)?)?;
     Ok(Cells {
-        entries,
-        ends,
+        rows,
         penalties,
         lacks,
     })
-}
-
-/// Where row `i` begins.
-fn start_of(ends: &[usize], i: usize) -> usize
-    requires { i ≤ length ends.now }
-    ensures { result ≡ slice_index (0 ∷ ends.now) i }
-{
-    if i == 0 { 0 } else { ends[i - 1] }
-}
-
-/// Where row `i` begins and where it ends, within `limit` entries.
-fn bounds_of(ends: &[usize], limit: usize, i: usize) -> (usize, usize)
-    requires ends { AreEnds limit 0 ends.now }
-    requires wagon { i < length ends.now }
-    ensures start { result.0 ≡ slice_index (0 ∷ ends.now) i }
-    ensures end { result.1 ≡ slice_index ends.now i }
-    ensures ordered { result.0 ≤ result.1 }
-    ensures within { result.1 ≤ limit }
-{
-    let start = start_of(ends, i);
-    (start, ends[i])
-}
-
-/// Row `i` of the rows that lie one after another in `entries`.
-#[tactic(auto, using(crate::proofs::RowLemmas::row_lookups))]
-fn row_of<'a>(entries: &'a [(u32, u32)], ends: &[usize], i: usize) -> &'a [(u32, u32)]
-    requires ends { AreEnds (length entries.now) 0 ends.now }
-    requires wagon { i < length ends.now }
-    ensures { result.now ≡ slice_index_or (rows_of entries.now 0 ends.now) i [] }
-{
-    let (start, end) = bounds_of(ends, entries.len(), i);
-    &entries[start..end]
 }
 
 /// The cost that a row has for an order.

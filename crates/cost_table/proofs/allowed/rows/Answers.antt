@@ -1,8 +1,10 @@
-use Rattle.std.proofs.Common.{◌∙◌, ℕ, List, ap, sym, subst, rules, arith}
+use Rattle.std.proofs.Common.{◌∙◌, ℕ, List, ap, refl, sym, subst, rules, arith}
 use Rattle.cost_table.specs.declared.goals.ClassGoals.{ClassGoals}
+use Rattle.cost_table.specs.inner.AllowedRows.{AddsLastingRow}
+use Rattle.cost_table.specs.inner.Flat.{rows_of}
 use Rattle.cost_table.specs.inner.Goals.{AreGoalsOf, goals_of}
-use Rattle.cost_table.specs.Allowed.{Reaches}
-use Rattle.cost_table.proofs.AllowedLemmas.{AreRowsOf-start, AreRowsOf-next, AreRowsOf-whole}
+use Rattle.cost_table.proofs.AllowedLemmas.{added, lasting_next, lasting_start, lasting_whole}
+use Rattle.cost_table.proofs.RowLemmas.{HoldRows-more, held}
 use Rattle.cost_table.proofs.allowed.rows.Goals as goal
 
 pub push_row-requires : goal.push_row-requires
@@ -15,19 +17,31 @@ push_row-requires c =
 
 pub loop-wagon-init : goal.loop-wagon-init
 loop-wagon-init c = record {
-  rows = λ m l u. rw (c.new-entries.ensures.items, c.in_ok-ends.ensures.items) (AreRowsOf-start (λ wagon wanted. Reaches c.args.tables.now m wagon wanted.order) c.args.problem.now.orders);
-  within = search rules;
+  held = search rules;
+  rows = rw (c.new-entries.ensures.items, c.in_ok-ends.ensures.items, c.in_ok-lasts.ensures.items) (lasting_start c.args.tables.now c.args.problem.now.at c.args.problem.now.orders);
   found = search rules;
 }
 
 pub loop-wagon-preserved : goal.loop-wagon-preserved
-loop-wagon-preserved c = record {
-  rows = λ m l u. AreRowsOf-next (λ wagon wanted. Reaches c.args.tables.now m wagon wanted.order) c.wagons-wagons.result.now c.args.problem.now.orders c.loop-wagon.wagon-index c.wagon-item.result c.loop-wagon.entries.items c.push_row.new.entries.items c.loop-wagon.ends.items c.push.new.self.items (omega arith) c.wagon-item.is (c.loop-wagon.invariant.rows m l (omega (arith, u, c.min-until.ensures))) (c.in_ok-last.ensures.row m l (omega (arith, u, c.min-until.ensures))) (search rules);
-  within = search rules;
-  found = rw (c.network-network.ensures, c.orders-orders.ensures.orders) at c.in_ok-k.ensures.found;
-}
+loop-wagon-preserved c =
+    let rows = rows_of c.loop-wagon.entries.items 0 c.loop-wagon.ends.items in
+    let row = added c.args.tables.now c.args.problem.now.at c.wagon-item.result c.args.problem.now.orders c.loop-wagon.entries.items c.push_row.new.entries.items c.in_ok-last.last c.in_ok-last.ensures.within c.in_ok-last.ensures.row in
+    let more = HoldRows-more c.loop-wagon.entries.items c.push_row.new.entries.items row.row c.loop-wagon.ends.items c.push.new.self.items rows _ row.behind (search rules) refl c.loop-wagon.invariant.held in
+    let adds : AddsLastingRow c.args.tables.now c.args.problem.now.at c.wagon-item.result c.args.problem.now.orders rows (rows_of c.push_row.new.entries.items 0 c.push.new.self.items) c.loop-wagon.lasts.items c.push-in-loop-wagon.new.self.items = record {
+      row = row.row;
+      last = c.in_ok-last.last;
+      rows = more.rows_are;
+      moments = search rules;
+      within = c.in_ok-last.ensures.within;
+      is = row.is;
+    } in
+    record {
+      held = held _ _ _ more;
+      rows = lasting_next c.args.tables.now c.args.problem.now.at c.wagons-wagons.result.now c.args.problem.now.orders c.loop-wagon.wagon-index c.wagon-item.result rows _ c.loop-wagon.lasts.items _ (omega arith) c.wagon-item.is c.loop-wagon.invariant.rows adds;
+      found = rw (c.network-network.ensures, c.orders-orders.ensures.orders) at c.in_ok-k.ensures.found;
+    }
 
-pub returns-clause-rows : goal.returns-clause-rows
-returns-clause-rows c = λ m l u.
-    let whole = AreRowsOf-whole (λ wagon wanted. Reaches c.args.tables.now m wagon wanted.order) c.wagons-wagons.result.now c.args.problem.now.orders c.loop-wagon.wagon-index _ _ (omega arith) (c.loop-wagon.invariant.rows m l u) in
-    rw c.wagons-wagons.ensures.wagons at whole
+pub returns : goal.returns
+returns c =
+    let whole = lasting_whole c.args.tables.now c.args.problem.now.at c.wagons-wagons.result.now c.args.problem.now.orders c.loop-wagon.wagon-index _ _ (omega arith) c.loop-wagon.invariant.rows in
+    rw c.of.ensures (rw c.wagons-wagons.ensures.wagons at whole)

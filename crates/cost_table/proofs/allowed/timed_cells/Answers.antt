@@ -1,26 +1,15 @@
-use Rattle.std.proofs.Common.{◌≤◌, ℕ, arith}
-use Rattle.wagon_state.specs.declared.free_wagon.FreeWagon.{FreeWagon}
-use Rattle.load_orders.specs.Wanted.{WantedOrder}
-use Rattle.cost_table.specs.Allowed.{Reaches}
-use Rattle.cost_table.proofs.AllowedLemmas.{AreParts, AreParts-of, IsProblem-at, IsTable-parts, IsTableOf-parts}
+use Rattle.cost_table.proofs.AllowedLemmas.{lasting_ascend}
+use Rattle.cost_table.proofs.Made.{timed_lasting, timed_lasts, timed_now}
 use Rattle.cost_table.proofs.allowed.timed_cells.Goals as goal
 
--- what was made are the parts of the table at a moment up to the last
-parts : (c : goal.After-of_rows-cells) (m : ℕ) → c.args.problem.now.at ≤ m → m ≤ c.in_ok-entries.until → AreParts (λ wagon wanted. Reaches c.args.tables.now m wagon wanted.order) (record c.args.problem.now { at = m }) c.in_ok-entries.entries.items c.in_ok-entries.ends.items c.in_ok-penalties.penalties.items c.in_ok-lacks.lacks.items
-parts c m l u =
-    AreParts-of (λ wagon wanted. Reaches c.args.tables.now m wagon wanted.order) (record c.args.problem.now { at = m }) _ _ _ _ _ c.orders-orders.ensures.orders (IsProblem-at c.args.problem.now m c.orders-orders.ensures.problem) (c.in_ok-entries.ensures.rows m l u)
-    c.in_ok-penalties.ensures.value c.in_ok-penalties.ensures.limit c.in_ok-lacks.ensures.value c.in_ok-lacks.ensures.limit
+pub timed-requires-clause-ascend : goal.timed-requires-clause-ascend
+timed-requires-clause-ascend c = rw c.in_ok-rows.ensures.rows (lasting_ascend c.args.tables.now c.args.problem.now.at c.args.problem.now.wagons c.args.problem.now.orders c.in_ok-block.block c.in_ok-block.lasts.items c.in_ok-block.ensures)
 
-pub of_rows-cells-requires-clause-table : goal.of_rows-cells-requires-clause-table
-of_rows-cells-requires-clause-table c =
-    let R = λ (wagon : FreeWagon) (wanted : WantedOrder). Reaches c.args.tables.now c.args.problem.now.at wagon wanted.order in
-    IsTable-parts R c.args.problem.now _ _ _ _
-    (AreParts-of R c.args.problem.now _ _ _ _ _ c.orders-orders.ensures.orders c.orders-orders.ensures.problem (c.in_ok-entries.ensures.rows c.args.problem.now.at (omega arith) c.in_ok-entries.ensures.within)
-    c.in_ok-penalties.ensures.value c.in_ok-penalties.ensures.limit c.in_ok-lacks.ensures.value c.in_ok-lacks.ensures.limit)
+pub returns-clause-table : goal.returns-clause-table
+returns-clause-table c = timed_now c.args.tables.now c.args.problem.now _ c.in_ok-block.lasts.items (rw c.in_ok-rows.ensures.rows c.in_ok-block.ensures) c.timed.result c.timed.ensures.cells
 
-pub returns : goal.returns
-returns c = record {
-  table = rw c.of_rows-cells.ensures (IsTableOf-parts c.args.tables.now c.args.problem.now _ _ _ _ (parts c c.args.problem.now.at (omega arith) c.in_ok-entries.ensures.within));
-  within = c.in_ok-entries.ensures.within;
-  lasts = λ m l u. rw c.of_rows-cells.ensures (IsTableOf-parts c.args.tables.now (record c.args.problem.now { at = m }) _ _ _ _ (parts c m l u));
-}
+pub returns-clause-lasts : goal.returns-clause-lasts
+returns-clause-lasts c = timed_lasts c.args.tables.now c.args.problem.now _ c.in_ok-block.lasts.items (rw c.in_ok-rows.ensures.rows c.in_ok-block.ensures) c.timed.result c.timed.ensures.cells c.timed.ensures.least
+
+pub returns-clause-by_wagon : goal.returns-clause-by_wagon
+returns-clause-by_wagon c = timed_lasting c.args.tables.now c.args.problem.now _ c.in_ok-block.lasts.items (rw c.in_ok-rows.ensures.rows c.in_ok-block.ensures) c.timed.result c.timed.ensures.cells c.timed.ensures.lasts

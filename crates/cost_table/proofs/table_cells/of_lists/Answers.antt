@@ -1,3 +1,4 @@
+use Rattle.std.proofs.Common.{◌∙◌}
 use Rattle.cost_table.proofs.TableLemmas.{fields_kept, table_kept, passes, unfaulted}
 use Rattle.cost_table.proofs.table_cells.of_lists.Goals as goal
 
@@ -6,6 +7,8 @@ invariant_of-result c =
     let rows = c.args.rows.now in
     let penalties = c.args.penalties.items in
     let lacks = c.args.lacks.items in
-    let fit = unfaulted rows penalties lacks c.requires.fit in
-    fields_kept _ _ rows penalties lacks c.in_ok-entries.ensures
-    (table_kept rows penalties lacks (passes rows penalties lacks fit.0 fit.1) c.requires.numbers c.requires.penalties c.requires.lacks)
+    let fit = unfaulted rows penalties lacks c.requires.fit in (
+      c.in_ok-rows.ensures.placed,
+      fields_kept _ rows penalties lacks (c.in_ok-rows.ensures.rows ∙ c.in_ok-flatten.ensures)
+          (table_kept rows penalties lacks (passes rows penalties lacks fit.0 fit.1) c.requires.numbers c.requires.penalties c.requires.lacks),
+    )

@@ -1,5 +1,5 @@
 use Rattle.cost_table.proofs.RowLemmas.{ends_in_range}
-use Rattle.cost_table.proofs.table_cells.bounds_of.Goals as goal
+use Rattle.cost_table.proofs.row_block.bounds_of.Goals as goal
 
 pub returns-clause-within : goal.returns-clause-within
 returns-clause-within c = (ends_in_range c.args.limit 0 c.args.ends.now c.args.i c.requires.ends c.requires.wagon).1

@@ -1,0 +1,27 @@
+-- Rows that stand in two blocks: one that tables share, and a table's own.
+use Rattle.std.specs.Prelude.{◌≡◌, ◌+◌, ◌<◌, ℕ, List, [], ◌∷◌, ◌++◌, All, length, map, slice_index_or}
+use Rattle.cost_table.specs.declared.table_rows.TableRows.{TableRows}
+
+-- the row of a number among those of the shared block, then of the own one
+abbrev pub row_among : (shared own : List (List (ℕ × ℕ))) → ℕ → List (ℕ × ℕ)
+row_among shared own k = slice_index_or (shared ++ own) k []
+
+abbrev pub rows_among : (shared own : List (List (ℕ × ℕ))) → (places : List ℕ) → List (List (ℕ × ℕ))
+rows_among shared own places = map (row_among shared own) places
+
+abbrev pub ArePlaces : (shared own : List (List (ℕ × ℕ))) → List ℕ → Type 0
+ArePlaces shared own places = All (λ k. k < length shared + length own) places
+
+-- the rows of a table, one for each of its wagons
+abbrev pub rows_in : TableRows → List (List (ℕ × ℕ))
+rows_in rows = rows_among rows.shared.value rows.own rows.places.items
+
+-- whether each place is that of a row
+abbrev pub ArePlaced : TableRows → Type 0
+ArePlaced rows = ArePlaces rows.shared.value rows.own rows.places.items
+
+-- one row more
+pub record HasRowMore (old new : TableRows) (row : List (ℕ × ℕ)) : Type 0 where
+  pub shared : new.shared.value ≡ old.shared.value
+  pub rows : rows_in new ≡ rows_in old ++ row ∷ []
+  pub placed : ArePlaced new

@@ -1,0 +1,102 @@
+//! Rows of cells that lie one after another in one list.
+ghost use Rattle.std.specs.Prelude.{◌≡◌, ◌<◌, ◌≤◌, ◌^◌, [], ◌∷◌, ◌++◌, OnOk, length, slice_index, slice_index_or};
+ghost use Rattle.cost_table.specs.inner.Flat.{rows_of, AreEnds, HoldRows};
+
+use std::alloc::{AllocError, Global};
+use std::marker::Model;
+
+/// Rows that lie one after another in one list, and where each ends. A contract sees the list of rows.
+#[derive(Debug, Drop)]
+pub(crate) struct RowBlock {
+    entries: Vec<(u32, u32)>,
+    ends: Vec<usize>,
+}
+
+impl Model for RowBlock {
+    ghost use Rattle.std.specs.Prelude.{ℕ, List};
+    ghost use Rattle.cost_table.specs.inner.Flat.{rows_of, HoldRows};
+
+    ghost Value = { List (List (ℕ × ℕ)) };
+
+    ghost view = { λ block. rows_of block.entries.items 0 block.ends.items };
+
+    ghost invariant = { λ block. HoldRows block.entries.items block.ends.items (rows_of block.entries.items 0 block.ends.items) };
+}
+
+impl RowBlock {
+    /// No row.
+    pub(crate) fn new(alloc: Global) -> RowBlock
+        ensures { result ≡ [] }
+    {
+        RowBlock {
+            entries: Vec::new(alloc),
+            ends: Vec::new(alloc),
+        }
+    }
+
+    /// The rows of these entries, each of which ends where the list says.
+    pub(crate) fn of(entries: Vec<(u32, u32)>, ends: Vec<usize>) -> RowBlock
+        requires { HoldRows entries.items ends.items (rows_of entries.items 0 ends.items) }
+        ensures { result ≡ rows_of entries.items 0 ends.items }
+    {
+        RowBlock { entries, ends }
+    }
+
+    /// Appends a row.
+    pub(crate) fn push(&mut self, row: &[(u32, u32)]) -> Result<(), AllocError>
+        ensures { OnOk result (self.new ≡ self.old ++ row.now ∷ []) }
+    {
+        self.ends.reserve(1)?;
+        self.entries.extend_from_slice(row)?;
+        self.ends.push_reserved(self.entries.len());
+        Ok(())
+    }
+
+    /// How many rows there are.
+    pub(crate) fn len(&self) -> usize
+        ensures value { result ≡ length self.now }
+        ensures limit { result < 2 ^ 63 }
+    {
+        self.ends.len()
+    }
+
+    /// Row `i`.
+    pub(crate) fn row(&self, i: usize) -> &[(u32, u32)]
+        requires { i < length self.now }
+        ensures { result.now ≡ slice_index_or self.now i [] }
+    {
+        row_of(&self.entries, &self.ends, i)
+    }
+}
+
+/// Where row `i` begins.
+fn start_of(ends: &[usize], i: usize) -> usize
+    requires { i ≤ length ends.now }
+    ensures { result ≡ slice_index (0 ∷ ends.now) i }
+{
+    if i == 0 { 0 } else { ends[i - 1] }
+}
+
+/// Where row `i` begins and where it ends, within `limit` entries.
+fn bounds_of(ends: &[usize], limit: usize, i: usize) -> (usize, usize)
+    requires ends { AreEnds limit 0 ends.now }
+    requires wagon { i < length ends.now }
+    ensures start { result.0 ≡ slice_index (0 ∷ ends.now) i }
+    ensures end { result.1 ≡ slice_index ends.now i }
+    ensures ordered { result.0 ≤ result.1 }
+    ensures within { result.1 ≤ limit }
+{
+    let start = start_of(ends, i);
+    (start, ends[i])
+}
+
+/// Row `i` of the rows that lie one after another in `entries`.
+#[tactic(auto, using(crate::proofs::RowLemmas::row_lookups))]
+fn row_of<'a>(entries: &'a [(u32, u32)], ends: &[usize], i: usize) -> &'a [(u32, u32)]
+    requires ends { AreEnds (length entries.now) 0 ends.now }
+    requires wagon { i < length ends.now }
+    ensures { result.now ≡ slice_index_or (rows_of entries.now 0 ends.now) i [] }
+{
+    let (start, end) = bounds_of(ends, entries.len(), i);
+    &entries[start..end]
+}

@@ -1,0 +1,121 @@
+//! The rows of a table, some of which it may share with other tables.
+ghost use Rattle.std.specs.Prelude.{◌≡◌, ◌+◌, ◌<◌, [], IfOk, OnOk, length, slice_index_or};
+ghost use Rattle.cost_table.specs.inner.Among.{ArePlaced, ArePlaces, HasRowMore, row_among, rows_among, rows_in};
+
+use crate::row_block::RowBlock;
+use std::alloc::{AllocError, Global};
+use std::sync::Arc;
+
+/// The rows of a table: each stands in a block that tables share, or in the table's own.
+#[derive(Debug, Drop)]
+pub(crate) struct TableRows {
+    pub(crate) shared: Arc<RowBlock>,
+    pub(crate) own: RowBlock,
+    /// For each wagon where its row stands among those of the shared block, then of the own one.
+    pub(crate) places: Vec<usize>,
+}
+
+impl TableRows {
+    /// The rows of a block, which other tables may share.
+    pub(crate) fn of_block(alloc: Global, block: RowBlock) -> Result<TableRows, AllocError>
+        ensures rows { IfOk result (λ rows. rows_in rows ≡ block) }
+        ensures placed { IfOk result ArePlaced }
+    {
+        let places = all_places(alloc, &block)?;
+        Ok(TableRows {
+            shared: Arc::new(alloc, block)?,
+            own: RowBlock::new(alloc),
+            places,
+        })
+    }
+
+    /// No row yet, with room for the places of so many; it shares the block of another table's rows.
+    pub(crate) fn sharing(
+        alloc: Global,
+        other: &TableRows,
+        count: usize,
+    ) -> Result<TableRows, AllocError>
+        ensures shared { IfOk result (λ rows. rows.shared.value ≡ other.now.shared.value) }
+        ensures rows { IfOk result (λ rows. rows_in rows ≡ []) }
+        ensures placed { IfOk result ArePlaced }
+    {
+        Ok(TableRows {
+            shared: Arc::try_clone(&other.shared)?,
+            own: RowBlock::new(alloc),
+            places: Vec::with_capacity(alloc, count)?,
+        })
+    }
+
+    /// How many rows there are.
+    pub(crate) fn len(&self) -> usize
+        ensures { result ≡ length (rows_in self.now) }
+    {
+        self.places.len()
+    }
+
+    /// The row of wagon `i`.
+    pub(crate) fn row(&self, i: usize) -> &[(u32, u32)]
+        requires placed { ArePlaced self.now }
+        requires wagon { i < length (rows_in self.now) }
+        ensures { result.now ≡ slice_index_or (rows_in self.now) i [] }
+    {
+        row_at(&self.shared, &self.own, self.places[i])
+    }
+
+    /// Appends a row.
+    pub(crate) fn push(&mut self, row: &[(u32, u32)]) -> Result<(), AllocError>
+        requires { ArePlaced self.old }
+        ensures { OnOk result (HasRowMore self.old self.new row.now) }
+    {
+        let place = self.shared.len() + self.own.len();
+        self.own.push(row)?;
+        self.places.push(place)?;
+        Ok(())
+    }
+
+    /// Appends row `i` of another table, whose shared block is this one's too: a row of that block isn't copied.
+    pub(crate) fn take_over(&mut self, other: &TableRows, i: usize) -> Result<(), AllocError>
+        requires placed { ArePlaced self.old }
+        requires shared { self.old.shared.value ≡ other.now.shared.value }
+        requires others { ArePlaced other.now }
+        requires wagon { i < length (rows_in other.now) }
+        ensures { OnOk result (HasRowMore self.old self.new (slice_index_or (rows_in other.now) i [])) }
+    {
+        let place = other.places[i];
+        if place < self.shared.len() {
+            self.places.push(place)?;
+            return Ok(());
+        }
+        self.push(other.row(i))
+    }
+
+    /// Whether so many rows are the table's own that a table made anew would serve better as one to share.
+    pub(crate) fn are_scattered(&self) -> bool {
+        self.own.len() > self.shared.len() / 4
+    }
+}
+
+/// The row at a place among those of two blocks.
+fn row_at<'a>(shared: &'a RowBlock, own: &'a RowBlock, place: usize) -> &'a [(u32, u32)]
+    requires { place < length shared.now + length own.now }
+    ensures { result.now ≡ row_among shared.now own.now place }
+{
+    let before = shared.len();
+    if place < before {
+        shared.row(place)
+    } else {
+        own.row(place - before)
+    }
+}
+
+/// The places of all rows of a block.
+fn all_places(alloc: Global, block: &RowBlock) -> Result<Vec<usize>, AllocError>
+    ensures rows { IfOk result (λ places. rows_among block.now [] places.items ≡ block.now) }
+    ensures placed { IfOk result (λ places. ArePlaces block.now [] places.items) }
+{
+    let mut places = Vec::with_capacity(alloc, block.len())?;
+    for k in 0..block.len() {
+        places.push(k)?;
+    }
+    Ok(places)
+}
