@@ -15,12 +15,12 @@ use Rattle.operating_db.specs.Steps.{IsPromised}
 use Rattle.operating_db.specs.declared.event.Event.{Event}
 use Rattle.commit_book.specs.BookStep.{is_full, is_kept}
 use Rattle.commit_book.specs.History.{IsEntry, IsTableAt, Owes, after_all, problem_at, replay, version}
-use Rattle.commit_book.specs.inner.Kept.{IsBook, IsBookOf, IsInSpan, IsKeptAt, IsMade, is_covering, setting_of, which_of, with_kept}
+use Rattle.commit_book.specs.inner.Kept.{IsBook, IsBookOf, IsInSpan, IsKeptAt, IsMade, IsMadeOf, is_covering, setting_of, which_of, with_kept}
 use Rattle.commit_book.specs.inner.Ledger.{LedgerValue, office_of}
 use Rattle.commit_book.specs.Limits.{LimitNumbers}
 use Rattle.commit_book.specs.Setting.{Setting}
 use Rattle.commit_book.specs.declared.kept_problems.KeptProblem.{KeptProblem}
-use Rattle.commit_book.specs.declared.kept_problems.MadeProblem.{MadeProblem}
+use Rattle.commit_book.specs.declared.made_problem.MadeProblem.{MadeProblem}
 use Rattle.commit_book.proofs.Books.{IsCovering, at_moment, book_keep, book_push, found_covering, kept_as, kept_is_found, named_problem}
 use Rattle.commit_book.proofs.Runs.{IsLegalEntry, room_of}
 
@@ -48,18 +48,25 @@ parts_kept ledger networks limits kept most one is h =
 pub last_version : (setting : Setting) (history : List Event) → version setting history (length history) ≡ replay setting history
 last_version setting history = ap (replay setting) (take-length history)
 
--- the problem of the last version and a table that lasts, as they are kept
-pub present_made : (setting : Setting) (history : List Event) (made : MadeProblem) (network : NetworkValue) → made.problem ≡ problem_of (replay setting history) made.problem.at
-    → network_at setting.networks (replay setting history).network ≡ Some network → ((m : ℕ) → made.problem.at ≤ m → m ≤ made.until → IsTableOf network (record made.problem { at = m }) made.cells)
-    → IsMade setting history (length history) made
-present_made setting history made network problem_is in_force lasts =
+same_network : (a b : NetworkValue) (o : Option NetworkValue) → o ≡ Some a → o ≡ Some b → a ≡ b
+same_network a b o h k = cc
+
+-- what is made of the problem of the last version over the network in force, as it is kept
+pub present_made : (setting : Setting) (history : List Event) (problem : ProblemValue) (made : MadeProblem) (network : NetworkValue) → problem ≡ problem_of (replay setting history) problem.at
+    → network_at setting.networks (replay setting history).network ≡ Some network → IsMadeOf network (replay setting history).network problem made → IsMade setting history (length history) made
+present_made setting history problem made network problem_is in_force h =
     let office : replay setting history ≡ version setting history (length history) = sym (last_version setting history) in
-    let problem : made.problem ≡ problem_at setting history (length history) made.problem.at = problem_is ∙ ap (λ (o : Office). problem_of o made.problem.at) office in
+    let there : problem ≡ problem_at setting history (length history) problem.at = problem_is ∙ ap (λ (o : Office). problem_of o problem.at) office in
+    let same : made.problem ≡ problem_at setting history (length history) made.problem.at = h.problem_is ∙ there ∙ ap (λ (p : ProblemValue). problem_at setting history (length history) p.at) (sym h.problem_is) in
     record {
-      is_problem = problem;
+      is_problem = same;
       is_table = λ m span.
-          let same : record made.problem { at = m } ≡ problem_at setting history (length history) m = ap (λ (p : ProblemValue). record p { at = m }) problem in
-          record { network = network; in_force = rw (last_version setting history) in_force; of_problem = subst (λ (p : ProblemValue). IsTableOf network p made.cells) same (lasts m span.first span.last) };
+          let moment : record problem { at = m } ≡ problem_at setting history (length history) m = ap (λ (p : ProblemValue). record p { at = m }) there in
+          let first : problem.at ≤ m = subst (λ (p : ProblemValue). p.at ≤ m) h.problem_is span.first in
+          record { network = network; in_force = rw (last_version setting history) in_force; of_problem = subst (λ (p : ProblemValue). IsTableOf network p made.timed.cells) moment (h.lasts m first span.last) };
+      lasting = λ net there.
+          let numbered : network_at setting.networks (replay setting history).network ≡ Some net = subst (λ (n : ℕ). network_at setting.networks n ≡ Some net) h.number_is there in
+          rw (same_network net network _ numbered in_force, h.problem_is) h.by_wagon;
     }
 
 -- what is kept of the last version, at another moment, is the problem of that moment
@@ -91,7 +98,7 @@ pub kept_none : {A : Type 0} (f : A → KeptProblem) (kept : List KeptProblem) (
 kept_none f kept which o h = kept_is_found kept which ∙ ap is_some (sym h) ∙ some_mapped f o
 
 -- the table of a kept problem, where it was found
-pub kept_table : (setting : Setting) (history : List Event) (kept : List KeptProblem) (version at : ℕ) (one : KeptProblem) → IsBook setting history kept → kept_as kept (version, at) ≡ Some one → IsTableAt setting history version at one.made.value.cells
+pub kept_table : (setting : Setting) (history : List Event) (kept : List KeptProblem) (version at : ℕ) (one : KeptProblem) → IsBook setting history kept → kept_as kept (version, at) ≡ Some one → IsTableAt setting history version at one.made.value.timed.cells
 kept_table setting history kept version at one book found =
     let commit : CommitText = record { version = version; at = at; pairs = []; u = []; v = [] } in
     (named_problem setting history kept commit one book found).is_table

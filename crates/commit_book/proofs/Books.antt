@@ -19,7 +19,7 @@ use Rattle.commit_book.specs.History.{IsLeast, IsTableAt, problem_at, replay}
 use Rattle.commit_book.specs.inner.Kept.{IsBook, IsInSpan, IsKeptAt, IsMade, is_covering, covers, which_of, with_kept}
 use Rattle.commit_book.specs.Setting.{Setting}
 use Rattle.commit_book.specs.declared.kept_problems.KeptProblem.{KeptProblem}
-use Rattle.commit_book.specs.declared.kept_problems.MadeProblem.{MadeProblem}
+use Rattle.commit_book.specs.declared.made_problem.MadeProblem.{MadeProblem}
 use Rattle.faults.specs.declared.faults.Refusal.{Refusal}
 use Rattle.faults.specs.declared.faults.Refusal.TheVariants.{WagonChanged}
 use Rattle.commit_book.proofs.CommitLaws.{both_true, commit_owed, same_number}
@@ -34,7 +34,8 @@ empty_book setting = record { legal = empty_legal setting; problems = All-nil (I
 made_kept : (setting : Setting) (history : List Event) (event : Event) (version : ℕ) (made : MadeProblem) → version ≤ length history → IsMade setting history version made → IsMade setting (history ++ event ∷ []) version made
 made_kept setting history event version made had h = record {
   is_problem = h.is_problem ∙ sym (problem_kept setting history event version made.problem.at had);
-  is_table = λ m span. table_kept setting history event version m made.cells had (h.is_table m span);
+  is_table = λ m span. table_kept setting history event version m made.timed.cells had (h.is_table m span);
+  lasting = h.lasting;
 }
 
 still_kept : (setting : Setting) (history : List Event) (event : Event) (kept : KeptProblem) → IsKeptAt setting history kept → IsKeptAt setting (history ++ event ∷ []) kept
@@ -137,7 +138,7 @@ at_moment setting history version made m h = ap (λ (p : ProblemValue). record p
 
 span_of : (made : MadeProblem) (at : ℕ) → covers made at ≡ true → IsInSpan made at
 span_of made at h =
-    let f = both_true (nat_le made.problem.at at) (nat_le at made.until) h in
+    let f = both_true (nat_le made.problem.at at) (nat_le at made.timed.until) h in
     record { first = grind (arith, nat_tests, f.0); last = grind (arith, nat_tests, f.1) }
 
 -- what was found of a version, whose table is that of a moment
@@ -160,7 +161,7 @@ found_covering setting history kept version at one book h =
 pub record IsNamed (setting : Setting) (history : List Event) (commit : CommitText) (made : MadeProblem) : Type 0 where
   pub had : commit.version ≤ length history
   pub is_problem : record made.problem { at = commit.at } ≡ problem_at setting history commit.version commit.at
-  pub is_table : IsTableAt setting history commit.version commit.at made.cells
+  pub is_table : IsTableAt setting history commit.version commit.at made.timed.cells
 
 named_by : (setting : Setting) (history : List Event) (commit : CommitText) (one : KeptProblem) → which_of one ≡ (commit.version, commit.at) → IsKeptAt setting history one → IsNamed setting history commit one.made.value
 named_by setting history commit one is h =
@@ -190,25 +191,25 @@ refusal_by_at problem at now pairs (Ok cost) = ap (λ (changed : Option Refusal)
 refusal_by_at problem at now pairs (Err fault) = refl
 
 -- what is found of what a kept problem shares is what is found of the problem that is named
-pub refusal_named : (setting : Setting) (history : List Event) (commit : CommitText) (made : MadeProblem) (now : Office) → IsNamed setting history commit made → refusal_in (problem_at setting history commit.version commit.at) now commit made.cells ≡ refusal_in made.problem now commit made.cells
+pub refusal_named : (setting : Setting) (history : List Event) (commit : CommitText) (made : MadeProblem) (now : Office) → IsNamed setting history commit made → refusal_in (problem_at setting history commit.version commit.at) now commit made.timed.cells ≡ refusal_in made.problem now commit made.timed.cells
 refusal_named setting history commit made now named =
-    ap (λ (problem : ProblemValue). refusal_in problem now commit made.cells) (sym named.is_problem)
-    ∙ refusal_by_at made.problem commit.at now commit.pairs (checked (names_of_problem made.problem) made.cells commit.pairs commit.u commit.v)
+    ap (λ (problem : ProblemValue). refusal_in problem now commit made.timed.cells) (sym named.is_problem)
+    ∙ refusal_by_at made.problem commit.at now commit.pairs (checked (names_of_problem made.problem) made.timed.cells commit.pairs commit.u commit.v)
 
 -- what the tests of a commit find is what it is answered
 pub commit_judged : (setting : Setting) (history : List Event) (kept : List KeptProblem) (commit : CommitText) (one : KeptProblem) (refusal : Option Refusal) → IsBook setting history kept → kept_as kept (commit.version, commit.at) ≡ Some one
-    → refusal_in one.made.value.problem (replay setting history) commit one.made.value.cells ≡ refusal → IsJudged setting history commit (accepted_unless (length history + 1) refusal)
+    → refusal_in one.made.value.problem (replay setting history) commit one.made.value.timed.cells ≡ refusal → IsJudged setting history commit (accepted_unless (length history + 1) refusal)
 commit_judged setting history kept commit one refusal book found h =
     let named = named_problem setting history kept commit one book found in
     record {
-      table = one.made.value.cells;
+      table = one.made.value.timed.cells;
       is_table = named.is_table;
       answered = ap (accepted_unless (length history + 1)) (sym (refusal_named setting history commit one.made.value (replay setting history) named ∙ h));
     }
 
 -- where they find nothing, it pays what it owes, and can be promised
 pub commit_passed : (setting : Setting) (history : List Event) (kept : List KeptProblem) (commit : CommitText) (one : KeptProblem) → IsBook setting history kept → kept_as kept (commit.version, commit.at) ≡ Some one
-    → refusal_in one.made.value.problem (replay setting history) commit one.made.value.cells ≡ None → IsLeast setting history commit × CanPromise (replay setting history) commit.pairs
+    → refusal_in one.made.value.problem (replay setting history) commit one.made.value.timed.cells ≡ None → IsLeast setting history commit × CanPromise (replay setting history) commit.pairs
 commit_passed setting history kept commit one book found h =
     let named = named_problem setting history kept commit one book found in
-    commit_owed setting history commit one.made.value.cells named.had named.is_table (refusal_named setting history commit one.made.value (replay setting history) named ∙ h)
+    commit_owed setting history commit one.made.value.timed.cells named.had named.is_table (refusal_named setting history commit one.made.value (replay setting history) named ∙ h)

@@ -26,7 +26,7 @@ testable : (setting : Setting) (history : List Event) (kept : List KeptProblem) 
 testable setting history kept commit one found room = record { kept = kept_is_found kept (commit.version, commit.at) ∙ ap is_some found; room = room }
 
 pub accepted_by : (setting : Setting) (history : List Event) (kept : List KeptProblem) (commit : CommitText) (one : KeptProblem) → IsBook setting history kept → kept_as kept (commit.version, commit.at) ≡ Some one → is_full setting history ≡ false
-    → refusal_in one.made.value.problem (replay setting history) commit one.made.value.cells ≡ None → IsAccepted setting (with_these history kept) commit
+    → refusal_in one.made.value.problem (replay setting history) commit one.made.value.timed.cells ≡ None → IsAccepted setting (with_these history kept) commit
 accepted_by setting history kept commit one book found room h =
     let passed = commit_passed setting history kept commit one book found h in
     record {
@@ -37,10 +37,10 @@ accepted_by setting history kept commit one book found room h =
     }
 
 pub refused_by : (setting : Setting) (history : List Event) (kept : List KeptProblem) (commit : CommitText) (one : KeptProblem) → IsBook setting history kept → kept_as kept (commit.version, commit.at) ≡ Some one → is_full setting history ≡ false
-    → (refusal : Refusal) → (refusal ≢ OutOfMemory → refusal_in one.made.value.problem (replay setting history) commit one.made.value.cells ≡ Some refusal) → IsRefused setting (with_these history kept) commit refusal
+    → (refusal : Refusal) → (refusal ≢ OutOfMemory → refusal_in one.made.value.problem (replay setting history) commit one.made.value.timed.cells ≡ Some refusal) → IsRefused setting (with_these history kept) commit refusal
 refused_by setting history kept commit one book found room refusal h =
     let test = testable setting history kept commit one found room in
-    elim (memory_or (refusal_in one.made.value.problem (replay setting history) commit one.made.value.cells ≡ Some refusal) refusal h) [
+    elim (memory_or (refusal_in one.made.value.problem (replay setting history) commit one.made.value.timed.cells ≡ Some refusal) refusal h) [
       | inl says ↦ inl (commit_step setting (with_these history kept) commit (Refused refusal) true false test.kept test.room (commit_judged setting history kept commit one (Some refusal) book found says))
       | inr memory ↦ inr (memory, test)
     ]
@@ -54,12 +54,12 @@ full setting history kept commit one found no_room =
     inl (commit_step setting (with_these history kept) commit (Refused BookFull) true true (kept_is_found kept (commit.version, commit.at) ∙ ap is_some found) no_room refl)
 
 -- the table of a kept problem is of its wagons and orders
-pub wagons_fit : (setting : Setting) (history : List Event) (kept : List KeptProblem) (commit : CommitText) (one : KeptProblem) → IsBook setting history kept → kept_as kept (commit.version, commit.at) ≡ Some one → wagon_count one.made.value.cells ≡ length one.made.value.problem.wagons
+pub wagons_fit : (setting : Setting) (history : List Event) (kept : List KeptProblem) (commit : CommitText) (one : KeptProblem) → IsBook setting history kept → kept_as kept (commit.version, commit.at) ≡ Some one → wagon_count one.made.value.timed.cells ≡ length one.made.value.problem.wagons
 wagons_fit setting history kept commit one book found =
     let named = named_problem setting history kept commit one book found in
     named.is_table.of_problem.wagons ∙ ap (λ (p : ProblemValue). length p.wagons) (sym named.is_problem)
 
-pub orders_fit : (setting : Setting) (history : List Event) (kept : List KeptProblem) (commit : CommitText) (one : KeptProblem) → IsBook setting history kept → kept_as kept (commit.version, commit.at) ≡ Some one → order_count one.made.value.cells ≡ length one.made.value.problem.orders
+pub orders_fit : (setting : Setting) (history : List Event) (kept : List KeptProblem) (commit : CommitText) (one : KeptProblem) → IsBook setting history kept → kept_as kept (commit.version, commit.at) ≡ Some one → order_count one.made.value.timed.cells ≡ length one.made.value.problem.orders
 orders_fit setting history kept commit one book found =
     let named = named_problem setting history kept commit one book found in
     ap length named.is_table.of_problem.lacks ∙ length-map _ (λ (o : WantedOrder). o.lack) ∙ ap (λ (p : ProblemValue). length p.orders) (sym named.is_problem)

@@ -8,18 +8,18 @@ ghost use Rattle.commit_book.specs.inner.Entered.{IsEntered};
 ghost use Rattle.commit_book.specs.inner.CommitTests.{IsAccepted, IsRefused};
 ghost use Rattle.commit_book.specs.Headline.{IsProved};
 ghost use Rattle.commit_book.specs.History.{IsTableAt, Owes, entry_at, replay};
-ghost use Rattle.commit_book.specs.inner.Kept.{IsInSpan, IsKeptAt, IsMade, which_of};
+ghost use Rattle.commit_book.specs.inner.Kept.{IsInSpan, IsKeptAt, IsLasting, IsMade, IsMendable, which_of};
 ghost use Rattle.commit_book.specs.inner.Ledger.{IsMessageAt, IsNoMessage};
 ghost use Rattle.commit_book.specs.Snap.{IsVersionNumber, snap_of};
 ghost use Rattle.commit_book.specs.declared.call.Call.TheVariants as call;
 
 use crate::commits::judge;
-use crate::indexed_problem::IndexedProblem;
-use crate::kept_problems::{KeptProblem, MadeProblem, find_covering, find_kept, keep};
+use crate::kept_problems::{KeptProblem, find_covering, find_kept, keep};
 use crate::ledger::{Ledger, MessageEntry};
+use crate::made_problem::MadeProblem;
 use crate::same_messages::is_same_message;
 use crate::{Limits, Refusal, Reply, Snap};
-use cost_table::{Cells, Problem, TimedCells, timed_cells};
+use cost_table::{Cells, Problem};
 use distance_tables::{Networks, Tables};
 use move_messages::{CommitText, Message, OrderText};
 use operating_db::{Event, OfficeState};
@@ -185,7 +185,7 @@ impl Book {
         ensures table { IfSome result (λ cells. IsTableAt self.now.setting self.now.state.history version at cells.now) }
     {
         match find_kept(&self.kept, version, at) {
-            Some(kept) => Some(&kept.made.cells),
+            Some(kept) => Some(&kept.made.timed.cells),
             None => None,
         }
     }
@@ -341,14 +341,25 @@ impl Book {
     {
         // For the prover alone: wagons ascend by number.
         let _rows = self.state().wagon_rows();
-        let TimedCells { cells, until } = timed_cells(alloc, problem, self.tables())?;
-        let problem = IndexedProblem::of(alloc, problem.copy(alloc)?)?;
-        let made = MadeProblem {
-            problem,
-            cells,
-            until,
+        let made = match self.mendable(problem) {
+            Some(earlier) => earlier.mended(alloc, problem, self.tables())?,
+            None => MadeProblem::of(alloc, problem, self.state().network(), self.tables())?,
         };
         Ok(Arc::new(alloc, made)?)
+    }
+
+    /// What was kept last, where its table can be mended to be that of a problem over the network in force.
+    fn mendable(&self, problem: &Problem) -> Option<&Arc<MadeProblem>>
+        ensures network { IfSome result (λ made. made.now.value.network ≡ (replay self.now.setting self.now.state.history).network) }
+        ensures mendable { IfSome result (λ made. IsMendable made.now.value problem.now) }
+        ensures lasting { IfSome result (λ made. IsLasting self.now.setting made.now.value) }
+    {
+        let last = self.kept.last()?;
+        if last.made.network == self.state().network() && last.made.is_mendable(problem) {
+            Some(&last.made)
+        } else {
+            None
+        }
     }
 
     /// The distances of the network in force.

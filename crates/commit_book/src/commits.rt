@@ -10,7 +10,7 @@ ghost use Rattle.database_rows.specs.Rows.{order_in};
 
 use crate::Refusal;
 use crate::indexed_problem::IndexedProblem;
-use crate::kept_problems::MadeProblem;
+use crate::made_problem::MadeProblem;
 use move_messages::CommitText;
 use named_pairs::check_named;
 use operating_db::{OfficeState, times_of_order};
@@ -28,14 +28,14 @@ pub(crate) fn judge(
     now: &OfficeState,
     commit: &CommitText,
 ) -> Result<(), Refusal>
-    requires wagons { wagon_count made.now.cells ≡ length made.now.problem.wagons }
-    requires orders { order_count made.now.cells ≡ length made.now.problem.orders }
-    ensures accepted { OnOk result (refusal_in made.now.problem now.now.office commit.now made.now.cells ≡ None) }
-    ensures refused { IfErr result (λ refusal. refusal ≢ OutOfMemory → refusal_in made.now.problem now.now.office commit.now made.now.cells ≡ Some refusal) }
+    requires wagons { wagon_count made.now.timed.cells ≡ length made.now.problem.wagons }
+    requires orders { order_count made.now.timed.cells ≡ length made.now.problem.orders }
+    ensures accepted { OnOk result (refusal_in made.now.problem now.now.office commit.now made.now.timed.cells ≡ None) }
+    ensures refused { IfErr result (λ refusal. refusal ≢ OutOfMemory → refusal_in made.now.problem now.now.office commit.now made.now.timed.cells ≡ Some refusal) }
 {
     let pairs = commit.pairs.as_slice();
     let prices = prices_of(alloc, commit)?;
-    let _cost = check_named(alloc, &made.problem, &made.cells, pairs, &prices)?;
+    let _cost = check_named(alloc, &made.problem, &made.timed.cells, pairs, &prices)?;
     wagons_unchanged(&made.problem, now, pairs)?;
     orders_unchanged(now, pairs)
 }

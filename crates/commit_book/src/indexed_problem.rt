@@ -14,6 +14,7 @@ use rail_codes::{Moment, OrderId, WagonNumber};
 use std::alloc::{AllocError, Global};
 use std::collections::BTreeMap;
 use std::marker::Model;
+use std::sync::Arc;
 use wagon_state::FreeWagon;
 
 /// A problem whose wagons ascend by number, so that one is found by halves, with an index of the orders' names. A
@@ -21,8 +22,8 @@ use wagon_state::FreeWagon;
 #[derive(Debug, Drop)]
 pub(crate) struct IndexedProblem {
     problem: Problem,
-    // The position of each order by its name.
-    orders: BTreeMap<OrderId, usize>,
+    // The position of each order by its name. Problems with the same orders share it.
+    orders: Arc<BTreeMap<OrderId, usize>>,
 }
 
 impl Model for IndexedProblem {
@@ -36,7 +37,7 @@ impl Model for IndexedProblem {
 
     ghost view = { λ indexed. indexed.problem };
 
-    ghost invariant = { λ indexed. IsIndexedProblem indexed.problem (get (slice_cmp nat_cmp) indexed.orders) };
+    ghost invariant = { λ indexed. IsIndexedProblem indexed.problem (get (slice_cmp nat_cmp) indexed.orders.value) };
 }
 
 impl IndexedProblem {
@@ -45,8 +46,30 @@ impl IndexedProblem {
         requires { Ascend problem.wagons }
         ensures { IfOk result (λ indexed. indexed ≡ problem) }
     {
-        let orders = index_of(alloc, problem.orders())?;
-        Ok(IndexedProblem { problem, orders })
+        let index = index_of(alloc, problem.orders())?;
+        Ok(IndexedProblem {
+            problem,
+            orders: Arc::new(alloc, index)?,
+        })
+    }
+
+    /// A problem whose wagons ascend by number, with the orders of this one.
+    pub fn with_these_orders(&self, problem: Problem) -> Result<IndexedProblem, AllocError>
+        requires ascend { Ascend problem.wagons }
+        requires orders { problem.orders ≡ self.now.orders }
+        ensures { IfOk result (λ indexed. indexed ≡ problem) }
+    {
+        Ok(IndexedProblem {
+            problem,
+            orders: Arc::try_clone(&self.orders)?,
+        })
+    }
+
+    /// The problem.
+    pub fn problem(&self) -> &Problem
+        ensures { result.now ≡ self.now }
+    {
+        &self.problem
     }
 
     /// The moment.

@@ -2,32 +2,12 @@
 ghost use Rattle.std.specs.Prelude.{◌≡◌, ◌≤◌, OnErr, OnOk, length, option_map};
 ghost use Rattle.std.specs.List.{find};
 ghost use Rattle.commit_book.specs.BookStep.{is_this};
-ghost use Rattle.commit_book.specs.inner.Kept.{is_covering, covers, which_of, with_kept};
+ghost use Rattle.commit_book.specs.inner.Kept.{is_covering, which_of, with_kept};
 
-use crate::indexed_problem::IndexedProblem;
-use cost_table::Cells;
+use crate::made_problem::MadeProblem;
 use rail_codes::Moment;
 use std::alloc::AllocError;
 use std::sync::Arc;
-
-/// What kept problems of one version share: the problem at the first of their moments, its table, and up to which
-/// moment that is the table of the same wagons and orders.
-#[derive(Debug, Drop)]
-pub(crate) struct MadeProblem {
-    pub problem: IndexedProblem,
-    pub cells: Cells,
-    /// In seconds since 1970-01-01T00:00:00Z.
-    pub until: u64,
-}
-
-impl MadeProblem {
-    /// Whether the table is that of the same wagons and orders at this moment, too.
-    fn covers(&self, at: Moment) -> bool
-        ensures { result ≡ covers self.now at }
-    {
-        self.problem.at() <= at && at.seconds() <= self.until
-    }
-}
 
 /// A kept problem: that of a version at a moment, with its table.
 #[derive(Debug, Drop)]

@@ -12,9 +12,11 @@ mod kept_problems;
 mod laws;
 mod ledger;
 mod limits;
+mod made_problem;
 mod reply;
 mod request;
 mod same_messages;
+mod same_orders;
 mod snap;
 
 pub use answer::Answer;
@@ -26,4 +28,5 @@ pub use limits::{Limits, MAX_ENTRIES, MAX_KEPT_PROBLEMS};
 pub use reply::Reply;
 pub use request::Request;
 pub use same_messages::is_same_message;
+pub use same_orders::is_same_order;
 pub use snap::Snap;

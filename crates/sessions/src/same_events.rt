@@ -1,8 +1,8 @@
 //! Events compared.
 ghost use Rattle.std.specs.Prelude.{◌≡◌, ◌↔◌, IsTrue};
 
-use commit_book::is_same_message;
-use move_messages::{Classes, CommitText, OrderText, Pairs, PriceList};
+use commit_book::{is_same_message, is_same_order};
+use move_messages::{CommitText, Pairs, PriceList};
 use operating_db::Event;
 use rail_codes::OrderId;
 
@@ -32,24 +32,6 @@ pub(crate) fn is_same_event(one: &Event, other: &Event) -> bool
             _ => false,
         },
     }
-}
-
-fn is_same_order(one: &OrderText, other: &OrderText) -> bool
-    ensures { IsTrue result ↔ (one.now ≡ other.now) }
-{
-    one.id() == other.id()
-        && one.place() == other.place()
-        && are_same_classes(one.classes(), other.classes())
-        && one.load() == other.load()
-        && one.latest() == other.latest()
-        && one.penalty() == other.penalty()
-        && one.wagons() == other.wagons()
-}
-
-fn are_same_classes(one: &Classes, other: &Classes) -> bool
-    ensures { IsTrue result ↔ (one.now ≡ other.now) }
-{
-    *one == *other
 }
 
 fn is_same_id(one: OrderId, other: OrderId) -> bool

@@ -1,6 +1,9 @@
 -- What a book keeps beside its history.
-use Rattle.std.specs.Prelude.{◌≡◌, ◌≤◌, ◌==◌, ◌&&◌, nat_le, nat_lt, ℕ, Bool, if◌then◌else◌, List, [], ◌∷◌, ◌++◌, length, drop, map, All}
+use Rattle.std.specs.Prelude.{◌≡◌, ◌≤◌, ◌==◌, ◌&&◌, nat_le, nat_lt, ℕ, Bool, if◌then◌else◌, List, [], ◌∷◌, ◌++◌, Some, length, drop, map, All}
 use Rattle.line_network.specs.Network.{NetworkValue}
+use Rattle.distance_tables.specs.Networks.{network_at}
+use Rattle.cost_table.specs.Allowed.{IsLastingTable, IsTableOf}
+use Rattle.cost_table.specs.Problem.{ProblemValue}
 use Rattle.operating_db.specs.declared.event.Event.{Event}
 use Rattle.commit_book.specs.BookStep.{BookValue}
 use Rattle.commit_book.specs.History.{IsLegal, IsTableAt, problem_at}
@@ -8,7 +11,7 @@ use Rattle.commit_book.specs.inner.Ledger.{LedgerValue}
 use Rattle.commit_book.specs.Limits.{LimitNumbers}
 use Rattle.commit_book.specs.Setting.{Setting}
 use Rattle.commit_book.specs.declared.kept_problems.KeptProblem.{KeptProblem}
-use Rattle.commit_book.specs.declared.kept_problems.MadeProblem.{MadeProblem}
+use Rattle.commit_book.specs.declared.made_problem.MadeProblem.{MadeProblem}
 
 -- the version and the moment of a kept problem
 abbrev pub which_of : KeptProblem → ℕ × ℕ
@@ -20,7 +23,7 @@ with_kept most kept one = if nat_lt (length kept) most then kept ++ one ∷ [] e
 
 -- whether a moment is within the span of what kept problems share
 abbrev pub covers : MadeProblem → ℕ → Bool
-covers made at = nat_le made.problem.at at && nat_le at made.until
+covers made at = nat_le made.problem.at at && nat_le at made.timed.until
 
 -- whether a kept problem is of a version, and its table is that of this moment too
 abbrev pub is_covering : (version at : ℕ) → KeptProblem → Bool
@@ -29,13 +32,30 @@ is_covering version at kept = kept.version == version && covers kept.made.value 
 -- a moment is within the span: it is the problem's or a later one, up to the last
 pub record IsInSpan (made : MadeProblem) (at : ℕ) : Type 0 where
   pub first : made.problem.at ≤ at
-  pub last : at ≤ made.until
+  pub last : at ≤ made.timed.until
+
+-- over the network of its number, the table has the wagons' cells up to their last moments
+abbrev pub IsLasting : Setting → MadeProblem → Type 0
+IsLasting setting made = (network : NetworkValue) → network_at setting.networks made.network ≡ Some network → IsLastingTable network made.problem made.timed.cells made.timed.lasts.items
+
+-- what is made of a problem over a network of this number
+pub record IsMadeOf (network : NetworkValue) (number : ℕ) (problem : ProblemValue) (made : MadeProblem) : Type 0 where
+  pub problem_is : made.problem ≡ problem
+  pub number_is : made.network ≡ number
+  pub within : problem.at ≤ made.timed.until
+  pub lasts : (m : ℕ) → problem.at ≤ m → m ≤ made.timed.until → IsTableOf network (record problem { at = m }) made.timed.cells
+  pub by_wagon : IsLastingTable network problem made.timed.cells made.timed.lasts.items
+
+-- whether the table of a problem can be made by mending another's: at the same moment or a later one the same orders wait
+abbrev pub IsMendable : MadeProblem → ProblemValue → Type 0
+IsMendable made problem = (made.problem.at ≤ problem.at) × (made.problem.orders ≡ problem.orders)
 
 -- what kept problems of a version share: the problem of that version at a moment, and a table that is that version's at
 -- each moment of the span
 pub record IsMade (setting : Setting) (history : List Event) (version : ℕ) (made : MadeProblem) : Type 0 where
   pub is_problem : made.problem ≡ problem_at setting history version made.problem.at
-  pub is_table : (m : ℕ) → IsInSpan made m → IsTableAt setting history version m made.cells
+  pub is_table : (m : ℕ) → IsInSpan made m → IsTableAt setting history version m made.timed.cells
+  pub lasting : IsLasting setting made
 
 -- the problem is that of a version that the book has had, at a moment of the span
 pub record IsKeptAt (setting : Setting) (history : List Event) (kept : KeptProblem) : Type 0 where

@@ -25,9 +25,9 @@ judge-requires-clause-orders c = rw c.deref-2.ensures (orders_fit _ c.self.insid
 pub returns-clause-accepted : goal.returns-clause-accepted
 returns-clause-accepted c =
     let office : c.state.result.now.office ≡ replay (setting_of c.self.inside.ledger c.self.inside.networks.value c.self.inside.limits) c.self.inside.ledger.events = ap (λ (s : StateValue). s.office) (rw (← c.self.view_is) at c.state.ensures.state) in
-    on_ok_weaker c.judge.result (λ none. rw (← c.self.view_is) (accepted_by _ c.self.inside.ledger.events c.self.inside.kept.items c.args.commit.now c.in-Some.kept.now c.self.invariant.book (sym (c.in-Some.ensures ∙ ap (λ ks. kept_as ks (c.args.commit.now.version, c.args.commit.now.at)) c.deref.ensures.value)) (rw (← c.self.view_is) at (sym c.if-is_full.ensures)) (ap (λ o. refusal_in c.in-Some.kept.now.made.value.problem o c.args.commit.now c.in-Some.kept.now.made.value.cells) (sym office) ∙ none))) (rw c.deref-2.ensures at c.judge.ensures.accepted)
+    on_ok_weaker c.judge.result (λ none. rw (← c.self.view_is) (accepted_by _ c.self.inside.ledger.events c.self.inside.kept.items c.args.commit.now c.in-Some.kept.now c.self.invariant.book (sym (c.in-Some.ensures ∙ ap (λ ks. kept_as ks (c.args.commit.now.version, c.args.commit.now.at)) c.deref.ensures.value)) (rw (← c.self.view_is) at (sym c.if-is_full.ensures)) (ap (λ o. refusal_in c.in-Some.kept.now.made.value.problem o c.args.commit.now c.in-Some.kept.now.made.value.timed.cells) (sym office) ∙ none))) (rw c.deref-2.ensures at c.judge.ensures.accepted)
 
 pub returns-clause-refused : goal.returns-clause-refused
 returns-clause-refused c =
     let office : c.state.result.now.office ≡ replay (setting_of c.self.inside.ledger c.self.inside.networks.value c.self.inside.limits) c.self.inside.ledger.events = ap (λ (s : StateValue). s.office) (rw (← c.self.view_is) at c.state.ensures.state) in
-    IfErr-weaker c.judge.result _ _ (λ refusal says. rw (← c.self.view_is) (refused_by _ c.self.inside.ledger.events c.self.inside.kept.items c.args.commit.now c.in-Some.kept.now c.self.invariant.book (sym (c.in-Some.ensures ∙ ap (λ ks. kept_as ks (c.args.commit.now.version, c.args.commit.now.at)) c.deref.ensures.value)) (rw (← c.self.view_is) at (sym c.if-is_full.ensures)) refusal (λ other. ap (λ o. refusal_in c.in-Some.kept.now.made.value.problem o c.args.commit.now c.in-Some.kept.now.made.value.cells) (sym office) ∙ says other))) (rw c.deref-2.ensures at c.judge.ensures.refused)
+    IfErr-weaker c.judge.result _ _ (λ refusal says. rw (← c.self.view_is) (refused_by _ c.self.inside.ledger.events c.self.inside.kept.items c.args.commit.now c.in-Some.kept.now c.self.invariant.book (sym (c.in-Some.ensures ∙ ap (λ ks. kept_as ks (c.args.commit.now.version, c.args.commit.now.at)) c.deref.ensures.value)) (rw (← c.self.view_is) at (sym c.if-is_full.ensures)) refusal (λ other. ap (λ o. refusal_in c.in-Some.kept.now.made.value.problem o c.args.commit.now c.in-Some.kept.now.made.value.timed.cells) (sym office) ∙ says other))) (rw c.deref-2.ensures at c.judge.ensures.refused)

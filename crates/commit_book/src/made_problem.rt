@@ -1,0 +1,80 @@
+//! Problems with their tables, as they are kept.
+ghost use Rattle.std.specs.Prelude.{◌≡◌, ◌≤◌, ◌↔◌, IfOk, IsTrue};
+ghost use Rattle.cost_table.specs.Allowed.{IsLastingTable};
+ghost use Rattle.commit_book.specs.inner.Indexed.{Ascend};
+ghost use Rattle.commit_book.specs.inner.Kept.{IsMadeOf, IsMendable, covers};
+
+use crate::indexed_problem::IndexedProblem;
+use crate::same_orders::are_same_orders;
+use cost_table::{Problem, TimedCells, mended_cells, timed_cells};
+use distance_tables::Tables;
+use rail_codes::Moment;
+use std::alloc::{AllocError, Global};
+
+/// What kept problems of one version share: the problem at the first of their moments, and its table over the network of
+/// that version, with the moments up to which it is the table of the same wagons and orders.
+#[derive(Debug, Drop)]
+pub(crate) struct MadeProblem {
+    pub problem: IndexedProblem,
+    /// The network's number, counted from 1.
+    pub network: u32,
+    pub timed: TimedCells,
+}
+
+impl MadeProblem {
+    /// A copy of a problem, with its table over the network of this number.
+    pub fn of(
+        alloc: Global,
+        problem: &Problem,
+        network: u32,
+        tables: &Tables,
+    ) -> Result<MadeProblem, AllocError>
+        requires { Ascend problem.now.wagons }
+        ensures { IfOk result (IsMadeOf tables.now network problem.now) }
+    {
+        let timed = timed_cells(alloc, problem, tables)?;
+        let problem = IndexedProblem::of(alloc, problem.copy(alloc)?)?;
+        Ok(MadeProblem {
+            problem,
+            network,
+            timed,
+        })
+    }
+
+    /// The same, over the network of this one; the table is mended.
+    pub fn mended(
+        &self,
+        alloc: Global,
+        problem: &Problem,
+        tables: &Tables,
+    ) -> Result<MadeProblem, AllocError>
+        requires ascend { Ascend problem.now.wagons }
+        requires mendable { IsMendable self.now problem.now }
+        requires lasting { IsLastingTable tables.now self.now.problem self.now.timed.cells self.now.timed.lasts.items }
+        ensures { IfOk result (IsMadeOf tables.now self.now.network problem.now) }
+    {
+        let timed = mended_cells(alloc, problem, tables, self.problem.problem(), &self.timed)?;
+        let problem = self.problem.with_these_orders(problem.copy(alloc)?)?;
+        Ok(MadeProblem {
+            problem,
+            network: self.network,
+            timed,
+        })
+    }
+
+    /// Whether the table of a problem over the same network can be made by mending this one: at the same moment or a later
+    /// one the same orders wait.
+    pub fn is_mendable(&self, problem: &Problem) -> bool
+        ensures { IsTrue result ↔ IsMendable self.now problem.now }
+    {
+        self.problem.at() <= problem.at()
+            && are_same_orders(self.problem.problem().orders(), problem.orders())
+    }
+
+    /// Whether the table is that of the same wagons and orders at this moment, too.
+    pub fn covers(&self, at: Moment) -> bool
+        ensures { result ≡ covers self.now at }
+    {
+        self.problem.at() <= at && at.seconds() <= self.timed.until
+    }
+}
