@@ -11,3 +11,4 @@ mod plans;
 mod promises;
 mod states;
 mod steps;
+mod tables;

@@ -26,6 +26,24 @@ pub(crate) fn has_problem(
     Ok(is_of && (problem.wagons().len(), problem.orders().len()) == (wagons, orders))
 }
 
+/// Whether the wagons of the problem that is begun at this moment reach its first order at these kilometres.
+pub(crate) fn has_costs(
+    alloc: Global,
+    book: &mut Book,
+    at: &str,
+    costs: &[Option<u64>],
+) -> Result<bool, Fail> {
+    let at = moment(at)?;
+    let version = book.begin(alloc, at)?.version();
+    let cells = book.kept_cells(version, at).ok_or("it isn't kept")?;
+    for (i, cost) in costs.iter().enumerate() {
+        if cells.cell(i, 0) != *cost {
+            return Ok(false);
+        }
+    }
+    Ok(cells.wagons() == costs.len())
+}
+
 /// Whether the entry of a number is the event of a line's commit, and of that commit's copy.
 pub(crate) fn has_entry(alloc: Global, book: &Book, n: u64, line: Line<'_>) -> Result<bool, Fail> {
     let Call::Commit(commit) = call(alloc, line)? else {

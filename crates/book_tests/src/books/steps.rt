@@ -2,7 +2,7 @@
 
 use super::books::told;
 use super::plans::is_planned;
-use super::states::{has_entry, has_problem};
+use super::states::{has_costs, has_entry, has_problem};
 use book_samples::{Line, Start, State, book_of, holds};
 use commit_book::Book;
 use std::alloc::Global;
@@ -35,6 +35,8 @@ pub(crate) enum Step<'a> {
     PlacedAll(u64, u32),
     /// The version of the problem that is begun at one o'clock, its network, its wagons and its orders.
     Problem(u64, u32, usize, usize),
+    /// The kilometres at which each wagon of the problem that is begun at this moment reaches its first order in time.
+    Costs(&'a str, &'a [Option<u64>]),
     /// The problem at one o'clock is planned, at this cost, and the plan's commit is this line's and becomes this entry.
     Planned(u128, Line<'a>, u64),
     /// There are so many entries.
@@ -95,6 +97,7 @@ fn is_so(alloc: Global, book: &mut Book, step: Step<'_>) -> Result<bool, Fail> {
             has_problem(alloc, book, version, network, wagons, orders)
         }
         Step::PlacedAll(orders, wagons) => are_placed(alloc, book, orders, wagons),
+        Step::Costs(at, costs) => has_costs(alloc, book, at, costs),
         Step::Planned(cost, line, entry) => is_planned(alloc, book, cost, line, entry),
         Step::Entries(count) => Ok(book.len() == count),
         Step::Entry(n, there) => Ok(book.entry(n).is_some() == there),
