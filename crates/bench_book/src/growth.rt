@@ -32,21 +32,12 @@ pub(crate) struct Growth {
 impl Growth {
     /// A book of so many free wagons.
     pub(crate) fn new(alloc: Global, wagons: u32) -> Result<Growth> {
-        let limits = Limits::new(MAX_ENTRIES, 8).context("limits")?;
-        let text = roster_of(alloc, wagons, "empty")?;
-        let roster = Roster::read_rows(alloc, text.as_bytes())?;
-        let numbers = roster
-            .rows()
-            .iter()
-            .map(|row| row.number)
-            .collect::<Vec<WagonNumber>>(alloc)?;
-        let mut networks = Vec::new(alloc);
-        networks.push(distances(alloc)?)?;
-        networks.push(distances(alloc)?)?;
-        let networks = Arc::new(alloc, Networks::new(networks)?)?;
+        let distances = distances(alloc)?;
+        let roster = roster(alloc, wagons)?;
+        let numbers = numbers_of(alloc, &roster)?;
         Ok(Growth {
-            book: Book::new(alloc, roster, networks, limits)?,
-            distances: distances(alloc)?,
+            book: book_of(alloc, roster)?,
+            distances,
             numbers,
             messages: 0,
             orders: 0,
@@ -129,6 +120,37 @@ impl Growth {
         let snap = self.book.begin(alloc, at)?;
         Ok((snap.problem().wagons().len(), snap.problem().orders().len()))
     }
+}
+
+/// A roster of so many empty wagons.
+fn roster(alloc: Global, wagons: u32) -> Result<Roster> {
+    let text = roster_of(alloc, wagons, "empty")?;
+    Ok(Roster::read_rows(alloc, text.as_bytes())?)
+}
+
+/// The numbers of a roster's wagons.
+fn numbers_of(alloc: Global, roster: &Roster) -> Result<Vec<WagonNumber>> {
+    let numbers = roster
+        .rows()
+        .iter()
+        .map(|row| row.number)
+        .collect::<Vec<WagonNumber>>(alloc)?;
+    Ok(numbers)
+}
+
+/// A book of these wagons over the sample's network, twice.
+fn book_of(alloc: Global, roster: Roster) -> Result<Book> {
+    let networks = two_networks(alloc)?;
+    let limits = Limits::new(MAX_ENTRIES, 8).context("limits")?;
+    Ok(Book::new(alloc, roster, networks, limits)?)
+}
+
+/// The sample's network, twice.
+fn two_networks(alloc: Global) -> Result<Arc<Networks>> {
+    let mut networks = Vec::new(alloc);
+    networks.push(distances(alloc)?)?;
+    networks.push(distances(alloc)?)?;
+    Ok(Arc::new(alloc, Networks::new(networks)?)?)
 }
 
 /// The distances of the sample's network.

@@ -70,9 +70,19 @@ fn timed_revision(rt: &HostRuntime, alloc: Global, growth: &mut Growth) -> Resul
 /// A problem is begun, its table made and its plan promised.
 fn timed_plan(rt: &HostRuntime, alloc: Global, growth: &mut Growth) -> Result<(u128, u128, u128)> {
     let (begin, snap) = timed_begin(rt, alloc, growth)?;
-    let (table, made) = timed_table(rt, alloc, growth, &snap)?;
-    let commit = planned(alloc, &snap, &made)?;
+    let (table, commit) = timed_planning(rt, alloc, growth, &snap)?;
     Ok((begin, table, timed_commit(rt, alloc, growth, &commit)?))
+}
+
+/// The commit of a problem's plan, and the time of its table.
+fn timed_planning(
+    rt: &HostRuntime,
+    alloc: Global,
+    growth: &Growth,
+    snap: &Snap,
+) -> Result<(u128, CommitText)> {
+    let (table, made) = timed_table(rt, alloc, growth, snap)?;
+    Ok((table, planned(alloc, snap, &made)?))
 }
 
 /// A problem is begun.

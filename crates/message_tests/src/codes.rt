@@ -1,13 +1,43 @@
 //! Codes as they are read and printed.
 
-use rail_codes::{CodeFault, Moment, OrderId, WagonNumber};
+use rail_codes::{ClassCode, CodeFault, Company, Moment, OrderId, Place, WagonNumber};
 use std::alloc::Global;
 use std::test::Fail;
 use test_samples::{class, company, moment, order_id, place, wagon};
 
-/// Whether a wagon number is printed so.
-fn wagon_printed(alloc: Global, text: &str, printed: &str) -> Result<bool, Fail> {
-    Ok(wagon(text)?.text(alloc)?.as_str() == printed)
+/// What a text is read as.
+#[derive(Clone, Copy)]
+enum Code {
+    Wagon,
+    Class,
+    Company,
+    Order,
+    Place,
+    Moment,
+}
+
+/// The text of the code that a text is read as.
+fn text_of(alloc: Global, code: Code, text: &str) -> Result<String, Fail> {
+    Ok(match code {
+        Code::Wagon => wagon(text)?.text(alloc)?,
+        Code::Class => class(text)?.text(alloc)?,
+        Code::Company => company(text)?.text(alloc)?,
+        Code::Order => order_id(text)?.text(alloc)?,
+        Code::Place => place(text)?.text(alloc)?,
+        Code::Moment => moment(text)?.text(alloc)?,
+    })
+}
+
+/// Why a text is refused, where it is.
+fn fault_of(code: Code, text: &str) -> Option<CodeFault> {
+    match code {
+        Code::Wagon => WagonNumber::read(text).err(),
+        Code::Class => ClassCode::read(text).err(),
+        Code::Company => Company::read(text).err(),
+        Code::Order => OrderId::read(text).err(),
+        Code::Place => Place::read(text).err(),
+        Code::Moment => Moment::read(text).err(),
+    }
 }
 
 /// 33 84 4796 100-8 and 21 81 2471 217-3 are public examples of the numbering. By hand, with the weights
@@ -23,31 +53,26 @@ fn wagon_numbers(rt: HostRuntime) -> Result<(), Fail> {
         ("31 80 1234 568-8", "318012345688"),
         (" -3-3 84 4796 1008- ", "338447961008"),
     ] {
-        assert!(rt; wagon_printed(rt.alloc(), text, printed)?, "{text}");
+        let found = text_of(rt.alloc(), Code::Wagon, text)?;
+        assert_eq!(rt; found.as_str(), printed, "{text}");
     }
     Ok(())
 }
 
-/// Whether an order's name gives its text back.
-fn order_printed(alloc: Global, text: &str) -> Result<bool, Fail> {
-    Ok(order_id(text)?.text(alloc)?.as_str() == text)
-}
-
-#[test]
-fn order_names(rt: HostRuntime) -> Result<(), Fail> {
-    for text in ["O1", "A", "ORDER-0123456789"] {
-        assert!(rt; order_printed(rt.alloc(), text)?, "{text}");
-    }
-    Ok(())
-}
-
-/// Codes give their texts back.
+/// Other codes give their texts back.
 #[test]
 fn texts_of_codes(rt: HostRuntime) -> Result<(), Fail> {
-    let alloc = rt.alloc();
-    assert_eq!(rt; place("DE00001")?.text(alloc)?.as_str(), "DE00001");
-    assert_eq!(rt; class("Eanos")?.text(alloc)?.as_str(), "Eanos");
-    assert_eq!(rt; company("0080")?.text(alloc)?.as_str(), "0080");
+    for (code, text) in [
+        (Code::Order, "O1"),
+        (Code::Order, "A"),
+        (Code::Order, "ORDER-0123456789"),
+        (Code::Place, "DE00001"),
+        (Code::Class, "Eanos"),
+        (Code::Company, "0080"),
+    ] {
+        let found = text_of(rt.alloc(), code, text)?;
+        assert_eq!(rt; found.as_str(), text);
+    }
     Ok(())
 }
 
@@ -67,22 +92,49 @@ fn numbers_of_faults(rt: HostRuntime) {
     }
 }
 
-/// Fails where one of these texts isn't refused with this fault.
-macro_rules! assert_refused {
-    ($rt:ident, $code:ident, $fault:ident: $($text:literal),+) => {
-        $(assert_eq!($rt; $code::read($text), Err(CodeFault::$fault), "{}", $text);)+
-    };
-}
+/// Texts that are refused, and why.
+const REFUSED: &[(Code, &str, CodeFault)] = &[
+    (Code::Wagon, "338447961009", CodeFault::CheckDigit),
+    (Code::Wagon, "33844796100", CodeFault::NotTwelveDigits),
+    (Code::Wagon, "3384479610080", CodeFault::NotTwelveDigits),
+    (Code::Wagon, "33844796100a", CodeFault::NotTwelveDigits),
+    (Code::Wagon, "33844796100é", CodeFault::NotTwelveDigits),
+    (Code::Wagon, "", CodeFault::NotTwelveDigits),
+    (Code::Class, "", CodeFault::BadClass),
+    (Code::Class, "E4", CodeFault::BadClass),
+    (Code::Class, "Eanosseanosse", CodeFault::BadClass),
+    (Code::Company, "008", CodeFault::BadCompany),
+    (Code::Company, "008a", CodeFault::BadCompany),
+    (Code::Order, "", CodeFault::BadOrderId),
+    (Code::Order, "o1", CodeFault::BadOrderId),
+    (Code::Order, "O 1", CodeFault::BadOrderId),
+    (Code::Order, "ORDER-01234567890", CodeFault::BadOrderId),
+    (Code::Order, "Ö1", CodeFault::BadOrderId),
+    (Code::Place, "DE0000", CodeFault::BadPlace),
+    (Code::Place, "de00001", CodeFault::BadPlace),
+    (Code::Moment, "2026-03-01T01:00:00", CodeFault::BadMoment),
+    (
+        Code::Moment,
+        "1999-12-31T23:59:59Z",
+        CodeFault::MomentOutOfRange,
+    ),
+    (
+        Code::Moment,
+        "2000-01-01T00:00:00+01:00",
+        CodeFault::MomentOutOfRange,
+    ),
+    (
+        Code::Moment,
+        "2100-01-01T00:00:00Z",
+        CodeFault::MomentOutOfRange,
+    ),
+];
 
 #[test]
 fn refused_texts(rt: HostRuntime) {
-    assert_refused!(rt, WagonNumber, CheckDigit: "338447961009");
-    assert_refused!(rt, WagonNumber, NotTwelveDigits: "33844796100", "3384479610080",
-        "33844796100a", "33844796100é", "");
-    assert_refused!(rt, OrderId, BadOrderId: "", "o1", "O 1", "ORDER-01234567890", "Ö1");
-    assert_refused!(rt, Moment, BadMoment: "2026-03-01T01:00:00");
-    assert_refused!(rt, Moment, MomentOutOfRange: "1999-12-31T23:59:59Z",
-        "2000-01-01T00:00:00+01:00", "2100-01-01T00:00:00Z");
+    for (code, text, fault) in REFUSED {
+        assert_eq!(rt; fault_of(*code, text), Some(*fault), "{text}");
+    }
     let early = Moment::from_seconds(946_684_799);
     assert_eq!(rt; early, Err(CodeFault::MomentOutOfRange));
 }

@@ -80,26 +80,50 @@ fn messages_in_other_forms(rt: HostRuntime) -> Result<(), Fail> {
     Ok(())
 }
 
+/// A command of few fields.
+#[derive(Clone, Copy)]
+enum Short {
+    Withdrawal,
+    Begin,
+    Plan,
+    Sheet,
+    Revision(u32),
+}
+
+/// Such a command: of order O9, or at one o'clock.
+fn short_command(short: Short) -> Result<Command, Fail> {
+    Ok(match short {
+        Short::Withdrawal => Command::Withdraw(order_id("O9")?),
+        Short::Begin => Command::Begin(hour(1)?),
+        Short::Plan => Command::Plan(hour(1)?),
+        Short::Sheet => Command::Sheet,
+        Short::Revision(network) => Command::Revise(network),
+    })
+}
+
+/// Whether a line is read as such a command.
+fn is_short_command(alloc: Global, line: &str, short: Short) -> Result<bool, Fail> {
+    let wanted = short_command(short)?;
+    is_read(alloc, line, &wanted)
+}
+
 #[test]
 fn short_commands(rt: HostRuntime) -> Result<(), Fail> {
-    for (line, wanted) in [
-        (
-            r#"{"type":"withdraw","order":"O9"}"#,
-            Command::Withdraw(order_id("O9")?),
-        ),
+    for (line, short) in [
+        (r#"{"type":"withdraw","order":"O9"}"#, Short::Withdrawal),
         (
             r#"{"type":"begin","at":"2026-03-01T01:00:00Z"}"#,
-            Command::Begin(hour(1)?),
+            Short::Begin,
         ),
         (
             r#"{"at":"2026-03-01T02:00:00.9+01:00","type":"plan"}"#,
-            Command::Plan(hour(1)?),
+            Short::Plan,
         ),
-        (r#"{"type":"sheet"}"#, Command::Sheet),
-        (r#"{"type":"network","revision":1}"#, Command::Revise(1)),
-        (r#"{"type":"network","revision":8}"#, Command::Revise(8)),
+        (r#"{"type":"sheet"}"#, Short::Sheet),
+        (r#"{"type":"network","revision":1}"#, Short::Revision(1)),
+        (r#"{"type":"network","revision":8}"#, Short::Revision(8)),
     ] {
-        assert!(rt; is_read(rt.alloc(), line, &wanted)?, "{line}");
+        assert!(rt; is_short_command(rt.alloc(), line, short)?, "{line}");
     }
     Ok(())
 }
@@ -173,17 +197,30 @@ fn is_sample(alloc: Global, commit: &CommitText) -> Result<bool, Fail> {
     Ok(*commit == wanted && commit.pairs.as_slice() == [pair].as_slice())
 }
 
+/// Whether so does its copy.
+fn copy_is_sample(alloc: Global, commit: &CommitText) -> Result<bool, Fail> {
+    let copy = commit.copy(alloc)?;
+    is_sample(alloc, &copy)
+}
+
+/// Whether it has that many pairs, and these prices.
+fn has_prices(commit: CommitText) -> bool {
+    let CommitText { pairs, u, v, .. } = commit;
+    pairs.into_vec().len() == 1
+        && u.into_vec().as_slice() == [0, 7].as_slice()
+        && v.as_slice() == [50].as_slice()
+}
+
+const SAMPLE_COMMIT: &str =
+    r#"{"type":"commit","version":1,"at":"2026-03-01T01:00:00Z","pairs":[["218124712173","O1"]],"u":[0,7],"v":[50]}"#;
+
 #[test]
 fn commits(rt: HostRuntime) -> Result<(), Fail> {
     let alloc = rt.alloc();
-    let line =
-        r#"{"type":"commit","version":1,"at":"2026-03-01T01:00:00Z","pairs":[["218124712173","O1"]],"u":[0,7],"v":[50]}"#;
-    let commit = commit(alloc, line)?.ok_or("a commit")?;
+    let commit = commit(alloc, SAMPLE_COMMIT)?.ok_or("a commit")?;
     assert!(rt; is_sample(alloc, &commit)?);
-    assert!(rt; is_sample(alloc, &commit.copy(alloc)?)?);
-    assert_eq!(rt; commit.u.into_vec().as_slice(), [0, 7].as_slice());
-    assert_eq!(rt; commit.v.as_slice(), [50].as_slice());
-    assert_eq!(rt; commit.pairs.into_vec().len(), 1);
+    assert!(rt; copy_is_sample(alloc, &commit)?);
+    assert!(rt; has_prices(commit));
     Ok(())
 }
 

@@ -269,26 +269,24 @@ fn free_at(alloc: Global) -> Result<FreeWagon, Fail> {
     })
 }
 
+/// The wagon at DE00002: empty, promised, held, and loading.
+fn rows(alloc: Global) -> Result<[WagonRow; 4], Fail> {
+    let empty = row(alloc, status(alloc, Word::Empty("06:00"), "DE00002")?)?;
+    let loading = row(alloc, status(alloc, Word::Loading, "DE00002")?)?;
+    let held = WagonRow {
+        held: true,
+        ..empty
+    };
+    Ok([empty, promised(empty)?, held, loading])
+}
+
+/// Of these rows the empty one alone is a free wagon.
 #[test]
 fn free_wagons(rt: HostRuntime) -> Result<(), Fail> {
-    let alloc = rt.alloc();
-    let start = status(alloc, Word::Empty("06:00"), "DE00002")?;
-    let empty = row(alloc, start)?;
-    assert_eq!(rt; free(&empty), Some(free_at(alloc)?));
-    assert_eq!(rt; free(&promised(empty)?), None);
-    assert_eq!(rt;
-        free(&WagonRow {
-            held: true,
-            ..empty
-        }),
-        None
-    );
-    assert_eq!(rt;
-        free(&WagonRow {
-            status: Status::Loading(place("DE00002")?),
-            ..empty
-        }),
-        None
-    );
+    let wagon = Some(free_at(rt.alloc())?);
+    let wanted = [wagon, None, None, None];
+    for (row, wanted) in rows(rt.alloc())?.iter().zip(wanted) {
+        assert_eq!(rt; free(row), wanted);
+    }
     Ok(())
 }

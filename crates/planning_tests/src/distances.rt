@@ -33,18 +33,24 @@ fn like_one_thread<R: Threads + Wait, G: Gate + Sync>(
     gate: &G,
 ) -> Result<bool, Fail> {
     let network = read_lines(alloc, NETWORK.as_bytes())?;
-    let one = tables(alloc, &network)?;
     let many = tables_by_workers(rt, alloc, &network, workers, gate)?;
-    Ok(same_answers(&network, &one, &many))
+    is_like_one_thread(alloc, &network, &many)
+}
+
+/// Whether tables answer as those that one thread makes.
+fn is_like_one_thread(alloc: Global, network: &Network, many: &Tables) -> Result<bool, Fail> {
+    let one = tables(alloc, network)?;
+    Ok(same_answers(network, &one, many))
 }
 
 #[test]
 fn workers_like_one_thread(rt: HostRuntime) -> Result<(), Fail> {
-    let alloc = rt.alloc();
-    assert!(rt; like_one_thread(&rt, alloc, 1, &OpenGate)?);
-    assert!(rt; like_one_thread(&rt, alloc, 2, &OpenGate)?);
-    assert!(rt; like_one_thread(&rt, alloc, 3, &OpenGate)?);
-    assert!(rt; like_one_thread(&rt, alloc, 64, &OpenGate)?);
+    for workers in [1, 2, 3, 64] {
+        assert!(rt;
+            like_one_thread(&rt, rt.alloc(), workers, &OpenGate)?,
+            "{workers}"
+        );
+    }
     Ok(())
 }
 
@@ -60,9 +66,13 @@ fn refusal<R: Threads + Wait>(
 
 #[test]
 fn one_to_sixty_four_workers(rt: HostRuntime) -> Result<(), Fail> {
-    let alloc = rt.alloc();
-    assert_eq!(rt; refusal(&rt, alloc, 0)?, Some(WorkFault::BadWorkerCount));
-    assert_eq!(rt; refusal(&rt, alloc, 65)?, Some(WorkFault::BadWorkerCount));
+    for workers in [0, 65] {
+        assert_eq!(rt;
+            refusal(&rt, rt.alloc(), workers)?,
+            Some(WorkFault::BadWorkerCount),
+            "{workers}"
+        );
+    }
     assert_eq!(rt; WorkFault::BadWorkerCount.number(), 45);
     Ok(())
 }
@@ -148,15 +158,28 @@ fn records(alloc: Global, count: u32, step: u32, places: u32, length: u32) -> Re
     Ok(text)
 }
 
+/// A ring of 2,000 places, from each to the next in 10,000 km and as many minutes.
+fn ring(alloc: Global) -> Result<Network, Fail> {
+    let text = records(alloc, 2000, 1, 2000, 10000)?;
+    Ok(read_lines(alloc, text.as_bytes())?)
+}
+
+/// The distance between two places of the ring.
+fn ring_distance(alloc: Global, from: &str, to: &str) -> Result<Option<(u32, u32)>, Fail> {
+    let (from, to) = (place(from)?, place(to)?);
+    let network = ring(alloc)?;
+    Ok(tables(alloc, &network)?.between(from, to))
+}
+
 #[test]
 fn a_ring(rt: HostRuntime) -> Result<(), Fail> {
-    let alloc = rt.alloc();
-    let ring = records(alloc, 2000, 1, 2000, 10000)?;
-    let network = read_lines(alloc, ring.as_bytes())?;
-    let distances = tables(alloc, &network)?;
-    let (first, last) = (place("DE00000")?, place("DE01999")?);
-    assert_eq!(rt; distances.between(first, last), Some((19990000, 19990000)));
-    assert_eq!(rt; distances.between(last, first), Some((10000, 10000)));
+    for (from, to, length) in [
+        ("DE00000", "DE01999", 19_990_000),
+        ("DE01999", "DE00000", 10_000),
+    ] {
+        let found = ring_distance(rt.alloc(), from, to)?;
+        assert_eq!(rt; found, Some((length, length)), "{from}");
+    }
     Ok(())
 }
 

@@ -44,6 +44,18 @@ fn planned(alloc: Global, cells: &Cells) -> Result<(Plan, u128), Fail> {
     Ok((plan, certified.cost()))
 }
 
+/// Whether the plan of these parts has these pairs and costs so much.
+fn is_planned(
+    alloc: Global,
+    parts: Parts,
+    pairs: &[(usize, usize)],
+    cost: u128,
+) -> Result<bool, Fail> {
+    let cells = table_of(alloc, parts)?;
+    let (plan, certified) = planned(alloc, &cells)?;
+    Ok(plan.pairs() == pairs && certified == cost)
+}
+
 #[test]
 fn least_plans(rt: HostRuntime) -> Result<(), Fail> {
     let alloc = rt.alloc();
@@ -59,27 +71,34 @@ fn least_plans(rt: HostRuntime) -> Result<(), Fail> {
         (far, [(0, 0)].as_slice(), 50),
         (dear, [(0, 0)].as_slice(), 1_000_000_000),
     ] {
-        let (plan, certified) = planned(alloc, &table_of(alloc, parts)?)?;
-        assert_eq!(rt; plan.pairs(), pairs, "{}", parts.0);
-        assert_eq!(rt; certified, cost, "{}", parts.0);
+        assert!(rt; is_planned(alloc, parts, pairs, cost)?, "{}", parts.0);
     }
     Ok(())
 }
 
+/// Whether the plan of a table by a planner has no pair, and these are the prices of its orders; there is no wagon.
+fn is_unserved(alloc: Global, parts: Parts, v: &[u64]) -> Result<bool, Fail> {
+    let cells = table_of(alloc, parts)?;
+    let (plan, prices) = Planner::new(alloc, &cells)?.plan();
+    Ok(plan.pairs().is_empty() && prices.u.is_empty() && prices.v.as_slice() == v)
+}
+
 #[test]
 fn an_order_that_no_wagon_serves(rt: HostRuntime) -> Result<(), Fail> {
-    let cells = table_of(rt.alloc(), UNSERVED)?;
-    let (plan, prices) = Planner::new(rt.alloc(), &cells)?.plan();
-    assert_eq!(rt; plan.pairs(), [].as_slice());
-    assert_eq!(rt; prices.u.as_slice(), [].as_slice());
-    assert_eq!(rt; prices.v.as_slice(), [900].as_slice());
+    assert!(rt; is_unserved(rt.alloc(), UNSERVED, &[900])?);
     Ok(())
+}
+
+/// What the plan of these parts costs.
+fn cost_of(alloc: Global, parts: Parts) -> Result<u128, Fail> {
+    let cells = table_of(alloc, parts)?;
+    let (_plan, cost) = planned(alloc, &cells)?;
+    Ok(cost)
 }
 
 #[test]
 fn a_penalty_as_high_as_the_cost(rt: HostRuntime) -> Result<(), Fail> {
-    let (_plan, cost) = planned(rt.alloc(), &table_of(rt.alloc(), EVEN)?)?;
-    assert_eq!(rt; cost, 30);
+    assert_eq!(rt; cost_of(rt.alloc(), EVEN)?, 30);
     Ok(())
 }
 
@@ -188,22 +207,29 @@ fn five_hundred(alloc: Global, item: &str) -> Result<String, Fail> {
     Ok(text)
 }
 
-#[test]
-fn one_cell_a_wagon(rt: HostRuntime) -> Result<(), Fail> {
-    let alloc = rt.alloc();
+/// The table of these rows; each order lacks one wagon.
+fn sparse_table(alloc: Global) -> Result<Cells, Fail> {
     let rows = sparse_rows(alloc)?;
     let penalties = five_hundred(alloc, "1000000000")?;
     let lacks = five_hundred(alloc, "1")?;
-    let cells = table(alloc, &rows, &penalties, &lacks)?;
-    assert_eq!(rt; (cells.wagons(), cells.orders()), (1000, 500));
-    let (plan, cost) = planned(alloc, &cells)?;
-    assert_eq!(rt; cost, 125_250);
-    assert_eq!(rt; plan.pairs().len(), 500);
-    assert!(rt;
-        plan.pairs()
+    table(alloc, &rows, &penalties, &lacks)
+}
+
+/// Whether a plan gives each of 500 orders the wagon of its number.
+fn is_diagonal(plan: &Plan) -> bool {
+    plan.pairs().len() == 500
+        && plan
+            .pairs()
             .iter()
             .enumerate()
             .all(|(j, pair)| *pair == (j, j))
-    );
+}
+
+#[test]
+fn one_cell_a_wagon(rt: HostRuntime) -> Result<(), Fail> {
+    let cells = sparse_table(rt.alloc())?;
+    assert_eq!(rt; (cells.wagons(), cells.orders()), (1000, 500));
+    let (plan, cost) = planned(rt.alloc(), &cells)?;
+    assert_eq!(rt; (cost, is_diagonal(&plan)), (125_250, true));
     Ok(())
 }

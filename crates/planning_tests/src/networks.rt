@@ -34,12 +34,17 @@ fn has_lines(network: &Network) -> bool {
             == *wanted)
 }
 
+/// Whether a network's copy is the sample.
+fn copy_is_sample(alloc: Global, network: &Network) -> Result<bool, Fail> {
+    let copy = network.copy(alloc)?;
+    is_sample(&copy)
+}
+
 #[test]
 fn a_copy_is_the_network(rt: HostRuntime) -> Result<(), Fail> {
     let network = read_lines(rt.alloc(), NETWORK.as_bytes())?;
     assert!(rt; is_sample(&network)?);
-    let copy = network.copy(rt.alloc())?;
-    assert!(rt; is_sample(&copy)?);
+    assert!(rt; copy_is_sample(rt.alloc(), &network)?);
     Ok(())
 }
 
@@ -51,8 +56,14 @@ fn sample_with(alloc: Global, record: &str) -> Result<Network, NetworkFault> {
 
 /// The distance between two places in the sample with one more record.
 fn distance(alloc: Global, record: &str, from: &str, to: &str) -> Result<Option<(u32, u32)>, Fail> {
-    let distances = tables(alloc, &sample_with(alloc, record)?)?;
-    Ok(distances.between(place(from)?, place(to)?))
+    let (from, to) = (place(from)?, place(to)?);
+    Ok(tables_with(alloc, record)?.between(from, to))
+}
+
+/// The tables of the sample with one more record.
+fn tables_with(alloc: Global, record: &str) -> Result<Tables, Fail> {
+    let network = sample_with(alloc, record)?;
+    Ok(tables(alloc, &network)?)
 }
 
 /// A line from a place to itself is accepted, and doesn't change the distance of 0.

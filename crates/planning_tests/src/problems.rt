@@ -1,7 +1,7 @@
 //! Problems, and their tables over the sample network, on 1 March 2026.
 
 use cost_table::{Cells, Problem, TableFault, cells};
-use distance_tables::tables;
+use distance_tables::{Tables, tables};
 use line_network::read_lines;
 use load_orders::Wanted;
 use std::alloc::Global;
@@ -30,8 +30,14 @@ fn problem(alloc: Global) -> Result<Problem, Fail> {
 
 /// The table of a problem over the sample network.
 fn table(alloc: Global, problem: &Problem) -> Result<Cells, Fail> {
+    let tables = sample_tables(alloc)?;
+    Ok(cells(alloc, problem, &tables)?)
+}
+
+/// The tables of the sample network.
+fn sample_tables(alloc: Global) -> Result<Tables, Fail> {
     let network = read_lines(alloc, NETWORK.as_bytes())?;
-    Ok(cells(alloc, problem, &tables(alloc, &network)?)?)
+    Ok(tables(alloc, &network)?)
 }
 
 #[test]

@@ -77,6 +77,13 @@ fn small_table(alloc: Global, wagons: usize, orders: usize, number: usize) -> Re
     table(alloc, &rows, &penalties, &lacks)
 }
 
+/// Whether the plan of the table that a number stands for costs as much as the best of all plans.
+fn is_least(alloc: Global, wagons: usize, orders: usize, number: usize) -> Result<bool, Fail> {
+    let cells = small_table(alloc, wagons, orders, number)?;
+    let (_plan, _prices, certified) = certified_plan(alloc, &cells)?;
+    Ok(certified.cost() == u128::from(least_cost(&cells)))
+}
+
 #[test]
 fn no_plan_costs_less(rt: HostRuntime) -> Result<(), Fail> {
     let alloc = rt.alloc();
@@ -92,10 +99,8 @@ fn no_plan_costs_less(rt: HostRuntime) -> Result<(), Fail> {
         (2, 2, 9216),
     ] {
         for number in 0..tables {
-            let cells = small_table(alloc, wagons, orders, number)?;
-            let (_plan, _prices, certified) = certified_plan(alloc, &cells)?;
-            let least = u128::from(least_cost(&cells));
-            assert_eq!(rt; certified.cost(), least, "{wagons} {orders} {number}");
+            let is_least = is_least(alloc, wagons, orders, number)?;
+            assert!(rt; is_least, "{wagons} {orders} {number}");
         }
     }
     Ok(())

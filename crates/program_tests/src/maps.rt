@@ -3,6 +3,7 @@
 use book_samples::{
     BEGIN, COMMIT, DEPARTURE, FARTHER, Line, ORDER, SAMPLE, Start, book_of, script,
 };
+use commit_book::Book;
 use fleet_map::map_text;
 use line_network::read_lines;
 use office::run;
@@ -48,17 +49,41 @@ const LINES: &str = r#"  node [style="rounded,filled,dashed"];
   edge [color=blue4, style=dashed, penwidth=2, weight=0.3];
 "#;
 
+/// Whether a run over a script goes to its end.
+fn runs(alloc: Global, script: &str, book: &mut Book) -> bool {
+    let mut reader = MemorySource::new(script.as_bytes(), usize::MAX);
+    let mut writer = MemorySink::new(alloc, usize::MAX);
+    run(alloc, &mut reader, &mut writer, book).is_ok()
+}
+
+/// The book of an office that starts so, after these lines.
+fn book_after(alloc: Global, start: Start<'_>, lines: &[Line<'_>]) -> Result<Book, Fail> {
+    let script = script(alloc, lines)?;
+    let mut book = book_of(alloc, start)?;
+    if runs(alloc, script.as_str(), &mut book) {
+        Ok(book)
+    } else {
+        Err(Fail::new("a stop"))
+    }
+}
+
+/// The map of a book's office over the sample's network.
+fn map_of(alloc: Global, book: &Book) -> Result<String, Fail> {
+    let network = read_lines(alloc, NETWORK.as_bytes())?;
+    Ok(map_text(alloc, book.state(), &network)?)
+}
+
+/// What stands behind the head of a map.
+fn body_of(alloc: Global, map: &str) -> Result<String, Fail> {
+    let (_, body) = map.split_once(HEAD_END).ok_or("head")?;
+    Ok(String::from_str(alloc, body)?)
+}
+
 /// The map of an office that starts so, after these lines, behind its head.
 fn map_after(alloc: Global, start: Start<'_>, lines: &[Line<'_>]) -> Result<String, Fail> {
-    let mut book = book_of(alloc, start)?;
-    let lines = script(alloc, lines)?;
-    let mut reader = MemorySource::new(lines.as_bytes(), usize::MAX);
-    let mut writer = MemorySink::new(alloc, usize::MAX);
-    run(alloc, &mut reader, &mut writer, &mut book)?;
-    let network = read_lines(alloc, NETWORK.as_bytes())?;
-    let text = map_text(alloc, book.state(), &network)?;
-    let (_, body) = text.as_str().split_once(HEAD_END).ok_or("head")?;
-    Ok(String::from_str(alloc, body)?)
+    let book = book_after(alloc, start, lines)?;
+    let map = map_of(alloc, &book)?;
+    body_of(alloc, map.as_str())
 }
 
 /// The places while the order waits, and when the other wagon is promised to it; and then the promise.

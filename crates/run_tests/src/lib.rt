@@ -8,3 +8,7 @@ mod checks;
 mod commands;
 #[cfg(test)]
 mod feeding;
+
+/// How a run ends: the lines and the refusals, or the stop's number and line.
+#[cfg(test)]
+type End = Result<(u64, u64), (u32, Option<u64>)>;

@@ -94,17 +94,46 @@ pub fn not_utf8(alloc: Global) -> Result<Error, AllocError> {
 
 /// The words that the program knows. Usage lines name it `wagons`, whatever its file is called.
 fn command_line<'a>(alloc: Global) -> Result<Command<'a>, AllocError> {
-    Command::new(alloc, "wagons")
-        .bin_name("wagons")?
-        .version(VERSION)
-        .about(help::ABOUT)
-        .after_help(help::EXAMPLES)
+    let program = without_words(alloc)?;
+    let program = with_table_words(alloc, program)?;
+    let program = with_office_word(alloc, program, help::RUN)?;
+    let program = with_feed(alloc, program)?;
+    let program = with_office_word(alloc, program, help::MAP)?;
+    program.subcommand(explain_command(alloc)?)
+}
+
+/// The program, and no word.
+fn without_words<'a>(alloc: Global) -> Result<Command<'a>, AllocError> {
+    let program = Command::new(alloc, "wagons").bin_name("wagons")?;
+    Ok(
+        program
+            .version(VERSION)
+            .about(help::ABOUT)
+            .after_help(help::EXAMPLES),
+    )
+}
+
+/// With the words for tables.
+fn with_table_words<'a>(alloc: Global, program: Command<'a>) -> Result<Command<'a>, AllocError> {
+    program
         .subcommand(word_command(alloc, help::CHECK))?
-        .subcommand(word_command(alloc, help::SOLVE))?
-        .subcommand(office_command(alloc, help::RUN)?)?
-        .subcommand(with_files(alloc, office_command(alloc, help::FEED)?)?)?
-        .subcommand(office_command(alloc, help::MAP)?)?
-        .subcommand(explain_command(alloc)?)
+        .subcommand(word_command(alloc, help::SOLVE))
+}
+
+/// With a word that opens an office.
+fn with_office_word<'a>(
+    alloc: Global,
+    program: Command<'a>,
+    help: WordHelp,
+) -> Result<Command<'a>, AllocError> {
+    let word = office_command(alloc, help)?;
+    program.subcommand(word)
+}
+
+/// With the word `feed`, which wants files.
+fn with_feed<'a>(alloc: Global, program: Command<'a>) -> Result<Command<'a>, AllocError> {
+    let word = office_command(alloc, help::FEED)?;
+    program.subcommand(with_files(alloc, word)?)
 }
 
 /// A word with its help.

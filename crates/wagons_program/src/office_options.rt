@@ -88,18 +88,15 @@ pub(crate) fn with_office_options<'a>(
     alloc: Global,
     word: Command<'a>,
 ) -> Result<Command<'a>, AllocError> {
+    let roster = file_option(alloc, "roster");
+    let word = word.arg(roster.help(help::ROSTER).long_help(help::ROSTER_LONG))?;
+    let word = word.arg(network_option(alloc))?;
     let entries = number_option(alloc, "entries", MAX_ENTRIES, "100000");
+    let word = word.arg(entries.help(help::ENTRIES).long_help(help::ENTRIES_LONG))?;
     let kept = number_option(alloc, "kept", MAX_KEPT_PROBLEMS as u64, "8");
+    let word = word.arg(kept.help(help::KEPT).long_help(help::KEPT_LONG))?;
     let workers = number_option(alloc, "workers", MAX_WORKERS as u64, "4");
-    word.arg(
-        file_option(alloc, "roster")
-            .help(help::ROSTER)
-            .long_help(help::ROSTER_LONG),
-    )?
-    .arg(network_option(alloc))?
-    .arg(entries.help(help::ENTRIES).long_help(help::ENTRIES_LONG))?
-    .arg(kept.help(help::KEPT).long_help(help::KEPT_LONG))?
-    .arg(workers.help(help::WORKERS).long_help(help::WORKERS_LONG))
+    word.arg(workers.help(help::WORKERS).long_help(help::WORKERS_LONG))
 }
 
 /// The option of a network's file, which may stand several times.

@@ -39,7 +39,7 @@ const STRANGER: &[(&str, &str)] = &[(NEAR, "O1"), (UNKNOWN, "O1")];
 
 const NO_ORDER: &[(&str, &str)] = &[(NEAR, "O9")];
 
-const CASES: &[Case] = &[
+const COMMITS: &[Case] = &[
     // Two callers plan the same problem.
     (
         "a wagon is promised twice",
@@ -120,6 +120,10 @@ const CASES: &[Case] = &[
             Accepted(COMMIT, 2),
         ],
     ),
+];
+
+/// Problems that are begun at several moments.
+const MOMENTS: &[Case] = &[
     // The same wagons are in time up to one o'clock, so the second problem's table is the first one's.
     (
         "a problem is begun at a later moment",
@@ -171,5 +175,10 @@ const CASES: &[Case] = &[
 
 #[test]
 fn commits(rt: HostRuntime) -> Result<(), Fail> {
-    go(rt.alloc(), CASES)
+    go(rt.alloc(), COMMITS)
+}
+
+#[test]
+fn moments(rt: HostRuntime) -> Result<(), Fail> {
+    go(rt.alloc(), MOMENTS)
 }

@@ -46,10 +46,10 @@ pub(crate) fn has_costs(
 
 /// Whether the entry of a number is the event of a line's commit, and of that commit's copy.
 pub(crate) fn has_entry(alloc: Global, book: &Book, n: u64, line: Line<'_>) -> Result<bool, Fail> {
+    let entry = book.entry(n).ok_or("no entry")?;
     let Call::Commit(commit) = call(alloc, line)? else {
         return Err(Fail::new("no commit"));
     };
     let copy = commit.copy(alloc)?;
-    let entry = book.entry(n).ok_or("no entry")?;
     Ok(*entry == Event::Commit(commit) && *entry == Event::Commit(copy))
 }

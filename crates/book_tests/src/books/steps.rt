@@ -5,7 +5,7 @@ use super::plans::is_planned;
 use super::states::{has_costs, has_entry, has_problem};
 use book_samples::{Line, Start, State, book_of, holds};
 use commit_book::Book;
-use std::alloc::Global;
+use std::alloc::{AllocError, Global};
 use std::test::Fail;
 use test_samples::NEAR;
 
@@ -49,42 +49,43 @@ pub(crate) enum Step<'a> {
     Office(&'a [State<'a>]),
 }
 
+/// What a book answers.
+#[derive(Clone, Copy)]
+enum Answer<'a> {
+    Accepted(u64),
+    Repeated(u64),
+    Begun(u64),
+    Refused(u32),
+    RefusedNaming(u32, &'a str),
+}
+
+/// An answer's text.
+fn text_of(alloc: Global, answer: Answer<'_>) -> Result<String, AllocError> {
+    match answer {
+        Answer::Accepted(entry) => format!(in alloc; "accepted {entry}"),
+        Answer::Repeated(entry) => format!(in alloc; "repeated {entry}"),
+        Answer::Begun(version) => format!(in alloc; "begun {version}"),
+        Answer::Refused(number) => format!(in alloc; "refused {number}"),
+        Answer::RefusedNaming(number, named) => format!(in alloc; "refused {number} {named}"),
+    }
+}
+
 /// Whether it goes so, or is so.
 fn goes(alloc: Global, book: &mut Book, step: Step<'_>) -> Result<bool, Fail> {
     match step {
         Step::Accepted(line, entry) => are_accepted(alloc, book, &[line], entry),
         Step::AllAccepted(lines, entry) => are_accepted(alloc, book, lines, entry),
-        Step::Delivered(place, entry) => {
-            let lines = [
-                Line::Tell("departure", 5, NEAR, "DE00002", "02:00:00"),
-                Line::Tell("arrival", 6, NEAR, place, "03:00:00"),
-                Line::Tell("delivery", 7, NEAR, place, "03:30:00"),
-            ];
-            are_accepted(alloc, book, &lines, entry)
-        }
+        Step::Delivered(place, entry) => is_delivered(alloc, book, place, entry),
         Step::AcceptedLeaving(line, entry, wagons, orders) => {
             let accepted = are_accepted(alloc, book, &[line], entry)?;
             Ok(accepted && has_problem(alloc, book, entry, 1, wagons, orders)?)
         }
-        Step::Repeated(line, entry) => {
-            answers(alloc, book, &[line], format!(in alloc; "repeated {entry}")?)
-        }
-        Step::Begun(line, version) => {
-            answers(alloc, book, &[line], format!(in alloc; "begun {version}")?)
-        }
-        Step::Refused(line, number) => {
-            answers(alloc, book, &[line], format!(in alloc; "refused {number}")?)
-        }
-        Step::AllRefused(lines, number) => {
-            answers(alloc, book, lines, format!(in alloc; "refused {number}")?)
-        }
+        Step::Repeated(line, entry) => answers(alloc, book, &[line], Answer::Repeated(entry)),
+        Step::Begun(line, version) => answers(alloc, book, &[line], Answer::Begun(version)),
+        Step::Refused(line, number) => answers(alloc, book, &[line], Answer::Refused(number)),
+        Step::AllRefused(lines, number) => answers(alloc, book, lines, Answer::Refused(number)),
         Step::RefusedNaming(line, number, named) => {
-            answers(
-                alloc,
-                book,
-                &[line],
-                format!(in alloc; "refused {number} {named}")?,
-            )
+            answers(alloc, book, &[line], Answer::RefusedNaming(number, named))
         }
         _ => is_so(alloc, book, step),
     }
@@ -107,14 +108,30 @@ fn is_so(alloc: Global, book: &mut Book, step: Step<'_>) -> Result<bool, Fail> {
     }
 }
 
-/// Whether a book answers this text to each of these lines' calls.
-fn answers(alloc: Global, book: &mut Book, lines: &[Line<'_>], text: String) -> Result<bool, Fail> {
+/// Whether a book answers so to each of these lines' calls.
+fn answers(
+    alloc: Global,
+    book: &mut Book,
+    lines: &[Line<'_>],
+    answer: Answer<'_>,
+) -> Result<bool, Fail> {
+    let text = text_of(alloc, answer)?;
     for line in lines {
         if told(alloc, book, *line)?.as_str() != text.as_str() {
             return Ok(false);
         }
     }
     Ok(true)
+}
+
+/// Whether the nearer wagon departs, arrives at a place and is delivered there, from this entry on.
+fn is_delivered(alloc: Global, book: &mut Book, place: &str, entry: u64) -> Result<bool, Fail> {
+    let lines = [
+        Line::Tell("departure", 5, NEAR, "DE00002", "02:00:00"),
+        Line::Tell("arrival", 6, NEAR, place, "03:00:00"),
+        Line::Tell("delivery", 7, NEAR, place, "03:30:00"),
+    ];
+    are_accepted(alloc, book, &lines, entry)
 }
 
 /// Whether these lines become entries, from this one on.
@@ -126,12 +143,7 @@ fn are_accepted(
 ) -> Result<bool, Fail> {
     for (k, line) in lines.iter().enumerate() {
         let number = entry.saturating_add(k as u64);
-        if !answers(
-            alloc,
-            book,
-            &[*line],
-            format!(in alloc; "accepted {number}")?,
-        )? {
+        if !answers(alloc, book, &[*line], Answer::Accepted(number))? {
             return Ok(false);
         }
     }
@@ -154,14 +166,22 @@ fn are_placed(alloc: Global, book: &mut Book, orders: u64, wagons: u32) -> Resul
 /// A name, a book that starts so, and its steps.
 pub(crate) type Case = (&'static str, Start<'static>, &'static [Step<'static>]);
 
+/// The first of these steps that goes otherwise at a book that starts so, counted from 0.
+fn first_other(alloc: Global, start: Start<'_>, steps: &[Step<'_>]) -> Result<Option<usize>, Fail> {
+    let mut book = book_of(alloc, start)?;
+    for (k, step) in steps.iter().enumerate() {
+        if !goes(alloc, &mut book, *step)? {
+            return Ok(Some(k));
+        }
+    }
+    Ok(None)
+}
+
 /// Fails with the name of the first of these cases in which a step goes otherwise, and that step, counted from 0.
 pub(crate) fn go(alloc: Global, cases: &[Case]) -> Result<(), Fail> {
     for (name, start, steps) in cases {
-        let mut book = book_of(alloc, *start)?;
-        for (k, step) in steps.iter().enumerate() {
-            if !goes(alloc, &mut book, *step)? {
-                return Err(Fail::new(format_args!("{name}: step {k}")));
-            }
+        if let Some(k) = first_other(alloc, *start, steps)? {
+            return Err(Fail::new(format_args!("{name}: step {k}")));
         }
     }
     Ok(())

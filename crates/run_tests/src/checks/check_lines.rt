@@ -168,25 +168,25 @@ fn nested(alloc: Global, depth: usize) -> Result<Vec<u8>, Fail> {
     Ok(line)
 }
 
+/// The names O0, O1 and so on of so many orders, parted by commas.
+fn order_names(alloc: Global, count: u32) -> Result<String, AllocError> {
+    let mut text = String::new(alloc);
+    for k in 0..count {
+        let comma = if k == 0 { "" } else { "," };
+        let name = format!(in alloc; "{comma}\"O{k}\"")?;
+        text.push_str(&name)?;
+    }
+    Ok(text)
+}
+
 /// Orders that lack 20 wagons each, with 0 for each price.
-pub(crate) fn lacking(alloc: Global, orders: usize) -> Result<Vec<u8>, Fail> {
-    let mut line = String::from_str(
-        alloc,
-        r#"{"wagons":[],"cells":[],"pairs":[],"u":[],"orders":["#,
-    )?;
-    for j in 0..orders {
-        let comma = if j == 0 { "" } else { "," };
-        line.push_str(&format!(in alloc; "{comma}\"O{j}\"")?)?;
-    }
-    for (name, value) in [("penalties", 0), ("lacks", 20), ("v", 0)] {
-        line.push_str(&format!(in alloc; "],\"{name}\":[")?)?;
-        for j in 0..orders {
-            let comma = if j == 0 { "" } else { "," };
-            line.push_str(&format!(in alloc; "{comma}{value}")?)?;
-        }
-    }
-    line.push_str("]}")?;
-    Ok(Vec::from_slice(alloc, line.as_bytes())?)
+pub(crate) fn lacking(alloc: Global, orders: u32) -> Result<String, AllocError> {
+    let names = order_names(alloc, orders)?;
+    let zeros = repeated(alloc, "0", orders)?;
+    let lacks = repeated(alloc, "20", orders)?;
+    format!(in alloc;
+        r#"{{"wagons":[],"cells":[],"pairs":[],"u":[],"orders":[{names}],"penalties":[{zeros}],"lacks":[{lacks}],"v":[{zeros}]}}"#
+    )
 }
 
 /// So many times the same, parted by commas.
@@ -213,7 +213,7 @@ fn one_order(alloc: Global, wagons: u32) -> Result<String, AllocError> {
 #[derive(Clone, Copy, Debug)]
 enum Made {
     Nested(usize),
-    Lacking(usize),
+    Lacking(u32),
     OneOrder(u32),
 }
 
@@ -221,7 +221,7 @@ enum Made {
 fn is_made_replied(alloc: Global, made: Made, reply: &str) -> Result<bool, Fail> {
     match made {
         Made::Nested(depth) => is_replied(alloc, &nested(alloc, depth)?, reply),
-        Made::Lacking(orders) => is_replied(alloc, &lacking(alloc, orders)?, reply),
+        Made::Lacking(orders) => is_replied(alloc, lacking(alloc, orders)?.as_bytes(), reply),
         Made::OneOrder(wagons) => is_replied(alloc, one_order(alloc, wagons)?.as_bytes(), reply),
     }
 }

@@ -1,5 +1,6 @@
 //! Whole runs: pieces of any size, blank lines, and limits.
 
+use crate::End;
 use office::{MAX_LINE_BYTES, RunCount, RunFault, check_run};
 use std::alloc::Global;
 use std::test::Fail;
@@ -41,8 +42,8 @@ fn one_write_a_reply(rt: HostRuntime) -> Result<(), Fail> {
     Ok(())
 }
 
-/// How a run over memory ends: the lines and the refusals, or the stop's number and line.
-fn end_of(alloc: Global, input: &[u8]) -> Result<(u64, u64), (u32, Option<u64>)> {
+/// How a run over memory ends.
+fn end_of(alloc: Global, input: &[u8]) -> End {
     let mut reader = MemorySource::new(input, usize::MAX);
     let mut writer = MemorySink::new(alloc, usize::MAX);
     match check_run(alloc, &mut reader, &mut writer) {
@@ -51,11 +52,11 @@ fn end_of(alloc: Global, input: &[u8]) -> Result<(u64, u64), (u32, Option<u64>)>
     }
 }
 
-/// So many bytes of one kind, and then these.
-fn bytes(alloc: Global, byte: u8, count: usize, last: &[u8]) -> Result<Vec<u8>, Fail> {
+/// How a run ends over so many bytes of one kind, and then these.
+fn end_of_bytes(alloc: Global, byte: u8, count: usize, last: &str) -> Result<End, Fail> {
     let mut bytes = vec![in alloc; byte; count]?;
-    bytes.extend_from_slice(last)?;
-    Ok(bytes)
+    bytes.extend_from_slice(last.as_bytes())?;
+    Ok(end_of(alloc, &bytes))
 }
 
 /// So many bytes of one kind and then these, each with how a run over them ends: a line past the millionth is one too
@@ -75,8 +76,8 @@ fn long_lines_and_many(rt: HostRuntime) -> Result<(), Fail> {
         (b'\n', 1_000_000, " ", Err((91, Some(1_000_001)))),
         (b'\n', 1_000_000, "[]", Err((91, Some(1_000_001)))),
     ] {
-        let input = bytes(rt.alloc(), byte, count, last.as_bytes())?;
-        assert_eq!(rt; end_of(rt.alloc(), &input), end, "{byte} {count}");
+        let found = end_of_bytes(rt.alloc(), byte, count, last)?;
+        assert_eq!(rt; found, end, "{byte} {count}");
     }
     Ok(())
 }

@@ -101,7 +101,13 @@ fn lines(rt: HostRuntime) -> Result<(), Fail> {
         assert!(rt; is_solved(rt.alloc(), line.as_bytes(), reply)?, "{line}");
     }
     let line = lacking(rt.alloc(), 26)?;
-    assert!(rt; is_solved(rt.alloc(), &line, "{\"line\":1,\"refused\":\"53\"}\n")?);
+    assert!(rt;
+        is_solved(
+            rt.alloc(),
+            line.as_bytes(),
+            "{\"line\":1,\"refused\":\"53\"}\n"
+        )?
+    );
     Ok(())
 }
 

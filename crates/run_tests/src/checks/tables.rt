@@ -109,9 +109,21 @@ fn table_of_two(alloc: Global) -> Result<(Cells, TableLine), Fail> {
     read_cells(alloc, line.as_str())
 }
 
+/// The cells of that table.
+fn cells_of_two(alloc: Global) -> Result<Cells, Fail> {
+    let (cells, _table) = table_of_two(alloc)?;
+    Ok(cells)
+}
+
+/// Its names.
+fn names_of_two(alloc: Global) -> Result<Names, Fail> {
+    let (_cells, table) = table_of_two(alloc)?;
+    Ok(Names::new(table.wagons, table.orders)?)
+}
+
 #[test]
 fn cells_of_a_table(rt: HostRuntime) -> Result<(), Fail> {
-    let (cells, _table) = table_of_two(rt.alloc())?;
+    let cells = cells_of_two(rt.alloc())?;
     assert_eq!(rt; (cells.wagons(), cells.orders()), (2, 2));
     for (i, j, cell) in [
         (0, 0, Some(10)),
@@ -123,16 +135,15 @@ fn cells_of_a_table(rt: HostRuntime) -> Result<(), Fail> {
     ] {
         assert_eq!(rt; cells.cell(i, j), cell, "{i} {j}");
     }
-    assert_eq!(rt; (cells.penalty(1), cells.lack(1)), (1000, 1));
     assert_eq!(rt; cells.row(1), [(0, 15)].as_slice());
-    assert_eq!(rt; cost(&cells, &[]), 2000);
+    let numbers = (cells.penalty(1), cells.lack(1), cost(&cells, &[]));
+    assert_eq!(rt; numbers, (1000, 1, 2000));
     Ok(())
 }
 
 #[test]
 fn names_of_a_table(rt: HostRuntime) -> Result<(), Fail> {
-    let (_cells, table) = table_of_two(rt.alloc())?;
-    let names = Names::new(table.wagons, table.orders)?;
+    let names = names_of_two(rt.alloc())?;
     assert_eq!(rt; names.wagon_at(2), None);
     assert!(rt; names.order_at(1).is_some());
     Ok(())

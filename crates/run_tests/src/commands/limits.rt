@@ -1,8 +1,16 @@
 //! Limits of an input of commands.
 
 use super::runs::end_of;
+use crate::End;
 use book_samples::SAMPLE;
+use std::alloc::Global;
 use std::test::Fail;
+
+/// How a run over so many times a byte ends, and how many entries the book has then.
+fn end_of_bytes(alloc: Global, byte: u8, count: usize) -> Result<(End, u64), Fail> {
+    let input = vec![in alloc; byte; count]?;
+    end_of(alloc, SAMPLE, &input)
+}
 
 /// The millionth line is the last; a line of 65,536 bytes the longest.
 #[test]
@@ -13,10 +21,8 @@ fn limits(rt: HostRuntime) -> Result<(), Fail> {
         (b' ', 65_536, Ok((1, 0))),
         (b' ', 65_537, Err((92, Some(1)))),
     ] {
-        let input = vec![in rt.alloc(); byte; count]?;
-        let (ended, entries) = end_of(rt.alloc(), SAMPLE, &input)?;
-        assert_eq!(rt; ended, end, "{count}");
-        assert_eq!(rt; entries, 0, "{count}");
+        let found = end_of_bytes(rt.alloc(), byte, count)?;
+        assert_eq!(rt; found, (end, 0), "{count}");
     }
     Ok(())
 }

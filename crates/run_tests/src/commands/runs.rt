@@ -1,5 +1,6 @@
 //! Runs in memory.
 
+use crate::End;
 use book_samples::{SAMPLE, Start, book_of};
 use office::{RunCount, RunFault, run};
 use std::alloc::Global;
@@ -26,13 +27,8 @@ pub(crate) fn is_answered(
     Ok(is_counted && writer.bytes() == output)
 }
 
-/// How a run over these bytes ends: the lines and the refusals, or the stop's number and line; and how many entries the
-/// book has then.
-pub(crate) fn end_of(
-    alloc: Global,
-    start: Start<'_>,
-    input: &[u8],
-) -> Result<(Result<(u64, u64), (u32, Option<u64>)>, u64), Fail> {
+/// How a run over these bytes ends, and how many entries the book has then.
+pub(crate) fn end_of(alloc: Global, start: Start<'_>, input: &[u8]) -> Result<(End, u64), Fail> {
     let mut book = book_of(alloc, start)?;
     let mut reader = MemorySource::new(input, usize::MAX);
     let mut writer = MemorySink::new(alloc, usize::MAX);

@@ -48,7 +48,16 @@ fn are_reported<T: Threads + Wait + Sync>(
     requires few { length texts.now ≤ max_files }
 {
     let report = fed_texts(rt, alloc, texts)?;
-    Ok(report_text(alloc, &report)?.as_str() == wanted)
+    is_text_of(alloc, &report, wanted)
+}
+
+/// Whether this is a report's text.
+pub(crate) fn is_text_of<R>(
+    alloc: Global,
+    report: &FeedReport<R>,
+    wanted: &str,
+) -> Result<bool, Fail> {
+    Ok(report_text(alloc, report)?.as_str() == wanted)
 }
 
 #[test]
@@ -87,11 +96,16 @@ fn is_stopped(report: &FeedReport<MemorySource<'_>>, code: u32) -> bool {
     }
 }
 
-/// A line of 65,537 bytes among good ones: what is before it is in the book, and the other file goes on.
+/// A line of 65,537 bytes among good ones.
+fn text_too_long(alloc: Global) -> Result<String, Fail> {
+    let line = " ".repeat(alloc, 65_537)?;
+    Ok(format!(in alloc; "{ORDER}\n{line}\n{FIRST}")?)
+}
+
+/// What is before the line that is too long is in the book, and the other file goes on.
 #[test]
 fn a_line_too_long(rt: HostRuntime) -> Result<(), Fail> {
-    let line = " ".repeat(rt.alloc(), 65_537)?;
-    let text = format!(in rt.alloc(); "{ORDER}\n{line}\n{FIRST}")?;
+    let text = text_too_long(rt.alloc())?;
     let report = fed_texts(&rt, rt.alloc(), &[text.as_str(), SECOND])?;
     assert!(rt; is_stopped(&report, 92));
     assert_eq!(rt; report.book.len(), 2);

@@ -2,9 +2,9 @@
 ghost use Rattle.std.specs.Prelude.{◌≡◌, None, false};
 
 use super::feeds::fed;
-use super::files::{FIRST, REPORT, SECOND};
+use super::files::{FIRST, REPORT, SECOND, is_text_of};
 use line_engine::{DeviceFailed, Source};
-use office::report_text;
+use office::FeedReport;
 use std::alloc::Global;
 use std::sync::Wait;
 use std::sync::atomic::{AtomicU64, Ordering};
@@ -72,8 +72,7 @@ fn is_met<T: Threads + Wait + Sync>(rt: &T, alloc: Global) -> Result<bool, Fail>
     let other = Meeting::new(SECOND, &second, &first);
     let readers = vec![in alloc; one, other]?;
     let report = fed(rt, alloc, readers)?;
-    let text = report_text(alloc, &report)?;
-    Ok(text.as_str() == REPORT && report.files.iter().all(|file| !file.reader.gave_up))
+    Ok(is_text_of(alloc, &report, REPORT)? && report.files.iter().all(|file| !file.reader.gave_up))
 }
 
 #[test]
@@ -92,9 +91,15 @@ fn is_unread<T: Threads + Wait + Sync>(
     let reader = MemorySource::failing(FIRST.as_bytes(), usize::MAX, given, false);
     let readers = vec![in alloc; reader]?;
     let report = fed(rt, alloc, readers)?;
-    let file = report.files.first().ok_or("no file")?;
-    let is_failed = file.failed == Some(93) && file.reader.failed();
-    Ok(is_failed && report.book.len() == accepted)
+    Ok(is_failed(&report) && report.book.len() == accepted)
+}
+
+/// Whether the first file was stopped by its reader.
+fn is_failed(report: &FeedReport<MemorySource<'_>>) -> bool {
+    match report.files.first() {
+        Some(file) => file.failed == Some(93) && file.reader.failed(),
+        None => false,
+    }
 }
 
 /// The reader fails before the first byte, within the first line, and within the second.

@@ -39,7 +39,8 @@ const SENT_TWICE: Turn = Turn(
     1,
 );
 
-const CASES: &[Case] = &[
+/// Each wagon and each order is promised once.
+const PROMISES: &[Case] = &[
     // Two seats plan the same problem.
     (
         "a wagon is promised twice",
@@ -60,6 +61,22 @@ const CASES: &[Case] = &[
             Turn(1, &[(COMMIT, "refused 81")], 2),
         ],
     ),
+    // The wagon is free again as it was; its order waits no more.
+    (
+        "an order is promised already",
+        SAMPLE,
+        &[
+            PLACED,
+            Turn(2, &[(HELD, "accepted 2"), BEGUN_LATER], 1),
+            Turn(2, &[(Commit(2, FARTHER, &[0], &[150]), "accepted 3")], 2),
+            Turn(2, &[(LET_GO, "accepted 4")], 3),
+            Turn(1, &[(COMMIT, "refused 83 O1")], 1),
+        ],
+    ),
+];
+
+/// Events that are refused, or come again.
+const EVENTS: &[Case] = &[
     (
         "a full book",
         ONE_ENTRY,
@@ -120,18 +137,10 @@ const CASES: &[Case] = &[
             1,
         )],
     ),
-    // The wagon is free again as it was; its order waits no more.
-    (
-        "an order is promised already",
-        SAMPLE,
-        &[
-            PLACED,
-            Turn(2, &[(HELD, "accepted 2"), BEGUN_LATER], 1),
-            Turn(2, &[(Commit(2, FARTHER, &[0], &[150]), "accepted 3")], 2),
-            Turn(2, &[(LET_GO, "accepted 4")], 3),
-            Turn(1, &[(COMMIT, "refused 83 O1")], 1),
-        ],
-    ),
+];
+
+/// Commits that are refused.
+const COMMITS: &[Case] = &[
     // Commits of the sample's first problem that are no certificate, or name what isn't in the problem.
     (
         "no certificates",
@@ -171,6 +180,10 @@ const CASES: &[Case] = &[
             Turn(1, &[(Commit(2, FARTHER, &[0, 0], &[70]), "refused 62")], 2),
         ],
     ),
+];
+
+/// Seats that have no receipt.
+const SEATS: &[Case] = &[
     (
         "one of two seats begins",
         SAMPLE,
@@ -184,6 +197,21 @@ const CASES: &[Case] = &[
 ];
 
 #[test]
-fn calls(rt: HostRuntime) -> Result<(), Fail> {
-    play(&rt, rt.alloc(), CASES)
+fn promises(rt: HostRuntime) -> Result<(), Fail> {
+    play(&rt, rt.alloc(), PROMISES)
+}
+
+#[test]
+fn events(rt: HostRuntime) -> Result<(), Fail> {
+    play(&rt, rt.alloc(), EVENTS)
+}
+
+#[test]
+fn commits(rt: HostRuntime) -> Result<(), Fail> {
+    play(&rt, rt.alloc(), COMMITS)
+}
+
+#[test]
+fn seats(rt: HostRuntime) -> Result<(), Fail> {
+    play(&rt, rt.alloc(), SEATS)
 }

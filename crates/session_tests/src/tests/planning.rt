@@ -80,10 +80,10 @@ pub(crate) fn plans<L: Ledger, R: Wait>(
     seats: &mut [Seat<L>],
 ) -> Result<bool, Fail> {
     let seat = seats.first_mut().ok_or("no seat")?;
-    let placed = desk.told(seat, ORDER)?;
+    let is_placed = desk.told(seat, ORDER)?.as_str() == "accepted 1";
     let snap = begun(desk, seat)?;
     let are_planned = commits(desk, seat, &snap)?;
-    Ok(are_planned && placed.as_str() == "accepted 1" && seat.count() == 2)
+    Ok(are_planned && is_placed && seat.count() == 2)
 }
 
 /// Whether planning over the first network alone is refused, since the second is in force.
@@ -108,11 +108,15 @@ pub(crate) fn revises<L: Ledger, R: Wait>(
     seats: &mut [Seat<L>],
 ) -> Result<bool, Fail> {
     let seat = seats.first_mut().ok_or("no seat")?;
-    let revised = desk.told(seat, REVISION)?;
+    let is_revised = desk.told(seat, REVISION)?.as_str() == "accepted 1";
     let snap = begun(desk, seat)?;
     let is_of = snap.version() == 1 && snap.network() == 2 && seat.count() == 1;
-    let is_revised = is_of && revised.as_str() == "accepted 1";
-    Ok(is_revised && is_unknown(desk.alloc, &snap)? && is_empty(desk.alloc, &snap)?)
+    Ok(is_revised && is_of && wants_both(desk.alloc, &snap)?)
+}
+
+/// Whether planning needs the second network.
+fn wants_both(alloc: Global, snap: &Snap) -> Result<bool, Fail> {
+    Ok(is_unknown(alloc, snap)? && is_empty(alloc, snap)?)
 }
 
 /// Whether a book at which a seat did this has so many entries.

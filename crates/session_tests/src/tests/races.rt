@@ -46,7 +46,7 @@ fn call_at_once<L: Ledger + Send + Sync, R: Threads + Wait + Sync>(
     )
 }
 
-/// Makes a line's call on two seats, a thread for each, and puts what they are told behind the texts.
+/// Makes a line's call on two seats, a thread for each: what they are told.
 fn call_twice<L: Ledger + Send + Sync, R: Threads + Wait + Sync>(
     desk: &Desk<'_, L, R>,
     seats: &mut Vec<Seat<L>>,
@@ -54,11 +54,48 @@ fn call_twice<L: Ledger + Send + Sync, R: Threads + Wait + Sync>(
 ) -> Result<(String, String), Fail> {
     let both = (call(desk.alloc, line)?, call(desk.alloc, line)?);
     let two = last_two(seats).ok_or("two seats are wanted")?;
-    let ((first, told), (second, other_told)) = call_at_once(desk, two, both);
+    let (one, other) = call_at_once(desk, two, both);
+    told_to_both(seats, one, other)
+}
+
+/// What two seats were told, which go back behind the others.
+fn told_to_both<L: Ledger>(
+    seats: &mut Vec<Seat<L>>,
+    (first, told): (Seat<L>, Option<String>),
+    (second, other_told): (Seat<L>, Option<String>),
+) -> Result<(String, String), Fail> {
     if seats.push(first).is_err() || seats.push(second).is_err() {
         return Err(Fail::new("no memory"));
     }
-    Ok((told.ok_or("no answer")?, other_told.ok_or("no answer")?))
+    match (told, other_told) {
+        (Some(told), Some(other_told)) => Ok((told, other_told)),
+        _ => Err(Fail::new("no answer")),
+    }
+}
+
+/// Whether two seats are told this on a line, the one the one and the other the other.
+fn are_told<L: Ledger + Send + Sync, R: Threads + Wait + Sync>(
+    desk: &Desk<'_, L, R>,
+    seats: &mut Vec<Seat<L>>,
+    line: Line<'_>,
+    one: &str,
+    other: &str,
+) -> Result<bool, Fail> {
+    let (first, second) = call_twice(desk, seats, line)?;
+    Ok(
+        (first.as_str() == one && second.as_str() == other)
+            || (first.as_str() == other && second.as_str() == one),
+    )
+}
+
+/// Whether the first seat's order is the first entry.
+fn is_placed<L: Ledger, R: Wait>(
+    desk: &Desk<'_, L, R>,
+    seats: &mut [Seat<L>],
+) -> Result<bool, Fail> {
+    let seat = seats.first_mut().ok_or("no seat")?;
+    let told = desk.told(seat, ORDER)?;
+    Ok(told.as_str() == "accepted 1")
 }
 
 /// How many calls of all seats were accepted.
@@ -76,15 +113,11 @@ pub(crate) fn races<L: Ledger + Send + Sync, R: Threads + Wait + Sync>(
     desk: &Desk<'_, L, R>,
     seats: &mut Vec<Seat<L>>,
 ) -> Result<bool, Fail> {
-    let placed = desk.told(seats.first_mut().ok_or("no seat")?, ORDER)?;
-    let (first, second) = call_twice(desk, seats, BEGIN)?;
+    let is_placed = is_placed(desk, seats)?;
     let begun = "begun 1 network 1";
-    let are_begun = first.as_str() == begun && second.as_str() == begun;
-    let (first, second) = call_twice(desk, seats, COMMIT)?;
-    let (accepted, refused) = ("accepted 2", "refused 82 218124712173");
-    let is_one = (first.as_str() == accepted && second.as_str() == refused)
-        || (first.as_str() == refused && second.as_str() == accepted);
-    Ok(placed.as_str() == "accepted 1" && are_begun && is_one && count_of(seats) == 2)
+    let are_begun = are_told(desk, seats, BEGIN, begun, begun)?;
+    let is_one = are_told(desk, seats, COMMIT, "accepted 2", "refused 82 218124712173")?;
+    Ok(is_placed && are_begun && is_one && count_of(seats) == 2)
 }
 
 #[test]
