@@ -69,6 +69,7 @@ fn texts_of_codes(rt: HostRuntime) -> Result<(), Fail> {
         (Code::Place, "DE00001"),
         (Code::Class, "Eanos"),
         (Code::Company, "0080"),
+        (Code::Moment, "2026-03-01T01:00:00Z"),
     ] {
         let found = text_of(rt.alloc(), code, text)?;
         assert_eq!(rt; found.as_str(), text);

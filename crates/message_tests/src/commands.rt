@@ -197,13 +197,13 @@ fn is_sample(alloc: Global, commit: &CommitText) -> Result<bool, Fail> {
     Ok(*commit == wanted && commit.pairs.as_slice() == [pair].as_slice())
 }
 
-/// Whether so does its copy.
+/// Whether the copy of a commit is that commit.
 fn copy_is_sample(alloc: Global, commit: &CommitText) -> Result<bool, Fail> {
     let copy = commit.copy(alloc)?;
     is_sample(alloc, &copy)
 }
 
-/// Whether it has that many pairs, and these prices.
+/// Whether a commit has one pair and the prices of that commit, as lists of its own.
 fn has_prices(commit: CommitText) -> bool {
     let CommitText { pairs, u, v, .. } = commit;
     pairs.into_vec().len() == 1

@@ -73,7 +73,7 @@ fn told_to_both<L: Ledger>(
     }
 }
 
-/// Whether two seats are told this on a line, the one the one and the other the other.
+/// Whether two seats are told these two texts on a line, whichever of them gets the first.
 fn are_told<L: Ledger + Send + Sync, R: Threads + Wait + Sync>(
     desk: &Desk<'_, L, R>,
     seats: &mut Vec<Seat<L>>,
