@@ -1,46 +1,48 @@
-# The program and its tests. A machine needs the proof kit's command `rt`, GNU make and nothing else; `bench` needs more
-# (bench/README.md).
+# The program and its tests. A machine needs the proof kit's command `rt` (with the Python 3 that it needs itself) and GNU
+# make, nothing else; `bench` needs more (bench/README.md).
 
-.PHONY: run build test examples hostile bench install uninstall
+.PHONY: run demo prove build test examples hostile bench install uninstall
 
 PREFIX ?= /usr/local
+# What proves and builds a program; the test of this file puts another command in its place.
+PROVE ?= tools/prove
+WAGONS = out/wagons
+# What `wagons` is made from: sources with their folders, and out/wagons.with, which has the kit's line and the program's
+# own lines of crates.txt.
+SOURCES := $(shell tools/sources wagons)
 
-# Builds `wagons` and shows its words on the examples. The first build proves all that the program stands on.
-# Some lines of each example are refused, so status 1 is right.
-WAGONS = $(CURDIR)/crates/wagons/out/wagons
-DAY = --roster roster.csv --network network.csv
+# Shows the program at work: the proved one where it is built; else first a build with nothing proved, and then it is
+# proved and built.
+run:
+	@if $(MAKE) -q $(WAGONS); then tools/play; else tools/play --unproved && $(MAKE) --no-print-directory prove; fi
 
-run: build
-	@echo "== wagons check: plans with their prices in, a verdict on each out (examples/tables.jsonl)"
-	@$(WAGONS) check < examples/tables.jsonl || test $$? -eq 1
-	@echo "== wagons solve: tables in, plans with their prices out (examples/problems.jsonl)"
-	@$(WAGONS) solve < examples/problems.jsonl || test $$? -eq 1
-	@echo "== wagons run: a day's messages and orders in, replies and plans out (examples/day/README.md tells the story)"
-	@cd examples/day && $(WAGONS) run $(DAY) --network network_closed.csv < day.jsonl || test $$? -eq 1
-	@echo "== wagons feed: the messages of three railways at once"
-	@cd examples/day && $(WAGONS) feed $(DAY) railway_1001.jsonl railway_1002.jsonl railway_1003.jsonl || test $$? -eq 1
-	@echo "== wagons map: the fleet as a graph; with Graphviz's neato a picture of it, docs/day.svg"
-	@mkdir -p out
-	@cd examples/day && $(WAGONS) map $(DAY) --network network_closed.csv < day.jsonl > ../../out/day.dot || test $$? -eq 1
-	@if command -v neato > /dev/null; then neato -Tsvg out/day.dot > docs/day.svg; else head -n 5 out/day.dot; fi
+# Shows the program at work through a build with nothing proved, in one to three minutes, and leaves nothing behind.
+demo:
+	@tools/play --unproved
 
-build:
-	@echo "== proving and building wagons (the first time up to three quarters of an hour, later seconds)"
-	@cd crates/wagons && rt run < /dev/null > /dev/null
+# Proves all that the program stands on and builds it, where that has changed. Interrupted, it goes on where it was.
+prove: $(WAGONS)
+	@echo "the proved program: $(CURDIR)/$(WAGONS)"
 
-# Compares the manual of refusals with what `wagons explain` must print; then proves every crate from nothing, tries the
-# edits that must fail, runs every test and the programs on their stored files.
+build: prove
+
+$(WAGONS): $(SOURCES)
+	@$(PROVE) wagons
+
+# Compares the manual of refusals with what `wagons explain` must print; tries what this file says of sources; then proves
+# every crate from nothing, tries the edits that must fail, runs every test and the programs on their stored files.
 test:
 	@cmp docs/REFUSALS.md crates/wagons/stdout
+	@tools/try_make
 	@echo "== rt ci: every proof from nothing (see docs/GATE.md for its time)"
 	@rt ci
 
-# Runs each command of examples/README.md and compares what it prints with what the page says. Needs Python 3.
-examples: build
+# Runs each command of examples/README.md and compares what it prints with what the page says.
+examples:
 	@examples/try
 
-# Builds what it times, says what it installs, and times the program's words, the distances and the planner beside their
-# peers, and a book beside itself.
+# Times the program's words, the distances and the planner beside their peers, and a book beside itself. Each says which
+# build it times and what it installs.
 bench:
 	@bench/check/run
 	@bench/solve/run
@@ -54,16 +56,22 @@ bench:
 hostile:
 	@hostile/run
 
-# The program, its manual page, and completions for bash, zsh and fish, under PREFIX.
-install: build
-	install -D -m 755 crates/wagons/out/wagons $(DESTDIR)$(PREFIX)/bin/wagons
-	install -D -m 644 docs/wagons.1 $(DESTDIR)$(PREFIX)/share/man/man1/wagons.1
-	install -D -m 644 completions/wagons.bash $(DESTDIR)$(PREFIX)/share/bash-completion/completions/wagons
-	install -D -m 644 completions/_wagons $(DESTDIR)$(PREFIX)/share/zsh/site-functions/_wagons
-	install -D -m 644 completions/wagons.fish $(DESTDIR)$(PREFIX)/share/fish/vendor_completions.d/wagons.fish
+SHARE = $(DESTDIR)$(PREFIX)/share
+
+# The program, its manual page, its other pages with the examples that they use, and completions for bash, zsh and fish,
+# under PREFIX.
+install: $(WAGONS)
+	install -D -m 755 $(WAGONS) $(DESTDIR)$(PREFIX)/bin/wagons
+	install -D -m 644 docs/wagons.1 $(SHARE)/man/man1/wagons.1
+	install -D -m 644 -t $(SHARE)/doc/wagons README.md
+	install -D -m 644 -t $(SHARE)/doc/wagons/docs docs/*.md docs/day.svg
+	install -D -m 644 -t $(SHARE)/doc/wagons/examples examples/README.md examples/*.jsonl
+	install -D -m 644 -t $(SHARE)/doc/wagons/examples/day examples/day/*
+	install -D -m 644 completions/wagons.bash $(SHARE)/bash-completion/completions/wagons
+	install -D -m 644 completions/_wagons $(SHARE)/zsh/site-functions/_wagons
+	install -D -m 644 completions/wagons.fish $(SHARE)/fish/vendor_completions.d/wagons.fish
 
 uninstall:
-	rm -f $(DESTDIR)$(PREFIX)/bin/wagons $(DESTDIR)$(PREFIX)/share/man/man1/wagons.1 \
-	  $(DESTDIR)$(PREFIX)/share/bash-completion/completions/wagons \
-	  $(DESTDIR)$(PREFIX)/share/zsh/site-functions/_wagons \
-	  $(DESTDIR)$(PREFIX)/share/fish/vendor_completions.d/wagons.fish
+	rm -f $(DESTDIR)$(PREFIX)/bin/wagons $(SHARE)/man/man1/wagons.1 $(SHARE)/bash-completion/completions/wagons \
+	  $(SHARE)/zsh/site-functions/_wagons $(SHARE)/fish/vendor_completions.d/wagons.fish
+	rm -rf $(SHARE)/doc/wagons

@@ -8,7 +8,7 @@ import sys
 
 HERE = os.path.dirname(os.path.abspath(__file__))
 SCRIPTS = os.path.join(HERE, "scripts")
-PROGRAM = os.path.abspath(os.environ.get("WAGONS", os.path.join(HERE, "../crates/wagons/out/wagons")))
+PROGRAM = os.path.abspath(os.environ.get("WAGONS", os.path.join(HERE, "../out/wagons")))
 FAULTS = os.environ.get("HOSTILE_FAULTS", "")
 PROCESSES = int(os.environ.get("HOSTILE_PROCESSES") or len(os.sched_getaffinity(0)))
 NETWORKS = [os.path.join(SCRIPTS, "network.csv"), os.path.join(SCRIPTS, "network_closed.csv")]
