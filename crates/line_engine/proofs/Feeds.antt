@@ -88,6 +88,13 @@ first_free c bytes h = by_test (c == line_feed) (has_feed bytes) h where
   by_test true b h = absurd cc
   by_test false b h = (refl, h)
 
+-- behind any bytes a line feed is one
+pub has_feed-feed : (line rest : List ℕ) → has_feed (line ++ line_feed ∷ rest) ≡ true
+has_feed-feed line rest = list_any-append (λ c. c == line_feed) line (line_feed ∷ rest) ∙ or-true (has_feed line) where
+  or-true : (b : Bool) → (b || true) ≡ true
+  or-true true = refl
+  or-true false = refl
+
 -- a line that a line feed ends
 pub lines_of-feed : (line rest : List ℕ) → has_feed line ≡ false → lines_of (line ++ line_feed ∷ rest) ≡ line ∷ lines_of rest
 lines_of-feed [] rest h = refl

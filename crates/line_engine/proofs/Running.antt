@@ -1,5 +1,5 @@
 -- How a run goes on from line to line.
-use Rattle.std.proofs.Common.{◌≡◌, ℕ, ◌+◌, ◌<◌, ◌≤◌, Bool, true, false, List, [], ◌∷◌, ◌++◌, length, refl, sym, ap, ◌∙◌, subst, inl, inr, arith, append_assoc}
+use Rattle.std.proofs.Common.{◌≡◌, ◌⊎◌, ℕ, ◌+◌, ◌<◌, ◌≤◌, Bool, true, false, List, [], ◌∷◌, ◌++◌, length, refl, sym, ap, ◌∙◌, subst, inl, inr, arith, append_assoc}
 use Rattle.std.specs.Prelude.{Option}
 use mir.Val.{bool_byte}
 use Rattle.std.specs.List.{AllByRecursion}
@@ -8,7 +8,7 @@ use Rattle.std.proofs.lemmas.List.{length-append, append-nil}
 use Rattle.std.proofs.lemmas.List.Concat.{flat_map-cons, flat_map-append}
 use Rattle.std.specs.Io.KnownBytes.{Consumes, Appends, IsAtEnd}
 use Rattle.std.proofs.KnownBytes.{Consumes-nil, Consumes-trans, Appends-nil, Appends-trans}
-use Rattle.line_engine.specs.Lines.{line_feed, has_feed, lines_of, first_line, max_input_lines, max_line_bytes, with_feeds}
+use Rattle.line_engine.specs.Lines.{line_feed, has_feed, lines_of, first_line, max_input_lines, max_line_bytes, with_feeds, IsWithin}
 use Rattle.line_engine.specs.inner.Cutting.{CutsLine, StopsLine}
 use Rattle.line_engine.specs.Replies.{Replying, ServesLine, ServesLines, refusal_count}
 use Rattle.line_engine.specs.Runs.{Run, IsLineOrNext, RunEnds, RunStandsAt, RunStops}
@@ -19,7 +19,7 @@ use Rattle.line_engine.specs.declared.window.LineEnd.{LineEnd}
 use Rattle.line_engine.specs.declared.window.LineEnd.TheVariants.{Feed, Input}
 use Rattle.line_engine.specs.declared.window.LineStop.{LineStop}
 use Rattle.line_engine.specs.declared.window.LineStop.TheVariants as stop
-use Rattle.line_engine.proofs.Feeds.{lines_of-feed, lines_of-last}
+use Rattle.line_engine.proofs.Feeds.{lines_of-feed, lines_of-last, has_feed-feed}
 use Rattle.line_engine.proofs.Answering.{ServesLines-push}
 
 -- ---- lines at the front of an input
@@ -42,9 +42,9 @@ with_feeds-push lines line rest =
     ∙ append_assoc (with_feeds lines) (with_feeds (line ∷ [])) rest
     ∙ ap (λ (xs : List ℕ). with_feeds lines ++ xs) (with_feeds-cons line [] rest)
 
-free-push : (lines : List (List ℕ)) (line : List ℕ) → AllByRecursion (λ line. has_feed line ≡ false) lines → has_feed line ≡ false → AllByRecursion (λ line. has_feed line ≡ false) (lines ++ line ∷ [])
-free-push [] line free one = (one, tt)
-free-push (first ∷ lines) line free one = (free.0, free-push lines line free.1 one)
+all-push : (P : List ℕ → Type 0) (lines : List (List ℕ)) (line : List ℕ) → AllByRecursion P lines → P line → AllByRecursion P (lines ++ line ∷ [])
+all-push P [] line all one = (one, tt)
+all-push P (first ∷ lines) line all one = (all.0, all-push P lines line all.1 one)
 
 -- ---- a run before a line
 
@@ -72,6 +72,7 @@ module _ {H : Type 0} (replying : Replying H) where
       consumed = Consumes-nil from;
       begins = record { bytes = refl; free = tt };
       number = refl;
+      short = tt;
       replies = (refl, refl, refl);
       written = Appends-nil held;
     };
@@ -98,6 +99,7 @@ module _ {H : Type 0} (replying : Replying H) where
             free = at.begins.free;
           };
           number = at.number;
+          short = at.short;
           replies = at.replies;
           written = at.written;
         };
@@ -117,10 +119,10 @@ module _ {H : Type 0} (replying : Replying H) where
 
   -- a line that a line feed ends was read and answered
   pub passes_line : (from to then held holds holding : Option (List ℕ)) (old mid new : H) (n : ℕ) (window taken line left text : List ℕ) (refused : ℕ) (flag : Bool)
-      → StandsHere replying from to held holds old mid n window refused → Consumes to then taken → CutsLine window taken line left Feed
+      → StandsHere replying from to held holds old mid n window refused → Consumes to then taken → CutsLine window taken line left Feed → IsWithin line
       → ServesLine replying n mid line text flag new → Appends holds holding text
       → StandsHere replying from then held holding old new (n + 1) left (refused + refusal_count flag)
-  passes_line from to then held holds holding old mid new n window taken line left text refused flag so consumed cut reply wrote =
+  passes_line from to then held holds holding old mid new n window taken line left text refused flag so consumed cut within reply wrote =
       let more = reads_more from to then held holds old mid n window taken (window ++ taken) refused so refl consumed in
       let at = more.at in
       record {
@@ -133,9 +135,10 @@ module _ {H : Type 0} (replying : Replying H) where
           consumed = at.consumed;
           begins = record {
             bytes = at.begins.bytes ∙ ap (λ (xs : List ℕ). with_feeds at.lines ++ xs) (more.here ∙ cut.0) ∙ sym (with_feeds-push at.lines line left);
-            free = free-push at.lines line at.begins.free cut.1;
+            free = all-push (λ (l : List ℕ). has_feed l ≡ false) at.lines line at.begins.free cut.1;
           };
           number = omega (arith, at.number, length-append at.lines (line ∷ []));
+          short = all-push IsWithin at.lines line at.short within;
           replies = replied from then held holds old mid new n (window ++ taken) line text refused flag more reply;
           written = Appends-trans held holds holding at.output text at.written wrote;
         };
@@ -159,15 +162,16 @@ module _ {H : Type 0} (replying : Replying H) where
             (subst (λ (k : ℕ). ServesLines replying 1 old at.lines at.output k new) so.counted at.replies);
         lines = omega (arith, number, at.number, ap length lines);
         few = few;
+        short = subst (AllByRecursion IsWithin) (sym lines) at.short;
         written = at.written;
       }
 
   -- the last line was ended by the input
   pub ends_line : (from to then held holds holding : Option (List ℕ)) (old mid new : H) (n : ℕ) (window taken line left text : List ℕ) (refused : ℕ) (flag : Bool) (count : RunCount)
-      → StandsHere replying from to held holds old mid n window refused → Consumes to then taken → CutsLine window taken line left Input
+      → StandsHere replying from to held holds old mid n window refused → Consumes to then taken → CutsLine window taken line left Input → IsWithin line
       → ServesLine replying n mid line text flag new → Appends holds holding text → IsAtEnd then
       → count.lines ≡ n → n ≤ max_input_lines → count.refused ≡ refused + refusal_count flag → RunEnds replying (run_of from then held holding old new) count
-  ends_line from to then held holds holding old mid new n window taken line left text refused flag count so consumed cut reply wrote ended number few counted =
+  ends_line from to then held holds holding old mid new n window taken line left text refused flag count so consumed cut within reply wrote ended number few counted =
       let more = reads_more from to then held holds old mid n window taken (window ++ taken) refused so refl consumed in
       let at = more.at in
       let input : at.input ≡ with_feeds at.lines ++ line = at.begins.bytes ∙ ap (λ (xs : List ℕ). with_feeds at.lines ++ xs) (more.here ∙ cut.0) in
@@ -182,6 +186,7 @@ module _ {H : Type 0} (replying : Replying H) where
             (replied from then held holds old mid new n (window ++ taken) line text refused flag more reply));
         lines = omega (arith, number, at.number, ap length lines, length-append at.lines (line ∷ []));
         few = omega (arith, number, few);
+        short = subst (AllByRecursion IsWithin) (sym lines) (all-push IsWithin at.lines line at.short within);
         written = Appends-trans held holds holding at.output text at.written wrote;
       }
 
@@ -207,10 +212,10 @@ module _ {H : Type 0} (replying : Replying H) where
   -- the writer failed in the reply to a line
   pub stops_writing : (from to then held holds holding : Option (List ℕ)) (read_failed write_failed : Bool) (old mid new : H) (n : ℕ) (window taken line text part unwritten : List ℕ) (refused : ℕ) (flag : Bool)
       → StandsHere replying from to held holds old mid n window refused → Consumes to then taken
-      → (after : List ℕ) → lines_of (window ++ taken) ≡ line ∷ lines_of after
+      → (after : List ℕ) → lines_of (window ++ taken) ≡ line ∷ lines_of after → (has_feed (window ++ taken) ≡ true) ⊎ IsAtEnd then → IsWithin line
       → ServesLine replying n mid line text flag new → text ≡ part ++ unwritten → Appends holds holding part → write_failed ≡ true → n ≤ max_input_lines
       → RunStops replying (run_of from then held holding old new) (record { reader = read_failed; writer = write_failed }) (WriteFailed n)
-  stops_writing from to then held holds holding read_failed write_failed old mid new n window taken line text part unwritten refused flag so consumed after front reply parts wrote failed few =
+  stops_writing from to then held holds holding read_failed write_failed old mid new n window taken line text part unwritten refused flag so consumed after front whole within reply parts wrote failed few =
       let more = reads_more from to then held holds old mid n window taken (window ++ taken) refused so refl consumed in (
         mid,
         holds,
@@ -220,6 +225,8 @@ module _ {H : Type 0} (replying : Replying H) where
           line = line;
           after = after;
           front = ap lines_of more.here ∙ front;
+          whole = subst (λ (xs : List ℕ). (has_feed xs ≡ true) ⊎ IsAtEnd then) (sym more.here) whole;
+          short = within;
           text = text;
           refused = flag;
           reply = reply;
@@ -235,6 +242,12 @@ module _ {H : Type 0} (replying : Replying H) where
 pub front_line : (window taken line left : List ℕ) (end : LineEnd) → CutsLine window taken line left end → (after : List ℕ) × (lines_of (window ++ taken) ≡ line ∷ lines_of after)
 front_line window taken line left Feed cut = (left, ap lines_of cut.0 ∙ lines_of-feed line left cut.1)
 front_line window taken line left Input cut = ([], ap lines_of cut.0 ∙ lines_of-last line cut.2 cut.3)
+
+-- the line that was cut off is whole
+pub whole_line : (window taken line left : List ℕ) (end : LineEnd) (to : Option (List ℕ)) → CutsLine window taken line left end → (end ≡ Input → IsAtEnd to)
+    → (has_feed (window ++ taken) ≡ true) ⊎ IsAtEnd to
+whole_line window taken line left Feed to cut ended = inl (ap has_feed cut.0 ∙ has_feed-feed line left)
+whole_line window taken line left Input to cut ended = inr (ended refl)
 
 -- a mark as a number
 pub bool_byte_count : (b : Bool) → bool_byte b ≡ refusal_count b

@@ -1,5 +1,5 @@
 -- How an input is cut into lines.
-use Rattle.std.specs.Prelude.{◌≡◌, ℕ, ◌==◌, ◌||◌, Bool, false, List, [], ◌∷◌, ◌++◌, if◌then◌else◌}
+use Rattle.std.specs.Prelude.{◌≡◌, ◌≤◌, ℕ, ◌==◌, ◌||◌, Bool, false, List, [], ◌∷◌, ◌++◌, length, if◌then◌else◌}
 use Rattle.std.specs.List.{list_all, list_any, flat_map, AllByRecursion}
 
 abbrev pub line_feed : ℕ
@@ -12,6 +12,10 @@ max_input_lines = 1000000
 -- the most bytes of a line, its line feed not counted
 abbrev pub max_line_bytes : ℕ
 max_line_bytes = 65536
+
+-- a line that may be answered
+abbrev pub IsWithin : List ℕ → Type 0
+IsWithin line = length line ≤ max_line_bytes
 
 abbrev pub has_feed : List ℕ → Bool
 has_feed bytes = list_any (λ c. c == line_feed) bytes

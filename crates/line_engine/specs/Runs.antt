@@ -1,7 +1,8 @@
 -- What a run over all lines of an input has done when it ends or stops.
 use Rattle.std.specs.Prelude.{◌≡◌, ℕ, ◌+◌, ◌<◌, ◌≤◌, Bool, true, false, ◌⊎◌, List, [], ◌∷◌, ◌++◌, length, Option}
 use Rattle.std.specs.Io.KnownBytes.{Consumes, Appends, Keeps, IsAtEnd}
-use Rattle.line_engine.specs.Lines.{lines_of, first_line, has_feed, max_input_lines, max_line_bytes, BeginsWith}
+use Rattle.std.specs.List.{AllByRecursion}
+use Rattle.line_engine.specs.Lines.{lines_of, first_line, has_feed, max_input_lines, max_line_bytes, BeginsWith, IsWithin}
 use Rattle.line_engine.specs.Replies.{Answering, RunningOut, Replying, Numbered, ServesLine, ServesLines}
 use Rattle.line_engine.specs.declared.run.RunCount.{RunCount}
 use Rattle.line_engine.specs.declared.run.RunFault.{RunFault}
@@ -22,8 +23,8 @@ pub record Failures : Type 0 where
   pub reader : Bool
   pub writer : Bool
 
--- The reader came to its end. What was read are the lines, at most 1,000,000 of them, and what was written are their
--- replies and nothing else.
+-- The reader came to its end. What was read are the lines, at most 1,000,000 of them, each of at most 65,536 bytes, and
+-- what was written are their replies and nothing else.
 pub record RunEnds {H : Type 0} (replying : Replying H) (run : Run H) (count : RunCount) : Type 0 where
   pub input : List ℕ
   pub output : List ℕ
@@ -32,9 +33,11 @@ pub record RunEnds {H : Type 0} (replying : Replying H) (run : Run H) (count : R
   pub replies : ServesLines replying 1 run.old (lines_of input) output count.refused run.new
   pub lines : count.lines ≡ length (lines_of input)
   pub few : count.lines ≤ max_input_lines
+  pub short : AllByRecursion IsWithin (lines_of input)
   pub written : Appends run.held run.holds output
 
--- The run stands before line number n: what was read are the lines before it, whose replies were written, and the rest.
+-- The run stands before line number n: what was read are the lines before it, each of at most 65,536 bytes, whose replies
+-- were written, and the rest.
 pub record RunStandsAt {H : Type 0} (replying : Replying H) (run : Run H) (n : ℕ) : Type 0 where
   pub input : List ℕ
   pub lines : List (List ℕ)
@@ -44,14 +47,18 @@ pub record RunStandsAt {H : Type 0} (replying : Replying H) (run : Run H) (n : �
   pub consumed : Consumes run.from run.to input
   pub begins : BeginsWith input lines rest
   pub number : n ≡ length lines + 1
+  pub short : AllByRecursion IsWithin lines
   pub replies : ServesLines replying 1 run.old lines output refusals run.new
   pub written : Appends run.held run.holds output
 
--- The line at the front of the rest was answered, and a part of its reply written.
+-- The line at the front of the rest, of at most 65,536 bytes, was answered, and a part of its reply written. The line is
+-- whole: its line feed was read, or the reader is at its end.
 pub record RunWritesPart {H : Type 0} (replying : Replying H) (run : Run H) (rest : List ℕ) (n : ℕ) : Type 0 where
   pub line : List ℕ
   pub after : List ℕ
   pub front : lines_of rest ≡ line ∷ lines_of after
+  pub whole : (has_feed rest ≡ true) ⊎ IsAtEnd run.to
+  pub short : IsWithin line
   pub text : List ℕ
   pub refused : Bool
   pub reply : ServesLine replying n run.old line text refused run.new

@@ -105,6 +105,7 @@ fn write_all<W: Sink>(writer: &mut W, bytes: &[u8]) -> Result<(), DeviceFailed>
     ensures ok { OnOk result (Appends (W.contents writer.old) (W.contents writer.new) bytes.now) }
     ensures err { OnErr result ((part : List ℕ) × (rest : List ℕ) × (bytes.now ≡ part ++ rest)
         × Appends (W.contents writer.old) (W.contents writer.new) part × (W.has_failed writer.new ≡ true)) }
+    ensures failure { OnOk result (W.has_failed writer.new ≡ W.has_failed writer.old) }
 {
     let mut rest = bytes;
     while !rest.is_empty() {
@@ -130,6 +131,7 @@ fn serve<W: Sink, H: Responder>(
     ensures err { OnErr result ((text : List ℕ) × (refused : Bool) × ServesLine H.replies number state.old line.now text refused state.new
         × (part : List ℕ) × (unwritten : List ℕ) × (text ≡ part ++ unwritten)
         × Appends (W.contents writer.old) (W.contents writer.new) part × (W.has_failed writer.new ≡ true)) }
+    ensures failure { OnOk result (W.has_failed writer.new ≡ W.has_failed writer.old) }
 {
     if is_blank(line) {
         return Ok(false);
@@ -171,6 +173,7 @@ pub fn run_replies<R: Source, W: Sink, H: Responder>(
       new = state.new;
     })
         (record { reader = R.has_failed reader.new; writer = W.has_failed writer.new }) fault) }
+    ensures healthy { OnOk result ((R.has_failed reader.new ≡ false) × (W.has_failed writer.new ≡ false)) }
 {
     let mut window = Window::new(alloc)?;
     let mut line = LineBuffer::new(alloc)?;
@@ -235,6 +238,7 @@ pub fn run_lines<R: Source, W: Sink, H: Handler>(
       new = state.new;
     })
         (record { reader = R.has_failed reader.new; writer = W.has_failed writer.new }) fault) }
+    ensures healthy { OnOk result ((R.has_failed reader.new ≡ false) × (W.has_failed writer.new ≡ false)) }
 {
     run_replies(alloc, reader, writer, &NumberedReplies { handler }, state)
 }

@@ -1,7 +1,7 @@
 use Rattle.std.proofs.Common.{◌≡◌, ℕ, ◌+◌, ◌<◌, List, ◌++◌, [], length, Ok, refl, sym, ap, ◌∙◌, subst, arith}
 use Rattle.line_engine.specs.inner.Cutting.{CutsLine}
 use Rattle.line_engine.specs.Replies.{ServesLine, refusal_count}
-use Rattle.line_engine.proofs.Running.{begins_run, stops_before, reads_more, passes_line, ends_run, ends_line, stops_reading, stops_writing, front_line, bool_byte_count, at_most_one}
+use Rattle.line_engine.proofs.Running.{begins_run, stops_before, reads_more, passes_line, ends_run, ends_line, stops_reading, stops_writing, front_line, whole_line, bool_byte_count, at_most_one}
 use Rattle.line_engine.proofs.run.run_replies.Goals as goal
 
 pub lines-init : goal.lines-init
@@ -9,6 +9,8 @@ lines-init g c = record {
   here = rw c.in_ok-window.ensures (begins_run g.H.Responder.replies (g.R.Source.remaining c.args.reader.now) (g.W.Sink.contents c.args.writer.now) c.args.state.now);
   lines = omega arith;
   refusals = omega arith;
+  reader = c.requires.reader;
+  writer = c.requires.writer;
 }
 
 pub returns-in-Ok-false-clause-ok : goal.returns-in-Ok-false-clause-ok
@@ -46,9 +48,10 @@ returns-in-Err-served-clause-err g c =
     let more = reads_more g.H.Responder.replies _ _ _ _ _ _ _ _ _ _ _ _ c.lines.invariant.here taken.1 taken.2 in
     let cut = c.in-Ok.ensures.cut in
     let front = front_line c.fill.new.self cut.0 c.read_line.new.line c.read_line.new.self c.in-Ok.end cut.2.0 in
+    let whole = whole_line c.fill.new.self cut.0 c.read_line.new.line c.read_line.new.self c.in-Ok.end (g.R.Source.remaining c.read_line.new.reader) cut.2.0 cut.2.1 in
     let served = c.in-Err-served.ensures.err in
     let reply = subst (λ (line : List ℕ). ServesLine g.H.Responder.replies (c.lines.count.lines + 1) c.lines.state line served.0 served.1 c.serve-served.new.state) c.as_slice-text.ensures.value served.2 in
-    stops_writing g.H.Responder.replies _ _ _ _ _ _ (g.R.Source.has_failed c.read_line.new.reader) (g.W.Sink.has_failed c.serve-served.new.writer) _ _ _ _ _ _ c.read_line.new.line served.0 served.3 served.4 c.lines.count.refused served.1 more cut.1 front.0 front.1 reply served.5 served.6 served.7 (omega arith)
+    stops_writing g.H.Responder.replies _ _ _ _ _ _ (g.R.Source.has_failed c.read_line.new.reader) (g.W.Sink.has_failed c.serve-served.new.writer) _ _ _ _ _ _ c.read_line.new.line served.0 served.3 served.4 c.lines.count.refused served.1 more cut.1 front.0 front.1 whole c.as_slice-text.ensures.within reply served.5 served.6 served.7 (omega arith)
 
 pub returns-in-Input-clause-ok : goal.returns-in-Input-clause-ok
 returns-in-Input-clause-ok g c =
@@ -58,7 +61,7 @@ returns-in-Input-clause-ok g c =
     let served = c.in-Ok-served.ensures.ok in
     let reply = subst (λ (line : List ℕ). ServesLine g.H.Responder.replies (c.lines.count.lines + 1) c.lines.state line served.0 c.in-Ok-served.refused c.serve-served.new.state) c.as_slice-text.ensures.value served.1 in
     let last = subst (CutsLine c.fill.new.self cut.0 c.read_line.new.line c.read_line.new.self) c.in-Input.is cut.2.0 in
-    ends_line g.H.Responder.replies _ _ _ _ _ _ _ _ _ _ _ _ _ _ _ _ _ _ more cut.1 last reply served.2 (cut.2.1 c.in-Input.is) refl (omega arith) (ap (λ (n : ℕ). c.lines.count.refused + n) (c.from.ensures ∙ bool_byte_count c.in-Ok-served.refused))
+    ends_line g.H.Responder.replies _ _ _ _ _ _ _ _ _ _ _ _ _ _ _ _ _ _ more cut.1 last c.as_slice-text.ensures.within reply served.2 (cut.2.1 c.in-Input.is) refl (omega arith) (ap (λ (n : ℕ). c.lines.count.refused + n) (c.from.ensures ∙ bool_byte_count c.in-Ok-served.refused))
 
 pub lines-preserved : goal.lines-preserved
 lines-preserved g c =
@@ -69,9 +72,11 @@ lines-preserved g c =
     let counted : c.from.result ≡ refusal_count c.in-Ok-served.refused = c.from.ensures ∙ bool_byte_count c.in-Ok-served.refused in
     let reply = subst (λ (line : List ℕ). ServesLine g.H.Responder.replies (c.lines.count.lines + 1) c.lines.state line served.0 c.in-Ok-served.refused c.serve-served.new.state) c.as_slice-text.ensures.value served.1 in
     let next = subst (CutsLine c.fill.new.self cut.0 c.read_line.new.line c.read_line.new.self) c.in-Feed.is cut.2.0 in
-    let here = passes_line g.H.Responder.replies _ _ _ _ _ _ _ _ _ _ _ _ _ _ _ _ _ more cut.1 next reply served.2 in
+    let here = passes_line g.H.Responder.replies _ _ _ _ _ _ _ _ _ _ _ _ _ _ _ _ _ more cut.1 next c.as_slice-text.ensures.within reply served.2 in
     record {
       here = rw counted here;
       lines = omega arith;
       refusals = omega (arith, counted, at_most_one c.in-Ok-served.refused, c.lines.invariant.refusals);
+      reader = c.in-Ok.ensures.failure (c.in-Ok-true.ensures.failure ∙ c.lines.invariant.reader) refl;
+      writer = c.in-Ok-served.ensures.failure ∙ c.lines.invariant.writer;
     }

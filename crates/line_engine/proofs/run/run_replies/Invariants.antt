@@ -1,4 +1,4 @@
-use Rattle.std.proofs.Common.{◌+◌, ◌-◌, ◌≤◌}
+use Rattle.std.proofs.Common.{◌≡◌, ◌+◌, ◌-◌, ◌≤◌, false}
 use Rattle.line_engine.specs.Lines.{max_input_lines}
 use Rattle.line_engine.proofs.Running.{StandsHere}
 use Rattle.line_engine.proofs.run.run_replies.Given as goal
@@ -10,6 +10,8 @@ invariant-lines g l = record {
       (g.W.Sink.contents l.fn.writer) (g.W.Sink.contents l.writer) l.fn.state l.state (l.count.lines + 1) l.window l.count.refused;
   lines : l.count.lines ≤ max_input_lines;
   refusals : l.count.refused ≤ l.count.lines;
+  reader : g.R.Source.has_failed l.reader ≡ false;
+  writer : g.W.Sink.has_failed l.writer ≡ false;
 }
 
 abbrev pub decreases-lines : goal.decreases-lines
