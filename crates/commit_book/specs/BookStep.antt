@@ -48,6 +48,12 @@ abbrev pub begun_of : Result SnapValue AllocError → Answer
 begun_of (Ok snap) = Begun snap.version
 begun_of (Err error) = Refused OutOfMemory
 
+-- no entry comes of a call: it is refused, or its message is an entry already
+abbrev pub IsNoEntry : Result Reply Refusal → Type 0
+IsNoEntry (Ok (Accepted n)) = ⊥
+IsNoEntry (Ok (Repeated n)) = Unit {0}
+IsNoEntry (Err refusal) = Unit {0}
+
 -- ---- events
 
 abbrev pub is_full : Setting → List Event → Bool

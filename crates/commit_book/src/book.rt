@@ -3,14 +3,17 @@ ghost use Rattle.std.specs.Prelude.{◌≡◌, [], IfErr, IfOk, IfSome, OnErr, O
 ghost use Rattle.distance_tables.specs.Networks.{network_at};
 ghost use Rattle.operating_db.specs.Problem.{problem_of};
 ghost use Rattle.operating_db.specs.Steps.{IsPromised};
-ghost use Rattle.commit_book.specs.BookStep.{IsCall, answer_of, begun_of, is_full, is_kept, kept_after};
+ghost use Rattle.commit_book.specs.BookStep.{IsCall, IsNoEntry, answer_of, begun_of, is_full, is_kept, kept_after};
 ghost use Rattle.commit_book.specs.inner.Entered.{IsEntered};
 ghost use Rattle.commit_book.specs.inner.CommitTests.{IsAccepted, IsRefused};
 ghost use Rattle.commit_book.specs.Headline.{IsProved};
 ghost use Rattle.commit_book.specs.History.{IsTableAt, Owes, entry_at, replay};
+ghost use Rattle.commit_book.specs.Requests.{call_of};
 ghost use Rattle.commit_book.specs.inner.Kept.{IsInSpan, IsKeptAt, IsLasting, IsMade, IsMendable, which_of};
 ghost use Rattle.commit_book.specs.inner.Ledger.{IsMessageAt, IsNoMessage};
+ghost use Rattle.commit_book.specs.Setting.{IsSetting};
 ghost use Rattle.commit_book.specs.Snap.{IsVersionNumber, snap_of};
+ghost use Rattle.commit_book.specs.declared.answer.Answer.TheVariants.{Refused};
 ghost use Rattle.commit_book.specs.declared.call.Call.TheVariants as call;
 
 use crate::commits::judge;
@@ -90,13 +93,17 @@ impl Book {
         self.ledger.get(place as usize)
     }
 
-    /// The office after all entries. Whatever led to this book, its history is as the headline says. Takes no memory.
+    /// The office after all entries. Whatever led to this book, its history is as the headline says, and it was given what
+    /// a book can be given. Takes no memory.
     pub fn state(&self) -> &OfficeState
         ensures state { result.now ≡ record { office = replay self.now.setting self.now.state.history; networks = length self.now.setting.networks } }
         ensures proved { IsProved self.now.setting self.now.state.history }
+        ensures setting { IsSetting self.now.setting }
     {
-        // For the prover alone: what every roster keeps.
+        // For the prover alone: what every roster, all networks and all limits keep.
         let _rows = self.ledger.roster().rows();
+        let _count = self.networks.count();
+        let _most = self.limits.entries();
         self.ledger.state()
     }
 
@@ -178,6 +185,57 @@ impl Book {
         }
     }
 
+    /// What the call for an event is answered where no memory is to be had, and no call is made: what needs none; else
+    /// `OutOfMemory` (1), so of an event that would be accepted, and of a commit of a kept problem on a book that isn't
+    /// full. Takes no memory.
+    pub fn answer_without_memory(&self, event: &Event) -> Result<Reply, Refusal>
+        ensures call { IsCall self.now.setting self.now.state (call_of event.now) (answer_of result) self.now.state }
+        ensures no_entry { IsNoEntry result }
+    {
+        match event {
+            Event::Message(message) => self.message_without_memory(message),
+            Event::Place(_) => Err(self.refusal_without_memory(event)),
+            Event::Withdraw(_) => Err(self.refusal_without_memory(event)),
+            Event::Commit(commit) => Err(self.commit_without_memory(commit)),
+            Event::Revise(_) => Err(self.refusal_without_memory(event)),
+        }
+    }
+
+    /// The same of a commit: `NotKept` (81), `BookFull` (72), else `OutOfMemory` (1). Takes no memory.
+    pub fn commit_without_memory(&self, commit: &CommitText) -> Refusal
+        ensures { IsCall self.now.setting self.now.state (call.Commit commit.now) (Refused result) self.now.state }
+    {
+        if !self.is_kept(commit.version, commit.at) {
+            return Refusal::NotKept;
+        }
+        if self.is_full() {
+            return Refusal::BookFull;
+        }
+        Refusal::OutOfMemory
+    }
+
+    /// The same of a message.
+    fn message_without_memory(&self, message: &Message) -> Result<Reply, Refusal>
+        ensures call { IsCall self.now.setting self.now.state (call.Message message.now) (answer_of result) self.now.state }
+        ensures no_entry { IsNoEntry result }
+    {
+        match self.ledger.find(message.id) {
+            Some(place) => self.answer_known(message, place),
+            None => Err(self.refusal_without_memory(&Event::Message(*message))),
+        }
+    }
+
+    /// Why an event that would be an entry is refused where no memory is to be had.
+    fn refusal_without_memory(&self, event: &Event) -> Refusal
+        requires { IsPromised (replay self.now.setting self.now.state.history) event.now }
+        ensures { IsEntered self.now.setting self.now.state event.now (Refused result) self.now.state }
+    {
+        if self.is_full() {
+            return Refusal::BookFull;
+        }
+        Refusal::from(self.ledger.refusal_without_memory(event))
+    }
+
     /// The table of the problem of a version at a moment, over the network in force in that version; none where that
     /// problem isn't kept. Takes no memory.
     pub fn kept_cells(&self, version: u64, at: Moment) -> Option<&Cells>
@@ -226,7 +284,8 @@ impl Book {
     /// What a message is answered where the event at this place, counted from 0, is a message of its id.
     fn answer_known(&self, message: &Message, place: usize) -> Result<Reply, Refusal>
         requires { IsMessageAt self.now.state.history message.now.id place }
-        ensures { IsCall self.now.setting self.now.state (call.Message message.now) (answer_of result) self.now.state }
+        ensures call { IsCall self.now.setting self.now.state (call.Message message.now) (answer_of result) self.now.state }
+        ensures no_entry { IsNoEntry result }
     {
         // For the prover alone: the number of an entry fits.
         let _most = self.len();

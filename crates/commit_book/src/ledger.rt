@@ -6,7 +6,7 @@ ghost use Rattle.distance_tables.specs.Networks.{max_networks};
 ghost use Rattle.operating_db.specs.Steps.{IsPromised};
 ghost use Rattle.operating_db.specs.declared.event.Event.TheVariants as event;
 ghost use Rattle.commit_book.specs.History.{IsFresh};
-ghost use Rattle.commit_book.specs.inner.Ledger.{IsIndexOf, IsMessageAt, IsMessageEntry, IsNoMessage, IsNoted, compare_ids, office_of, state_of};
+ghost use Rattle.commit_book.specs.inner.Ledger.{IsAdmitted, IsIndexOf, IsMessageAt, IsMessageEntry, IsNoMessage, IsNoted, compare_ids, office_of, state_of};
 ghost use Rattle.std.specs.BTreeMap.{get};
 ghost use Rattle.std.specs.Ordering.{is_eq};
 ghost use Rattle.rail_codes.specs.declared.message_id.MessageId.{MessageId};
@@ -100,7 +100,7 @@ impl Ledger {
         ensures found { IfSome result (λ place. IsMessageAt self.now.events id place) }
         ensures fresh { IfNone result (IsFresh id self.now.events) }
     {
-        self.ids.get(&id).copied()
+        place_of(&self.ids, id)
     }
 
     /// Lets a message happen, as the last event, unless an event has its id. Refused as the office refuses it, or
@@ -112,12 +112,12 @@ impl Ledger {
     ) -> Result<MessageEntry, ApplyFault>
         ensures { IsMessageEntry self.old message.now result self.new }
     {
-        let event = Event::Message(*message);
-        match note(&mut self.ids, &mut self.events, message.id) {
+        match admit(&self.state, &mut self.ids, &mut self.events, message) {
             Ok(None) => {}
             Ok(Some(place)) => return Ok(MessageEntry::Known(place)),
-            Err(_) => return Err(refusal_without_memory(&self.state, &event)),
+            Err(fault) => return Err(fault),
         }
+        let event = Event::Message(*message);
         if let Err(fault) = self.state.apply(alloc, &event) {
             self.ids.remove(&message.id);
             return Err(fault);
@@ -136,25 +136,73 @@ impl Ledger {
         ensures refused { IfErr result (λ fault. IsRefusal (after_call self.old.networks (office_of self.old) event) fault) }
         ensures unchanged { OnErr result (self.new ≡ self.old) }
     {
-        if self.events.reserve(1).is_err() {
-            return Err(refusal_without_memory(&self.state, &event));
-        }
+        make_room(&self.state, &mut self.events, &event)?;
         self.state.apply(alloc, &event)?;
         self.events.push_reserved(event);
         Ok(())
     }
+
+    /// Why an event is refused where no memory is to be had: as the office refuses it, or because memory is out where
+    /// nothing else is wrong. Takes no memory.
+    pub fn refusal_without_memory(&self, event: &Event) -> ApplyFault
+        requires { IsPromised (office_of self.now) event.now }
+        ensures { IsRefusal (after_call self.now.networks (office_of self.now) event.now) result }
+    {
+        match self.state.possible(event) {
+            Ok(()) => ApplyFault::OutOfMemory,
+            Err(fault) => fault,
+        }
+    }
 }
 
-/// Why an event is refused where there is no memory: as the office refuses it, or because memory is out where nothing
-/// else is wrong.
-fn refusal_without_memory(state: &OfficeState, event: &Event) -> ApplyFault
+/// Makes room behind the events for one that is possible. One that isn't is refused as the office refuses it, and no
+/// memory is asked for then: the list stays as it was.
+fn make_room(state: &OfficeState, events: &mut Vec<Event>, event: &Event) -> Result<(), ApplyFault>
     requires { IsPromised state.now.office event.now }
-    ensures { IsRefusal (after_call state.now.networks state.now.office event.now) result }
+    ensures refused { IfErr result (λ fault. IsRefusal (after_call state.now.networks state.now.office event.now) fault) }
+    ensures events { events.new.items ≡ events.old.items }
+    ensures room { OnOk result (vec_len events.new < vec_capacity events.new) }
+    ensures unasked { OnErr (after_call state.now.networks state.now.office event.now) (events.new ≡ events.old) }
 {
-    match state.possible(event) {
-        Ok(()) => ApplyFault::OutOfMemory,
-        Err(fault) => fault,
+    if let Err(fault) = state.possible(event) {
+        return Err(fault);
     }
+    events.reserve(1)?;
+    Ok(())
+}
+
+/// Notes a message that is possible, and whose id no event has, behind the events, and makes room for it there. Else gives
+/// the place of the event of its id, or refuses it as the office refuses it. Where the office does, no memory is asked
+/// for: index and list stay as they were. Where memory is refused, nothing is noted.
+fn admit(
+    state: &OfficeState,
+    ids: &mut BTreeMap<MessageId, usize>,
+    events: &mut Vec<Event>,
+    message: &Message,
+) -> Result<Option<usize>, ApplyFault>
+    requires { IsIndexOf events.old.items (get compare_ids ids.old) }
+    ensures admitted { IsAdmitted events.old.items message.now.id (after_call state.now.networks state.now.office (event.Message message.now)) result (get compare_ids ids.new) }
+    ensures events { events.new.items ≡ events.old.items }
+    ensures room { IfOk result (λ known. IfNone known (vec_len events.new < vec_capacity events.new)) }
+    ensures unasked { OnErr (after_call state.now.networks state.now.office (event.Message message.now)) ((ids.new ≡ ids.old) × (events.new ≡ events.old)) }
+{
+    if let Err(fault) = state.possible(&Event::Message(*message)) {
+        if let Some(known) = place_of(ids, message.id) {
+            return Ok(Some(known));
+        }
+        return Err(fault);
+    }
+    match note(ids, events, message.id) {
+        Ok(known) => Ok(known),
+        Err(_) => Err(ApplyFault::OutOfMemory),
+    }
+}
+
+/// The place that is noted for an id.
+fn place_of(ids: &BTreeMap<MessageId, usize>, id: MessageId) -> Option<usize>
+    ensures { result ≡ get compare_ids ids.now id }
+{
+    ids.get(&id).copied()
 }
 
 /// Notes the place behind the events by the id of a message, and makes room for the message there; or, where an event

@@ -82,6 +82,13 @@ IsNoted events id (Ok None) index = HasNoted events id index
 IsNoted events id (Ok (Some place)) index = IsMessageAt events id place × IsIndexOf events index
 IsNoted events id (Err error) index = IsFresh id events × IsIndexOf events index
 
+-- What came of noting a message, where this is the office after it: it is possible and noted behind the events; or an
+-- event is a message of its id; or it is refused. In the last two the index is that of the events.
+abbrev pub IsAdmitted : List Event → MessageId → (after : Result Office ApplyFault) → Result (Option ℕ) ApplyFault → (index : MessageId → Option ℕ) → Type 0
+IsAdmitted events id after (Ok None) index = IsOk after × HasNoted events id index
+IsAdmitted events id after (Ok (Some place)) index = IsMessageAt events id place × IsIndexOf events index
+IsAdmitted events id after (Err fault) index = IsFresh id events × IsIndexOf events index × IsRefusal after fault
+
 -- what came of entering a message: it is the last event; or an event is a message of its id; or it is refused
 abbrev pub IsMessageEntry : (old : LedgerValue) → movement.Message → Result MessageEntry ApplyFault → (new : LedgerValue) → Type 0
 IsMessageEntry old message (Ok Entered) new =
