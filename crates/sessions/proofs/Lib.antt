@@ -4,4 +4,5 @@ pub mod Planned
 pub mod Positions
 pub mod Receipts
 pub mod SameTables
+pub mod SameVec
 pub mod Unchanged

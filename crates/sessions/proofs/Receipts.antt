@@ -2,6 +2,7 @@
 -- receipts, each entry has a receipt.
 use Rattle.std.proofs.Common.{◌≡◌, ◌∙◌, ◌+◌, ◌*◌, ◌<◌, ◌≤◌, ℕ, zero, suc, Bool, true, false, cond, List, [], ◌∷◌, length, refl, sym, ap, arith, inl, inr}
 use Rattle.std.specs.Prelude.{◌==◌, Option, Some, All}
+use Rattle.std.specs.List.{sum_by}
 use Rattle.std.proofs.Math.Nat.{eq-or-lt_of_le}
 use Rattle.std.proofs.lemmas.Bool.Decides.{nat_tests}
 use Rattle.std.proofs.lemmas.List.Elements.{All-head, All-tail}
@@ -12,8 +13,9 @@ use Rattle.cost_table.proofs.Sums.{sum_below-add, sum_below-at, sum_below-same, 
 use Rattle.assignment.proofs.Placing.{sum_below-limit}
 use Rattle.operating_db.specs.declared.event.Event.{Event}
 use Rattle.commit_book.specs.History.{entry_at}
-use Rattle.sessions.specs.Closing.{HasEntry}
-use Rattle.sessions.specs.OnlyReceipts.{IsReceived, ReceiptsAgree, ReceiptsAreTheHistory, times_of_entry}
+use Rattle.sessions.specs.Closing.{HasEntries, HasEntry}
+use Rattle.sessions.specs.OnlyReceipts.{IsReceived, IsReceivedAt, ReceiptsAgree, ReceiptsAreTheHistory, times_at_seats, times_of_entry}
+use Rattle.sessions.specs.Seat.{SeatValue, count_of}
 use Rattle.sessions.specs.declared.receipt.Receipt.{Receipt}
 
 -- the number of an entry is one more than its place
@@ -78,14 +80,45 @@ received history (r ∷ rs) n event entry all some =
     received_by history r rs n event (r.entry == n) refl entry (All-head (HasEntry history) r rs all) some
     (received history rs n event entry (All-tail (HasEntry history) r rs all))
 
+-- ---- all seats
+
+counted_seats : (history : List Event) (seats : List SeatValue) → All (HasEntries history) seats → sum_below (length history) (λ i. times_at_seats (i + 1) seats) ≡ sum_by count_of seats
+counted_seats history [] all = sum_below-zero (length history) (λ i. times_at_seats (i + 1) []) (λ k l. refl)
+counted_seats history (s ∷ ss) all =
+    let n = length history in
+    let split = sum_below-same n (λ i. times_at_seats (i + 1) (s ∷ ss)) (λ i. times_of_entry (i + 1) s.receipts + times_at_seats (i + 1) ss) (λ i l. sum_by-cons (λ (x : SeatValue). times_of_entry (i + 1) x.receipts) s ss) in
+    let both = sum_below-add n (λ i. times_of_entry (i + 1) s.receipts) (λ i. times_at_seats (i + 1) ss) in
+    let here = counted history s.receipts (All-head (HasEntries history) s ss all) in
+    let rest = counted_seats history ss (All-tail (HasEntries history) s ss all) in
+    let sum = sum_by-cons count_of s ss in
+    omega (arith, split, both, here, rest, sum)
+
+seat_later : (s : SeatValue) (ss : List SeatValue) (n : ℕ) (event : Event) → IsReceivedAt ss n event → IsReceivedAt (s ∷ ss) n event
+seat_later s ss n event h = record { which = suc h.which; seat = h.seat; is_seat = h.is_seat; received = h.received }
+
+-- the first seat has a receipt of this number, or one behind it has; `rest` says so of those
+seat_by : (history : List Event) (s : SeatValue) (ss : List SeatValue) (n : ℕ) (event : Event) (k : ℕ) → times_of_entry n s.receipts ≡ k → entry_at history n ≡ Some event → HasEntries history s
+    → 1 ≤ times_at_seats n (s ∷ ss) → (1 ≤ times_at_seats n ss → IsReceivedAt ss n event) → IsReceivedAt (s ∷ ss) n event
+seat_by history s ss n event zero is entry has some rest =
+    let split = sum_by-cons (λ (x : SeatValue). times_of_entry n x.receipts) s ss in
+    seat_later s ss n event (rest (omega (arith, some, split, is)))
+seat_by history s ss n event (suc k) is entry has some rest =
+    record { which = zero; seat = s; is_seat = refl; received = received history s.receipts n event entry has (omega (arith, is)) }
+
+at_seats : (history : List Event) (seats : List SeatValue) (n : ℕ) (event : Event) → entry_at history n ≡ Some event → All (HasEntries history) seats → 1 ≤ times_at_seats n seats → IsReceivedAt seats n event
+at_seats history [] n event entry all some = absurd (omega (arith, some))
+at_seats history (s ∷ ss) n event entry all some =
+    seat_by history s ss n event (times_of_entry n s.receipts) refl entry (All-head (HasEntries history) s ss all) some
+    (at_seats history ss n event entry (All-tail (HasEntries history) s ss all))
+
 pub receipts_are_the_history : ReceiptsAreTheHistory
-receipts_are_the_history history receipts count all distinct n event entry =
+receipts_are_the_history history seats count all distinct n event entry =
     let here = in_range history n event entry in
-    let sum = counted history receipts all in
-    let one : 1 ≤ times_of_entry (here.0 + 1) receipts = each_one (length history) (λ i. times_of_entry (i + 1) receipts) (λ k. distinct (k + 1)) (omega (arith, sum, count)) here.0 here.2 in
+    let sum = counted_seats history seats all in
+    let one : 1 ≤ times_at_seats (here.0 + 1) seats = each_one (length history) (λ i. times_at_seats (i + 1) seats) (λ k. distinct (k + 1)) (omega (arith, sum, count)) here.0 here.2 in
     let number : here.0 + 1 ≡ n = omega (arith, here.1) in
-    let there : 1 ≤ times_of_entry n receipts = omega (arith, one, ap (λ (k : ℕ). times_of_entry k receipts) number) in
-    received history receipts n event entry all there
+    let there : 1 ≤ times_at_seats n seats = omega (arith, one, ap (λ (k : ℕ). times_at_seats k seats) number) in
+    at_seats history seats n event entry all there
 
 pub receipts_agree : ReceiptsAgree
 receipts_agree history one other has its same = received_here history one other.entry other.event same has its

@@ -1,33 +1,36 @@
--- What is known of the book behind the lock: some book with a legal history answers the call.
-use Rattle.std.specs.Prelude.{◌≡◌, ◌≤◌, ◌⊎◌, ℕ, List, length, Result, Err}
+-- What is known of the book behind the lock: some book that there can be answers the call.
+use Rattle.std.specs.Prelude.{◌≡◌, ◌≤◌, ℕ, List, length, Result}
 use Rattle.operating_db.specs.declared.event.Event.{Event}
 use Rattle.commit_book.specs.BookStep.{BookState, IsCall, answer_of}
-use Rattle.commit_book.specs.History.{IsLegal}
-use Rattle.commit_book.specs.Setting.{Setting}
+use Rattle.commit_book.specs.Headline.{IsProved}
+use Rattle.commit_book.specs.Setting.{IsSetting, Setting}
 use Rattle.commit_book.specs.Snap.{SnapValue, snap_of}
 use Rattle.commit_book.specs.declared.answer.Answer.{Answer}
 use Rattle.commit_book.specs.declared.call.Call.{Call}
 use Rattle.faults.specs.declared.faults.Refusal.{Refusal}
-use Rattle.faults.specs.declared.faults.Refusal.TheVariants.{OutOfMemory}
 use Rattle.commit_book.specs.declared.reply.Reply.{Reply}
 
--- a book with a legal history, of at least so many entries, answers a call so
+-- A book answers a call so: it was given what a book can be given, its history before the call and after it is as the
+-- headline says, and it has at least so many entries. So memory is out only where the book's own step says that it may be.
 pub record IsAnsweredAt (count : ℕ) (call : Call) (answer : Answer) : Type 0 where
   pub setting : Setting
+  pub given : IsSetting setting
   pub book : BookState
-  pub legal : IsLegal setting book.history
+  pub proved : IsProved setting book.history
   pub counted : count ≤ length book.history
   pub new : BookState
   pub is_call : IsCall setting book call answer new
+  pub proved_after : IsProved setting new.history
 
--- so does some book; or memory is out before any book is asked
+-- the answer of a call with an event is that of such a book
 abbrev pub IsBooksAnswer : (count : ℕ) → Call → Result Reply Refusal → Type 0
-IsBooksAnswer count call result = IsAnsweredAt count call (answer_of result) ⊎ (result ≡ Err OutOfMemory)
+IsBooksAnswer count call result = IsAnsweredAt count call (answer_of result)
 
--- a snapshot of the last version of a legal history, of at least so many entries
+-- a snapshot of the last version of such a book
 pub record IsSnapAt (count at : ℕ) (snap : SnapValue) : Type 0 where
   pub setting : Setting
+  pub given : IsSetting setting
   pub history : List Event
-  pub legal : IsLegal setting history
+  pub proved : IsProved setting history
   pub counted : count ≤ length history
   pub is_snap : snap ≡ snap_of setting history at

@@ -10,8 +10,8 @@ use std::sync::ledger::Ledger;
 pub enum CloseFault<L: Ledger> {
     /// Fewer seats came than the office was opened with (95). Office and seats are handed back.
     SeatsMissing(Office<L>, Vec<Seat<L>>),
-    /// An entry of the book is not the event of a receipt (96): the seat's number and the entry's. Book and seats are
-    /// handed back.
+    /// An entry of the book is not the event of a receipt (96): the seat's number and the entry's. The book, with as many
+    /// entries as all seats have receipts, and the seats are handed back.
     ReceiptLost(u32, u64, Book, Vec<Seat<L>>),
 }
 

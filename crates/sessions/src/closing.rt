@@ -1,5 +1,5 @@
 //! How an office is closed.
-ghost use Rattle.std.specs.Prelude.{◌≡◌, ◌≤◌, ◌↔◌, All, IfErr, IfNone, IfOk, IfSome, IsTrue, length};
+ghost use Rattle.std.specs.Prelude.{◌≡◌, ◌≤◌, ◌+◌, ◌↔◌, All, IfErr, IfNone, IfOk, IfSome, IsTrue, length};
 ghost use Rattle.std.specs.List.{sum_by};
 ghost use Rattle.sessions.specs.Closing.{HasEntries, HasEntry, IsLost};
 ghost use Rattle.sessions.specs.CloseFault.{IsHandedBack, IsMissing};
@@ -17,8 +17,8 @@ use std::sync::ledger::{Ledger, Share};
 /// entry of its number. An office has as many seats as its ledger has parts.
 ///
 /// The first of these is answered: `SeatsMissing` (95), exactly where fewer seats come than the office was opened with;
-/// office and seats are handed back. `ReceiptLost` (96), only where the entry of a receipt is not its event; book and seats
-/// are handed back. Takes no memory, and waits for nobody.
+/// office and seats are handed back. `ReceiptLost` (96), only where the entry of a receipt is not its event; the book, with
+/// as many entries as all seats have receipts, and the seats are handed back. Takes no memory, and waits for nobody.
 pub fn close<L: Ledger>(office: Office<L>, seats: Vec<Seat<L>>) -> Result<Book, CloseFault<L>>
     requires { office.seats ≡ L.parts }
     ensures counts { IfOk result (λ book. length book.state.history ≡ sum_by count_of seats.items) }
@@ -30,12 +30,17 @@ pub fn close<L: Ledger>(office: Office<L>, seats: Vec<Seat<L>>) -> Result<Book, 
         return Err(CloseFault::SeatsMissing(office, seats));
     }
     let Office { book, seats: _ } = office;
-    let SharedBook { book, total, rest } = book.into_inner();
-    if let Some((number, entry)) = first_lost(&book, &seats) {
-        return Err(CloseFault::ReceiptLost(number, entry, book, seats));
+    let SharedBook {
+        book,
+        mut total,
+        mut rest,
+    } = book.into_inner();
+    let mut seats = seats;
+    audit_all(&mut total, &mut rest, &mut seats);
+    match first_lost(&book, &seats) {
+        Some((number, entry)) => Err(CloseFault::ReceiptLost(number, entry, book, seats)),
+        None => Ok(book),
     }
-    audit_all(total, rest, seats);
-    Ok(book)
 }
 
 /// The first receipt whose event is not the entry of its number: its seat's number, and the entry's.
@@ -74,17 +79,24 @@ fn has_entry(book: &Book, receipt: &Receipt) -> bool
     }
 }
 
-/// Merges the shares of all seats, and holds them against the total.
-fn audit_all<L: Ledger>(total: ledger::Book<L>, rest: Share<L>, seats: Vec<Seat<L>>)
-    requires none { rest.parts ≡ 0 }
-    requires all { L.parts ≤ length seats.items }
-    ensures { total.total ≡ sum_by count_of seats.items }
+/// Holds the shares of all seats together against the total, which changes nothing: the seats' counts add up to it. Each
+/// seat lends its share to the sum while the seats behind it are looked at, so it has it back at the end.
+fn audit_all<L: Ledger>(total: &mut ledger::Book<L>, sum: &mut Share<L>, seats: &mut [Seat<L>])
+    requires all { L.parts ≤ sum.old.parts + length seats.old }
+    requires few { sum.old.parts ≤ L.parts }
+    ensures total { total.old.total ≡ sum.old.amount + sum_by count_of seats.old }
+    ensures backed { sum.old.parts ≡ 0 → sum.old.amount ≡ 0 }
+    ensures kept { total.new.total ≡ total.old.total }
+    ensures seats { seats.new ≡ seats.old }
+    ensures parts { sum.new.parts ≡ sum.old.parts }
+    ensures amount { sum.new.amount ≡ sum.old.amount }
 {
-    let mut total = total;
-    let mut all = rest;
-    total.audit(&mut all);
-    for seat in seats {
-        all.merge(seat.into_share());
-    }
-    total.audit(&mut all);
+    total.audit(sum);
+    let Some((seat, others)) = seats.split_first_mut() else {
+        return;
+    };
+    let count = seat.count();
+    seat.share.give(sum, 1, count);
+    audit_all(total, sum, others);
+    sum.give(&mut seat.share, 1, count);
 }

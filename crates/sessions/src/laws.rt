@@ -14,9 +14,10 @@ pub fn a_plan_for_the_present_is_accepted()
 
 /// States two laws of receipts; it does nothing.
 ///
-/// Receipts that have the entries of one history have one event where they have one number. Where a history has as many entries as there are receipts, each receipt's event is the entry of its number, and no two
-/// receipts have one number, the history is the receipts and nothing else: each entry is the event of a receipt of its
-/// number.
+/// Receipts that have the entries of one history have one event where they have one number. Where a history has as many
+/// entries as some seats have receipts, and each receipt's event is the entry of its number, as `close` says, and no two
+/// receipts have one number, the history is the receipts and nothing else: each entry is the event of some seat's receipt
+/// of its number.
 pub fn receipts_are_the_history()
     ensures agree { ReceiptsAgree }
     ensures history { ReceiptsAreTheHistory }

@@ -26,8 +26,8 @@ const TRIES: u32 = 2_000;
 ///
 /// Each call of a seat takes the lock, makes one call of the book, and lets go; so each call may wait for others. What a
 /// call does to the book is what the book's own call of that name does. No contract can name the book behind the lock: it
-/// says that the answer is one that some book gives to this call, whose history is legal and has at least as many entries
-/// as the seat has receipts. (This is no `OfficeState`, which is the office that a book's entries lead to.)
+/// says that the answer is one that some book gives to this call, which was given what a book can be given, and whose
+/// history is as the headline says and has at least as many entries as the seat has receipts. (This is no `OfficeState`, which is the office that a book's entries lead to.)
 #[derive(Drop)]
 pub struct Office<L: Ledger> {
     pub(crate) book: Mutex<SharedBook<L>>,
@@ -44,8 +44,8 @@ impl<L: Ledger> Model for Office<L> {
 
 impl<L: Ledger> Office<L> {
     /// Sends a movement message. One that is accepted gives the seat a receipt; one that is an entry already is answered
-    /// with `Repeated` and gives none. Refused, with book and seat unchanged: as `Book::message` refuses it; `OutOfMemory`
-    /// (1), which may come in place of any answer. May wait.
+    /// with `Repeated` and gives none. Refused, with book and seat unchanged: as `Book::message` refuses it, where
+    /// `OutOfMemory` (1) comes only of a message that would be accepted. May wait.
     pub fn send(
         &self,
         rt: &impl Wait,
@@ -60,7 +60,7 @@ impl<L: Ledger> Office<L> {
     }
 
     /// Places an order. One that is accepted gives the seat a receipt. Refused, with book and seat unchanged: as
-    /// `Book::place` refuses it; `OutOfMemory` (1), which may come in place of any answer. May wait.
+    /// `Book::place` refuses it, where `OutOfMemory` (1) comes only of an order that would be accepted. May wait.
     pub fn place(
         &self,
         rt: &impl Wait,
@@ -75,7 +75,7 @@ impl<L: Ledger> Office<L> {
     }
 
     /// Withdraws an order. A withdrawal that is accepted gives the seat a receipt. Refused, with book and seat unchanged:
-    /// as `Book::withdraw` refuses it; `OutOfMemory` (1), which may come in place of any answer. May wait.
+    /// as `Book::withdraw` refuses it, where `OutOfMemory` (1) comes only of a withdrawal that would be accepted. May wait.
     pub fn withdraw(
         &self,
         rt: &impl Wait,
@@ -90,8 +90,8 @@ impl<L: Ledger> Office<L> {
     }
 
     /// Puts the network of this number, counted from 1, in force. A revision that is accepted gives the seat a receipt.
-    /// Refused, with book and seat unchanged: as `Book::revise` refuses it; `OutOfMemory` (1), which may come in place of
-    /// any answer. May wait.
+    /// Refused, with book and seat unchanged: as `Book::revise` refuses it, where `OutOfMemory` (1) comes only of a revision
+    /// that would be accepted. May wait.
     pub fn revise(
         &self,
         rt: &impl Wait,
@@ -106,7 +106,7 @@ impl<L: Ledger> Office<L> {
     }
 
     /// Promises the pairs of a commit. One that is accepted gives the seat a receipt. Refused, with book and seat
-    /// unchanged: as `Book::commit` refuses it; `OutOfMemory` (1), which may come in place of any answer. May wait.
+    /// unchanged: as `Book::commit` refuses it, where `OutOfMemory` (1) comes only behind 81 and 72. May wait.
     pub fn commit(
         &self,
         rt: &impl Wait,
@@ -117,8 +117,13 @@ impl<L: Ledger> Office<L> {
         ensures seat { IsAnswered seat.old seat.new (event.Commit commit.now) result }
         ensures book { IsBooksAnswer (count_of seat.old) (call.Commit commit.now) result }
     {
-        let commit = commit.copy(alloc)?;
-        self.submit(rt, alloc, seat, Event::Commit(commit))
+        match commit.copy(alloc) {
+            Ok(commit) => self.submit(rt, alloc, seat, Event::Commit(commit)),
+            Err(_) => Err(
+                self.locked(rt)
+                    .commit_without_memory(&mut seat.share, commit),
+            ),
+        }
     }
 
     /// The problem of the book's present version at a moment, which the book keeps so that a commit may name it. The
@@ -150,8 +155,12 @@ impl<L: Ledger> Office<L> {
         ensures seat { IsAnswered seat.old seat.new event result }
         ensures book { IsBooksAnswer (count_of seat.old) (call_of event) result }
     {
-        // First the receipt's memory, then the book's call while the lock is held, then the receipt.
-        seat.receipts.reserve(1)?;
+        // First the receipt's memory, then the book's call while the lock is held, then the receipt. An answer that gives
+        // no receipt needs none of that memory.
+        if seat.receipts.reserve(1).is_err() {
+            let mut book = self.locked(rt);
+            return book.answer_without_memory(&mut seat.share, &event);
+        }
         let reply = match self.locked(rt).enter(alloc, &mut seat.share, &event) {
             Ok(reply) => reply,
             Err(refusal) => return Err(refusal),

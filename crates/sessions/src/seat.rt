@@ -65,17 +65,4 @@ impl<L: Ledger> Seat<L> {
     {
         &self.receipts
     }
-
-    /// The seat's share of its ledger: one part, and its count.
-    pub(crate) fn into_share(self) -> Share<L>
-        ensures part { result.parts ≡ 1 }
-        ensures amount { result.amount ≡ count_of self }
-    {
-        let Seat {
-            number: _,
-            share,
-            receipts: _,
-        } = self;
-        share
-    }
 }

@@ -1,13 +1,17 @@
 //! The book behind the lock.
 ghost use Rattle.std.specs.Prelude.{◌≡◌, ◌≤◌, ◌<◌, ◌+◌, IfOk, length};
-ghost use Rattle.commit_book.specs.BookStep.{IsCall, answer_of, begun_of};
-ghost use Rattle.commit_book.specs.History.{IsLegal};
+ghost use Rattle.commit_book.specs.BookStep.{IsCall, IsNoEntry, answer_of, begun_of};
+ghost use Rattle.commit_book.specs.Headline.{IsProved};
 ghost use Rattle.commit_book.specs.Requests.{call_of};
+ghost use Rattle.commit_book.specs.Setting.{IsSetting};
 ghost use Rattle.commit_book.specs.Snap.{snap_of};
+ghost use Rattle.commit_book.specs.declared.answer.Answer.TheVariants.{Refused};
 ghost use Rattle.commit_book.specs.declared.call.Call.TheVariants as call;
+ghost use Rattle.sessions.specs.AnyBook.{IsAnsweredAt, IsBooksAnswer};
 ghost use Rattle.sessions.specs.inner.Counted.{IsCounted, accepted_in};
 
 use commit_book::{Book, Refusal, Reply, Snap};
+use move_messages::CommitText;
 use operating_db::Event;
 use rail_codes::Moment;
 use std::alloc::{AllocError, Global};
@@ -37,7 +41,9 @@ impl<L: Ledger> SharedBook<L> {
     ) -> Result<Reply, Refusal>
         requires { 0 < share.old.parts }
         ensures call { IsCall self.old.book.setting self.old.book.state (call_of event.now) (answer_of result) self.new.book.state }
-        ensures legal { IsLegal self.old.book.setting self.old.book.state.history }
+        ensures given { IsSetting self.old.book.setting }
+        ensures proved { IsProved self.old.book.setting self.old.book.state.history }
+        ensures proved_after { IsProved self.old.book.setting self.new.book.state.history }
         ensures within { share.old.amount ≤ length self.old.book.state.history }
         ensures counted { IsCounted share.old.amount share.new.amount result }
         ensures parts { share.new.parts ≡ share.old.parts }
@@ -48,12 +54,44 @@ impl<L: Ledger> SharedBook<L> {
             total,
             rest: _,
         } = self;
-        let reply = match book.submit(alloc, event) {
+        let answer = book.submit(alloc, event);
+        // For the prover alone: the history is as the headline says afterwards too.
+        let _proved = book.state();
+        let reply = match answer {
             Ok(reply) => reply,
             Err(refusal) => return Err(refusal),
         };
         count(total, share, reply);
         Ok(reply)
+    }
+
+    /// What the call for an event is answered where no memory is to be had, which changes nothing.
+    pub(crate) fn answer_without_memory(
+        &mut self,
+        share: &mut Share<L>,
+        event: &Event,
+    ) -> Result<Reply, Refusal>
+        ensures answered { IsBooksAnswer share.old.amount (call_of event.now) result }
+        ensures no_entry { IsNoEntry result }
+        ensures amount { share.new.amount ≡ share.old.amount }
+        ensures parts { share.new.parts ≡ share.old.parts }
+    {
+        self.audit(share);
+        self.book.answer_without_memory(event)
+    }
+
+    /// The same of a commit.
+    pub(crate) fn commit_without_memory(
+        &mut self,
+        share: &mut Share<L>,
+        commit: &CommitText,
+    ) -> Refusal
+        ensures answered { IsAnsweredAt share.old.amount (call.Commit commit.now) (Refused result) }
+        ensures amount { share.new.amount ≡ share.old.amount }
+        ensures parts { share.new.parts ≡ share.old.parts }
+    {
+        self.audit(share);
+        self.book.commit_without_memory(commit)
     }
 
     /// The problem of the book's present version at a moment, which the book keeps. The seat's count is at most the
@@ -65,7 +103,8 @@ impl<L: Ledger> SharedBook<L> {
         at: Moment,
     ) -> Result<Snap, AllocError>
         ensures call { IsCall self.old.book.setting self.old.book.state (call.Begin at) (begun_of result) self.new.book.state }
-        ensures legal { IsLegal self.old.book.setting self.old.book.state.history }
+        ensures given { IsSetting self.old.book.setting }
+        ensures proved { IsProved self.old.book.setting self.old.book.state.history }
         ensures within { share.old.amount ≤ length self.old.book.state.history }
         ensures snap { IfOk result (λ snap. snap ≡ snap_of self.old.book.setting self.old.book.state.history at) }
         ensures version { IfOk result (λ snap. share.old.amount ≤ snap.version) }
@@ -76,16 +115,17 @@ impl<L: Ledger> SharedBook<L> {
         self.book.begin(alloc, at)
     }
 
-    /// Holds a seat's share against the total, which changes nothing: the book's history is legal, and has at least as many
-    /// entries as the seat has receipts.
+    /// Holds a seat's share against the total, which changes nothing: the book was given what a book can be given, and its
+    /// history is as the headline says and has at least as many entries as the seat has receipts.
     fn audit(&mut self, share: &mut Share<L>)
-        ensures legal { IsLegal self.old.book.setting self.old.book.state.history }
+        ensures given { IsSetting self.old.book.setting }
+        ensures proved { IsProved self.old.book.setting self.old.book.state.history }
         ensures within { share.old.amount ≤ length self.old.book.state.history }
         ensures book { self.new.book ≡ self.old.book }
         ensures amount { share.new.amount ≡ share.old.amount }
         ensures parts { share.new.parts ≡ share.old.parts }
     {
-        // For the prover alone: the history is as the headline says.
+        // For the prover alone: what holds of every book.
         let _proved = self.book.state();
         self.total.audit(share);
     }
