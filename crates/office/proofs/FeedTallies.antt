@@ -2,7 +2,7 @@
 use Rattle.std.proofs.Common.{◌≡◌, ◌+◌, ◌<◌, ◌≤◌, ◌^◌, ◌∷◌, ℕ, suc, Bool, true, false, cond, List, [], ◌++◌, length, refl, sym, ap, ◌∙◌, subst, arith, inl, inr, append_assoc}
 use Rattle.std.specs.Prelude.{◌&&◌, ◌==◌, not, Any, Option, Some, None, Result, Ok, Err, IfOk, IfErr}
 use Rattle.std.specs.List.{count_by}
-use Rattle.std.specs.Io.KnownBytes.{Consumes, IsAtEnd}
+use Rattle.std.specs.Io.KnownBytes.{Consumes, IsAtEnd, Keeps}
 use Rattle.std.proofs.lemmas.List.{length-append, append-nil}
 use Rattle.std.proofs.lemmas.List.Sums.{sum_by-cons}
 use Rattle.line_engine.specs.Lines.{line_feed, lines_of, first_line, begin_with, is_blank, max_input_lines, max_line_bytes, with_feeds}
@@ -167,6 +167,12 @@ module _ {H : Type 0} (answers : Answering H) (runs_out : RunningOut H) (run : R
 
 -- ---- a file's run
 
+-- bytes that stay as they were lose none
+consumes_none : (from to : Option (List ℕ)) → Keeps from to → Consumes from to []
+consumes_none None to keeps = tt
+consumes_none (Some xs) None keeps = absurd keeps
+consumes_none (Some xs) (Some ys) keeps = sym keeps
+
 not_none : {P : Type 0} (code : ℕ) → let o : Option ℕ = Some code in o ≡ None → P
 not_none code h = absurd cc
 
@@ -174,9 +180,11 @@ not_this : {P : Type 0} (code other : ℕ) → let o : Option ℕ = Some code in
 not_this code other h differs = let same : code ≡ other = cc in absurd (differs same)
 
 -- a stop of a number that is no other's
-stopped : (told : Option (List ℕ)) (tally code : ℕ) (has_failed : Bool) → IsStopNumber code → (code ≡ 91 → (bytes : List ℕ) → told ≡ Some bytes → max_input_lines < length (lines_of bytes))
-    → (code ≡ 92 → (bytes : List ℕ) → told ≡ Some bytes → Any IsLong (lines_of bytes)) → (code ≡ 93 → has_failed ≡ true) → IsFileRun told tally (Some code) has_failed
-stopped told tally code has_failed number many long failed = record {
+stopped : (told left : Option (List ℕ)) (tally code : ℕ) (has_failed : Bool) → ((read : List ℕ) × Consumes told left read) → IsStopNumber code → (code ≡ 91 → (bytes : List ℕ) → told ≡ Some bytes → max_input_lines < length (lines_of bytes))
+    → (code ≡ 92 → (bytes : List ℕ) → told ≡ Some bytes → Any IsLong (lines_of bytes)) → (code ≡ 93 → has_failed ≡ true) → IsFileRun told left tally (Some code) has_failed
+stopped told left tally code has_failed rest number many long failed = record {
+  rest = rest;
+  ended = λ none. not_none code none;
   all = λ bytes is none. not_none code none;
   only = λ bytes is none. not_none code none;
   number = number;
@@ -186,11 +194,13 @@ stopped told tally code has_failed number many long failed = record {
 }
 
 module _ {H : Type 0} (t : H → ℕ) (run : Run H) (failed : Failures) (new : t run.old ≡ 0) where
-  file_ended : (count : RunCount) → Ends (Answers t) (NeverOut t) run count → IsFileRun run.from (t run.new) None failed.reader
+  file_ended : (count : RunCount) → Ends (Answers t) (NeverOut t) run count → IsFileRun run.from run.to (t run.new) None failed.reader
   file_ended count ends =
       let lines = lines_of ends.input in
       let tallied = lines_tallied t 1 run.old run.new lines ends.output count.refused ends.replies in
       record {
+        rest = (ends.input, ends.consumed);
+        ended = λ none. ends.ended;
         all = λ bytes told none. subst (λ (xs : List ℕ). count_by must_count (lines_of xs) ≤ t run.new) (sym (whole run.from run.to ends.input bytes told ends.consumed ends.ended))
             (let room : t run.old + length lines < 2 ^ 64 = omega (arith, new, ends.lines, ends.few) in omega (arith, new, tallied.all room));
         only = λ bytes told none. subst (λ (xs : List ℕ). t run.new ≤ count_by may_count (lines_of xs)) (sym (whole run.from run.to ends.input bytes told ends.consumed ends.ended)) (omega (arith, new, tallied.little));
@@ -200,17 +210,17 @@ module _ {H : Type 0} (t : H → ℕ) (run : Run H) (failed : Failures) (new : t
         unread = λ which. absurd cc;
       }
 
-  file_stopped : (fault : RunFault) → failed.writer ≡ false → Stops (Answers t) (NeverOut t) run failed fault → IsFileRun run.from (t run.new) (Some (number_of fault)) failed.reader
-  file_stopped OutOfMemory quiet stops = stopped _ _ 1 _ (inl refl) (λ e. absurd (omega arith)) (λ e. absurd (omega arith)) (λ e. absurd (omega arith))
+  file_stopped : (fault : RunFault) → failed.writer ≡ false → Stops (Answers t) (NeverOut t) run failed fault → IsFileRun run.from run.to (t run.new) (Some (number_of fault)) failed.reader
+  file_stopped OutOfMemory quiet stops = stopped _ _ _ 1 _ ([], consumes_none run.from run.to stops.0) (inl refl) (λ e. absurd (omega arith)) (λ e. absurd (omega arith)) (λ e. absurd (omega arith))
   file_stopped (TooManyLines n) quiet stops =
-      stopped _ _ 91 _ (inr (inl refl)) (λ e. many_lines (Answers t) (NeverOut t) run n stops.0 stops.1 stops.2) (λ e. absurd (omega arith)) (λ e. absurd (omega arith))
+      stopped _ _ _ 91 _ (stops.0.input, stops.0.consumed) (inr (inl refl)) (λ e. many_lines (Answers t) (NeverOut t) run n stops.0 stops.1 stops.2) (λ e. absurd (omega arith)) (λ e. absurd (omega arith))
   file_stopped (LineTooLong n) quiet stops =
-      stopped _ _ 92 _ (inr (inr (inl refl))) (λ e. absurd (omega arith)) (λ e. long_line (Answers t) (NeverOut t) run n stops.0 stops.2) (λ e. absurd (omega arith))
-  file_stopped (ReadFailed n) quiet stops = stopped _ _ 93 _ (inr (inr (inr refl))) (λ e. absurd (omega arith)) (λ e. absurd (omega arith)) (λ e. stops.3)
+      stopped _ _ _ 92 _ (stops.0.input, stops.0.consumed) (inr (inr (inl refl))) (λ e. absurd (omega arith)) (λ e. long_line (Answers t) (NeverOut t) run n stops.0 stops.2) (λ e. absurd (omega arith))
+  file_stopped (ReadFailed n) quiet stops = stopped _ _ _ 93 _ (stops.0.input, stops.0.consumed) (inr (inr (inr refl))) (λ e. absurd (omega arith)) (λ e. absurd (omega arith)) (λ e. stops.3)
   file_stopped (WriteFailed n) quiet stops = absurd (let wrote : failed.writer ≡ true = stops.5 in cc)
 
   -- a file's run, however it ended
   pub file_run : (result : Result RunCount RunFault) → failed.writer ≡ false → IfOk result (λ count. Ends (Answers t) (NeverOut t) run count) → IfErr result (λ fault. Stops (Answers t) (NeverOut t) run failed fault)
-      → IsFileRun run.from (t run.new) (stop_number result) failed.reader
+      → IsFileRun run.from run.to (t run.new) (stop_number result) failed.reader
   file_run (Ok count) quiet ends stops = file_ended count ends
   file_run (Err fault) quiet ends stops = file_stopped fault quiet stops

@@ -4,7 +4,7 @@ use Rattle.json_fields.specs.declared.fault.LineFault.{LineFault}
 use Rattle.move_messages.specs.Commands.{command_of}
 use Rattle.move_messages.specs.declared.command.Command.{Command}
 use Rattle.move_messages.specs.declared.command.Command.TheVariants as command
-use Rattle.cost_table.specs.Plan.{IsOptimal, cost_of}
+use Rattle.cost_table.specs.Plan.{IsOptimal, IsPlanList, cost_of}
 use Rattle.cost_table.specs.Table.{Table}
 use Rattle.price_checker.specs.Certificate.{IsCertificate}
 use Rattle.operating_db.specs.Office.{StateValue}
@@ -67,12 +67,13 @@ begun_reply snap = begun_text snap.version (length snap.problem.wagons) (length 
 abbrev pub planned_reply : SnapValue → (cost : ℕ) → List ℕ
 planned_reply snap cost = planned_text snap.version (length snap.problem.wagons) (length snap.problem.orders) cost
 
--- The reply to a plan line, over the table of the version just begun: a plan at the lowest total cost, and the line of a
--- commit of it whose prices are a certificate. Sent back, that line is read as this commit.
+-- The reply to a plan line, over the table of the version just begun: a plan at the lowest total cost, whose pairs ascend
+-- by order and then by wagon, and the line of a commit of it whose prices are a certificate. Sent back, that line is read as this commit.
 pub record IsPlanned (snap : SnapValue) (table : Table) (body : List ℕ) : Type 0 where
   pub pairs : List (ℕ × ℕ)
   pub u : List ℕ
   pub v : List ℕ
+  pub kept : IsPlanList pairs
   pub optimal : IsOptimal table pairs
   pub certificate : IsCertificate table pairs u v
   pub line : List ℕ

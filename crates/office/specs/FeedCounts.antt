@@ -1,6 +1,7 @@
 -- What is counted of a file that was fed to a book.
 use Rattle.std.specs.Prelude.{◌≡◌, ◌+◌, ◌<◌, ◌≤◌, ◌&&◌, ◌⊎◌, not, ℕ, Bool, true, false, List, Any, Option, Some, None, Result, Ok, Err, IfSome, length}
 use Rattle.std.specs.List.{count_by}
+use Rattle.std.specs.Io.KnownBytes.{Consumes, IsAtEnd}
 use Rattle.json_fields.specs.declared.fault.LineFault.{LineFault}
 use Rattle.line_engine.specs.Lines.{is_blank, lines_of, max_input_lines, max_line_bytes}
 use Rattle.move_messages.specs.Commands.{command_of}
@@ -38,9 +39,12 @@ may_count line = not (is_blank line)
 abbrev pub IsStopNumber : ℕ → Type 0
 IsStopNumber code = (code ≡ 1) ⊎ ((code ≡ 91) ⊎ ((code ≡ 92) ⊎ (code ≡ 93)))
 
--- What holds of a file's run over the bytes that its reader tells, if it does: how many lines were counted, what stopped
--- it, and whether the reader has failed by then.
-pub record IsFileRun (told : Option (List ℕ)) (tally : ℕ) (failed : Option ℕ) (has_failed : Bool) : Type 0 where
+-- What holds of a file's run over the bytes that its reader tells, if it does: what the reader has left, how many lines
+-- were counted, what stopped it, and whether the reader has failed by then.
+pub record IsFileRun (told left : Option (List ℕ)) (tally : ℕ) (failed : Option ℕ) (has_failed : Bool) : Type 0 where
+  -- the reader has the rest of the file's bytes left, and none where it was read to its end
+  pub rest : (read : List ℕ) × Consumes told left read
+  pub ended : failed ≡ None → IsAtEnd left
   -- a file that was read to its end: each line counts that must, and none but those that may
   pub all : (bytes : List ℕ) → told ≡ Some bytes → failed ≡ None → count_by must_count (lines_of bytes) ≤ tally
   pub only : (bytes : List ℕ) → told ≡ Some bytes → failed ≡ None → tally ≤ count_by may_count (lines_of bytes)
@@ -52,4 +56,4 @@ pub record IsFileRun (told : Option (List ℕ)) (tally : ℕ) (failed : Option �
 -- the run of a file over this reader, where readers tell their bytes and their failures so
 abbrev pub IsFed : {R : Type 0} → (R → Option (List ℕ)) → (R → Bool) → R → FileCount R → Type 0
 IsFed remaining has_failed reader file =
-    IsFileRun (remaining reader) (file.accepted + file.repeated + file.refused) file.failed (has_failed file.reader)
+    IsFileRun (remaining reader) (remaining file.reader) (file.accepted + file.repeated + file.refused) file.failed (has_failed file.reader)

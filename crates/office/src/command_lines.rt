@@ -198,6 +198,7 @@ pub fn run<R: Source, W: Sink>(
       new = book.new;
     })
         (record { reader = R.has_failed reader.new; writer = W.has_failed writer.new }) fault) }
+    ensures healthy { OnOk result ((R.has_failed reader.new ≡ false) × (W.has_failed writer.new ≡ false)) }
     ensures calls { IsLedTo book.old book.new }
     ensures proved { IsProved book.new.setting book.new.state.history }
 {

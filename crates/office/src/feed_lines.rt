@@ -1,8 +1,8 @@
 //! What a file's lines do at the file's seat.
-ghost use Rattle.std.specs.Prelude.{◌≡◌, ◌≢◌, None, Some, false};
+ghost use Rattle.std.specs.Prelude.{◌≡◌, ◌≢◌, IfSome, None, Some, false};
 ghost use Rattle.sessions.specs.Seat.{count_of};
 ghost use Rattle.office.specs.FeedCounts.{is_request_counted};
-ghost use Rattle.office.specs.inner.FeedLines.{AddsCounted, CountsLine, IsAnsweredAs, counted_by, tally};
+ghost use Rattle.office.specs.inner.FeedLines.{AddsCounted, CountsLine, IsAnsweredAs, IsPlannedIn, IsPlansCommit, IsSubmitted, IsTakenIn, counted_by, tally};
 
 use commit_book::{Refusal, Reply, Request, Snap};
 use distance_tables::Networks;
@@ -76,6 +76,7 @@ impl<'a, W: Wait, L: Ledger> Drop for FeedLines<'a, W, L> {
 impl<'a, W: Wait, L: Ledger> FeedLines<'a, W, L> {
     /// Does at a seat what is asked for.
     fn take_in(&self, alloc: Global, seat: &mut Seat<L>, request: Request) -> Counted
+        ensures taken { IsTakenIn self.now.networks.now seat.old seat.new request result }
         ensures seat { IsAnsweredAs (count_of seat.old) (count_of seat.new) result }
         ensures nowhere { result ≡ Counted.Nowhere → is_request_counted request ≡ false }
     {
@@ -92,6 +93,7 @@ impl<'a, W: Wait, L: Ledger> FeedLines<'a, W, L> {
 
     /// Submits an event at a seat.
     fn submit(&self, alloc: Global, seat: &mut Seat<L>, event: Event) -> Counted
+        ensures submitted { IsSubmitted seat.old seat.new event result }
         ensures seat { IsAnsweredAs (count_of seat.old) (count_of seat.new) result }
         ensures somewhere { result ≢ Counted.Nowhere }
     {
@@ -101,6 +103,7 @@ impl<'a, W: Wait, L: Ledger> FeedLines<'a, W, L> {
     /// Begins at a moment, plans with no lock held, and commits what was planned. It counts as the commit's answer, or as
     /// refused where the begin or the planning was.
     fn plan(&self, alloc: Global, seat: &mut Seat<L>, at: Moment) -> Counted
+        ensures planned { IsPlannedIn self.now.networks.now seat.old seat.new at result }
         ensures seat { IsAnsweredAs (count_of seat.old) (count_of seat.new) result }
         ensures somewhere { result ≢ Counted.Nowhere }
     {
@@ -115,7 +118,9 @@ impl<'a, W: Wait, L: Ledger> FeedLines<'a, W, L> {
 }
 
 /// The commit of what is planned for a snapshot; none where planning is refused.
-fn planned_commit(alloc: Global, snap: &Snap, networks: &Networks) -> Option<CommitText> {
+fn planned_commit(alloc: Global, snap: &Snap, networks: &Networks) -> Option<CommitText>
+    ensures { IfSome result (IsPlansCommit networks.now snap.now) }
+{
     match work(alloc, snap, networks) {
         Ok((plan, prices)) => snap.commit_text(alloc, &plan, &prices).ok(),
         Err(_) => None,

@@ -76,6 +76,7 @@ pub fn check_run<R: Source, W: Sink>(
       new = tt;
     })
         (record { reader = R.has_failed reader.new; writer = W.has_failed writer.new }) fault) }
+    ensures healthy { OnOk result ((R.has_failed reader.new ≡ false) × (W.has_failed writer.new ≡ false)) }
 {
     run_lines(alloc, reader, writer, &TableChecker, &mut ())
 }

@@ -15,4 +15,4 @@ stop_number (Err fault) = Some (number_of fault)
 -- the run of a file over this reader, where readers tell their bytes and their failures so
 abbrev pub IsFedFile : {L R : Type 0} → (R → Option (List ℕ)) → (R → Bool) → R → FedFile L R → Type 0
 IsFedFile remaining has_failed reader file =
-    IsFileRun (remaining reader) (count_of file.seat + file.repeated + file.refused) file.failed (has_failed file.reader)
+    IsFileRun (remaining reader) (remaining file.reader) (count_of file.seat + file.repeated + file.refused) file.failed (has_failed file.reader)

@@ -22,6 +22,7 @@ returns c =
       pairs = c.args.plan.now;
       u = c.args.prices.now.u.items;
       v = c.args.prices.now.v.items;
+      kept = c.pairs.ensures.kept;
       optimal = c.requires.optimal;
       certificate = c.requires.certificate;
       line = line;
