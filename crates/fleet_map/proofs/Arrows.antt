@@ -1,5 +1,5 @@
 -- The arrow of a promise from one of several places.
-use Rattle.std.proofs.Common.{◌≡◌, ℕ, List, [], ◌++◌, Bool, true, false, Option, Some, take, sym, ap, ◌∙◌, append-nil}
+use Rattle.std.proofs.Common.{◌≡◌, ℕ, List, [], ◌++◌, true, false, Some, take, sym, ap, ◌∙◌, append-nil}
 use Rattle.std.specs.Prelude.{count_by, nat_eq, slice_get, if◌then◌else◌}
 use Rattle.std.specs.Cmp.Lexicographic.{pointwise}
 use Rattle.std.specs.List.{list_any}

@@ -47,3 +47,7 @@ item_pushed f xs first text more i x d lt same so_far is =
 -- what a fold makes of one element more
 pub fold_noted : {A B : Type 0} (f : B → A → B) (xs : List A) (first so_far more : B) (i : ℕ) (x d : A) → i < length xs → x ≡ get_or xs i d → so_far ≡ fold f first (take i xs) → more ≡ f so_far x → more ≡ fold f first (take (i + 1) xs)
 fold_noted f xs first so_far more i x d lt same before is = is ∙ ap₂ f before same ∙ sym (fold_more f first xs i d lt)
+
+-- a text to which two parts were added
+pub pushed_twice : (old a b middle last : List ℕ) → middle ≡ old ++ a → last ≡ middle ++ b → last ≡ old ++ (a ++ b)
+pushed_twice old a b middle last first second = second ∙ ap (λ t. t ++ b) first ∙ append_assoc old a b

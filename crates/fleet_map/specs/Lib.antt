@@ -1,4 +1,5 @@
 pub mod Words
+pub mod Frame
 pub mod Wagons
 pub mod Places
 pub mod Outside

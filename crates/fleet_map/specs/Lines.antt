@@ -1,5 +1,5 @@
 -- The lines of a map.
-use Rattle.std.specs.Prelude.{ℕ, zero, suc, ◌+◌, ◌==◌, ◌&&◌, nat_le, Bool, false, if◌then◌else◌, List, [], ◌∷◌, ◌++◌, Option, Some, None, codes, decimal, slice_get}
+use Rattle.std.specs.Prelude.{ℕ, zero, suc, ◌+◌, ◌==◌, ◌&&◌, nat_le, not, Bool, false, if◌then◌else◌, List, [], ◌∷◌, ◌++◌, Option, Some, None, codes, decimal, slice_get}
 use Rattle.line_network.specs.Network.{NetworkValue}
 use Rattle.line_network.specs.declared.line.Line.{Line}
 use Rattle.fleet_map.specs.Words.{label_break, quoted}
@@ -10,10 +10,11 @@ is_back None back = false
 is_back (Some line) None = false
 is_back (Some line) (Some back) = ((line.from == back.to && line.to == back.from) && line.km == back.km) && line.minutes == back.minutes
 
--- whether line i, counted from 0, is the line before it the other way
+-- Whether line i, counted from 0, is drawn with the line before it: it is that line the other way, and that line still
+-- waits for one, since it isn't drawn with the line before it in turn.
 abbrev pub is_second : List Line → ℕ → Bool
 is_second lines zero = false
-is_second lines (suc i) = is_back (slice_get lines i) (slice_get lines (suc i))
+is_second lines (suc i) = is_back (slice_get lines i) (slice_get lines (suc i)) && not (is_second lines i)
 
 -- the name of a line on the map
 abbrev pub line_name : ℕ → List ℕ
@@ -58,8 +59,7 @@ abbrev pub line_text : (places : List (List ℕ)) → ℕ → Option Line → (b
 line_text places i None both = []
 line_text places i (Some line) both = line_node i line ++ line_edge places i line both
 
--- line i, both ways where the line after it is this one back; nothing where it was drawn with the line before it
+-- line i, both ways where the line after it is drawn with it; nothing where it is drawn with the line before it
 abbrev pub line_part : NetworkValue → ℕ → List ℕ
 line_part network i =
-    if is_second network.lines i then []
-    else line_text network.places i (slice_get network.lines i) (is_back (slice_get network.lines i) (slice_get network.lines (i + 1)))
+    if is_second network.lines i then [] else line_text network.places i (slice_get network.lines i) (is_second network.lines (i + 1))

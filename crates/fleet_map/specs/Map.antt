@@ -1,4 +1,4 @@
--- The map of an office: a graph in Graphviz's language DOT. The texts in capitals are those of src/frame.rt.
+-- The map of an office: a graph in Graphviz's language DOT.
 use Rattle.std.specs.Prelude.{ℕ, List, [], ◌∷◌, ◌++◌, codes, decimal, length}
 use Rattle.std.specs.List.{flat_map, range_with_len}
 use Rattle.line_network.specs.Network.{NetworkValue}
@@ -7,7 +7,7 @@ use Rattle.load_orders.specs.Wanted.{WantedOrder}
 use Rattle.operating_db.specs.Office.{Office}
 use Rattle.operating_db.specs.Problem.{waiting_orders}
 use Rattle.wagon_state.specs.declared.wagon_row.WagonRow.{WagonRow}
-use Rattle.fleet_map.specs.declared.frame.TheConstants.{HEAD, LEGEND, LINES, OUTSIDE, PROMISES}
+use Rattle.fleet_map.specs.Frame.{head_text, legend_text, lines_text, outside_text, promises_text}
 use Rattle.fleet_map.specs.Lines.{line_part}
 use Rattle.fleet_map.specs.Outside.{outside_places}
 use Rattle.fleet_map.specs.Places.{place_node}
@@ -15,11 +15,11 @@ use Rattle.fleet_map.specs.Promises.{promise_parts}
 
 -- the legend, with the number of the network in force
 abbrev pub head_of : ℕ → List ℕ
-head_of network = HEAD.now ++ decimal network ++ LEGEND.now
+head_of network = head_text ++ decimal network ++ legend_text
 
 -- each place of a network, and each place outside it
 abbrev pub nodes_of : List WagonRow → List WantedOrder → (places outside : List (List ℕ)) → List ℕ
-nodes_of rows waiting places outside = flat_map (place_node rows waiting) places ++ OUTSIDE.now ++ flat_map (place_node rows waiting) outside
+nodes_of rows waiting places outside = flat_map (place_node rows waiting) places ++ outside_text ++ flat_map (place_node rows waiting) outside
 
 -- each line
 abbrev pub ways_of : NetworkValue → List ℕ
@@ -30,7 +30,7 @@ abbrev pub end_of : List WagonRow → List OrderRowValue → List ℕ
 end_of rows orders = flat_map (promise_parts rows) orders ++ codes "}" ++ 10 ∷ []
 
 abbrev pub edges_of : List WagonRow → List OrderRowValue → NetworkValue → List ℕ
-edges_of rows orders network = (LINES.now ++ ways_of network) ++ (PROMISES.now ++ end_of rows orders)
+edges_of rows orders network = (lines_text ++ ways_of network) ++ (promises_text ++ end_of rows orders)
 
 -- the whole map
 abbrev pub map_text_of : Office → NetworkValue → List ℕ

@@ -1,5 +1,5 @@
 //! Lines of a network.
-ghost use Rattle.std.specs.Prelude.{◌≡◌, ◌++◌, ◌<◌, OnOk, length, slice_get, string_bytes};
+ghost use Rattle.std.specs.Prelude.{◌≡◌, ◌+◌, ◌++◌, ◌<◌, OnOk, length, slice_get, string_bytes};
 ghost use Rattle.std.specs.List.{flat_map, range_with_len};
 ghost use Rattle.fleet_map.specs.Lines.{direction_words, is_back, is_second, length_words, line_edge, line_name, line_node, line_part, place_name};
 ghost use Rattle.fleet_map.specs.Words.{quoted};
@@ -12,26 +12,45 @@ use std::alloc::AllocError;
 pub(crate) fn push_lines(text: &mut String, network: &Network) -> Result<(), AllocError>
     ensures { OnOk result (string_bytes text.new ≡ string_bytes text.old ++ flat_map (line_part network.now) (range_with_len 0 (length network.now.lines))) }
 {
+    let mut is_drawn = false;
     for i in 0..network.lines().len() {
-        push_line_at(text, network, i)?;
+        let both = takes_next(network, i, is_drawn);
+        push_line_at(text, network, i, is_drawn, both)?;
+        is_drawn = both;
     }
     Ok(())
 }
 
-/// Adds line `i`, unless the one before it is the same one back.
-fn push_line_at(text: &mut String, network: &Network, i: usize) -> Result<(), AllocError>
-    requires { i < length network.now.lines }
+/// Adds line `i`, as one that is run both ways where the line after it is drawn with it, unless it `is_drawn` with the line
+/// before it.
+fn push_line_at(
+    text: &mut String,
+    network: &Network,
+    i: usize,
+    is_drawn: bool,
+    both: bool,
+) -> Result<(), AllocError>
+    requires drawn { is_drawn ≡ is_second network.now.lines i }
+    requires both { both ≡ is_second network.now.lines (i + 1) }
     ensures { OnOk result (string_bytes text.new ≡ string_bytes text.old ++ line_part network.now i) }
 {
-    let lines = network.lines();
-    if is_second(lines, i) {
+    if is_drawn {
         return Ok(());
     }
-    let Some(line) = line_at(lines, i) else {
+    let Some(line) = line_at(network.lines(), i) else {
         return Ok(());
     };
     push_line_node(text, i, &line)?;
-    push_line_edge(text, network, i, &line, goes_back(lines, i, i + 1))
+    push_line_edge(text, network, i, &line, both)
+}
+
+/// Whether the line after line `i` is drawn with it. A line that `is_drawn` with the line before it takes no other.
+fn takes_next(network: &Network, i: usize, is_drawn: bool) -> bool
+    requires place { i < length network.now.lines }
+    requires drawn { is_drawn ≡ is_second network.now.lines i }
+    ensures { result ≡ is_second network.now.lines (i + 1) }
+{
+    goes_back(network.lines(), i, i + 1) && !is_drawn
 }
 
 /// Line `i`.
@@ -92,16 +111,6 @@ fn push_place_name(text: &mut String, network: &Network, k: usize) -> Result<(),
     match network.place_at(k) {
         Some(place) => push_quoted(text, place.as_bytes()),
         None => text.push_str("\"\""),
-    }
-}
-
-/// Whether line `i` is the line before it, the other way.
-fn is_second(lines: &[Line], i: usize) -> bool
-    ensures { result ≡ is_second lines.now i }
-{
-    match i.checked_sub(1) {
-        Some(before) => goes_back(lines, before, i),
-        None => false,
     }
 }
 

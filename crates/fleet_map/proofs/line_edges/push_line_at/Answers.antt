@@ -1,7 +1,7 @@
-use Rattle.std.proofs.Common.{◌≡◌, ◌+◌, false, Some, sym, ap, ◌∙◌, string_bytes}
+use Rattle.std.proofs.Common.{◌≡◌, false, Some, sym, ap, ◌∙◌, string_bytes}
 use Rattle.std.specs.Prelude.{slice_get}
 use Rattle.std.proofs.lemmas.Result.{on_ok_weaker}
-use Rattle.fleet_map.specs.Lines.{is_back, is_second}
+use Rattle.fleet_map.specs.Lines.{is_second}
 use Rattle.fleet_map.proofs.LineParts.{line_drawn}
 use Rattle.fleet_map.proofs.line_edges.push_line_at.Goals as goal
 
@@ -9,8 +9,6 @@ pub returns : goal.returns
 returns c =
     let network = c.args.network.now in
     let i = c.args.i in
-    let lines = c.lines-lines.ensures.lines in
-    let first : is_second network.lines i ≡ false = ap (λ ls. is_second ls i) (sym lines) ∙ sym c.is_second.ensures ∙ c.if-is_second.false in
-    let here : slice_get network.lines i ≡ Some c.in-Some.line = ap (λ ls. slice_get ls i) (sym lines) ∙ sym c.line_at.ensures ∙ c.in-Some.is in
-    let both : c.goes_back.result ≡ is_back (slice_get network.lines i) (slice_get network.lines (i + 1)) = c.goes_back.ensures ∙ ap (λ ls. is_back (slice_get ls i) (slice_get ls (i + 1))) lines in
-    on_ok_weaker c.push_line_edge.result (λ edge. line_drawn network i c.in-Some.line c.goes_back.result (string_bytes c.args.text.now) _ _ first here both c.in_ok-push_line_node.ensures edge) c.push_line_edge.ensures
+    let first : is_second network.lines i ≡ false = sym c.requires.drawn ∙ c.if-is_drawn.false in
+    let here : slice_get network.lines i ≡ Some c.in-Some.line = ap (λ ls. slice_get ls i) (sym c.lines.ensures.lines) ∙ sym c.line_at.ensures ∙ c.in-Some.is in
+    on_ok_weaker c.push_line_edge.result (λ edge. line_drawn network i c.in-Some.line c.args.both (string_bytes c.args.text.now) _ _ first here c.requires.both c.in_ok-push_line_node.ensures edge) c.push_line_edge.ensures
