@@ -1,5 +1,6 @@
 //! Entries of the manual, by their numbers.
-ghost use Rattle.std.specs.Prelude.{◌≡◌, is_some};
+ghost use Rattle.std.specs.Prelude.{◌≡◌, IfSome, is_some};
+ghost use Rattle.refusal_manual.specs.Manual.{IsEntryOf};
 ghost use Rattle.refusal_manual.specs.Numbers.{is_refusal_number};
 ghost use Rattle.refusal_manual.specs.inner.Halves.{is_high_number, is_low_number};
 
@@ -9,7 +10,8 @@ use crate::{codes, events, lines, movements, networks, runs, tables};
 /// columns: a heading of number and name, what is wrong, and an item each for where it comes (in which words of the
 /// program, to which lines or files), its usual cause, and what to do about it.
 pub fn entry_text(number: u32) -> Option<&'static str>
-    ensures { is_some result ≡ is_refusal_number number }
+    ensures known { is_some result ≡ is_refusal_number number }
+    ensures numbered { IfSome result (λ entry. IsEntryOf number entry.now) }
 {
     match low_entry(number) {
         Some(entry) => Some(entry),
@@ -19,7 +21,8 @@ pub fn entry_text(number: u32) -> Option<&'static str>
 
 /// The entry of a number below 50.
 fn low_entry(number: u32) -> Option<&'static str>
-    ensures { is_some result ≡ is_low_number number }
+    ensures known { is_some result ≡ is_low_number number }
+    ensures numbered { IfSome result (λ entry. IsEntryOf number entry.now) }
 {
     match number {
         1 => Some(lines::OUT_OF_MEMORY),
@@ -53,7 +56,8 @@ fn low_entry(number: u32) -> Option<&'static str>
 
 /// The entry of a number from 50 on.
 fn high_entry(number: u32) -> Option<&'static str>
-    ensures { is_some result ≡ is_high_number number }
+    ensures known { is_some result ≡ is_high_number number }
+    ensures numbered { IfSome result (λ entry. IsEntryOf number entry.now) }
 {
     match number {
         51 => Some(tables::DUPLICATE_WAGON),

@@ -107,8 +107,11 @@ pub(crate) const NOT_KEPT: &str = "## 81 NotKept
 The problem of this version and moment isn't kept.
 
 - Where: `commit` lines: `run`, `feed`.
-- Cause: it was never begun, the moment differs, or newer `begin` and `plan`
-  lines took its place: the newest 8 are kept, or as many as `--kept` says.
+- Cause: it was never begun, the moment differs, or newer problems took its
+  place: 8 are kept, or as many as `--kept` says; a new one goes last, and the
+  first is dropped. One that is kept already stays where it is when it is begun
+  again, so the certificate of a repeated `plan` line may be dropped sooner than
+  its own line says.
 - Remedy: plan anew and send that certificate. Where many plan at once, give
   more `--kept`.
 ";
@@ -119,8 +122,8 @@ A wagon of the commit isn't free now as it was in the problem. The reply names
 it.
 
 - Where: `commit` lines: `run`, `feed`.
-- Cause: since the problem was begun the wagon was promised by another commit,
-  has moved, or was held, even where it is free again.
+- Cause: since the problem was begun the wagon was promised, held or moved, or
+  it is free again at another place or from another moment.
 - Remedy: plan anew. The commit did nothing, also for its other pairs.
 ";
 

@@ -7,7 +7,8 @@ the problem of a `plan` line may be kept.
 
 - Where: any reply of `check`, `solve` and `run`, and the next line is read; in
   `feed` a refused line, or `file K failed 1` before a file's first line; on
-  standard error `wagons: 1`, before the first line is read.
+  standard error `wagons: 1`, before the first line is read, or in place of what
+  `feed`, `map` and `explain` print at their end.
 - Cause: a limit on the memory of the account or the container (`ulimit -v`), or
   other programs that took it all.
 - Remedy: free memory or raise the limit. Send a refused line again as it is.

@@ -1,7 +1,7 @@
 //! The whole manual.
-ghost use Rattle.std.specs.Prelude.{◌≡◌, ◌++◌, ◌∷◌, List, ℕ, true, IfOk, OnOk, length, string_bytes};
-ghost use Rattle.refusal_manual.specs.Manual.{HasEntries};
-ghost use Rattle.refusal_manual.specs.Numbers.{is_refusal_number, refusal_numbers};
+ghost use Rattle.std.specs.Prelude.{◌≡◌, ◌++◌, ◌∷◌, List, ℕ, true, IfOk, OnOk, string_bytes};
+ghost use Rattle.refusal_manual.specs.Manual.{IsEntryOf, IsManual};
+ghost use Rattle.refusal_manual.specs.Numbers.{is_refusal_number};
 
 use crate::entry_text;
 use std::alloc::{AllocError, Global};
@@ -28,7 +28,7 @@ const NUMBERS: [u32; 55] = [
 /// The whole manual as Markdown, in lines of at most 80 columns: a heading, and the entry of each refusal number,
 /// ascending. `Err` only when out of memory.
 pub fn manual_text(alloc: Global) -> Result<String, AllocError>
-    ensures { IfOk result (λ text. HasEntries (length refusal_numbers) ABOVE.now (string_bytes text)) }
+    ensures { IfOk result (λ text. IsManual (string_bytes text)) }
 {
     let mut text = String::from_str(alloc, ABOVE)?;
     for number in NUMBERS {
@@ -40,7 +40,7 @@ pub fn manual_text(alloc: Global) -> Result<String, AllocError>
 /// Adds the entry of a refusal number, behind an empty line.
 fn push_entry(text: &mut String, number: u32) -> Result<(), AllocError>
     requires { is_refusal_number number ≡ true }
-    ensures { OnOk result ((entry : List ℕ) × (string_bytes text.new ≡ string_bytes text.old ++ 10 ∷ entry)) }
+    ensures { OnOk result ((entry : List ℕ) × IsEntryOf number entry × (string_bytes text.new ≡ string_bytes text.old ++ 10 ∷ entry)) }
 {
     let entry = entry_text(number).unwrap();
     text.push_str("\n")?;

@@ -6,7 +6,7 @@ The input has over 1,000,000 lines. The number behind it is that of the first
 line too many.
 
 - Where: on standard error, as `wagons: 91 1000001`: `check`, `solve`, `run`; in
-  `feed` as `file K failed 91`.
+  `feed` as `file K failed 91`, which names no line: it is line 1,000,001.
 - Cause: a journal of many days.
 - Remedy: make a roster of the sheet and begin a new journal with it. The lines
   before were done.
@@ -17,7 +17,8 @@ pub(crate) const LINE_TOO_LONG: &str = "## 92 LineTooLong
 A line has over 65,536 bytes. The number behind it is the line's.
 
 - Where: on standard error, as `wagons: 92 17`: `check`, `solve`, `run`; in
-  `feed` as `file K failed 92`.
+  `feed` as `file K failed 92`, which names no line:
+  `LC_ALL=C awk 'length > 65536 { print NR; exit }' FILE` finds it.
 - Cause: line feeds that are missing between objects, or a file of another kind.
 - Remedy: put the line right, or an empty one in its place, and start again. The
   lines before were done.
@@ -32,7 +33,8 @@ An input couldn't be read on, or a file couldn't be opened.
   as `file K failed 93`.
 - Cause: a misspelled path, a file that the account may not read, a folder in
   place of a file, or a disk or network drive that failed.
-- Remedy: try to read the file with another tool, as `head`.
+- Remedy: try to read the file with another tool, as `head`. The lines before
+  were done.
 ";
 
 pub(crate) const WRITE_FAILED: &str = "## 94 WriteFailed
