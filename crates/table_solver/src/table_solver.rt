@@ -1,5 +1,5 @@
 //! The run that solves table lines.
-ghost use Rattle.std.specs.Prelude.{◌≡◌, [], false, true, IfErr, IfOk};
+ghost use Rattle.std.specs.Prelude.{◌≡◌, [], false, true, IfErr, IfOk, OnOk};
 ghost use Rattle.line_engine.specs.Outcome.{is_refusal};
 ghost use Rattle.line_engine.specs.Runs.{RunEnds, RunStops};
 ghost use Rattle.reply_texts.specs.JsonReplies.{json_refused_text};
@@ -101,6 +101,7 @@ pub fn solve_run<R: Source, W: Sink>(
       new = tt;
     })
         (record { reader = R.has_failed reader.new; writer = W.has_failed writer.new }) fault) }
+    ensures healthy { OnOk result ((R.has_failed reader.new ≡ false) × (W.has_failed writer.new ≡ false)) }
 {
     run_replies(alloc, reader, writer, &TableSolver, &mut ())
 }

@@ -1,4 +1,9 @@
 //! An office that is opened, and the command lines of an input brought to it.
+ghost use Rattle.std.specs.Prelude.{IfErr, IfOk, List};
+ghost use Rattle.commit_book.specs.BookStep.{BookValue};
+ghost use Rattle.wagon_state.specs.declared.wagon_row.WagonRow.{WagonRow};
+ghost use Rattle.wagons_program.specs.Brought.{AreAnswered, AreStopped, ToCommands};
+ghost use Rattle.wagons_program.specs.FirstBook.{IsFirstBook};
 
 use crate::new_book::{OfficeFiles, new_book, read_files};
 use crate::office_options::OfficeOptions;
@@ -7,6 +12,7 @@ use crate::stop::Stop;
 use commit_book::Book;
 use line_network::Network;
 use office::{FromRead, ToWrite};
+use std::alloc::Global;
 use std::io::{Read, Write};
 use std::mem;
 use std::rt::Files;
@@ -28,17 +34,33 @@ pub(crate) fn bring<R: Files + Threads + Wait + AllocGlobal, I: Read + Drop, O: 
     options: &OfficeOptions<'_>,
     input: I,
     output: O,
-) -> Result<Brought, Stop> {
+) -> Result<Brought, Stop>
+    ensures { IfOk result (λ brought. (roster : List WagonRow) × (first : BookValue) × IsFirstBook roster brought.networks.items options.now.limits first
+        × AreAnswered ToCommands (record { input = I.remaining input; held = O.contents output; old = first; new = brought.book }) brought.status) }
+{
     let OfficeFiles { roster, networks } = read_files(rt, options)?;
     let mut book = new_book(rt, options, roster, &networks)?.book;
-    let mut reader = FromRead::new(input);
-    let mut writer = ToWrite::new(output);
-    let count = office::run(rt.alloc(), &mut reader, &mut writer, &mut book);
+    let status = bring_lines(rt.alloc(), input, output, &mut book)?;
     Ok(Brought {
         book,
         networks,
-        status: status_of_run(count)?,
+        status,
     })
+}
+
+/// Brings the command lines of an input to a book: status 0, or 1 where a line was refused.
+fn bring_lines<I: Read + Drop, O: Write + Drop>(
+    alloc: Global,
+    input: I,
+    output: O,
+    book: &mut Book,
+) -> Result<u8, Stop>
+    ensures ok { IfOk result (λ status. AreAnswered ToCommands (record { input = I.remaining input; held = O.contents output; old = book.old; new = book.new }) status) }
+    ensures err { IfErr result (λ stop. AreStopped ToCommands (record { input = I.remaining input; held = O.contents output; old = book.old; new = book.new }) stop) }
+{
+    let mut reader = FromRead::new(input);
+    let mut writer = ToWrite::new(output);
+    status_of_run(office::run(alloc, &mut reader, &mut writer, book))
 }
 
 /// Leaves a book to the end of the program, which follows at once and gives all memory back as a whole. To take a long

@@ -1,4 +1,6 @@
 //! The word `check`.
+ghost use Rattle.std.specs.Prelude.{◌≡◌, IfOk};
+ghost use Rattle.wagons_program.specs.Brought.{AreAnswered, Lines, ToPlans};
 
 use crate::status::status_of_run;
 use crate::stop::Stop;
@@ -7,7 +9,9 @@ use std::io;
 use std::io::Read;
 
 /// Checks the table lines of an input: status 0, or 1 where one was refused.
-pub(crate) fn check<R: Print + AllocGlobal, I: Read + Drop>(rt: &R, input: I) -> Result<u8, Stop> {
+pub(crate) fn check<R: Print + AllocGlobal, I: Read + Drop>(rt: &R, input: I) -> Result<u8, Stop>
+    ensures { IfOk result (λ status. (lines : Lines (Unit {0})) × (lines.input ≡ I.remaining input) × AreAnswered ToPlans lines status) }
+{
     let mut reader = FromRead::new(input);
     let mut writer = ToWrite::new(io::writer(rt));
     status_of_run(check_run(rt.alloc(), &mut reader, &mut writer))

@@ -1,5 +1,7 @@
 //! The word `feed`.
-ghost use Rattle.std.specs.Prelude.{◌≡◌, All, IfOk, false};
+ghost use Rattle.std.specs.Prelude.{◌≡◌, nat_lt, is_some, All, IfOk, false};
+ghost use Rattle.std.specs.List.{list_any};
+ghost use Rattle.wagons_program.specs.Status.{status_of_files};
 
 use crate::bringing::leave;
 use crate::new_book::{NewBook, OfficeFiles, new_book, open, read_files};
@@ -54,18 +56,36 @@ fn open_files<R: Files + AllocGlobal>(
 }
 
 /// Prints what became of each file, and the sheet.
-fn print_report<R: Print + AllocGlobal, F>(rt: &R, report: &FeedReport<F>) -> Result<u8, Stop> {
+fn print_report<R: Print + AllocGlobal, F>(rt: &R, report: &FeedReport<F>) -> Result<u8, Stop>
+    ensures { IfOk result (λ status. status ≡ status_of_files report.now.files.items) }
+{
     print_whole(rt, &report_text(rt.alloc(), report)?)?;
     Ok(status_of_files(report))
 }
 
 /// 2 where a file failed, else 1 where a line was refused, else 0.
-fn status_of_files<F>(report: &FeedReport<F>) -> u8 {
-    if report.files.iter().any(|file| file.failed.is_some()) {
+fn status_of_files<F>(report: &FeedReport<F>) -> u8
+    ensures { result ≡ status_of_files report.now.files.items }
+{
+    if has_failed_file(report) {
         STOPPED
-    } else if report.files.iter().any(|file| file.refused > 0) {
+    } else if has_refused_line(report) {
         REFUSED
     } else {
         DONE
     }
+}
+
+/// Whether a file failed.
+fn has_failed_file<F>(report: &FeedReport<F>) -> bool
+    ensures { result ≡ list_any (λ file. is_some file.failed) report.now.files.items }
+{
+    report.files.iter().any(|file| file.failed.is_some())
+}
+
+/// Whether a line of a file was refused.
+fn has_refused_line<F>(report: &FeedReport<F>) -> bool
+    ensures { result ≡ list_any (λ file. nat_lt 0 file.refused) report.now.files.items }
+{
+    report.files.iter().any(|file| file.refused > 0)
 }

@@ -139,8 +139,9 @@ pub(crate) const ENTRIES_LONG: &str =
      refused";
 
 pub(crate) const KEPT_LONG: &str =
-    "The most problems that are kept for commits, 1 to 64: those of the\n\
-     latest `begin` and `plan` lines. A commit of an older one is refused";
+    "The most problems that are kept for commits, 1 to 64: a new one goes\n\
+     last, and the first is dropped where there are more; one that is kept\n\
+     already stays where it is. A commit of a dropped one is refused";
 
 pub(crate) const WORKERS_LONG: &str =
     "How many threads work out the distances before the first line is\n\

@@ -1,5 +1,6 @@
 //! A new book from the files that the options name.
-ghost use Rattle.std.specs.Prelude.{◌≡◌, [], IfOk};
+ghost use Rattle.std.specs.Prelude.{◌≡◌, IfOk};
+ghost use Rattle.wagons_program.specs.FirstBook.{IsFirstBook};
 
 use crate::office_options::OfficeOptions;
 use crate::stop::Stop;
@@ -47,7 +48,8 @@ pub(crate) fn new_book<R: Threads + Wait + AllocGlobal>(
     roster: Roster,
     networks: &[Network],
 ) -> Result<NewBook, Stop>
-    ensures { IfOk result (λ new. new.book.state.history ≡ []) }
+    ensures book { IfOk result (λ new. IsFirstBook roster networks.now options.now.limits new.book) }
+    ensures networks { IfOk result (λ new. new.networks.value ≡ networks.now) }
 {
     let tables = make_tables(rt, networks, options.workers)?;
     let networks = match Networks::new(tables) {
@@ -87,7 +89,9 @@ fn make_tables<R: Threads + Wait + AllocGlobal>(
     rt: &R,
     networks: &[Network],
     workers: usize,
-) -> Result<Vec<Tables>, Stop> {
+) -> Result<Vec<Tables>, Stop>
+    ensures { IfOk result (λ tables. tables.items ≡ networks.now) }
+{
     let mut tables = Vec::with_capacity(rt.alloc(), networks.len())?;
     for network in networks {
         match tables_by_workers(rt, rt.alloc(), network, workers, &OpenGate) {

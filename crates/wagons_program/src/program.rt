@@ -1,4 +1,6 @@
 //! The program from its arguments to its exit status.
+ghost use Rattle.std.specs.Prelude.{◌≡◌};
+ghost use Rattle.wagons_program.specs.Status.{exit_status};
 
 use crate::check::check;
 use crate::command_line::{Word, not_utf8, read_words};
@@ -55,7 +57,9 @@ where
 }
 
 /// The status; where the program could not run or stopped, standard error says why.
-fn told<R: Eprint>(rt: &R, status: Result<u8, Stop>) -> u8 {
+fn told<R: Eprint>(rt: &R, status: Result<u8, Stop>) -> u8
+    ensures { result ≡ exit_status status }
+{
     match status {
         Ok(status) => status,
         Err(stop) => {

@@ -1,4 +1,10 @@
 //! The word `run`.
+ghost use Rattle.std.specs.Prelude.{◌≡◌, IfOk, List};
+ghost use Rattle.commit_book.specs.BookStep.{BookValue};
+ghost use Rattle.line_network.specs.Network.{NetworkValue};
+ghost use Rattle.wagon_state.specs.declared.wagon_row.WagonRow.{WagonRow};
+ghost use Rattle.wagons_program.specs.Brought.{AreAnswered, Lines, ToCommands};
+ghost use Rattle.wagons_program.specs.FirstBook.{IsFirstBook};
 
 use crate::bringing::{Brought, bring, leave};
 use crate::office_options::OfficeOptions;
@@ -14,7 +20,10 @@ pub(crate) fn run<R: Print + Files + Threads + Wait + AllocGlobal, I: Read + Dro
     rt: &R,
     options: &OfficeOptions<'_>,
     input: I,
-) -> Result<u8, Stop> {
+) -> Result<u8, Stop>
+    ensures { IfOk result (λ status. (roster : List WagonRow) × (networks : List NetworkValue) × (lines : Lines BookValue) × (lines.input ≡ I.remaining input)
+        × IsFirstBook roster networks options.now.limits lines.old × AreAnswered ToCommands lines status) }
+{
     let Brought {
         book,
         networks: _,

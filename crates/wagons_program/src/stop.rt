@@ -1,5 +1,7 @@
 //! Why the program could not run or stopped, as it says it on standard error.
+ghost use Rattle.std.specs.Prelude.{◌≡◌};
 ghost use Rattle.std.specs.Str.{IsAscii};
+ghost use Rattle.wagons_program.specs.Stop.{stop_number};
 
 use distance_tables::{NetworksFault, WorkFault};
 use line_network::NetworkFault;
@@ -35,7 +37,9 @@ pub enum Stop {
 
 impl Stop {
     /// The number that stands for the fault.
-    pub fn number(self) -> u32 {
+    pub fn number(self) -> u32
+        ensures { result ≡ stop_number self }
+    {
         match self {
             Stop::OutOfMemory => 1,
             Stop::Networks(fault) => fault.number(),

@@ -1,0 +1,49 @@
+-- From what a run over lines has done to the status of the program.
+use Rattle.std.proofs.Common.{◌≡◌, ℕ, List, Option, Result, Ok, Err, IfOk, IfErr, refl, subst}
+use Rattle.line_engine.specs.Replies.{Replying}
+use Rattle.line_engine.specs.Runs.{Failures, RunEnds, RunStops}
+use Rattle.line_engine.specs.declared.run.RunCount.{RunCount}
+use Rattle.line_engine.specs.declared.run.RunFault.{RunFault}
+use Rattle.wagons_program.specs.Brought.{AreAnswered, AreStopped, Lines}
+use Rattle.wagons_program.specs.Status.{outcome_of_run, status_of_count}
+use Rattle.wagons_program.specs.declared.stop.Stop.{Stop}
+use Rattle.wagons_program.specs.declared.stop.Stop.TheVariants as stop
+
+-- a run that came to its end
+pub status_of_ended : (result : Result ℕ Stop) (count : Result RunCount RunFault) (P : RunCount → Type 0) (Q : ℕ → Type 0) → result ≡ outcome_of_run count → IfOk count P
+    → ((n : RunCount) → P n → Q (status_of_count n)) → IfOk result Q
+status_of_ended result (Ok n) P Q is ended status = rw is (status n ended)
+status_of_ended result (Err fault) P Q is ended status = rw is tt
+
+-- a run that stopped
+pub why_of_stopped : (result : Result ℕ Stop) (count : Result RunCount RunFault) (P : RunFault → Type 0) (Q : Stop → Type 0) → result ≡ outcome_of_run count → IfErr count P
+    → ((fault : RunFault) → P fault → Q (stop.Run fault)) → IfErr result Q
+why_of_stopped result (Ok n) P Q is stopped why = rw is tt
+why_of_stopped result (Err fault) P Q is stopped why = rw is (why fault stopped)
+
+-- the same by a reader and a writer that were made for the input and the output
+module _ {H : Type 0} (replying : Replying H) (lines : Lines H) (left holds from held : Option (List ℕ)) (read : from ≡ lines.input) (written : held ≡ lines.held) where
+  pub are_answered : (count : RunCount) → RunEnds replying (record { from = from; to = left; held = held; holds = holds; old = lines.old; new = lines.new }) count
+      → AreAnswered replying lines (status_of_count count)
+  are_answered count ends = record {
+    left = left;
+    holds = holds;
+    count = count;
+    ends =
+        subst (λ (o : Option (List ℕ)). RunEnds replying (record { from = o; to = left; held = lines.held; holds = holds; old = lines.old; new = lines.new }) count) read
+        (subst (λ (o : Option (List ℕ)). RunEnds replying (record { from = from; to = left; held = o; holds = holds; old = lines.old; new = lines.new }) count) written ends);
+    status_is = refl;
+  }
+
+  pub are_stopped : (failed : Failures) (fault : RunFault)
+      → RunStops replying (record { from = from; to = left; held = held; holds = holds; old = lines.old; new = lines.new }) failed fault → AreStopped replying lines (stop.Run fault)
+  are_stopped failed fault stops = record {
+    left = left;
+    holds = holds;
+    failed = failed;
+    fault = fault;
+    stops =
+        subst (λ (o : Option (List ℕ)). RunStops replying (record { from = o; to = left; held = lines.held; holds = holds; old = lines.old; new = lines.new }) failed fault) read
+        (subst (λ (o : Option (List ℕ)). RunStops replying (record { from = from; to = left; held = o; holds = holds; old = lines.old; new = lines.new }) failed fault) written stops);
+    why_is = refl;
+  }

@@ -1,0 +1,52 @@
+-- What a run over the lines of an input does, up to the status of the program.
+use Rattle.std.specs.Prelude.{◌≡◌, ℕ, List, Option}
+use Rattle.commit_book.specs.BookStep.{BookValue}
+use Rattle.line_engine.specs.Replies.{Numbered, Replying}
+use Rattle.line_engine.specs.Runs.{Failures, Run, RunEnds, RunStops}
+use Rattle.line_engine.specs.declared.run.RunCount.{RunCount}
+use Rattle.line_engine.specs.declared.run.RunFault.{RunFault}
+use Rattle.office.specs.CommandReplies.{RepliesToLine, RunsOutOfMemory}
+use Rattle.office.specs.Replies.{ChecksLine}
+use Rattle.table_solver.specs.Solving.{SolvesLine}
+use Rattle.wagons_program.specs.Status.{status_of_count}
+use Rattle.wagons_program.specs.declared.stop.Stop.{Stop}
+use Rattle.wagons_program.specs.declared.stop.Stop.TheVariants as stop
+
+-- A run over lines: the bytes of the input, where they are known, and what the output held before them; what the lines
+-- were brought to, before and after them.
+pub record Lines (H : Type 0) : Type 0 where
+  pub input : Option (List ℕ)
+  pub held : Option (List ℕ)
+  pub old : H
+  pub new : H
+
+-- by what is left of the input after it, and what the output holds then
+abbrev pub run_of : {H : Type 0} → Lines H → (left holds : Option (List ℕ)) → Run H
+run_of lines left holds = record { from = lines.input; to = left; held = lines.held; holds = holds; old = lines.old; new = lines.new }
+
+-- The input came to its end, each line was replied to, and this is the status.
+pub record AreAnswered {H : Type 0} (replying : Replying H) (lines : Lines H) (status : ℕ) : Type 0 where
+  pub left : Option (List ℕ)
+  pub holds : Option (List ℕ)
+  pub count : RunCount
+  pub ends : RunEnds replying (run_of lines left holds) count
+  pub status_is : status ≡ status_of_count count
+
+-- The run stopped, and this is why.
+pub record AreStopped {H : Type 0} (replying : Replying H) (lines : Lines H) (why : Stop) : Type 0 where
+  pub left : Option (List ℕ)
+  pub holds : Option (List ℕ)
+  pub failed : Failures
+  pub fault : RunFault
+  pub stops : RunStops replying (run_of lines left holds) failed fault
+  pub why_is : why ≡ stop.Run fault
+
+-- the replies to command lines, to table lines with a plan, and to table lines that are to be planned
+abbrev pub ToCommands : Replying BookValue
+ToCommands = Numbered RepliesToLine RunsOutOfMemory
+
+abbrev pub ToPlans : Replying (Unit {0})
+ToPlans = Numbered ChecksLine (λ _ _ _. Unit {0})
+
+abbrev pub ToTables : Replying (Unit {0})
+ToTables = SolvesLine

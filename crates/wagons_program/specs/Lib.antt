@@ -1,0 +1,4 @@
+pub mod Stop
+pub mod Status
+pub mod FirstBook
+pub mod Brought
