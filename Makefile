@@ -3,6 +3,9 @@
 
 .PHONY: run demo prove build test examples hostile bench install uninstall
 
+SHELL := /bin/bash
+.SHELLFLAGS := -o pipefail -c
+
 PREFIX ?= /usr/local
 # What proves and builds a program; the test of this file puts another command in its place.
 PROVE ?= tools/prove
@@ -29,15 +32,21 @@ build: prove
 $(WAGONS): $(SOURCES)
 	@$(PROVE) wagons
 
-# Compares the manual of refusals with what `wagons explain` must print; tries what this file says of sources; then proves
-# every crate from nothing, tries the edits that must fail, runs every test and the programs on their stored files.
+# Compares the manual of refusals with what `wagons explain` must print; tries what this file says of sources; proves every
+# crate from nothing, tries the edits that must fail, runs every test and the programs on their stored files; then tries
+# the program that was built so on the pages' commands. `make` need not build it again. The last line is that of `rt ci`.
 test:
-	@cmp docs/REFUSALS.md crates/wagons/stdout
+	@sed -n '/^\$$ wagons explain$$/,$$p' crates/wagons_scripts/stdout | sed '1d;$$d' | cmp docs/REFUSALS.md -
 	@tools/try_make
+	@mkdir -p out && touch out/tested
 	@echo "== rt ci: every proof from nothing (see docs/GATE.md for its time)"
-	@rt ci
+	@rt ci | tee out/test.log
+	@cp crates/wagons/out/wagons $(WAGONS).new && touch -r out/tested $(WAGONS).new && mv $(WAGONS).new $(WAGONS)
+	@tools/try_replies $(WAGONS)
+	@examples/try
+	@tail -n 1 out/test.log
 
-# Runs each command of examples/README.md and compares what it prints with what the page says.
+# Runs each command of the examples' pages and compares what it prints with what the page says.
 examples:
 	@examples/try
 
@@ -67,6 +76,7 @@ install: $(WAGONS)
 	install -D -m 644 -t $(SHARE)/doc/wagons/docs docs/*.md docs/day.svg
 	install -D -m 644 -t $(SHARE)/doc/wagons/examples examples/README.md examples/*.jsonl
 	install -D -m 644 -t $(SHARE)/doc/wagons/examples/day examples/day/*
+	install -D -m 644 -t $(SHARE)/doc/wagons/examples/faults examples/faults/*
 	install -D -m 644 completions/wagons.bash $(SHARE)/bash-completion/completions/wagons
 	install -D -m 644 completions/_wagons $(SHARE)/zsh/site-functions/_wagons
 	install -D -m 644 completions/wagons.fish $(SHARE)/fish/vendor_completions.d/wagons.fish

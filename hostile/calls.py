@@ -35,10 +35,10 @@ PARTS = {
         Network::copy tables tables_by_workers Cells::from_rows plan Roster::read_rows Roster::copy Book::new OfficeState::new
         OfficeState::apply Problem::copy work cells Snap::commit_text plan_text certificate_line
         sheet_text map_text""".split()),
-    "books": ("the calls of `Book`", ["message", "place", "withdraw", "begin", "commit",
+    "books": ("the calls of `Book`", ["message", "place", "withdraw", "revise", "begin", "commit",
         "message (a delivery that frees a wagon and lets an order wait)", "begin (the oldest problem is dropped)",
         "begin (the problem that it would drop is committed)", "run (its answers)", "run (one of its calls)"]),
-    "seats": ("the calls of seats, `open` and `close`", ["open", "message", "place", "withdraw", "begin", "commit",
+    "seats": ("the calls of seats, `open` and `close`", ["open", "message", "place", "withdraw", "revise", "begin", "commit",
         "message (a delivery that frees a wagon and lets an order wait)"]),
     "runs": ("`run` and `check_run` over lines", ["a run (the memory for its lines)", "a run (a line)"]),
     "feeds": ("`feed` of one reader, and its report", ["feed", "feed (the memory for its lines)", "feed (a line)",

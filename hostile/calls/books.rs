@@ -18,9 +18,14 @@ const BEGIN: &str = r#"{"type":"begin","at":"2026-03-01T01:00:00Z"}"#;
 const COMMIT: &str =
     r#"{"type":"commit","version":1,"at":"2026-03-01T01:00:00Z","pairs":[["218124712173","O1"]],"u":[0,0],"v":[50]}"#;
 
+const FIRST_NETWORK: &str = r#"{"type":"network","revision":1}"#;
+
+const SECOND_NETWORK: &str = r#"{"type":"network","revision":2}"#;
+
 /// A day with its answers. The sixth call delivers a wagon at another place than its order's: the wagon is free, and the
-/// order waits. The last commit has no pair, since no wagon comes in time by the second network.
-pub(crate) const DAY: [(&str, &str, Answer); 16] = [
+/// order waits. The last commit has no pair, since no wagon comes in time by the second network. The revisions behind it
+/// go on until the history needs more room, so that one of them asks for memory.
+pub(crate) const DAY: [(&str, &str, Answer); 22] = [
     ("place", ORDER, Answer::Done(Reply::Accepted(1))),
     ("begin", BEGIN, Answer::Begun(1)),
     ("commit", COMMIT, Answer::Done(Reply::Accepted(2))),
@@ -66,17 +71,19 @@ pub(crate) const DAY: [(&str, &str, Answer); 16] = [
         r#"{"type":"withdraw","order":"O2"}"#,
         Answer::Done(Reply::Accepted(9)),
     ),
-    (
-        "revise",
-        r#"{"type":"network","revision":2}"#,
-        Answer::Done(Reply::Accepted(10)),
-    ),
+    ("revise", SECOND_NETWORK, Answer::Done(Reply::Accepted(10))),
     ("begin", BEGIN, Answer::Begun(10)),
     (
         "commit",
         r#"{"type":"commit","version":10,"at":"2026-03-01T01:00:00Z","pairs":[],"u":[0,0],"v":[1000]}"#,
         Answer::Done(Reply::Accepted(11)),
     ),
+    ("revise", FIRST_NETWORK, Answer::Done(Reply::Accepted(12))),
+    ("revise", SECOND_NETWORK, Answer::Done(Reply::Accepted(13))),
+    ("revise", FIRST_NETWORK, Answer::Done(Reply::Accepted(14))),
+    ("revise", SECOND_NETWORK, Answer::Done(Reply::Accepted(15))),
+    ("revise", FIRST_NETWORK, Answer::Done(Reply::Accepted(16))),
+    ("revise", SECOND_NETWORK, Answer::Done(Reply::Accepted(17))),
 ];
 
 pub(crate) const NO_MEMORY: Answer = Answer::Refused(Refusal::OutOfMemory);

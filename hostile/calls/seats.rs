@@ -58,7 +58,7 @@ fn closed<L: Ledger>(
     match close(office, seats) {
         Ok(book) => {
             let len = book.len();
-            must(len == 11);
+            must(len == 17);
             must(println!(rt; "closed with {len} entries").is_ok());
             let end = shown(alloc, &book)?;
             must(println!(rt; "{end}").is_ok());
