@@ -1,7 +1,7 @@
 -- How often a reader of records was asked for one.
 use Rattle.std.proofs.Common.{◌+◌, ◌≤◌, ℕ, List, Option, arith}
 use Rattle.csv.specs.declared.reader.Reader.{Reader}
-use Rattle.csv_records.specs.inner.Requests.{IsRequest, AreRequests, none_yet, one_more, AsksAtMost}
+use Rattle.csv_records.specs.Requests.{IsRequest, AreRequests, none_yet, one_more, AsksAtMost}
 
 module _ {R : Type 0} (remaining : R → Option (List ℕ)) (before : Reader R) where
   asks_none : (most : ℕ) → AsksAtMost remaining before most before

@@ -10,7 +10,7 @@ use Rattle.csv.specs.declared.parser.State.TheVariants as st
 use Rattle.csv.specs.declared.reader.Reader.{Reader}
 use Rattle.csv_records.specs.Fields.{Record}
 use Rattle.csv_records.specs.Files.{AreRecordsOf}
-use Rattle.csv_records.specs.inner.Requests.{AreLeft, IsSetUp}
+use Rattle.csv_records.specs.Requests.{AreLeft, IsSetUp}
 
 -- what a record leaves of a text is no longer than the text
 not_longer : (cfg : Config) (s : State) (fields : Record) (field xs : List ℕ) (p : Read) → next_record cfg s fields field xs ≡ Some p → length p.2 ≤ length xs

@@ -1,3 +1,3 @@
 pub mod Fields
 pub mod Files
-pub mod inner
+pub mod Requests

@@ -4,7 +4,7 @@ ghost use Rattle.csv.specs.Reading.{ReadRecord, error_kind, has_failed, is_io, r
 ghost use Rattle.csv.specs.Records.{fields_of};
 ghost use Rattle.csv.specs.declared.parser.State.TheVariants as st;
 ghost use Rattle.csv_records.specs.Fields.{Record};
-ghost use Rattle.csv_records.specs.inner.Requests.{AreLeft, AsksAtMost, IsAnswer, IsRequest, IsSetUp};
+ghost use Rattle.csv_records.specs.Requests.{AreLeft, AsksAtMost, IsAnswer, IsRequest, IsSetUp};
 
 use crate::{FromRecords, RecordFault};
 use csv::{ByteRecord, Error, Reader, ReaderBuilder};

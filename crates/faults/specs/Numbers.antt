@@ -2,6 +2,8 @@
 use Rattle.std.specs.Prelude.{ℕ}
 use Rattle.faults.specs.declared.faults.StepFault.{StepFault}
 use Rattle.faults.specs.declared.faults.StepFault.TheVariants as step_fault
+use Rattle.faults.specs.declared.faults.RecordFault.{RecordFault}
+use Rattle.faults.specs.declared.faults.RecordFault.TheVariants as record_fault
 use Rattle.faults.specs.declared.faults.NetworkFault.{NetworkFault}
 use Rattle.faults.specs.declared.faults.NetworkFault.TheVariants as network_fault
 use Rattle.faults.specs.declared.faults.RosterFault.{RosterFault}
@@ -28,6 +30,11 @@ abbrev pub step_fault_number : StepFault → ℕ
 step_fault_number step_fault.Earlier = 31
 step_fault_number step_fault.WrongStatus = 32
 step_fault_number step_fault.WrongPlace = 33
+
+-- why a reader of records gave none
+abbrev pub record_fault_number : RecordFault → ℕ
+record_fault_number record_fault.OutOfMemory = 1
+record_fault_number record_fault.ReadFailed = 93
 
 -- why no network was read
 abbrev pub network_fault_number : NetworkFault → ℕ

@@ -1,6 +1,6 @@
 //! Why calls of the libraries are refused: each type of fault above those of codes and of lines, with its numbers, in one place.
 ghost use Rattle.std.specs.Prelude.{◌≡◌};
-ghost use Rattle.faults.specs.Numbers.{step_fault_number, network_fault_number, roster_fault_number, work_fault_number, table_fault_number, check_fault_number, named_fault_number, apply_fault_number, refusal_number, plan_fault_number, feed_fault_number};
+ghost use Rattle.faults.specs.Numbers.{step_fault_number, record_fault_number, network_fault_number, roster_fault_number, work_fault_number, table_fault_number, check_fault_number, named_fault_number, apply_fault_number, refusal_number, plan_fault_number, feed_fault_number};
 ghost use Rattle.faults.specs.Conversions.{network_fault_of, roster_fault_of, refusal_of, refusal_of_fault};
 ghost use Rattle.faults.specs.declared.faults.NetworkFault.TheVariants as network_fault;
 ghost use Rattle.faults.specs.declared.faults.RosterFault.TheVariants as roster_fault;
@@ -45,12 +45,24 @@ impl StepFault {
 /// Why a reader of records gave no record. The message is the fault's name.
 #[derive(Clone, Copy, Debug, PartialEq, Eq, Error)]
 pub enum RecordFault {
-    /// Out of memory.
+    /// Out of memory (1).
     #[error("OutOfMemory")]
     OutOfMemory,
-    /// The reader under it failed.
+    /// The reader under it failed (93).
     #[error("ReadFailed")]
     ReadFailed,
+}
+
+impl RecordFault {
+    /// The number that stands for the fault in a reply: 1 or 93.
+    pub fn number(self) -> u32
+        ensures { result ≡ record_fault_number self }
+    {
+        match self {
+            RecordFault::OutOfMemory => 1,
+            RecordFault::ReadFailed => 93,
+        }
+    }
 }
 
 /// Why no network was read. The message is the fault's name.

@@ -2,7 +2,7 @@
 use Rattle.std.proofs.Common.{◌≡◌, List, [], ◌++◌, Result, Ok, Err}
 use Rattle.std.proofs.lemmas.List.{append-nil}
 use Rattle.csv_records.specs.Fields.{Record}
-use Rattle.csv_records.specs.inner.Requests.{IsAnswer}
+use Rattle.csv_records.specs.Requests.{IsAnswer}
 use Rattle.line_network.specs.Network.{NetworkValue}
 use Rattle.line_network.specs.Reading.{Gives, Stops, network_of}
 use Rattle.line_network.specs.inner.Reading.{IsReadSoFar}

@@ -2,7 +2,7 @@
 ghost use Rattle.std.specs.Prelude.{◌≡◌, ◌+◌, IsErrOf, true, List};
 ghost use Rattle.csv.specs.Reading.{has_failed};
 ghost use Rattle.csv_records.specs.Fields.{Record};
-ghost use Rattle.csv_records.specs.inner.Requests.{AreLeft, AsksAtMost, IsSetUp};
+ghost use Rattle.csv_records.specs.Requests.{AreLeft, AsksAtMost, IsSetUp};
 ghost use Rattle.line_network.specs.NetworkOf.{IsReadFrom};
 ghost use Rattle.line_network.specs.Reading.{Gives, max_line_records, network_of};
 

@@ -18,6 +18,7 @@ pub use classes::Classes;
 pub use command::Command;
 pub use command_reading::read_line;
 pub use commit_text::{CommitText, Pairs, PriceList};
+pub use json_fields::LineFault;
 pub use limits::{MAX_CLASSES, MAX_LOAD, MAX_ORDER_WAGONS, MAX_PENALTY, MAX_REVISION, MAX_VERSION};
 pub use message::{Message, MessageKind};
 pub use order_text::OrderText;

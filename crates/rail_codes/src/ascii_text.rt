@@ -1,5 +1,5 @@
 //! A code's text as a `str`, as a `String`, and at the end of one.
-ghost use Rattle.std.specs.Prelude.{◌≡◌, ◌++◌, IfOk, OnOk, string_bytes};
+ghost use Rattle.std.specs.Prelude.{◌≡◌, ◌++◌, IfOk, OnErr, OnOk, string_bytes};
 ghost use Rattle.std.specs.Str.{IsAscii};
 
 use std::alloc::{AllocError, Global};
@@ -23,7 +23,8 @@ pub(crate) fn ascii_text(alloc: Global, characters: &[u8]) -> Result<String, All
 /// Adds these ASCII characters to a text.
 pub fn push_ascii(text: &mut String, characters: &[u8]) -> Result<(), AllocError>
     requires { IsAscii characters.now }
-    ensures { OnOk result (string_bytes text.new ≡ string_bytes text.old ++ characters.now) }
+    ensures added { OnOk result (string_bytes text.new ≡ string_bytes text.old ++ characters.now) }
+    ensures kept { OnErr result (string_bytes text.new ≡ string_bytes text.old) }
 {
     text.push_str(ascii_str(characters))
 }

@@ -14,6 +14,7 @@ use Rattle.rail_codes.specs.declared.code_fault.CodeFault.TheVariants as code
 use Rattle.json_fields.specs.declared.fault.FieldFault.TheVariants as field
 use Rattle.json_fields.specs.declared.fault.LineFault.TheVariants as line
 use Rattle.faults.specs.declared.faults.StepFault.TheVariants as step
+use Rattle.faults.specs.declared.faults.RecordFault.TheVariants as records
 use Rattle.faults.specs.declared.faults.RosterFault.TheVariants as roster
 use Rattle.line_engine.specs.declared.run.RunFault.TheVariants as run
 use Rattle.faults.specs.declared.faults.NetworkFault.TheVariants as network
@@ -27,7 +28,7 @@ use Rattle.faults.specs.declared.faults.Refusal.TheVariants as call
 use Rattle.faults.specs.declared.faults.PlanFault.TheVariants as plan
 use Rattle.sessions.specs.declared.close_fault.CloseFault.TheVariants as close
 use Rattle.faults.specs.declared.faults.FeedFault.TheVariants as feed
-use Rattle.refusal_manual.specs.Laws.{AnyFault, of_code, of_field, of_line, of_step, of_roster, of_run, of_network, of_networks, of_work, of_table, of_check, of_named, of_table_line, of_event, of_call, of_plan, of_opening, of_closing, of_feed, EachFaultIsListed, EachNumberIsAFaults, AreFaults, number_of}
+use Rattle.refusal_manual.specs.Laws.{AnyFault, of_code, of_field, of_line, of_step, of_record, of_roster, of_run, of_network, of_networks, of_work, of_table, of_check, of_named, of_table_line, of_event, of_call, of_plan, of_opening, of_closing, of_feed, EachFaultIsListed, EachNumberIsAFaults, AreFaults, number_of}
 
 abbrev IsListed : (L : Type 0) → AnyFault L → Type 0
 IsListed L fault = IsTrue (is_refusal_number (number_of fault))
@@ -83,6 +84,8 @@ listed L (of_field field.WrongKind) = refl
 listed L (of_field field.OutOfRange) = refl
 listed L (of_line fault) = line_listed L fault
 listed L (of_step fault) = step_listed L fault
+listed L (of_record records.OutOfMemory) = refl
+listed L (of_record records.ReadFailed) = refl
 listed L (of_roster roster.OutOfMemory) = refl
 listed L (of_roster (roster.DuplicateWagon a)) = refl
 listed L (of_roster roster.TooLarge) = refl

@@ -3,11 +3,12 @@ use Rattle.std.specs.Prelude.{◌≡◌, ℕ, List, IsTrue, All, Vec}
 use Rattle.std.specs.declared.alloc.Global.{Global}
 use Rattle.rail_codes.specs.declared.code_fault.CodeFault.{CodeFault}
 use Rattle.rail_codes.specs.CodeFault as code
-use Rattle.faults.specs.Numbers.{step_fault_number, roster_fault_number, network_fault_number, work_fault_number, table_fault_number, check_fault_number, named_fault_number, apply_fault_number, refusal_number, plan_fault_number, feed_fault_number}
+use Rattle.faults.specs.Numbers.{step_fault_number, record_fault_number, roster_fault_number, network_fault_number, work_fault_number, table_fault_number, check_fault_number, named_fault_number, apply_fault_number, refusal_number, plan_fault_number, feed_fault_number}
 use Rattle.json_fields.specs.declared.fault.FieldFault.{FieldFault}
 use Rattle.json_fields.specs.declared.fault.LineFault.{LineFault}
 use Rattle.json_fields.specs.Faults.{field_fault_number, line_fault_number}
 use Rattle.faults.specs.declared.faults.StepFault.{StepFault}
+use Rattle.faults.specs.declared.faults.RecordFault.{RecordFault}
 use Rattle.faults.specs.declared.faults.RosterFault.{RosterFault}
 use Rattle.line_engine.specs.declared.run.RunFault.{RunFault}
 use Rattle.line_engine.specs.RunFault as run
@@ -35,6 +36,7 @@ pub data AnyFault (L : Type 0) : Type 0 where
   of_field : FieldFault → AnyFault L
   of_line : LineFault → AnyFault L
   of_step : StepFault → AnyFault L
+  of_record : RecordFault → AnyFault L
   of_roster : RosterFault → AnyFault L
   of_run : RunFault → AnyFault L
   of_network : NetworkFault → AnyFault L
@@ -57,6 +59,7 @@ number_of (of_code fault) = code.fault_number fault
 number_of (of_field fault) = field_fault_number fault
 number_of (of_line fault) = line_fault_number fault
 number_of (of_step fault) = step_fault_number fault
+number_of (of_record fault) = record_fault_number fault
 number_of (of_roster fault) = roster_fault_number fault
 number_of (of_run fault) = run.number_of fault
 number_of (of_network fault) = network_fault_number fault

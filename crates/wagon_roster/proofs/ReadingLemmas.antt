@@ -4,7 +4,7 @@ use Rattle.std.proofs.lemmas.List.{append-nil, append_assoc}
 use Rattle.std.proofs.lemmas.List.Sorted.{IsPermutation-cons, IsPermutation-to_front, IsPermutation-trans, length_permutation, list_any-IsPermutation}
 use Rattle.std.specs.List.Sorted.{IsPermutation}
 use Rattle.csv_records.specs.Fields.{Record}
-use Rattle.csv_records.specs.inner.Requests.{IsAnswer}
+use Rattle.csv_records.specs.Requests.{IsAnswer}
 use Rattle.wagon_state.specs.declared.wagon_row.WagonRow.{WagonRow}
 use Rattle.wagon_roster.specs.Reading.{Gives, Stops, rows_of, with_record, with_records, with_wagon}
 use Rattle.wagon_roster.specs.Records.{wagon_record}

@@ -2,7 +2,7 @@
 ghost use Rattle.std.specs.Prelude.{◌≡◌, ◌+◌, IfOk, IsErrOf, true, List};
 ghost use Rattle.csv.specs.Reading.{has_failed};
 ghost use Rattle.csv_records.specs.Fields.{Record};
-ghost use Rattle.csv_records.specs.inner.Requests.{AreLeft, AsksAtMost, IsSetUp};
+ghost use Rattle.csv_records.specs.Requests.{AreLeft, AsksAtMost, IsSetUp};
 ghost use Rattle.wagon_roster.specs.Reading.{Gives, rows_of};
 ghost use Rattle.wagon_roster.specs.Roster.{IsRoster, max_roster_wagons};
 ghost use Rattle.wagon_roster.specs.RosterOf.{IsReadFrom};

@@ -1,6 +1,6 @@
 use Rattle.std.proofs.Common.{rules}
 use Rattle.csv.specs.Records.{fields_of}
-use Rattle.csv_records.specs.inner.Requests.{answered}
+use Rattle.csv_records.specs.Requests.{answered}
 use Rattle.csv_records.proofs.reading.next_record.Goals as goal
 
 pub returns-in-Ok-clause-asked : goal.returns-in-Ok-clause-asked

@@ -1,6 +1,6 @@
 use Rattle.std.proofs.Common.{◌-◌}
 use Rattle.csv_records.proofs.Collecting.{HasRead}
-use Rattle.csv_records.specs.inner.Requests.{AsksAtMost, IsSetUp}
+use Rattle.csv_records.specs.Requests.{AsksAtMost, IsSetUp}
 use Rattle.csv_records.proofs.reading.read_records.Given as goal
 
 abbrev pub invariant-loop-number : goal.invariant-loop-number
