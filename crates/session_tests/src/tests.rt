@@ -5,6 +5,7 @@ mod closing;
 mod crowds;
 mod desks;
 mod fault_names;
+mod keeping;
 mod opening;
 mod planning;
 mod races;
