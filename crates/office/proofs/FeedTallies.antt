@@ -1,79 +1,91 @@
--- What a run over a file's lines adds to what is counted of the file.
-use Rattle.std.proofs.Common.{◌≡◌, ◌+◌, ◌<◌, ◌≤◌, ◌^◌, ◌∷◌, ℕ, suc, Bool, true, false, cond, List, [], ◌++◌, length, refl, sym, ap, ◌∙◌, subst, arith, inl, inr, append_assoc}
-use Rattle.std.specs.Prelude.{◌&&◌, ◌==◌, not, Any, Option, Some, None, Result, Ok, Err, IfOk, IfErr}
+-- What a file's run is by what its lines did at a seat: how many were counted, and what stopped it.
+use Rattle.std.proofs.Common.{◌≡◌, ◌+◌, ◌<◌, ◌≤◌, ◌∷◌, ℕ, suc, Bool, true, false, cond, List, [], ◌++◌, length, refl, sym, ap, ◌∙◌, subst, arith, append_assoc}
+use Rattle.std.specs.Prelude.{◌&&◌, ◌==◌, not, Any, Option, Some, None, IfSome}
 use Rattle.std.specs.List.{count_by}
-use Rattle.std.specs.Io.KnownBytes.{Consumes, IsAtEnd, Keeps}
+use Rattle.std.specs.Io.KnownBytes.{Consumes, IsAtEnd}
 use Rattle.std.proofs.lemmas.List.{length-append, append-nil}
 use Rattle.std.proofs.lemmas.List.Sums.{sum_by-cons}
-use Rattle.line_engine.specs.Lines.{line_feed, lines_of, first_line, begin_with, is_blank, max_input_lines, max_line_bytes, with_feeds}
-use Rattle.line_engine.specs.Replies.{Answering, RunningOut, AnswersLine, Replies, Responds}
-use Rattle.line_engine.specs.RunFault.{number_of}
-use Rattle.line_engine.specs.Runs.{Ends, Failures, Run, StandsAt, Stops}
-use Rattle.line_engine.specs.declared.run.RunCount.{RunCount}
-use Rattle.line_engine.specs.declared.run.RunFault.{RunFault}
-use Rattle.line_engine.specs.declared.run.RunFault.TheVariants.{OutOfMemory, TooManyLines, LineTooLong, ReadFailed, WriteFailed}
+use Rattle.line_engine.specs.Lines.{BeginsWith, line_feed, lines_of, first_line, begin_with, is_blank, max_input_lines, max_line_bytes, with_feeds}
 use Rattle.line_engine.proofs.Running.{lines_of-with_feeds}
+use Rattle.line_network.specs.Network.{NetworkValue}
 use Rattle.move_messages.specs.Commands.{command_of}
+use Rattle.sessions.specs.Seat.{SeatValue, count_of}
+use Rattle.office.specs.FedLines.{AreTaken, IsSeatFed, blank_line, is_accepted, is_refused, is_repeated, no_line, one_line}
 use Rattle.office.specs.FeedCounts.{IsFileRun, IsStopNumber, is_counted, may_count, must_count}
-use Rattle.office.specs.inner.Fed.{stop_number}
-use Rattle.office.specs.inner.FeedLines.{CountsLine}
+use Rattle.office.specs.declared.feed_lines.Counted.{Counted}
+use Rattle.office.specs.declared.feed_lines.Counted.TheVariants.{Accepted, Repeated, Refused, Nowhere}
+use Rattle.office.proofs.FedSeats.{read_nowhere}
 
 -- ---- lines
 
--- From old to new, by so many lines, of which so many must count and so many may.
-record Tallied (must may lines old new : ℕ) : Type 0 where
-  few : may ≤ lines
-  grows : old ≤ new
-  little : new ≤ old + may
-  all : old + lines < 2 ^ 64 → old + must ≤ new
+abbrev one_if : Bool → ℕ
+one_if b = cond b 1 0
 
-tallied_none : (old new : ℕ) → new ≡ old → Tallied 0 0 0 old new
-tallied_none old new same = record { few = omega arith; grows = omega arith; little = omega arith; all = λ room. omega arith }
+abbrev accepted_one : Counted → ℕ
+accepted_one c = one_if (is_accepted c)
 
-tallied_cons : (must may must1 may1 must2 may2 n a b c : ℕ) → must ≡ must1 + must2 → may ≡ may1 + may2 → Tallied must1 may1 1 a b → Tallied must2 may2 n b c → Tallied must may (suc n) a c
-tallied_cons must may must1 may1 must2 may2 n a b c is_must is_may one rest = record {
-  few = omega (arith, one.few, rest.few);
-  grows = omega (arith, one.grows, rest.grows);
-  little = omega (arith, one.little, rest.little);
-  all = λ room.
-      let here : a + must1 ≤ b = one.all (omega (arith, room)) in
-      let later : b + must2 ≤ c = rest.all (omega (arith, room, one.little, one.few)) in
-      omega (arith, here, later);
-}
+abbrev repeated_one : Counted → ℕ
+repeated_one c = one_if (is_repeated c)
 
--- one line, by whether it is blank and whether it is of a kind that counts
-one_line : (blank kind : Bool) (a b : ℕ) → (blank ≡ true → b ≡ a) → (blank ≡ false → (a ≤ b) × (b ≤ a + 1) × (kind ≡ true → a + 1 < 2 ^ 64 → b ≡ a + 1)) → Tallied (cond (not blank && kind) 1 0) (cond (not blank) 1 0) 1 a b
-one_line true kind a b same more = let is = same refl in record { few = omega arith; grows = omega arith; little = omega arith; all = λ room. omega arith }
-one_line false true a b same more =
-    let is = more refl in
-    record { few = omega arith; grows = is.0; little = is.1; all = λ room. let exact : b ≡ a + 1 = is.2 refl room in omega arith }
-one_line false false a b same more = let is = more refl in record { few = omega arith; grows = is.0; little = is.1; all = λ room. omega (arith, is.0) }
+abbrev refused_one : Counted → ℕ
+refused_one c = one_if (is_refused c)
 
-module _ {H : Type 0} (t : H → ℕ) where
-  abbrev pub Answers : Answering H
-  Answers old line body refused new = CountsLine (t old) line (t new)
+abbrev must_one : List ℕ → ℕ
+must_one line = one_if (must_count line)
 
-  abbrev pub NeverOut : RunningOut H
-  NeverOut old line new = ⊥
+abbrev may_one : List ℕ → ℕ
+may_one line = one_if (may_count line)
 
-  counts_response : (old new : H) (line body : List ℕ) (refused : Bool) → Responds Answers NeverOut old line body refused new → CountsLine (t old) line (t new)
-  counts_response old new line body refused (inl counts) = counts
-  counts_response old new line body refused (inr out) = absurd out.0
+-- how many lines count somewhere
+abbrev tally_of : List Counted → ℕ
+tally_of counts = count_by is_accepted counts + count_by is_repeated counts + count_by is_refused counts
 
-  line_tallied : (n : ℕ) (old new : H) (line text : List ℕ) (refused : Bool) → AnswersLine Answers NeverOut n old line text refused new
-      → Tallied (cond (must_count line) 1 0) (cond (may_count line) 1 0) 1 (t old) (t new)
-  line_tallied n old new line text refused answers =
-      one_line (is_blank line) (is_counted (command_of line)) (t old) (t new)
-      (λ is. ap t (rw is at answers).2)
-      (λ is. let says = rw is at answers in let counts = counts_response old new line says.0 refused says.2 in (counts.grows, counts.little, counts.exact))
+-- what counts somewhere counts once
+once : (kind : Bool) (counted : Counted) → (counted ≡ Nowhere → kind ≡ false) → (one_if kind ≤ accepted_one counted + repeated_one counted + refused_one counted) × (accepted_one counted + repeated_one counted + refused_one counted ≤ 1)
+once false Accepted nowhere = (omega arith, omega arith)
+once false Repeated nowhere = (omega arith, omega arith)
+once false Refused nowhere = (omega arith, omega arith)
+once false Nowhere nowhere = (omega arith, omega arith)
+once true Accepted nowhere = (omega arith, omega arith)
+once true Repeated nowhere = (omega arith, omega arith)
+once true Refused nowhere = (omega arith, omega arith)
+once true Nowhere nowhere = absurd (let never : true ≡ false = nowhere refl in cc)
 
-  lines_tallied : (n : ℕ) (old new : H) (lines : List (List ℕ)) (output : List ℕ) (refusals : ℕ) → Replies Answers NeverOut n old lines output refusals new
-      → Tallied (count_by must_count lines) (count_by may_count lines) (length lines) (t old) (t new)
-  lines_tallied n old new [] output refusals replies = tallied_none (t old) (t new) (ap t replies.2)
-  lines_tallied n old new (line ∷ lines) output refusals replies =
-      tallied_cons _ _ _ _ _ _ _ (t old) (t replies.4) (t new)
-      (sum_by-cons (λ (l : List ℕ). cond (must_count l) 1 0) line lines) (sum_by-cons (λ (l : List ℕ). cond (may_count l) 1 0) line lines)
-      (line_tallied n old replies.4 line replies.0 replies.2 replies.5) (lines_tallied (n + 1) replies.4 new lines replies.1 replies.3 replies.6)
+blank_ones : (blank kind : Bool) → blank ≡ true → (one_if (not blank && kind) ≡ 0) × (one_if (not blank) ≡ 0)
+blank_ones true kind is = (refl, refl)
+blank_ones false kind is = absurd cc
+
+filled_ones : (blank kind : Bool) → blank ≡ false → (one_if (not blank && kind) ≡ one_if kind) × (one_if (not blank) ≡ 1)
+filled_ones true kind is = absurd cc
+filled_ones false kind is = (refl, refl)
+
+-- Each line that must be counted is, and none but those that may.
+record Tallied (lines : List (List ℕ)) (counts : List Counted) : Type 0 where
+  all : count_by must_count lines ≤ tally_of counts
+  only : tally_of counts ≤ count_by may_count lines
+
+tallied_blank : (line : List ℕ) (lines : List (List ℕ)) (counts : List Counted) → is_blank line ≡ true → Tallied lines counts → Tallied (line ∷ lines) counts
+tallied_blank line lines counts blank rest =
+    let ones = blank_ones (is_blank line) (is_counted (command_of line)) blank in
+    record { all = omega (arith, rest.all, ones.0, sum_by-cons must_one line lines); only = omega (arith, rest.only, ones.1, sum_by-cons may_one line lines) }
+
+tallied_line : (line : List ℕ) (lines : List (List ℕ)) (counted : Counted) (counts : List Counted) → is_blank line ≡ false → (counted ≡ Nowhere → is_counted (command_of line) ≡ false) → Tallied lines counts → Tallied (line ∷ lines) (counted ∷ counts)
+tallied_line line lines counted counts filled nowhere rest =
+    let ones = filled_ones (is_blank line) (is_counted (command_of line)) filled in
+    let one = once (is_counted (command_of line)) counted nowhere in
+    let accepted = sum_by-cons accepted_one counted counts in
+    let repeated = sum_by-cons repeated_one counted counts in
+    let refused = sum_by-cons refused_one counted counts in
+    record {
+      all = omega (arith, rest.all, ones.0, one.0, accepted, repeated, refused, sum_by-cons must_one line lines);
+      only = omega (arith, rest.only, ones.1, one.1, accepted, repeated, refused, sum_by-cons may_one line lines);
+    }
+
+tallied : {networks : List NetworkValue} {old new : SeatValue} {lines : List (List ℕ)} {counts : List Counted} → AreTaken networks old new lines counts → Tallied lines counts
+tallied no_line = record { all = omega arith; only = omega arith }
+tallied (blank_line {line = line} {lines = lines} {counts = counts} blank rest) = tallied_blank line lines counts blank (tallied rest)
+tallied {networks} (one_line {old = old} {line = line} {lines = lines} {counts = counts} between counted filled taken rest) =
+    tallied_line line lines counted counts filled (read_nowhere networks old between (command_of line) counted taken) (tallied rest)
 
 -- ---- bytes
 
@@ -142,85 +154,64 @@ long_behind (line ∷ lines) more long = long_later line (lines ++ more) (long_b
 
 -- ---- stops
 
-module _ {H : Type 0} (answers : Answering H) (runs_out : RunningOut H) (run : Run H) (n : ℕ) where
-  -- the lines of the bytes that a reader told: those before the line of a stop, and those from there on
-  stop_lines : (at : StandsAt answers runs_out run n) (bytes : List ℕ) → run.from ≡ Some bytes → (more : List ℕ) × (lines_of bytes ≡ at.lines ++ lines_of (at.rest ++ more))
-  stop_lines at bytes told =
-      let f = front run.from run.to at.input bytes told at.consumed in (
-        f.0,
-        ap lines_of (f.1 ∙ ap (λ (xs : List ℕ). xs ++ f.0) at.begins.bytes ∙ append_assoc (with_feeds at.lines) at.rest f.0)
-            ∙ lines_of-with_feeds at.lines (at.rest ++ f.0) at.begins.free,
-      )
+-- the lines of the bytes that a reader told: those before the line of a stop, and those from there on
+stop_lines : (told left : Option (List ℕ)) (read bytes : List ℕ) (lines : List (List ℕ)) (rest : List ℕ) → BeginsWith read lines rest → told ≡ Some bytes → Consumes told left read → (more : List ℕ) × (lines_of bytes ≡ lines ++ lines_of (rest ++ more))
+stop_lines told left read bytes lines rest begins is consumed =
+    let f = front told left read bytes is consumed in (
+      f.0,
+      ap lines_of (f.1 ∙ ap (λ (xs : List ℕ). xs ++ f.0) begins.bytes ∙ append_assoc (with_feeds lines) rest f.0) ∙ lines_of-with_feeds lines (rest ++ f.0) begins.free,
+    )
 
-  many_lines : (at : StandsAt answers runs_out run n) → n ≡ max_input_lines + 1 → 0 < length at.rest → (bytes : List ℕ) → run.from ≡ Some bytes → max_input_lines < length (lines_of bytes)
-  many_lines at number some bytes told =
-      let s = stop_lines at bytes told in
-      let next : 0 < length (lines_of (at.rest ++ s.0)) = some_line at.rest s.0 some in
-      omega (arith, next, number, at.number, ap length s.1, length-append at.lines (lines_of (at.rest ++ s.0)))
+many_lines : (lines : List (List ℕ)) (rest more bytes : List ℕ) → lines_of bytes ≡ lines ++ lines_of (rest ++ more) → length lines ≡ max_input_lines → 0 < length rest → max_input_lines < length (lines_of bytes)
+many_lines lines rest more bytes is many some =
+    let next : 0 < length (lines_of (rest ++ more)) = some_line rest more some in
+    omega (arith, next, many, ap length is, length-append lines (lines_of (rest ++ more)))
 
-  long_line : (at : StandsAt answers runs_out run n) → max_line_bytes < length (first_line at.rest) → (bytes : List ℕ) → run.from ≡ Some bytes → Any IsLong (lines_of bytes)
-  long_line at long bytes told =
-      let s = stop_lines at bytes told in
-      let within : length (first_line at.rest) ≤ length (head_of (lines_of (at.rest ++ s.0))) = first_within at.rest s.0 in
-      let head : max_line_bytes < length (head_of (lines_of (at.rest ++ s.0))) = omega (arith, long, within) in
-      subst (Any IsLong) (sym s.1) (long_behind at.lines (lines_of (at.rest ++ s.0)) head)
+long_line : (lines : List (List ℕ)) (rest more bytes : List ℕ) → lines_of bytes ≡ lines ++ lines_of (rest ++ more) → max_line_bytes < length (first_line rest) → Any IsLong (lines_of bytes)
+long_line lines rest more bytes is long =
+    let within : length (first_line rest) ≤ length (head_of (lines_of (rest ++ more))) = first_within rest more in
+    let head : max_line_bytes < length (head_of (lines_of (rest ++ more))) = omega (arith, long, within) in
+    subst (Any IsLong) (sym is) (long_behind lines (lines_of (rest ++ more)) head)
 
 -- ---- a file's run
-
--- bytes that stay as they were lose none
-consumes_none : (from to : Option (List ℕ)) → Keeps from to → Consumes from to []
-consumes_none None to keeps = tt
-consumes_none (Some xs) None keeps = absurd keeps
-consumes_none (Some xs) (Some ys) keeps = sym keeps
 
 not_none : {P : Type 0} (code : ℕ) → let o : Option ℕ = Some code in o ≡ None → P
 not_none code h = absurd cc
 
-not_this : {P : Type 0} (code other : ℕ) → let o : Option ℕ = Some code in o ≡ Some other → (code ≡ other → ⊥) → P
-not_this code other h differs = let same : code ≡ other = cc in absurd (differs same)
-
--- a stop of a number that is no other's
-stopped : (told left : Option (List ℕ)) (tally code : ℕ) (has_failed : Bool) → ((read : List ℕ) × Consumes told left read) → IsStopNumber code → (code ≡ 91 → (bytes : List ℕ) → told ≡ Some bytes → max_input_lines < length (lines_of bytes))
-    → (code ≡ 92 → (bytes : List ℕ) → told ≡ Some bytes → Any IsLong (lines_of bytes)) → (code ≡ 93 → has_failed ≡ true) → IsFileRun told left tally (Some code) has_failed
-stopped told left tally code has_failed rest number many long failed = record {
-  rest = rest;
-  ended = λ none. not_none code none;
-  all = λ bytes is none. not_none code none;
-  only = λ bytes is none. not_none code none;
-  number = number;
-  too_many = λ bytes is which. let same : code ≡ 91 = cc in many same bytes is;
-  too_long = λ bytes is which. let same : code ≡ 92 = cc in long same bytes is;
-  unread = λ which. let same : code ≡ 93 = cc in failed same;
-}
-
-module _ {H : Type 0} (t : H → ℕ) (run : Run H) (failed : Failures) (new : t run.old ≡ 0) where
-  file_ended : (count : RunCount) → Ends (Answers t) (NeverOut t) run count → IsFileRun run.from run.to (t run.new) None failed.reader
-  file_ended count ends =
-      let lines = lines_of ends.input in
-      let tallied = lines_tallied t 1 run.old run.new lines ends.output count.refused ends.replies in
-      record {
-        rest = (ends.input, ends.consumed);
-        ended = λ none. ends.ended;
-        all = λ bytes told none. subst (λ (xs : List ℕ). count_by must_count (lines_of xs) ≤ t run.new) (sym (whole run.from run.to ends.input bytes told ends.consumed ends.ended))
-            (let room : t run.old + length lines < 2 ^ 64 = omega (arith, new, ends.lines, ends.few) in omega (arith, new, tallied.all room));
-        only = λ bytes told none. subst (λ (xs : List ℕ). t run.new ≤ count_by may_count (lines_of xs)) (sym (whole run.from run.to ends.input bytes told ends.consumed ends.ended)) (omega (arith, new, tallied.little));
-        number = tt;
-        too_many = λ bytes told which. absurd cc;
-        too_long = λ bytes told which. absurd cc;
-        unread = λ which. absurd cc;
-      }
-
-  file_stopped : (fault : RunFault) → failed.writer ≡ false → Stops (Answers t) (NeverOut t) run failed fault → IsFileRun run.from run.to (t run.new) (Some (number_of fault)) failed.reader
-  file_stopped OutOfMemory quiet stops = stopped _ _ _ 1 _ ([], consumes_none run.from run.to stops.0) (inl refl) (λ e. absurd (omega arith)) (λ e. absurd (omega arith)) (λ e. absurd (omega arith))
-  file_stopped (TooManyLines n) quiet stops =
-      stopped _ _ _ 91 _ (stops.0.input, stops.0.consumed) (inr (inl refl)) (λ e. many_lines (Answers t) (NeverOut t) run n stops.0 stops.1 stops.2) (λ e. absurd (omega arith)) (λ e. absurd (omega arith))
-  file_stopped (LineTooLong n) quiet stops =
-      stopped _ _ _ 92 _ (stops.0.input, stops.0.consumed) (inr (inr (inl refl))) (λ e. absurd (omega arith)) (λ e. long_line (Answers t) (NeverOut t) run n stops.0 stops.2) (λ e. absurd (omega arith))
-  file_stopped (ReadFailed n) quiet stops = stopped _ _ _ 93 _ (stops.0.input, stops.0.consumed) (inr (inr (inr refl))) (λ e. absurd (omega arith)) (λ e. absurd (omega arith)) (λ e. stops.3)
-  file_stopped (WriteFailed n) quiet stops = absurd (let wrote : failed.writer ≡ true = stops.5 in cc)
-
-  -- a file's run, however it ended
-  pub file_run : (result : Result RunCount RunFault) → failed.writer ≡ false → IfOk result (λ count. Ends (Answers t) (NeverOut t) run count) → IfErr result (λ fault. Stops (Answers t) (NeverOut t) run failed fault)
-      → IsFileRun run.from run.to (t run.new) (stop_number result) failed.reader
-  file_run (Ok count) quiet ends stops = file_ended count ends
-  file_run (Err fault) quiet ends stops = file_stopped fault quiet stops
+-- what lines did at a seat, by how the file ended, makes the file's run
+pub file_run : (networks : List NetworkValue) (told left : Option (List ℕ)) (failed : Option ℕ) (seat : SeatValue) (repeated refused : ℕ) (has_failed : Bool) → IsSeatFed networks told left failed seat repeated refused
+    → IfSome failed IsStopNumber → (failed ≡ Some 93 → has_failed ≡ true) → IsFileRun told left (count_of seat + repeated + refused) failed has_failed
+file_run networks told left None seat repeated refused has_failed fed number unread =
+    let t = tallied fed.taken in
+    let ended = fed.done.which in
+    let lines_are : (bytes : List ℕ) → told ≡ Some bytes → lines_of bytes ≡ fed.lines =
+    λ bytes is. ap lines_of (whole told left fed.done.read bytes is fed.done.consumed ended.0) ∙ sym ended.1 in
+    record {
+      rest = (fed.done.read, fed.done.consumed);
+      ended = λ none. ended.0;
+      all = λ bytes is none. rw (lines_are bytes is) (omega (arith, t.all, fed.counts_accepted, fed.counts_repeated, fed.counts_refused));
+      only = λ bytes is none. rw (lines_are bytes is) (omega (arith, t.only, fed.counts_accepted, fed.counts_repeated, fed.counts_refused));
+      number = number;
+      too_many = λ bytes is which. absurd cc;
+      too_long = λ bytes is which. absurd cc;
+      unread = unread;
+    }
+file_run networks told left (Some code) seat repeated refused has_failed fed number unread =
+    let stop = fed.done.which in
+    record {
+      rest = (fed.done.read, fed.done.consumed);
+      ended = λ none. not_none code none;
+      all = λ bytes is none. not_none code none;
+      only = λ bytes is none. not_none code none;
+      number = number;
+      too_many = λ bytes is which.
+          let l = stop_lines told left fed.done.read bytes fed.lines stop.rest stop.begins is fed.done.consumed in
+          let same : code ≡ 91 = cc in
+          let many = stop.many same in
+          many_lines fed.lines stop.rest l.0 bytes l.1 many.0 many.1;
+      too_long = λ bytes is which.
+          let l = stop_lines told left fed.done.read bytes fed.lines stop.rest stop.begins is fed.done.consumed in
+          let same : code ≡ 92 = cc in
+          long_line fed.lines stop.rest l.0 bytes l.1 (stop.long same);
+      unread = unread;
+    }

@@ -1,5 +1,6 @@
 -- The threads that were started, and the readers that they were given.
 use Rattle.std.proofs.Common.{◌≡◌, List, [], ◌∷◌, ◌++◌, All, arith, length, map, refl, sym, ap, ◌∙◌, append_assoc}
+use Rattle.std.proofs.lemmas.List.{length-map}
 use Rattle.std.proofs.lemmas.List.Elements.{All-head, All-same}
 
 pub head_of_all : {X : Type 0} (P : X → Type 0) (x : X) (xs ys : List X) → ys ≡ x ∷ xs → All P ys → P x
@@ -18,3 +19,6 @@ handed_on {H = H} {X = X} view hs grown h x rest left all is same first so =
 pub none_left : {X : Type 0} (xs : List X) → length xs ≡ 0 → xs ≡ []
 none_left [] none = refl
 none_left (x ∷ xs) none = absurd (omega (arith, none))
+
+pub same_length : {H X Y : Type 0} (view : H → X) (given : Y → X) (hs : List H) (ys : List Y) → map view hs ≡ map given ys → length hs ≡ length ys
+same_length view given hs ys same = sym (length-map hs view) ∙ ap length same ∙ length-map ys given

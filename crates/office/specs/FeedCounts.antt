@@ -4,11 +4,16 @@ use Rattle.std.specs.List.{count_by}
 use Rattle.std.specs.Io.KnownBytes.{Consumes, IsAtEnd}
 use Rattle.json_fields.specs.declared.fault.LineFault.{LineFault}
 use Rattle.line_engine.specs.Lines.{is_blank, lines_of, max_input_lines, max_line_bytes}
+use Rattle.line_network.specs.Network.{NetworkValue}
 use Rattle.move_messages.specs.Commands.{command_of}
 use Rattle.move_messages.specs.declared.command.Command.{Command}
+use Rattle.operating_db.specs.declared.event.Event.{Event}
 use Rattle.commit_book.specs.Requests.{request_of}
 use Rattle.commit_book.specs.declared.request.Request.{Request}
 use Rattle.commit_book.specs.declared.request.Request.TheVariants as request
+use Rattle.sessions.specs.Closing.{HasEntries}
+use Rattle.sessions.specs.Seat.{SeatValue, count_of}
+use Rattle.office.specs.FedLines.{IsSeatFed}
 use Rattle.office.specs.declared.feed_report.FileCount.{FileCount}
 
 -- the most files
@@ -53,7 +58,11 @@ pub record IsFileRun (told left : Option (List ℕ)) (tally : ℕ) (failed : Opt
   pub too_long : (bytes : List ℕ) → told ≡ Some bytes → failed ≡ Some 92 → Any (λ line. max_line_bytes < length line) (lines_of bytes)
   pub unread : failed ≡ Some 93 → has_failed ≡ true
 
--- the run of a file over this reader, where readers tell their bytes and their failures so
-abbrev pub IsFed : {R : Type 0} → (R → Option (List ℕ)) → (R → Bool) → R → FileCount R → Type 0
-IsFed remaining has_failed reader file =
-    IsFileRun (remaining reader) (remaining file.reader) (file.accepted + file.repeated + file.refused) file.failed (has_failed file.reader)
+-- What became of a file over this reader, where readers tell their bytes and their failures so: its run, and what its lines
+-- did at a seat whose every receipt is an entry of this history.
+pub record IsFed {R : Type 0} (networks : List NetworkValue) (history : List Event) (remaining : R → Option (List ℕ)) (has_failed : R → Bool) (reader : R) (file : FileCount R) : Type 0 where
+  pub run : IsFileRun (remaining reader) (remaining file.reader) (file.accepted + file.repeated + file.refused) file.failed (has_failed file.reader)
+  pub seat : SeatValue
+  pub lines : IsSeatFed networks (remaining reader) (remaining file.reader) file.failed seat file.repeated file.refused
+  pub accepted : file.accepted ≡ count_of seat
+  pub entries : HasEntries history seat

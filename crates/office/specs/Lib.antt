@@ -1,4 +1,5 @@
 pub mod CommandReplies
+pub mod FedLines
 pub mod FeedCounts
 pub mod Replies
 pub mod ReportText

@@ -23,16 +23,17 @@ pub(crate) struct FedFile<L: Ledger, R> {
     pub(crate) reader: R,
 }
 
-/// The reader of a file, as it was before its first line.
+/// What a file's thread is given: the networks over which plans are made, and the file's reader before its first line.
 #[derive(Drop)]
 pub(crate) struct FileOf<R> {
+    pub(crate) networks: Snapshot<Networks>,
     pub(crate) reader: Snapshot<R>,
 }
 
 impl<L: Ledger, R: Source> Promise<FedFile<L, R>> for FileOf<R> {
     ghost use Rattle.office.specs.inner.Fed.{IsFedFile};
 
-    ghost kept_by = { λ before file. IsFedFile R.remaining R.has_failed before.reader.value file };
+    ghost kept_by = { λ before file. IsFedFile before.networks.value R.remaining R.has_failed before.reader.value file };
 }
 
 /// The number of what stopped a run before its reader's end.
@@ -56,22 +57,20 @@ pub(crate) fn fed_file<W: Wait, L: Ledger, R: Source>(
 ) -> FedFile<L, R>
     requires fresh { R.has_failed reader ≡ false }
     requires new { count_of seat ≡ 0 }
-    ensures { IsFedFile R.remaining R.has_failed reader result }
+    ensures { IsFedFile networks.now R.remaining R.has_failed reader result }
 {
     let mut reader = reader;
     let mut file = FileSeat {
+        networks,
         seat,
         repeated: 0,
         refused: 0,
     };
-    let lines = FeedLines {
-        rt,
-        office,
-        networks,
-    };
+    let lines = FeedLines { rt, office };
     let run = run_lines(alloc, &mut reader, &mut NoReplies, &lines, &mut file);
     let failed = stop_of(run);
     let FileSeat {
+        networks: _,
         seat,
         repeated,
         refused,

@@ -1,8 +1,7 @@
 //! What a file's lines do at the file's seat.
-ghost use Rattle.std.specs.Prelude.{◌≡◌, ◌≢◌, IfSome, None, Some, false};
-ghost use Rattle.sessions.specs.Seat.{count_of};
-ghost use Rattle.office.specs.FeedCounts.{is_request_counted};
-ghost use Rattle.office.specs.inner.FeedLines.{AddsCounted, CountsLine, IsAnsweredAs, IsPlannedIn, IsPlansCommit, IsSubmitted, IsTakenIn, counted_by, tally};
+ghost use Rattle.std.specs.Prelude.{◌≡◌, IfSome, None, Some, false};
+ghost use Rattle.office.specs.FedLines.{IsLineTaken, IsPlannedIn, IsPlansCommit, IsSubmitted, IsTakenIn, counted_by, is_refused, is_repeated};
+ghost use Rattle.office.specs.inner.FeedLines.{Adds, IsLineFed};
 
 use commit_book::{Refusal, Reply, Request, Snap};
 use distance_tables::Networks;
@@ -15,9 +14,10 @@ use std::alloc::{AllocError, Global};
 use std::sync::Wait;
 use std::sync::ledger::Ledger;
 
-/// A file's seat, and how many of its lines were answered without an entry.
+/// A file's seat, how many of its lines were answered without an entry, and the networks over which its plans are made.
 #[derive(Drop)]
-pub(crate) struct FileSeat<L: Ledger> {
+pub(crate) struct FileSeat<'a, L: Ledger> {
+    pub(crate) networks: &'a Networks,
     pub(crate) seat: Seat<L>,
     pub(crate) repeated: u64,
     pub(crate) refused: u64,
@@ -32,10 +32,13 @@ pub(crate) enum Counted {
     Nowhere,
 }
 
-impl<L: Ledger> FileSeat<L> {
+impl<'a, L: Ledger> FileSeat<'a, L> {
     /// Counts a line. One that is accepted is on the seat's own count.
     fn count(&mut self, counted: Counted)
-        ensures { AddsCounted counted (tally self.old) (tally self.new) }
+        ensures repeated { Adds (is_repeated counted) self.old.repeated self.new.repeated }
+        ensures refused { Adds (is_refused counted) self.old.refused self.new.refused }
+        ensures seat { self.new.seat ≡ self.old.seat }
+        ensures networks { self.new.networks.now ≡ self.old.networks.now }
     {
         match counted {
             Counted::Repeated => self.repeated = self.repeated.saturating_add(1),
@@ -60,25 +63,40 @@ fn counted_as(answer: Result<Reply, Refusal>) -> Counted
 pub(crate) struct FeedLines<'a, W: Wait, L: Ledger> {
     pub(crate) rt: &'a W,
     pub(crate) office: &'a Office<L>,
-    pub(crate) networks: &'a Networks,
 }
 
 impl<'a, W: Wait, L: Ledger> Drop for FeedLines<'a, W, L> {
     fn drop(self) {
-        let FeedLines {
-            rt: _,
-            office: _,
-            networks: _,
-        } = self;
+        let FeedLines { rt: _, office: _ } = self;
     }
 }
 
 impl<'a, W: Wait, L: Ledger> FeedLines<'a, W, L> {
+    /// Does at a seat what a line asks for. One that isn't read counts as refused.
+    fn take_line(
+        &self,
+        alloc: Global,
+        networks: &Networks,
+        seat: &mut Seat<L>,
+        line: &[u8],
+    ) -> Counted
+        ensures { IsLineTaken networks.now seat.old seat.new line.now result }
+    {
+        match read_line(alloc, line) {
+            Ok(command) => self.take_in(alloc, networks, seat, Request::from(command)),
+            Err(_) => Counted::Refused,
+        }
+    }
+
     /// Does at a seat what is asked for.
-    fn take_in(&self, alloc: Global, seat: &mut Seat<L>, request: Request) -> Counted
-        ensures taken { IsTakenIn self.now.networks.now seat.old seat.new request result }
-        ensures seat { IsAnsweredAs (count_of seat.old) (count_of seat.new) result }
-        ensures nowhere { result ≡ Counted.Nowhere → is_request_counted request ≡ false }
+    fn take_in(
+        &self,
+        alloc: Global,
+        networks: &Networks,
+        seat: &mut Seat<L>,
+        request: Request,
+    ) -> Counted
+        ensures { IsTakenIn networks.now seat.old seat.new request result }
     {
         match request {
             Request::Event(event) => self.submit(alloc, seat, event),
@@ -86,31 +104,27 @@ impl<'a, W: Wait, L: Ledger> FeedLines<'a, W, L> {
                 Ok(_) => Counted::Nowhere,
                 Err(_) => Counted::Refused,
             },
-            Request::Plan(at) => self.plan(alloc, seat, at),
+            Request::Plan(at) => self.plan(alloc, networks, seat, at),
             Request::Sheet => Counted::Nowhere,
         }
     }
 
     /// Submits an event at a seat.
     fn submit(&self, alloc: Global, seat: &mut Seat<L>, event: Event) -> Counted
-        ensures submitted { IsSubmitted seat.old seat.new event result }
-        ensures seat { IsAnsweredAs (count_of seat.old) (count_of seat.new) result }
-        ensures somewhere { result ≢ Counted.Nowhere }
+        ensures { IsSubmitted seat.old seat.new event result }
     {
         counted_as(self.office.submit(self.rt, alloc, seat, event))
     }
 
     /// Begins at a moment, plans with no lock held, and commits what was planned. It counts as the commit's answer, or as
     /// refused where the begin or the planning was.
-    fn plan(&self, alloc: Global, seat: &mut Seat<L>, at: Moment) -> Counted
-        ensures planned { IsPlannedIn self.now.networks.now seat.old seat.new at result }
-        ensures seat { IsAnsweredAs (count_of seat.old) (count_of seat.new) result }
-        ensures somewhere { result ≢ Counted.Nowhere }
+    fn plan(&self, alloc: Global, networks: &Networks, seat: &mut Seat<L>, at: Moment) -> Counted
+        ensures { IsPlannedIn networks.now seat.old seat.new at result }
     {
         let Ok(snap) = self.office.begin(self.rt, alloc, seat, at) else {
             return Counted::Refused;
         };
-        match planned_commit(alloc, &snap, self.networks) {
+        match planned_commit(alloc, &snap, networks) {
             Some(commit) => self.submit(alloc, seat, Event::Commit(commit)),
             None => Counted::Refused,
         }
@@ -128,23 +142,20 @@ fn planned_commit(alloc: Global, snap: &Snap, networks: &Networks) -> Option<Com
 }
 
 impl<'a, W: Wait, L: Ledger> Handler for FeedLines<'a, W, L> {
-    type State = FileSeat<L>;
+    type State = FileSeat<'a, L>;
 
-    ghost answers = { λ old line _ _ new. CountsLine (tally old) line (tally new) };
+    ghost answers = { λ old line _ _ new. IsLineFed old line new };
 
     ghost runs_out = { λ _ _ _. ⊥ };
 
     fn answer(
         &self,
         alloc: Global,
-        file: &mut FileSeat<L>,
+        file: &mut FileSeat<'a, L>,
         line: &[u8],
         _reply: &mut ReplyText,
     ) -> Result<Outcome, AllocError> {
-        let counted = match read_line(alloc, line) {
-            Ok(command) => self.take_in(alloc, &mut file.seat, Request::from(command)),
-            Err(_) => Counted::Refused,
-        };
+        let counted = self.take_line(alloc, file.networks, &mut file.seat, line);
         file.count(counted);
         Ok(Outcome::Answered)
     }

@@ -2,9 +2,10 @@
 ghost use Rattle.std.specs.Prelude.{◌≡◌, ◌+◌, ◌≤◌, [], All, IfOk, false, length, map, vec_len, vec_capacity};
 ghost use Rattle.std.specs.List.{AllZip, sum_by};
 ghost use Rattle.commit_book.specs.Headline.{IsProved};
+ghost use Rattle.sessions.specs.Closing.{HasEntries};
 ghost use Rattle.sessions.specs.Seat.{count_of};
 ghost use Rattle.office.specs.FeedCounts.{IsFed, max_files};
-ghost use Rattle.office.specs.inner.Fed.{IsFedFile};
+ghost use Rattle.office.specs.inner.Fed.{AreFed, IsFedFile, given_to, given_with};
 
 use crate::fed_file::{FedFile, FileOf, fed_file};
 use crate::{FeedFault, FeedReport, FileCount};
@@ -53,6 +54,9 @@ struct Fed<L: Ledger, R> {
 /// counts as refused. A file stops at 1,000,001 lines (91), at a line of over 65,536 bytes (92), where its reader fails (93),
 /// or where memory is refused before its first line (1); the other files go on.
 ///
+/// Each counted line is that of its own event, in the file's order: it counts as some book answers that event, an accepted
+/// one gives a receipt, and each receipt of the file is an entry of the book that is handed back.
+///
 /// Refused with `OutOfMemory` (1) before any thread is started; with `NoThread` (46) where no thread could be started for a
 /// file, after those that ran have ended; with `ReceiptLost` (96) as `close` says. May wait.
 pub fn feed<T: Threads + Wait + Sync, R: Source + Send + Drop>(
@@ -66,7 +70,7 @@ pub fn feed<T: Threads + Wait + Sync, R: Source + Send + Drop>(
     requires few { vec_len readers ≤ max_files }
     requires fresh { All (λ reader. R.has_failed reader ≡ false) readers.items }
     requires no_entry { book.state.history ≡ [] }
-    ensures files { IfOk result (λ report. AllZip (IsFed R.remaining R.has_failed) readers.items report.files.items) }
+    ensures files { IfOk result (λ report. AllZip (IsFed networks.now report.book.state.history R.remaining R.has_failed) readers.items report.files.items) }
     ensures entries { IfOk result (λ report. sum_by (λ file. file.accepted) report.files.items ≡ length report.book.state.history) }
     ensures proved { IfOk result (λ report. IsProved report.book.setting report.book.state.history) }
 {
@@ -90,7 +94,7 @@ fn feed_by<L: Ledger + Send + Sync, T: Threads + Wait + Sync, R: Source + Send +
     requires few { vec_len readers ≤ max_files }
     requires fresh { All (λ reader. R.has_failed reader ≡ false) readers.items }
     requires no_entry { book.state.history ≡ [] }
-    ensures files { IfOk result (λ report. AllZip (IsFed R.remaining R.has_failed) readers.items report.files.items) }
+    ensures files { IfOk result (λ report. AllZip (IsFed networks.now report.book.state.history R.remaining R.has_failed) readers.items report.files.items) }
     ensures entries { IfOk result (λ report. sum_by (λ file. file.accepted) report.files.items ≡ length report.book.state.history) }
     ensures proved { IfOk result (λ report. IsProved report.book.setting report.book.state.history) }
 {
@@ -141,7 +145,7 @@ fn fed_in_threads<L: Ledger + Send + Sync, T: Threads + Wait + Sync, R: Source +
     requires running { (room.running.items ≡ []) × (vec_len readers ≤ vec_capacity room.running) }
     requires files { (room.files.items ≡ []) × (vec_len readers ≤ vec_capacity room.files) }
     requires room { (room.seats.items ≡ []) × (vec_len readers ≤ vec_capacity room.seats) }
-    ensures files { IfOk result (λ fed. AllZip (IsFed R.remaining R.has_failed) readers.items fed.files.items) }
+    ensures files { IfOk result (λ fed. AreFed R.remaining R.has_failed (map (given_with networks.now) readers.items) fed.files.items fed.seats.items) }
     ensures counts { IfOk result (λ fed. sum_by (λ file. file.accepted) fed.files.items ≡ sum_by count_of fed.seats.items) }
     ensures seats { IfOk result (λ fed. vec_len fed.seats ≡ vec_len readers) }
 {
@@ -155,7 +159,7 @@ fn fed_in_threads<L: Ledger + Send + Sync, T: Threads + Wait + Sync, R: Source +
             requires running { (room.running.items ≡ []) × (vec_len readers ≤ vec_capacity room.running) }
             requires files { (room.files.items ≡ []) × (vec_len readers ≤ vec_capacity room.files) }
             requires room { (room.seats.items ≡ []) × (vec_len readers ≤ vec_capacity room.seats) }
-            ensures files { IfOk result (λ fed. AllZip (IsFed R.remaining R.has_failed) readers.items fed.files.items) }
+            ensures files { IfOk result (λ fed. AreFed R.remaining R.has_failed (map (given_with networks.entry.now) readers.items) fed.files.items fed.seats.items) }
             ensures counts { IfOk result (λ fed. sum_by (λ file. file.accepted) fed.files.items ≡ sum_by count_of fed.seats.items) }
             ensures seats { IfOk result (λ fed. vec_len fed.seats ≡ vec_len readers) }
         {
@@ -197,7 +201,7 @@ fn started<
     requires one_each { vec_len seats ≡ vec_len readers }
     requires none { running.items ≡ [] }
     requires room { vec_len readers ≤ vec_capacity running }
-    ensures { IfOk result (λ running. map (λ handle. handle.promise.reader.value) running.items ≡ readers.items) }
+    ensures { IfOk result (λ running. map (λ handle. given_to handle.promise) running.items ≡ map (given_with networks.now) readers.items) }
 {
     let mut running = running;
     let mut seats = seats.into_iter();
@@ -206,12 +210,13 @@ fn started<
             unreachable!()
         };
         let before = FileOf {
+            networks: Snapshot::of(networks),
             reader: Snapshot::of(&reader),
         };
         let work = move || -> FedFile<L, R>
             requires fresh { R.has_failed reader ≡ false }
             requires new { count_of seat ≡ 0 }
-            ensures { IsFedFile R.remaining R.has_failed reader result }
+            ensures { IsFedFile networks.entry.now R.remaining R.has_failed reader result }
         { fed_file(rt, alloc, office, networks, seat, reader) };
         match scope.spawn_with(before, work) {
             Ok(handle) => running.push_reserved(handle),
@@ -230,7 +235,7 @@ fn gathered<L: Ledger, T: Threads, R: Source + Drop>(
 ) -> Fed<L, R>
     requires files { (files.items ≡ []) × (vec_len running ≤ vec_capacity files) }
     requires seats { (seats.items ≡ []) × (vec_len running ≤ vec_capacity seats) }
-    ensures files { AllZip (IsFed R.remaining R.has_failed) (map (λ handle. handle.promise.reader.value) running.items) result.files.items }
+    ensures files { AreFed R.remaining R.has_failed (map (λ handle. given_to handle.promise) running.items) result.files.items result.seats.items }
     ensures counts { sum_by (λ file. file.accepted) result.files.items ≡ sum_by count_of result.seats.items }
     ensures seats { vec_len result.seats ≡ vec_len running }
 {
@@ -269,6 +274,7 @@ fn closed<L: Ledger, R: Drop>(office: Office<L>, fed: Fed<L, R>) -> Result<FeedR
     requires ledger { office.seats ≡ L.parts }
     requires all { office.seats ≤ vec_len fed.seats }
     ensures files { IfOk result (λ report. report.files ≡ fed.files) }
+    ensures receipts { IfOk result (λ report. All (HasEntries report.book.state.history) fed.seats.items) }
     ensures entries { IfOk result (λ report. length report.book.state.history ≡ sum_by count_of fed.seats.items) }
     ensures proved { IfOk result (λ report. IsProved report.book.setting report.book.state.history) }
 {
