@@ -12,6 +12,7 @@ ghost use Rattle.cost_table.specs.Plan.{IsOptimal};
 ghost use Rattle.price_checker.specs.Certificate.{IsCertificate};
 ghost use Rattle.dispatch_sheet.specs.PlanText.{FitsProblem};
 ghost use Rattle.office.specs.CommandReplies.{IsLedTo, IsPlanOf, IsPlanned, LeavesOutOfMemory, RepliesToLine, RepliesToRequest, RunsOutOfMemory, answer_text, begun_reply, is_refused, present};
+ghost use Rattle.office.specs.inner.OutOfMemory.{MayAnswerOutOfMemory};
 
 use assignment::plan;
 use commit_book::{Book, Refusal, Reply, Request, Snap};
@@ -64,9 +65,10 @@ fn answer_request(
     reply: &mut ReplyText,
 ) -> Result<Outcome, AllocError>
     requires short { length reply.old ≤ max_head_bytes }
-    ensures { MatchResult result
+    ensures reply { MatchResult result
         (λ outcome. (body : List ℕ) × (reply.new ≡ reply.old ++ body) × RepliesToRequest book.old request body (is_refusal outcome) book.new)
         (λ _. LeavesOutOfMemory book.old request book.new) }
+    ensures memory { OnErr result (MayAnswerOutOfMemory book.old request) }
 {
     match request {
         Request::Event(event) => return push_answer(reply, book.submit(alloc, &event)),
