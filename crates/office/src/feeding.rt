@@ -54,8 +54,8 @@ struct Fed<L: Ledger, R> {
 /// counts as refused. A file stops at 1,000,001 lines (91), at a line of over 65,536 bytes (92), where its reader fails (93),
 /// or where memory is refused before its first line (1); the other files go on.
 ///
-/// Each counted line is that of its own event, in the file's order: it counts as some book answers that event, an accepted
-/// one gives a receipt, and each receipt of the file is an entry of the book that is handed back.
+/// Lines count in the file's order, each by the answer that some book gives to its own event. An accepted one gives the
+/// file's seat a receipt, and each receipt is an entry of the book that is handed back.
 ///
 /// Refused with `OutOfMemory` (1) before any thread is started; with `NoThread` (46) where no thread could be started for a
 /// file, after those that ran have ended; with `ReceiptLost` (96) as `close` says. May wait.
