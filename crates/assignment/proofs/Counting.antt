@@ -9,7 +9,7 @@ use Rattle.std.proofs.lemmas.List.Sums.{sum_by-cons, sum_by-append}
 use Rattle.std.proofs.lemmas.List.Elements.{All-push, All-weaker}
 use Rattle.std.proofs.lemmas.List.Sorted.{All-permutation, sum_by-IsPermutation}
 use Rattle.cost_table.specs.Table.{Table, lack_at, order_count}
-use Rattle.assignment.specs.inner.State.{Kept, AreCounted, AreServed, order_at, served, is_order, more}
+use Rattle.assignment.specs.inner.State.{Kept, AreCounted, AreServed, order_at, served, has_order, more}
 use Rattle.assignment.specs.inner.Sequence.{times, IsSequence, taken_in}
 use Rattle.assignment.proofs.Unit.{counted_same, more_none}
 
@@ -99,8 +99,8 @@ served_none : (k : ℕ) (order_of : List (Option ℕ)) → ((i : ℕ) → order_
 served_none k [] none = refl
 served_none k (o ∷ os) none =
     let rest = served_none k os (λ i. none (suc i)) in
-    let cons = sum_by-cons (λ (q : Option ℕ). cond (is_order k q) 1 0) o os in
-    let first : cond (is_order k o) 1 0 ≡ zero = ap (λ (q : Option ℕ). cond (is_order k q) 1 0) (none 0) in
+    let cons = sum_by-cons (λ (q : Option ℕ). cond (has_order k q) 1 0) o os in
+    let first : cond (has_order k o) 1 0 ≡ zero = ap (λ (q : Option ℕ). cond (has_order k q) 1 0) (none 0) in
     omega (arith, rest, cons, first)
 
 -- no unit is taken in yet

@@ -5,13 +5,14 @@ use Rattle.std.proofs.lemmas.Bool.{cases_eq, cases_lt}
 use Rattle.std.proofs.lemmas.List.Sums.{sum_by-cons, sum_by-append}
 use Rattle.std.proofs.lemmas.Bool.Decides.{nat_tests}
 use Rattle.cost_table.specs.Table.{penalty_at, lack_at, wagon_count, order_count}
-use Rattle.cost_table.specs.Plan.{sum_below, uses, serves, AllAllowed, pair_cost, missed_cost, IsAscending, IsAscendingFrom, Precedes, IsPlanList}
+use Rattle.cost_table.specs.Plan.{sum_below, uses, serves, AllAllowed, pair_cost, missed_cost}
+use Rattle.cost_table.specs.PlanList.{IsAscendingPlan, IsAscendingFrom, Precedes, IsPlanList}
 use Rattle.cost_table.proofs.Sums.{sum_below-same, sum_below-add, sum_below-at, double_count, distributes}
 use Rattle.cost_table.proofs.CostLemmas.{wagons_below, orders_below}
 use Rattle.price_checker.specs.Certificate.{IsCertificate}
 use Rattle.price_checker.proofs.Duality.{sum_below-items}
 use Rattle.std.proofs.Math.Seq.{take-length}
-use Rattle.assignment.specs.inner.State.{Kept, is_order, served, order_at, IsKept, AreCounted}
+use Rattle.assignment.specs.inner.State.{Kept, has_order, served, order_at, IsKept, AreCounted}
 use Rattle.assignment.specs.inner.Path.{one_if}
 use Rattle.assignment.specs.inner.Pairs.{pairs_of, pairs_below}
 use Rattle.assignment.proofs.Limits.{cell_wagon, cell_order}
@@ -36,7 +37,7 @@ each_later j i o xs (p ∷ ps) h =
     let l = h.0 in
     (omega arith, h.1, ap (λ k. get_or (o ∷ xs) k None) (later p.0 i l) ∙ h.2, each_later j i o xs ps h.3)
 
-order_is : (j : ℕ) (o : Option ℕ) → is_order j o ≡ true → o ≡ Some j
+order_is : (j : ℕ) (o : Option ℕ) → has_order j o ≡ true → o ≡ Some j
 order_is j None h = cc
 order_is j (Some q) h = elim (cases_eq q j) [
   | inl same ↦ ap (λ x. Some x) same
@@ -49,7 +50,7 @@ each_choose false j i o xs ps is h = h
 
 each_of : (j i : ℕ) (xs : List (Option ℕ)) → EachOf j i xs (pairs_of j i xs)
 each_of j i [] = tt
-each_of j i (o ∷ xs) = each_choose (is_order j o) j i o xs (pairs_of j (i + 1) xs) (order_is j o) (each_later j i o xs (pairs_of j (i + 1) xs) (each_of j (i + 1) xs))
+each_of j i (o ∷ xs) = each_choose (has_order j o) j i o xs (pairs_of j (i + 1) xs) (order_is j o) (each_later j i o xs (pairs_of j (i + 1) xs) (each_of j (i + 1) xs))
 
 held_of : (j : ℕ) (h : List (Option ℕ)) (ps : List (ℕ × ℕ)) → EachOf j 0 h ps → EachHeld h ps
 held_of j h [] e = tt
@@ -77,15 +78,15 @@ precedes_later q i j (inr l) = inr (l.0, (let m = l.1 in omega arith))
 asc_of : (j i : ℕ) (xs : List (Option ℕ)) (q : ℕ × ℕ) → Precedes q (i, j) → IsAscendingFrom q (pairs_of j i xs)
 asc_of j i [] q a = tt
 asc_of j i (o ∷ xs) q a =
-    asc_choose (is_order j o) j i q (pairs_of j (i + 1) xs) a (asc_of j (i + 1) xs q (precedes_later q i j a)) (asc_of j (i + 1) xs (i, j) (inr (refl, omega arith)))
+    asc_choose (has_order j o) j i q (pairs_of j (i + 1) xs) a (asc_of j (i + 1) xs q (precedes_later q i j a)) (asc_of j (i + 1) xs (i, j) (inr (refl, omega arith)))
 
-asc_start_choose : (b : Bool) (j i : ℕ) (ps : List (ℕ × ℕ)) → IsAscendingFrom (i, j) ps → IsAscending ps → IsAscending (cond b ((i, j) ∷ ps) ps)
+asc_start_choose : (b : Bool) (j i : ℕ) (ps : List (ℕ × ℕ)) → IsAscendingFrom (i, j) ps → IsAscendingPlan ps → IsAscendingPlan (cond b ((i, j) ∷ ps) ps)
 asc_start_choose true j i ps a h = a
 asc_start_choose false j i ps a h = h
 
-asc_start : (j i : ℕ) (xs : List (Option ℕ)) → IsAscending (pairs_of j i xs)
+asc_start : (j i : ℕ) (xs : List (Option ℕ)) → IsAscendingPlan (pairs_of j i xs)
 asc_start j i [] = tt
-asc_start j i (o ∷ xs) = asc_start_choose (is_order j o) j i (pairs_of j (i + 1) xs) (asc_of j (i + 1) xs (i, j) (inr (refl, omega arith))) (asc_start j (i + 1) xs)
+asc_start j i (o ∷ xs) = asc_start_choose (has_order j o) j i (pairs_of j (i + 1) xs) (asc_of j (i + 1) xs (i, j) (inr (refl, omega arith))) (asc_start j (i + 1) xs)
 
 abbrev EachBelow : ℕ → List (ℕ × ℕ) → Type 0
 EachBelow n [] = Unit {0}
@@ -111,11 +112,11 @@ asc_append_from : (n : ℕ) (q : ℕ × ℕ) (ps : List (ℕ × ℕ)) (h : List 
 asc_append_from n q [] h l b a = asc_of n 0 h q (inl l)
 asc_append_from n q (p ∷ ps) h l b a = (a.0, asc_append_from n p ps h b.0 b.1 a.1)
 
-asc_append : (n : ℕ) (ps : List (ℕ × ℕ)) (h : List (Option ℕ)) → EachBelow n ps → IsAscending ps → IsAscending (ps ++ pairs_of n 0 h)
+asc_append : (n : ℕ) (ps : List (ℕ × ℕ)) (h : List (Option ℕ)) → EachBelow n ps → IsAscendingPlan ps → IsAscendingPlan (ps ++ pairs_of n 0 h)
 asc_append n [] h b a = asc_start n 0 h
 asc_append n (p ∷ ps) h b a = asc_append_from n p ps h b.0 b.1 a
 
-pub ascending_below : (n : ℕ) (h : List (Option ℕ)) → IsAscending (pairs_below n h)
+pub ascending_below : (n : ℕ) (h : List (Option ℕ)) → IsAscendingPlan (pairs_below n h)
 ascending_below zero h = tt
 ascending_below (suc n) h = asc_append n (pairs_below n h) h (all_below n h) (ascending_below n h)
 
@@ -170,10 +171,10 @@ serves_of : (k j i : ℕ) (xs : List (Option ℕ)) → serves k (pairs_of j i xs
 serves_of k j i [] = omega arith
 serves_of k j i (o ∷ xs) =
     let rest = serves_of k j (i + 1) xs in
-    let step = serves_choose (is_order j o) k j i (pairs_of j (i + 1) xs) in
-    let cons = sum_by-cons (λ (q : Option ℕ). cond (is_order j q) 1 0) o xs in
-    let scale = scaled (is_order j o) (j == k) in
-    let split = spread (cond (j == k) 1 0) (cond (is_order j o) 1 0) (served j xs) (served j (o ∷ xs)) cons in
+    let step = serves_choose (has_order j o) k j i (pairs_of j (i + 1) xs) in
+    let cons = sum_by-cons (λ (q : Option ℕ). cond (has_order j q) 1 0) o xs in
+    let scale = scaled (has_order j o) (j == k) in
+    let split = spread (cond (j == k) 1 0) (cond (has_order j o) 1 0) (served j xs) (served j (o ∷ xs)) cons in
     omega (arith, rest, step, scale, split)
 
 pub serves_below : (n k : ℕ) (h : List (Option ℕ)) → serves k (pairs_below n h) ≡ sum_below n (λ j. cond (j == k) 1 0 * served j h)
@@ -203,22 +204,22 @@ uses_before : (x j i : ℕ) (xs : List (Option ℕ)) → x < i → uses x (pairs
 uses_before x j i [] l = refl
 uses_before x j i (o ∷ xs) l =
     let rest = uses_before x j (i + 1) xs (omega arith) in
-    let step = uses_choose (is_order j o) x j i (pairs_of j (i + 1) xs) in
-    let none = none_other (is_order j o) i x (omega arith) in
+    let step = uses_choose (has_order j o) x j i (pairs_of j (i + 1) xs) in
+    let none = none_other (has_order j o) i x (omega arith) in
     omega (arith, rest, step, none)
 
 uses_of : (x j i d : ℕ) (xs : List (Option ℕ)) → x ≡ i + d → uses x (pairs_of j i xs) ≡ one_if j (get_or xs d None)
 uses_of x j i d [] e = refl
 uses_of x j i zero (o ∷ xs) e =
     let rest = uses_before x j (i + 1) xs (omega arith) in
-    let step = uses_choose (is_order j o) x j i (pairs_of j (i + 1) xs) in
-    let here = one_same (is_order j o) i x (omega arith) in
+    let step = uses_choose (has_order j o) x j i (pairs_of j (i + 1) xs) in
+    let here = one_same (has_order j o) i x (omega arith) in
     let test = one_if-test j o in
     omega (arith, rest, step, here, test)
 uses_of x j i (suc d) (o ∷ xs) e =
     let rest = uses_of x j (i + 1) d xs (omega arith) in
-    let step = uses_choose (is_order j o) x j i (pairs_of j (i + 1) xs) in
-    let none = none_other (is_order j o) i x (omega arith) in
+    let step = uses_choose (has_order j o) x j i (pairs_of j (i + 1) xs) in
+    let none = none_other (has_order j o) i x (omega arith) in
     omega (arith, rest, step, none)
 
 pub uses_below : (n x : ℕ) (h : List (Option ℕ)) → uses x (pairs_below n h) ≡ sum_below n (λ j. one_if j (order_at h x))

@@ -4,8 +4,8 @@ use Rattle.std.proofs.lemmas.List.{get_or_read}
 use Rattle.std.proofs.lemmas.List.Sums.{sum_by-set}
 use Rattle.assignment.specs.declared.search.Search.{Search}
 use Rattle.assignment.specs.declared.state.State.{State}
-use Rattle.assignment.specs.inner.State.{Kept, IsKept, IsState, kept, order_at, orders_of, served, is_order}
-use Rattle.assignment.specs.inner.Search.{IsSearch, IsSearchOf, IsReached, IsReachedFrom}
+use Rattle.assignment.specs.inner.State.{Kept, IsKept, IsState, kept, order_at, orders_of, served, has_order}
+use Rattle.assignment.specs.inner.Search.{IsSearch, IsSearchOf, IsWagonReached, IsReachedFrom}
 use Rattle.assignment.specs.inner.Path.{IsGiven, IsOnWay, one_if}
 use Rattle.assignment.proofs.Numbers.{orders_set}
 use Rattle.assignment.proofs.Pairs.{one_if-test}
@@ -14,7 +14,7 @@ use Rattle.assignment.proofs.Writes.{same_at, other_at, written_length}
 -- how many wagons an order has after one wagon changes its order
 pub served-set : (k : ℕ) (h h' : List (Option ℕ)) (i : ℕ) (o : Option ℕ) → i < length h → h' ≡ set h i o → served k h' + one_if k (order_at h i) ≡ served k h + one_if k o
 served-set k h h' i o l e =
-    let s = sum_by-set (λ (q : Option ℕ). cond (is_order k q) 1 0) h i o None l in
+    let s = sum_by-set (λ (q : Option ℕ). cond (has_order k q) 1 0) h i o None l in
     let a = one_if-test k (order_at h i) in
     let b = one_if-test k o in
     let d : served k h' ≡ served k (set h i o) = ap (served k) e in
@@ -130,8 +130,8 @@ search_of state state' f same h = subst (λ x. IsSearchOf x f) (sym same) (recor
 pub search_of_state : (state : State) (f : Search) (n : ℕ) → IsState state → IsSearch (kept state) f n → IsSearchOf state f
 search_of_state state f n k h = record { table = k.keeps.table; costs = k.costs; wagons = k.keeps.priced.wagons; orders = k.keeps.priced.orders; room = h.room; settled = h.settled.order }
 
-pub reached_then : (state state' : State) (f : Search) (n i : ℕ) → state' ≡ record state { order_of = state'.order_of } → IsReached (kept state) f n i → IsReached (kept state') f n i
-reached_then state state' f n i same r = subst (λ x. IsReached (kept x) f n i) (sym same) (record { place = r.place; before = r.before; from = record { within = r.from.within; exact = r.from.exact } })
+pub reached_then : (state state' : State) (f : Search) (n i : ℕ) → state' ≡ record state { order_of = state'.order_of } → IsWagonReached (kept state) f n i → IsWagonReached (kept state') f n i
+reached_then state state' f n i same r = subst (λ x. IsWagonReached (kept x) f n i) (sym same) (record { place = r.place; before = r.before; from = record { within = r.from.within; exact = r.from.exact } })
 
 pub reached_before : (state state' : State) (f : Search) (i x : ℕ) → state' ≡ record state { order_of = state'.order_of } → IsReachedFrom (kept state') f i x → IsReachedFrom (kept state) f i x
 reached_before state state' f i x same r =

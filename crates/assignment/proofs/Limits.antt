@@ -2,7 +2,8 @@ use Rattle.std.proofs.Common.{◌≡◌, ◌+◌, ◌<◌, ◌≤◌, ℕ, Optio
 use Rattle.std.proofs.lemmas.Bool.{cases_lt}
 use Rattle.std.proofs.lemmas.List.{get_or_past}
 use Rattle.std.proofs.lemmas.List.Elements.{All-get_or}
-use Rattle.cost_table.specs.Table.{Table, IsTable, cost_at, penalty_at, wagon_count, order_count}
+use Rattle.cost_table.specs.Table.{Table, cost_at, penalty_at, wagon_count, order_count}
+use Rattle.cost_table.specs.TableLimits.{IsTable}
 use Rattle.cost_table.proofs.TableLemmas.{look_up_within}
 use Rattle.assignment.specs.inner.Costs.{cell_cost}
 use Rattle.assignment.specs.inner.State.{Kept, IsKept, order_at}

@@ -6,7 +6,7 @@ use Rattle.std.proofs.lemmas.List.Sums.{sum_by-cons, sum_by-append}
 use Rattle.std.proofs.lemmas.Bool.Decides.{nat_tests}
 use Rattle.cost_table.specs.Plan.{sum_below}
 use Rattle.cost_table.proofs.Sums.{sum_below-same, sum_below-add, sum_below-zero, sum_below-at}
-use Rattle.assignment.specs.inner.State.{is_order, served}
+use Rattle.assignment.specs.inner.State.{has_order, served}
 use Rattle.assignment.specs.inner.Path.{one_if}
 use Rattle.assignment.specs.inner.Pairs.{pairs_of}
 
@@ -23,21 +23,21 @@ choose_one : (b : Bool) (i k j : ℕ) → k ≡ i → cond b (one_pair i j) [] �
 choose_one b i k j e = ap (λ x. cond b (one_pair x j) []) (sym e)
 
 -- the pairs of one order, one wagon further
-pub pairs_of-push : (j i n : ℕ) (xs : List (Option ℕ)) (o : Option ℕ) → n ≡ i + length xs → pairs_of j i (xs ++ o ∷ []) ≡ cond (is_order j o) (pairs_of j i xs ++ (n, j) ∷ []) (pairs_of j i xs)
-pairs_of-push j i n [] o e = choose_one (is_order j o) i n j (omega arith)
+pub pairs_of-push : (j i n : ℕ) (xs : List (Option ℕ)) (o : Option ℕ) → n ≡ i + length xs → pairs_of j i (xs ++ o ∷ []) ≡ cond (has_order j o) (pairs_of j i xs ++ (n, j) ∷ []) (pairs_of j i xs)
+pairs_of-push j i n [] o e = choose_one (has_order j o) i n j (omega arith)
 pairs_of-push j i n (x ∷ xs) o e =
-    choose_push (is_order j x) (is_order j o) (i, j) (n, j) (pairs_of j (i + 1) xs) (pairs_of j (i + 1) (xs ++ o ∷ [])) (pairs_of-push j (i + 1) n xs o (omega arith))
+    choose_push (has_order j x) (has_order j o) (i, j) (n, j) (pairs_of j (i + 1) xs) (pairs_of j (i + 1) (xs ++ o ∷ [])) (pairs_of-push j (i + 1) n xs o (omega arith))
 
 pub served-take : (j i : ℕ) (order_of : List (Option ℕ)) → served j (take i order_of) ≤ served j order_of
 served-take j i order_of =
-    let a = sum_by-append (λ (q : Option ℕ). cond (is_order j q) 1 0) (take i order_of) (drop i order_of) in
+    let a = sum_by-append (λ (q : Option ℕ). cond (has_order j q) 1 0) (take i order_of) (drop i order_of) in
     let e : served j (take i order_of ++ drop i order_of) ≡ served j order_of = ap (served j) (take-append-drop i order_of) in
     omega (arith, a, e)
 
-pub is_order-same : (j : ℕ) → is_order j (Some j) ≡ true
+pub is_order-same : (j : ℕ) → has_order j (Some j) ≡ true
 is_order-same j = grind (arith, nat_tests)
 
-pub is_order-other : (j : ℕ) (o : Option ℕ) → (o ≡ Some j → ⊥) → is_order j o ≡ false
+pub is_order-other : (j : ℕ) (o : Option ℕ) → (o ≡ Some j → ⊥) → has_order j o ≡ false
 is_order-other j None h = refl
 is_order-other j (Some q) h = elim (cases_eq q j) [
   | inl same ↦ absurd (h (ap (λ x. Some x) same))
@@ -61,7 +61,7 @@ one_below n (Some q) =
           omega (arith, none)
     ]
 
-pub one_if-test : (k : ℕ) (o : Option ℕ) → cond (is_order k o) 1 0 ≡ one_if k o
+pub one_if-test : (k : ℕ) (o : Option ℕ) → cond (has_order k o) 1 0 ≡ one_if k o
 one_if-test k None = refl
 one_if-test k (Some q) = refl
 
@@ -71,6 +71,6 @@ served_below n [] = let z = sum_below-zero n (λ k. 0) (λ k l. refl) in omega a
 served_below n (o ∷ os) =
     let rest = served_below n os in
     let one = one_below n o in
-    let split = sum_below-same n (λ k. served k (o ∷ os)) (λ k. one_if k o + served k os) (λ k l. let c = sum_by-cons (λ (q : Option ℕ). cond (is_order k q) 1 0) o os in let t = one_if-test k o in omega (arith, c, t)) in
+    let split = sum_below-same n (λ k. served k (o ∷ os)) (λ k. one_if k o + served k os) (λ k l. let c = sum_by-cons (λ (q : Option ℕ). cond (has_order k q) 1 0) o os in let t = one_if-test k o in omega (arith, c, t)) in
     let add = sum_below-add n (λ k. one_if k o) (λ k. served k os) in
     omega (arith, rest, one, split, add)

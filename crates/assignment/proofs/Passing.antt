@@ -2,7 +2,7 @@ use Rattle.std.proofs.Common.{◌≡◌, ◌+◌, ◌-◌, ◌<◌, ◌≤◌, �
 use Rattle.std.specs.Prelude.{◌==◌}
 use Rattle.std.proofs.lemmas.Bool.{cases_eq, cases_lt}
 use Rattle.std.proofs.lemmas.List.{get_or-take, get_or-drop, length-take-le, length-drop}
-use Rattle.assignment.specs.inner.Passes.{IsAmong, IsLeast}
+use Rattle.assignment.specs.inner.Passes.{IsAmong, IsLeastLabel}
 
 -- the first n items are written anew, each as `f` says
 pub record IsPassed (f : ℕ → ℕ) (old new : List ℕ) (n : ℕ) : Type 0 where
@@ -33,7 +33,7 @@ chosen_idle true chosen number e = record { meant = λ _. e; other = λ _. (refl
 chosen_idle false chosen number e = record { meant = λ no. cc; other = λ near. absurd (omega (arith, e, near)) }
 
 -- one wagon more
-pub least_more : (f : ℕ → ℕ) (orders : List ℕ) (is_idle : Bool) (least n number chosen next : ℕ) → IsLeast f orders is_idle least n → number ≡ f n → IsChosen (IsAmong orders is_idle n) chosen number → next ≡ min least chosen → IsLeast f orders is_idle next (n + 1)
+pub least_more : (f : ℕ → ℕ) (orders : List ℕ) (is_idle : Bool) (least n number chosen next : ℕ) → IsLeastLabel f orders is_idle least n → number ≡ f n → IsChosen (IsAmong orders is_idle n) chosen number → next ≡ min least chosen → IsLeastLabel f orders is_idle next (n + 1)
 least_more f orders is_idle least n number chosen next h new is m = record {
   below = λ i l a. elim (cases_eq i n) [
     | inl same ↦ let e = ap f same in let c = is.meant (subst (λ (x : ℕ). IsAmong orders is_idle x) same a) in omega (arith, new, m, e, c)

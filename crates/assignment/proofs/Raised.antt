@@ -11,7 +11,7 @@ use Rattle.assignment.specs.declared.search.End.{End}
 use Rattle.assignment.specs.declared.search.End.TheVariants.{Wagon, Refusal}
 use Rattle.assignment.specs.inner.Costs.{cell_cost}
 use Rattle.assignment.specs.inner.State.{Kept, IsKept, IsPriced, IsTight, AreHeld, kept, order_at}
-use Rattle.assignment.specs.inner.Search.{IsPath, IsEnd, IsReachedFrom, IsRelaxed, label_at, settled_at, distance_at}
+use Rattle.assignment.specs.inner.Search.{IsShortestPath, IsEnd, IsReachedFrom, IsRelaxed, label_at, settled_at, distance_at}
 use Rattle.assignment.specs.inner.Path.{AreHandedOn, IsOnPath}
 use Rattle.assignment.proofs.Limits.{cell_wagon, cell_order, penalty_limit}
 
@@ -59,7 +59,7 @@ data Reach (s : Kept) (f : Search) (path : Path) (k : ℕ) : Type 0 where
   far : 4294967295 ≤ distance_at f k → Reach s f path k
   near : distance_at f k ≤ f.front → distance_at f k ≤ path.distance → IsRelaxed s f k → path.distance + get_or s.v k 0 ≤ distance_at f k + penalty_at s.table k → Reach s f path k
 
-reach_at : (s : Kept) (f : Search) (path : Path) (k : ℕ) → IsPath s f path → k < order_count s.table → Reach s f path k
+reach_at : (s : Kept) (f : Search) (path : Path) (k : ℕ) → IsShortestPath s f path → k < order_count s.table → Reach s f path k
 reach_at s f path k h l =
     elim (cases_lt (distance_at f k) 4294967295) [
       | inl n ↦
@@ -94,7 +94,7 @@ penalty_raised : (s : Kept) (f : Search) (path : Path) (u v : List ℕ) (j : ℕ
 penalty_raised s f path u v j k r limit lj l (far n) = let b = r.orders j lj in let p = k.priced.below_penalty j l in omega (arith, b, p, n, limit)
 penalty_raised s f path u v j k r limit lj l (near least le relaxed refusal) = let b = r.orders j lj in omega (arith, b, le, refusal)
 
-pub priced_raised : (s : Kept) (f : Search) (path : Path) (u v : List ℕ) (order_of : List (Option ℕ)) → IsKept s → IsPath s f path → AreRaised s f path.distance u v → IsPriced (raised s u v order_of)
+pub priced_raised : (s : Kept) (f : Search) (path : Path) (u v : List ℕ) (order_of : List (Option ℕ)) → IsKept s → IsShortestPath s f path → AreRaised s f path.distance u v → IsPriced (raised s u v order_of)
 priced_raised s f path u v order_of k h r =
     let w = k.priced.wagons in
     let o = k.priced.orders in
@@ -109,7 +109,7 @@ priced_raised s f path u v order_of k h r =
     }
 
 -- a wagon that keeps its order keeps it at a tight cell
-tight_raised : (s : Kept) (f : Search) (path : Path) (u v : List ℕ) (order_of : List (Option ℕ)) (i q : ℕ) → IsKept s → IsPath s f path → AreRaised s f path.distance u v → order_at s.order_of i ≡ Some q → IsTight s i q → i < wagon_count s.table → q < order_count s.table → Reach s f path q → IsTight (raised s u v order_of) i q
+tight_raised : (s : Kept) (f : Search) (path : Path) (u v : List ℕ) (order_of : List (Option ℕ)) (i q : ℕ) → IsKept s → IsShortestPath s f path → AreRaised s f path.distance u v → order_at s.order_of i ≡ Some q → IsTight s i q → i < wagon_count s.table → q < order_count s.table → Reach s f path q → IsTight (raised s u v order_of) i q
 tight_raised s f path u v order_of i q k h r held tight li lq (far n) =
     let w = k.priced.wagons in
     let o = k.priced.orders in
@@ -135,7 +135,7 @@ record IsPathWagon (s : Kept) (f : Search) (path : Path) (i : ℕ) : Type 0 wher
   wagon : i < wagon_count s.table
   near : label_at f i ≤ path.distance
 
-via_near : (s : Kept) (f : Search) (path : Path) (i x : ℕ) → IsPath s f path → 0 < x → x < length f.orders.items → get_or f.via.items x 0 ≡ i → IsPathWagon s f path i
+via_near : (s : Kept) (f : Search) (path : Path) (i x : ℕ) → IsShortestPath s f path → 0 < x → x < length f.orders.items → get_or f.via.items x 0 ≡ i → IsPathWagon s f path i
 via_near s f path i x h pos lx is =
     let led = h.search.settled.led x pos lx in
     let near = h.search.settled.near x lx in
@@ -145,7 +145,7 @@ via_near s f path i x h pos lx is =
     let e : label_at f (get_or f.via.items x 0) ≡ label_at f i = ap (label_at f) is in
     record { wagon = omega (arith, w, is); near = omega (arith, near, front, far, e) }
 
-path_near : (s : Kept) (f : Search) (path : Path) (end : End) (i : ℕ) → IsPath s f path → IsEnd s f path.distance end → IsOnPath f end i → IsPathWagon s f path i
+path_near : (s : Kept) (f : Search) (path : Path) (end : End) (i : ℕ) → IsShortestPath s f path → IsEnd s f path.distance end → IsOnPath f end i → IsPathWagon s f path i
 path_near s f path (Wagon w) i h end (inl same) =
     let l = end.0 in
     let far = end.2 in
@@ -166,7 +166,7 @@ tight_cell : (s : Kept) (i q : ℕ) → Cell (cost_at s.table i q) → get_or s.
 tight_cell s i q (cell c is) tight = record { cost = c; allowed = is; tight = tight ∙ ap (λ o. cell_cost o + get_or s.u i 0) is }
 
 -- a wagon that gets the order that it was reached from gets it at a tight cell
-tight_new : (s : Kept) (f : Search) (path : Path) (u v : List ℕ) (order_of : List (Option ℕ)) (i k x : ℕ) → IsKept s → IsPath s f path → AreRaised s f path.distance u v → IsPathWagon s f path i → IsReachedFrom s f i x → k ≡ settled_at f x → IsTight (raised s u v order_of) i k
+tight_new : (s : Kept) (f : Search) (path : Path) (u v : List ℕ) (order_of : List (Option ℕ)) (i k x : ℕ) → IsKept s → IsShortestPath s f path → AreRaised s f path.distance u v → IsPathWagon s f path i → IsReachedFrom s f i x → k ≡ settled_at f x → IsTight (raised s u v order_of) i k
 tight_new s f path u v order_of i k x keeps h r p label is =
     let li = p.wagon in
     let near = p.near in
@@ -188,7 +188,7 @@ tight_new s f path u v order_of i k x keeps h r p label is =
 some_inner : (a b : ℕ) (o : Option ℕ) → o ≡ Some a → o ≡ Some b → a ≡ b
 some_inner a b o p q = cc
 
-pub held_raised : (s : Kept) (f : Search) (path : Path) (u v : List ℕ) (order_of : List (Option ℕ)) → IsKept s → IsPath s f path → AreRaised s f path.distance u v → length order_of ≡ length s.order_of → AreHandedOn s f path.end order_of → AreHeld (raised s u v order_of)
+pub held_raised : (s : Kept) (f : Search) (path : Path) (u v : List ℕ) (order_of : List (Option ℕ)) → IsKept s → IsShortestPath s f path → AreRaised s f path.distance u v → length order_of ≡ length s.order_of → AreHandedOn s f path.end order_of → AreHeld (raised s u v order_of)
 held_raised s f path u v order_of k h r len handed = record {
   wagons = len ∙ k.held.wagons;
   tight = λ i q is. elim (handed i) [

@@ -6,9 +6,9 @@ use Rattle.assignment.specs.declared.passes.Nearest.{Nearest}
 use Rattle.assignment.specs.declared.search.Search.{Search}
 use Rattle.assignment.specs.declared.search.Next.{Next}
 use Rattle.assignment.specs.declared.search.End.TheVariants.{Wagon, Refusal}
-use Rattle.assignment.specs.inner.Passes.{IsAmong, IsLeast}
+use Rattle.assignment.specs.inner.Passes.{IsAmong, IsLeastLabel}
 use Rattle.assignment.specs.inner.State.{Kept, IsKept, order_at, orders_of}
-use Rattle.assignment.specs.inner.Search.{IsSearch, IsNext, IsFrom, IsPath, label_at, distance_at, settled_at}
+use Rattle.assignment.specs.inner.Search.{IsSearch, IsNext, IsFrom, IsShortestPath, label_at, distance_at, settled_at}
 use Rattle.assignment.proofs.Limits.{held_order}
 use Rattle.assignment.proofs.Numbers.{orders_length, some_at, none_at}
 use Rattle.assignment.proofs.Settle.{next_of}
@@ -36,7 +36,7 @@ idle_among s numbers i hs l none = elim (eqb_tells (get_or numbers i 0) 42949672
 ]
 
 -- no wagon that leads on or has no order is nearer than a distance that passes neither least label
-pub from_limit : (s : Kept) (numbers : List ℕ) (f : Search) (nearest : Nearest) (limit i : ℕ) → IsKept s → s.order_of ≡ orders_of numbers → IsSearch s f (length f.orders.items) → IsLeast (label_at f) f.target.items false nearest.onward (length f.label.items) → IsLeast (label_at f) numbers true nearest.idle (length f.label.items) → limit ≤ nearest.onward → limit ≤ nearest.idle → i < wagon_count s.table → IsFrom s f limit i
+pub from_limit : (s : Kept) (numbers : List ℕ) (f : Search) (nearest : Nearest) (limit i : ℕ) → IsKept s → s.order_of ≡ orders_of numbers → IsSearch s f (length f.orders.items) → IsLeastLabel (label_at f) f.target.items false nearest.onward (length f.label.items) → IsLeastLabel (label_at f) numbers true nearest.idle (length f.label.items) → limit ≤ nearest.onward → limit ≤ nearest.idle → i < wagon_count s.table → IsFrom s f limit i
 from_limit s numbers f nearest limit i k hs h onward idle below_onward below_idle l =
     let labels = h.room.labels in
     let held = k.held.wagons in
@@ -46,7 +46,7 @@ from_limit s numbers f nearest limit i k hs h onward idle below_onward below_idl
       held = λ q is far. let m = onward.below i (omega (arith, l, labels)) (leads_among s f i q k h l is far) in omega (arith, m, below_onward);
     }
 
-pub next_found : (s : Kept) (numbers : List ℕ) (f : Search) (nearest : Nearest) (wagon : ℕ) → IsKept s → s.order_of ≡ orders_of numbers → IsSearch s f (length f.orders.items) → 0 < length f.orders.items → IsLeast (label_at f) f.target.items false nearest.onward (length f.label.items) → IsLeast (label_at f) numbers true nearest.idle (length f.label.items) → nearest.onward < min nearest.idle f.refusal.distance → wagon < wagon_count s.table → label_at f wagon ≡ nearest.onward → IsAmong f.target.items false wagon → IsNext s f (next_of (get_or f.target.items wagon 0) nearest.onward wagon)
+pub next_found : (s : Kept) (numbers : List ℕ) (f : Search) (nearest : Nearest) (wagon : ℕ) → IsKept s → s.order_of ≡ orders_of numbers → IsSearch s f (length f.orders.items) → 0 < length f.orders.items → IsLeastLabel (label_at f) f.target.items false nearest.onward (length f.label.items) → IsLeastLabel (label_at f) numbers true nearest.idle (length f.label.items) → nearest.onward < min nearest.idle f.refusal.distance → wagon < wagon_count s.table → label_at f wagon ≡ nearest.onward → IsAmong f.target.items false wagon → IsNext s f (next_of (get_or f.target.items wagon 0) nearest.onward wagon)
 next_found s numbers f nearest wagon k hs h some onward idle less l at among =
     let led = (h.opens wagon l).leads (eqb-false (get_or f.target.items wagon 0) 4294967295 among) in
     let top = h.refusal.limit some in
@@ -65,7 +65,7 @@ next_found s numbers f nearest wagon k hs h some onward idle less l at among =
     }
 
 -- the path ends at the nearest wagon without an order
-pub path_to_wagon : (s : Kept) (numbers : List ℕ) (f : Search) (idle wagon : ℕ) → IsKept s → s.order_of ≡ orders_of numbers → IsSearch s f (length f.orders.items) → 0 < length f.orders.items → ((i : ℕ) → i < wagon_count s.table → IsFrom s f (min idle f.refusal.distance) i) → idle ≤ f.refusal.distance → wagon < wagon_count s.table → label_at f wagon ≡ idle → IsAmong numbers true wagon → IsPath s f (record { distance = idle; end = Wagon wagon })
+pub path_to_wagon : (s : Kept) (numbers : List ℕ) (f : Search) (idle wagon : ℕ) → IsKept s → s.order_of ≡ orders_of numbers → IsSearch s f (length f.orders.items) → 0 < length f.orders.items → ((i : ℕ) → i < wagon_count s.table → IsFrom s f (min idle f.refusal.distance) i) → idle ≤ f.refusal.distance → wagon < wagon_count s.table → label_at f wagon ≡ idle → IsAmong numbers true wagon → IsShortestPath s f (record { distance = idle; end = Wagon wagon })
 path_to_wagon s numbers f idle wagon k hs h some beyond le l at among =
     let top = h.refusal.limit some in
     let held = k.held.wagons in
@@ -84,7 +84,7 @@ path_to_wagon s numbers f idle wagon k hs h some beyond le l at among =
     }
 
 -- the path ends at the nearest refusal
-pub path_to_refusal : (s : Kept) (f : Search) (idle : ℕ) → IsSearch s f (length f.orders.items) → 0 < length f.orders.items → ((i : ℕ) → i < wagon_count s.table → IsFrom s f (min idle f.refusal.distance) i) → f.refusal.distance ≤ idle → IsPath s f (record { distance = f.refusal.distance; end = Refusal f.refusal.place })
+pub path_to_refusal : (s : Kept) (f : Search) (idle : ℕ) → IsSearch s f (length f.orders.items) → 0 < length f.orders.items → ((i : ℕ) → i < wagon_count s.table → IsFrom s f (min idle f.refusal.distance) i) → f.refusal.distance ≤ idle → IsShortestPath s f (record { distance = f.refusal.distance; end = Refusal f.refusal.place })
 path_to_refusal s f idle h some beyond le =
     let same : min idle f.refusal.distance ≡ f.refusal.distance = omega (arith, le) in
     record {

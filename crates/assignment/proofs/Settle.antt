@@ -10,7 +10,7 @@ use Rattle.assignment.specs.declared.search.Search.{Search}
 use Rattle.assignment.specs.declared.search.Refusal.{Refusal}
 use Rattle.assignment.specs.declared.search.Next.{Next}
 use Rattle.assignment.specs.inner.State.{Kept, IsKept, order_at}
-use Rattle.assignment.specs.inner.Search.{IsSearch, IsNext, IsOpen, IsBeyond, IsLed, IsReached, AreSettled, IsRefusal, label_at, settled_at, distance_at}
+use Rattle.assignment.specs.inner.Search.{IsSearch, IsNext, IsOpen, IsBeyond, IsLed, IsWagonReached, AreSettled, IsRefusal, label_at, settled_at, distance_at}
 use Rattle.assignment.proofs.Writes.{same_at, other_at, written_length}
 use Rattle.assignment.proofs.Limits.{held_order, penalty_limit}
 use Rattle.assignment.proofs.Nearness.{near_count_more, near_count_below}
@@ -122,7 +122,7 @@ beyond_settled s f f' order distance wagon n i k h next l front label here there
     }
 
 -- what was reached from an order settled before still is
-reached_kept : (s : Kept) (f f' : Search) (order distance n n' i i' : ℕ) → IsPushed s f order distance f'.order_distance.items f'.orders.items → f'.label.items ≡ f.label.items → n ≤ n' → i' ≡ i → IsReached s f n i → IsReached s f' n' i'
+reached_kept : (s : Kept) (f f' : Search) (order distance n n' i i' : ℕ) → IsPushed s f order distance f'.order_distance.items f'.orders.items → f'.label.items ≡ f.label.items → n ≤ n' → i' ≡ i → IsWagonReached s f n i → IsWagonReached s f' n' i'
 reached_kept s f f' order distance n n' i i' p ls more is r =
     let x = r.place in
     let before = r.before in
@@ -131,7 +131,7 @@ reached_kept s f f' order distance n n' i i' p ls more is r =
     let q : settled_at f' x ≡ settled_at f x = p.before x within in
     let d : distance_at f' (settled_at f x) ≡ distance_at f (settled_at f x) = p.there (settled_at f x) (p.other x within) in
     let label : label_at f' i ≡ label_at f i = ap (λ y. get_or y i 0) ls in
-    subst (IsReached s f' n') (sym is) (record {
+    subst (IsWagonReached s f' n') (sym is) (record {
       place = x;
       before = omega (arith, before, more);
       from = record { within = omega (arith, within, count); exact = rw (q, d, label) r.from.exact };

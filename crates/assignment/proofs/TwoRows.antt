@@ -2,7 +2,8 @@ use Rattle.std.proofs.Common.{◌≡◌, ◌≢◌, ◌+◌, ◌*◌, ◌<◌, �
 use Rattle.std.proofs.lemmas.Bool.{cases_eq, cases_lt}
 use Rattle.std.proofs.lemmas.Bool.Decides.{nat_tests}
 use Rattle.std.proofs.lemmas.Nat.{mul-add-lt}
-use Rattle.cost_table.specs.Table.{Table, IsRow, cost_at, cost_in, row_at, wagon_count, order_count}
+use Rattle.cost_table.specs.Table.{Table, cost_at, cost_in, row_at, wagon_count, order_count}
+use Rattle.cost_table.specs.TableLimits.{IsRow}
 use Rattle.cost_table.proofs.TableLemmas.{cost_later, cost_there}
 use Rattle.assignment.specs.inner.Costs.{cell_cost, AreCostsOf, cost_before, cost_two}
 use Rattle.assignment.proofs.CostSteps.{before_is, before_none, place_order, place_wagon}

@@ -7,7 +7,7 @@ use Rattle.assignment.specs.declared.search.Path.{Path}
 use Rattle.assignment.specs.declared.search.End.{End}
 use Rattle.assignment.specs.declared.search.End.TheVariants.{Wagon, Refusal}
 use Rattle.assignment.specs.inner.State.{Kept, IsKept, AreCounted, served, more}
-use Rattle.assignment.specs.inner.Search.{IsPath, IsEnd, settled_at}
+use Rattle.assignment.specs.inner.Search.{IsShortestPath, IsEnd, settled_at}
 use Rattle.assignment.specs.inner.Path.{one_if, given_up}
 use Rattle.assignment.proofs.Raised.{AreRaised, raised, priced_raised}
 
@@ -31,7 +31,7 @@ one_if-same k q h = elim (cases_eq q k) [
 ]
 
 -- the order that refuses a unit is at its penalty
-refused_at : (s : Kept) (f : Search) (path : Path) (u v : List ℕ) (end : End) (k : ℕ) → IsKept s → IsPath s f path → AreRaised s f path.distance u v → IsEnd s f path.distance end → 0 < one_if k (given_up f end) → get_or v k 0 ≡ penalty_at s.table k
+refused_at : (s : Kept) (f : Search) (path : Path) (u v : List ℕ) (end : End) (k : ℕ) → IsKept s → IsShortestPath s f path → AreRaised s f path.distance u v → IsEnd s f path.distance end → 0 < one_if k (given_up f end) → get_or v k 0 ≡ penalty_at s.table k
 refused_at s f path u v (Wagon w) k keeps h r end one = absurd (omega arith)
 refused_at s f path u v (Refusal x) k keeps h r end one =
     let q = settled_at f x in
@@ -46,7 +46,7 @@ refused_at s f path u v (Refusal x) k keeps h r end one =
     subst (λ (y : ℕ). get_or v y 0 ≡ penalty_at s.table y) same here
 
 -- one more unit is taken in
-pub counted_more : (s : Kept) (f : Search) (path : Path) (u v : List ℕ) (order_of : List (Option ℕ)) (j : ℕ) (taken : ℕ → ℕ) → IsKept s → IsPath s f path → AreRaised s f path.distance u v → settled_at f 0 ≡ j → ((k : ℕ) → served k order_of + one_if k (given_up f path.end) ≡ served k s.order_of + one_if k (Some (settled_at f 0))) → AreCounted s taken → AreCounted (raised s u v order_of) (more j 1 taken)
+pub counted_more : (s : Kept) (f : Search) (path : Path) (u v : List ℕ) (order_of : List (Option ℕ)) (j : ℕ) (taken : ℕ → ℕ) → IsKept s → IsShortestPath s f path → AreRaised s f path.distance u v → settled_at f 0 ≡ j → ((k : ℕ) → served k order_of + one_if k (given_up f path.end) ≡ served k s.order_of + one_if k (Some (settled_at f 0))) → AreCounted s taken → AreCounted (raised s u v order_of) (more j 1 taken)
 counted_more s f path u v order_of j taken keeps h r first count c =
     let priced = priced_raised s f path u v order_of keeps h r in
     let counts : (k : ℕ) → served k order_of + one_if k (given_up f path.end) ≡ served k s.order_of + one_if k (Some j) = λ k. count k ∙ ap (λ x. served k s.order_of + one_if k (Some x)) first in

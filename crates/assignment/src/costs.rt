@@ -1,6 +1,7 @@
 //! The costs of a table by order, in one flat array, and what is found while they are placed.
 ghost use Rattle.std.specs.Prelude.{◌≡◌, ◌<◌, ◌+◌, ℕ, min, IfOk, length, slice_index, slice_set};
-ghost use Rattle.cost_table.specs.Table.{IsTable, cost_at, penalty_at, wagon_count, order_count};
+ghost use Rattle.cost_table.specs.TableLimits.{IsTable};
+ghost use Rattle.cost_table.specs.Table.{cost_at, penalty_at, wagon_count, order_count};
 ghost use Rattle.assignment.specs.inner.Costs.{AreColumnsOf, AreFullRows, cost_before};
 
 use cost_table::Cells;

@@ -1,7 +1,7 @@
 //! The way back along a path.
 ghost use Rattle.std.specs.Prelude.{◌≡◌, ◌≢◌, ◌<◌, ◌≤◌, ◌+◌, ◌^◌, ◌⊎◌, ℕ, None, Some, length, slice_index};
 ghost use Rattle.assignment.specs.inner.State.{IsState, kept, order_at, served};
-ghost use Rattle.assignment.specs.inner.Search.{IsSearch, IsPath, IsReached};
+ghost use Rattle.assignment.specs.inner.Search.{IsSearch, IsShortestPath, IsWagonReached};
 ghost use Rattle.assignment.specs.inner.Path.{AreHandedOn, IsGiven, IsOnWay, IsSettledEnd, one_if, given_up};
 
 use crate::search::{End, Path, Search};
@@ -11,7 +11,7 @@ use crate::state::State;
 /// one up. Every other order has as many as it had.
 pub(crate) fn walk_back(state: &mut State, search: &Search, path: Path)
     requires state { IsState state.old }
-    requires path { IsPath (kept state.old) search.now path }
+    requires path { IsShortestPath (kept state.old) search.now path }
     ensures handed_on { AreHandedOn (kept state.old) search.now path.end (kept state.new).order_of }
     ensures count { (k : ℕ) → served k (kept state.new).order_of + one_if k (given_up search.now path.end) ≡ served k (kept state.old).order_of + one_if k (Some (slice_index search.now.orders.items 0)) }
     ensures wagons { length (kept state.new).order_of ≡ length (kept state.old).order_of }
@@ -34,7 +34,7 @@ fn hand_on(state: &mut State, search: &Search, wagon: usize, end: usize)
     requires search { IsSearch (kept state.old) search.now (length search.now.orders.items) }
     requires wagon { wagon < length state.old.order_of.items }
     requires end { end ≤ length search.now.orders.items }
-    requires reached { IsReached (kept state.old) search.now end wagon }
+    requires reached { IsWagonReached (kept state.old) search.now end wagon }
     requires apart { (x : ℕ) → 0 < x → x < end → slice_index search.now.via.items x ≢ wagon }
     ensures handed_on { (i : ℕ) → (order_at (kept state.new).order_of i ≡ order_at (kept state.old).order_of i) ⊎ (IsOnWay search.now wagon i × IsGiven (kept state.old) search.now (kept state.new).order_of i) }
     ensures count { (k : ℕ) → served k (kept state.new).order_of + one_if k (order_at (kept state.old).order_of wagon) ≡ served k (kept state.old).order_of + one_if k (Some (slice_index search.now.orders.items 0)) }

@@ -2,8 +2,8 @@
 ghost use Rattle.std.specs.Prelude.{◌≡◌, ◌≢◌, ◌<◌, ◌≤◌, ◌+◌, ◌-◌, ◌==◌, ◌↔◌, ℕ, true, false, min, nat_lt, if◌then◌else◌, length, slice_index, IfOk, IfSome, IfNone};
 ghost use Rattle.cost_table.specs.Table.{Table, wagon_count, order_count};
 ghost use Rattle.assignment.specs.inner.State.{IsState, kept};
-ghost use Rattle.assignment.specs.inner.Search.{HasRoom, IsSearch, IsPath, IsNext, IsFrom, IsReached, IsReachedFrom, IsSearchOf, label_at};
-ghost use Rattle.assignment.specs.inner.Passes.{AreNearest, IsLeast};
+ghost use Rattle.assignment.specs.inner.Search.{HasRoom, IsSearch, IsShortestPath, IsNext, IsFrom, IsWagonReached, IsReachedFrom, IsSearchOf, label_at};
+ghost use Rattle.assignment.specs.inner.Passes.{AreNearest, IsLeastLabel};
 
 use crate::passes::{FAR, Nearest, close, find, relax};
 use crate::state::{NO_ORDER, State};
@@ -169,9 +169,9 @@ impl Search {
         requires state { IsState state.now }
         requires search { IsSearch (kept state.now) self.now (length self.now.orders.items) }
         requires some { 0 < length self.now.orders.items }
-        requires least { IsLeast (label_at self.now) state.now.order_of.items true idle (length self.now.label.items) }
+        requires least { IsLeastLabel (label_at self.now) state.now.order_of.items true idle (length self.now.label.items) }
         requires beyond { (i : ℕ) → i < wagon_count state.now.cells.now → IsFrom (kept state.now) self.now (min idle self.now.refusal.distance) i }
-        ensures { IsPath (kept state.now) self.now result }
+        ensures { IsShortestPath (kept state.now) self.now result }
     {
         if idle > self.refusal.distance {
             return Path {
@@ -193,7 +193,7 @@ impl Search {
         requires search { IsSearchOf state.now self.now }
         requires wagon { wagon < wagon_count state.now.cells.now }
         requires end { end ≤ length self.now.orders.items }
-        requires reached { IsReached (kept state.now) self.now end wagon }
+        requires reached { IsWagonReached (kept state.now) self.now end wagon }
         ensures before { result < end }
         ensures from { IsReachedFrom (kept state.now) self.now wagon result }
     {
@@ -215,7 +215,7 @@ impl Search {
         requires state { IsState state.now }
         requires room { HasRoom state.now.cells.now self.old }
         requires order { j < order_count state.now.cells.now }
-        ensures path { IsPath (kept state.now) self.new result }
+        ensures path { IsShortestPath (kept state.now) self.new result }
         ensures first { slice_index self.new.orders.items 0 ≡ j }
     {
         self.clear(state);

@@ -1,7 +1,8 @@
 //! Tables over the sample's network.
 
 use book_samples::{SAMPLE, networks_of};
-use cost_table::{Cells, Problem, cells};
+use cost_table::{Cells, Problem};
+use problem_table::cells;
 use std::alloc::Global;
 use std::test::Fail;
 

@@ -6,7 +6,7 @@ use Rattle.move_messages.specs.declared.commit_text.CommitText.{CommitText}
 use Rattle.std.proofs.Math.Seq.{take-length}
 use Rattle.line_network.specs.Network.{NetworkValue}
 use Rattle.distance_tables.specs.Networks.{network_at}
-use Rattle.cost_table.specs.Allowed.{IsTableOf}
+use Rattle.problem_table.specs.Allowed.{IsTableOf}
 use Rattle.cost_table.specs.Problem.{ProblemValue}
 use Rattle.operating_db.specs.After.{after_call}
 use Rattle.operating_db.specs.Office.{Office, first_office}

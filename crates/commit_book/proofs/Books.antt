@@ -8,7 +8,7 @@ use Rattle.std.proofs.lemmas.List.{length-map}
 use Rattle.std.proofs.lemmas.List.Elements.{All-drop, All-head, All-nil, All-push, All-tail, All-weaker}
 use Rattle.move_messages.specs.declared.commit_text.CommitText.{CommitText}
 use Rattle.cost_table.specs.Problem.{ProblemValue, names_of_problem}
-use Rattle.named_pairs.specs.NamedPairs.{checked}
+use Rattle.price_checker.specs.NamedPairs.{checked}
 use Rattle.faults.specs.declared.faults.NamedFault.{NamedFault}
 use Rattle.operating_db.specs.Commits.{CanPromise, Pair}
 use Rattle.operating_db.specs.Office.{Office}

@@ -12,10 +12,10 @@ use Rattle.database_rows.specs.Rows.{order_in, wagon_in}
 use Rattle.cost_table.specs.Problem.{ProblemValue, names_of_problem}
 use Rattle.cost_table.specs.Table.{Table}
 use Rattle.price_checker.specs.Faults.{first_fault}
-use Rattle.named_pairs.specs.NamedPairs.{checked, positions_of}
+use Rattle.price_checker.specs.NamedPairs.{checked, positions_of}
 use Rattle.faults.specs.declared.faults.NamedFault.{NamedFault}
 use Rattle.faults.specs.declared.faults.NamedFault.TheVariants as named
-use Rattle.named_pairs.proofs.Checked.{passes}
+use Rattle.price_checker.proofs.Checked.{passes}
 use Rattle.price_checker.proofs.Duality.{certificates_optimal}
 use Rattle.price_checker.proofs.FaultFree.{in_range_certified}
 use Rattle.price_checker.proofs.FirstBelow.{none_first, none_second}

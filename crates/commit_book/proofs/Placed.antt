@@ -8,7 +8,7 @@ use Rattle.std.proofs.lemmas.Option.{slice_get_within}
 use Rattle.wagon_state.specs.declared.free_wagon.FreeWagon.{FreeWagon}
 use Rattle.load_orders.specs.Wanted.{WantedOrder}
 use Rattle.line_network.specs.Network.{NetworkValue}
-use Rattle.cost_table.specs.Allowed.{IsTableOf}
+use Rattle.problem_table.specs.Allowed.{IsTableOf}
 use Rattle.cost_table.specs.Names.{both, is_name}
 use Rattle.cost_table.specs.Plan.{serves, uses}
 use Rattle.cost_table.specs.Problem.{ProblemValue, names_of_problem, order_names, wagon_names}
@@ -17,8 +17,8 @@ use Rattle.cost_table.proofs.NameLemmas.{found_at}
 use Rattle.price_checker.proofs.FaultFree.{AllInRange}
 use Rattle.operating_db.specs.Commits.{Pair, times_of_order, times_of_wagon}
 use Rattle.operating_db.proofs.Names.{same, same_is, same_self}
-use Rattle.named_pairs.specs.NamedPairs.{positions_of}
-use Rattle.named_pairs.proofs.Checked.{first_position}
+use Rattle.price_checker.specs.NamedPairs.{positions_of}
+use Rattle.price_checker.proofs.Checked.{first_position}
 
 -- where a wagon stands in a problem; an order
 abbrev pub wagon_place : ProblemValue → List ℕ → Option ℕ

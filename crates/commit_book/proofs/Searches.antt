@@ -19,7 +19,8 @@ use Rattle.wagon_state.specs.Free.{free_of}
 use Rattle.wagon_roster.specs.Roster.{by_number, compare_numbers}
 use Rattle.wagon_roster.proofs.RosterLemmas.{other_from_greater, other_from_less, rises}
 use Rattle.database_rows.proofs.Named.{is_same, no_place, position-new, position-push, same_name}
-use Rattle.cost_table.specs.Names.{first_repeated, is_name}
+use Rattle.cost_table.specs.DistinctNames.{first_repeated}
+use Rattle.cost_table.specs.Names.{is_name}
 use Rattle.load_orders.specs.Wanted.{WantedOrder}
 use Rattle.cost_table.specs.Problem.{ProblemValue, order_names, wagon_names}
 use Rattle.cost_table.proofs.NameLemmas.{held_at, not_before}

@@ -5,7 +5,7 @@ use Rattle.std.proofs.lemmas.List.Elements.{All-cons, All-nil}
 use Rattle.move_messages.specs.declared.commit_text.CommitText.{CommitText}
 use Rattle.load_orders.specs.Wanted.{WantedOrder}
 use Rattle.line_network.specs.Network.{NetworkValue}
-use Rattle.cost_table.specs.Allowed.{IsTableOf}
+use Rattle.problem_table.specs.Allowed.{IsTableOf}
 use Rattle.cost_table.specs.Plan.{AllAllowed, serves}
 use Rattle.cost_table.specs.Problem.{ProblemValue}
 use Rattle.cost_table.specs.Table.{Table, lack_at, order_count}
@@ -58,14 +58,7 @@ sound setting before commit least =
     let problem = problem_at setting before commit.version commit.at in
     let placed = positions_placed problem commit.pairs least.positions least.are_positions in
     record {
-      network = least.is_table.network;
-      in_force = least.is_table.in_force;
+      least = least;
       distinct = named_once problem commit.pairs least.positions placed least.certificate.plan.once;
       reached = reached_by least.is_table.network problem least.table commit.pairs least.positions least.is_table.of_problem placed least.certificate.plan.within commit.pairs least.positions placed least.certificate.plan.allowed;
-      table = least.table;
-      is_table = least.is_table.of_problem;
-      positions = least.positions;
-      are_positions = least.are_positions;
-      optimal = least.optimal;
-      certificate = least.certificate;
     }

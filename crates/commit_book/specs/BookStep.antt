@@ -6,7 +6,7 @@ use Rattle.move_messages.specs.declared.message.Message as movement
 use Rattle.move_messages.specs.declared.commit_text.CommitText.{CommitText}
 use Rattle.cost_table.specs.Problem.{ProblemValue, names_of_problem}
 use Rattle.cost_table.specs.Table.{Table}
-use Rattle.named_pairs.specs.NamedPairs.{checked}
+use Rattle.price_checker.specs.NamedPairs.{checked}
 use Rattle.faults.specs.declared.faults.NamedFault.{NamedFault}
 use Rattle.operating_db.specs.After.{after_call}
 use Rattle.operating_db.specs.Commits.{Pair}
@@ -24,35 +24,12 @@ use Rattle.commit_book.specs.declared.call.Call.{Call}
 use Rattle.commit_book.specs.declared.call.Call.TheVariants.{Message, Place, Withdraw, Begin, Commit, Revise}
 use Rattle.faults.specs.declared.faults.Refusal.{Refusal}
 use Rattle.faults.specs.declared.faults.Refusal.TheVariants.{OutOfMemory, IdReused, BookFull, NotKept}
-use Rattle.std.specs.declared.alloc.AllocError.{AllocError}
-use Rattle.commit_book.specs.Snap.{SnapValue}
-use Rattle.commit_book.specs.declared.reply.Reply.{Reply}
 use Rattle.commit_book.specs.declared.reply.Reply.TheVariants.{Accepted, Repeated}
 
 -- a book: the accepted events, and the version and moment of each kept problem, the oldest first
 pub record BookState : Type 0 where
   pub history : List Event
   pub kept : List (ℕ × ℕ)
-
--- what a contract sees of a book: what it was given, its history, and which problems it keeps
-pub record BookValue : Type 0 where
-  pub setting : Setting
-  pub state : BookState
-
--- what a call that enters an event returned, as an answer; what a begin did
-abbrev pub answer_of : Result Reply Refusal → Answer
-answer_of (Ok reply) = Done reply
-answer_of (Err refusal) = Refused refusal
-
-abbrev pub begun_of : Result SnapValue AllocError → Answer
-begun_of (Ok snap) = Begun snap.version
-begun_of (Err error) = Refused OutOfMemory
-
--- no entry comes of a call: it is refused, or its message is an entry already
-abbrev pub IsNoEntry : Result Reply Refusal → Type 0
-IsNoEntry (Ok (Accepted n)) = ⊥
-IsNoEntry (Ok (Repeated n)) = Unit {0}
-IsNoEntry (Err refusal) = Unit {0}
 
 -- ---- events
 

@@ -1,23 +1,18 @@
 -- The headline: what holds of every book, whatever was called.
-use Rattle.std.specs.Prelude.{◌≡◌, ◌≤◌, ℕ, List, [], take, Some, Ok, All, slice_get}
+use Rattle.std.specs.Prelude.{◌≡◌, ◌≤◌, ℕ, List, [], take, Some, All, slice_get}
 use Rattle.move_messages.specs.declared.commit_text.CommitText.{CommitText}
 use Rattle.wagon_roster.specs.Roster.{IsRoster}
 use Rattle.wagon_state.specs.declared.free_wagon.FreeWagon.{FreeWagon}
 use Rattle.load_orders.specs.Wanted.{WantedOrder}
 use Rattle.line_network.specs.Network.{NetworkValue}
-use Rattle.distance_tables.specs.Networks.{network_at}
-use Rattle.cost_table.specs.Allowed.{IsTableOf, Reaches}
-use Rattle.cost_table.specs.Plan.{IsOptimal}
-use Rattle.cost_table.specs.Problem.{ProblemValue, names_of_problem}
-use Rattle.cost_table.specs.Table.{Table}
-use Rattle.price_checker.specs.Certificate.{IsCertificate}
-use Rattle.named_pairs.specs.NamedPairs.{positions_of}
+use Rattle.problem_table.specs.Allowed.{Reaches}
+use Rattle.cost_table.specs.Problem.{ProblemValue}
 use Rattle.operating_db.specs.Commits.{Pair, times_of_wagon, times_of_order}
 use Rattle.operating_db.specs.Promises.{PromisesAgree}
 use Rattle.operating_db.specs.declared.event.Event.{Event}
 use Rattle.operating_db.specs.declared.event.Event.TheVariants.{Commit}
 use Rattle.commit_book.specs.BookStep.{BookState, IsRun}
-use Rattle.commit_book.specs.History.{IsLegal, problem_at, version}
+use Rattle.commit_book.specs.History.{IsLeast, IsLegal, problem_at, version}
 use Rattle.commit_book.specs.Setting.{Setting}
 use Rattle.commit_book.specs.declared.answer.Answer.{Answer}
 use Rattle.commit_book.specs.declared.call.Call.{Call}
@@ -41,16 +36,9 @@ pub record IsReached (network : NetworkValue) (problem : ProblemValue) (pairs : 
 -- wagons that were free go to orders that were waiting, which they suit and reach in time, no order more than it lacked;
 -- no such distribution of that version has a lower sum of kilometres and penalties, as the recorded prices show.
 pub record IsSound (setting : Setting) (before : List Event) (commit : CommitText) : Type 0 where
-  pub network : NetworkValue
-  pub in_force : network_at setting.networks (version setting before commit.version).network ≡ Some network
+  pub least : IsLeast setting before commit
   pub distinct : (number : List ℕ) → times_of_wagon number commit.pairs ≤ 1
-  pub reached : All (IsReached network (problem_at setting before commit.version commit.at) commit.pairs) commit.pairs
-  pub table : Table
-  pub is_table : IsTableOf network (problem_at setting before commit.version commit.at) table
-  pub positions : List (ℕ × ℕ)
-  pub are_positions : positions_of (names_of_problem (problem_at setting before commit.version commit.at)) commit.pairs ≡ Ok positions
-  pub optimal : IsOptimal table positions
-  pub certificate : IsCertificate table positions commit.u commit.v
+  pub reached : All (IsReached least.is_table.network (problem_at setting before commit.version commit.at) commit.pairs) commit.pairs
 
 -- what holds of a history, and of each of its versions
 pub record IsProved (setting : Setting) (history : List Event) : Type 0 where

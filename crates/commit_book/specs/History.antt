@@ -1,6 +1,6 @@
 -- Histories: the office after the entries of one, and when it is legal. Version n is the office after the first n
 -- entries; version 0 is the roster.
-use Rattle.std.specs.Prelude.{◌≡◌, ◌≢◌, ◌≤◌, ℕ, zero, suc, List, length, take, Option, Some, None, Ok, All, IsOk, slice_get}
+use Rattle.std.specs.Prelude.{◌≡◌, ◌≢◌, ◌≤◌, ℕ, List, length, take, Some, Ok, All, IsOk, slice_get}
 use Rattle.std.specs.List.{fold}
 use Rattle.std.specs.Result.{result_unwrap_or}
 use Rattle.rail_codes.specs.declared.message_id.MessageId.{MessageId}
@@ -9,12 +9,12 @@ use Rattle.move_messages.specs.declared.commit_text.CommitText.{CommitText}
 use Rattle.wagon_state.specs.declared.free_wagon.FreeWagon.{FreeWagon}
 use Rattle.line_network.specs.Network.{NetworkValue}
 use Rattle.distance_tables.specs.Networks.{network_at}
-use Rattle.cost_table.specs.Allowed.{IsTableOf}
+use Rattle.problem_table.specs.Allowed.{IsTableOf}
 use Rattle.cost_table.specs.Plan.{IsOptimal}
 use Rattle.cost_table.specs.Problem.{ProblemValue, names_of_problem}
 use Rattle.cost_table.specs.Table.{Table}
 use Rattle.price_checker.specs.Certificate.{IsCertificate}
-use Rattle.named_pairs.specs.NamedPairs.{positions_of}
+use Rattle.price_checker.specs.NamedPairs.{positions_of}
 use Rattle.operating_db.specs.After.{after_call}
 use Rattle.operating_db.specs.Commits.{Pair}
 use Rattle.operating_db.specs.Office.{Office, first_office}
@@ -41,11 +41,6 @@ replay setting entries = after_all (length setting.networks) (first_office setti
 
 abbrev pub version : Setting → List Event → ℕ → Office
 version setting history n = replay setting (take n history)
-
--- the entry of a number, counted from 1
-abbrev pub entry_at : List Event → ℕ → Option Event
-entry_at history zero = None
-entry_at history (suc place) = slice_get history place
 
 -- the problem of a version at a moment
 abbrev pub problem_at : Setting → List Event → (n at : ℕ) → ProblemValue

@@ -1,4 +1,5 @@
 pub mod BookStep
+pub mod Books
 pub mod Commits
 pub mod Headline
 pub mod History

@@ -1,7 +1,7 @@
 -- Snapshots: what a planner is given.
 use Rattle.std.specs.Prelude.{◌≤◌, ◌<◌, ℕ, List, length}
 use Rattle.cost_table.specs.Problem.{ProblemValue, wagon_names, order_names}
-use Rattle.named_pairs.specs.NamedFaults.{name_at}
+use Rattle.price_checker.specs.NamedFaults.{name_at}
 use Rattle.operating_db.specs.Commits.{Pair}
 use Rattle.operating_db.specs.Problem.{problem_of}
 use Rattle.operating_db.specs.declared.event.Event.{Event}

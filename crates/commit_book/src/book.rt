@@ -3,15 +3,15 @@ ghost use Rattle.std.specs.Prelude.{◌≡◌, [], IfErr, IfOk, IfSome, OnErr, O
 ghost use Rattle.distance_tables.specs.Networks.{network_at};
 ghost use Rattle.operating_db.specs.Problem.{problem_of};
 ghost use Rattle.operating_db.specs.Steps.{IsPromised};
-ghost use Rattle.commit_book.specs.BookStep.{IsCall, IsNoEntry, answer_of, begun_of, is_full, is_kept, kept_after};
+ghost use Rattle.commit_book.specs.BookStep.{IsCall, is_full, is_kept, kept_after};
+ghost use Rattle.commit_book.specs.Books.{IsNoEntry, answer_of, begun_of, entry_at, IsSetting};
 ghost use Rattle.commit_book.specs.inner.Entered.{IsEntered};
 ghost use Rattle.commit_book.specs.inner.CommitTests.{IsAccepted, IsRefused};
 ghost use Rattle.commit_book.specs.Headline.{IsProved};
-ghost use Rattle.commit_book.specs.History.{IsTableAt, Owes, entry_at, replay};
+ghost use Rattle.commit_book.specs.History.{IsTableAt, Owes, replay};
 ghost use Rattle.commit_book.specs.Requests.{call_of};
 ghost use Rattle.commit_book.specs.inner.Kept.{IsInSpan, IsKeptAt, IsLasting, IsMade, IsMendable, which_of};
 ghost use Rattle.commit_book.specs.inner.Ledger.{IsMessageAt, IsNoMessage};
-ghost use Rattle.commit_book.specs.Setting.{IsSetting};
 ghost use Rattle.commit_book.specs.Snap.{IsVersionNumber, snap_of};
 ghost use Rattle.commit_book.specs.declared.answer.Answer.TheVariants.{Refused};
 ghost use Rattle.commit_book.specs.declared.call.Call.TheVariants as call;
@@ -44,7 +44,7 @@ pub struct Book {
 }
 
 impl Model for Book {
-    ghost use Rattle.commit_book.specs.BookStep.{BookValue};
+    ghost use Rattle.commit_book.specs.Books.{BookValue};
     ghost use Rattle.commit_book.specs.inner.Kept.{IsBookOf, book_of};
 
     ghost Value = { BookValue };

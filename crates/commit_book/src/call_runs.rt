@@ -1,6 +1,7 @@
 //! Calls as values: one event, and runs of calls.
 ghost use Rattle.std.specs.Prelude.{◌≡◌, IfOk, OnErr};
-ghost use Rattle.commit_book.specs.BookStep.{IsCall, IsRun, answer_of};
+ghost use Rattle.commit_book.specs.BookStep.{IsCall, IsRun};
+ghost use Rattle.commit_book.specs.Books.{answer_of};
 ghost use Rattle.commit_book.specs.Requests.{call_of};
 ghost use Rattle.commit_book.specs.inner.Entered.{answer_or};
 ghost use Rattle.commit_book.specs.declared.call.Call.TheVariants as call;

@@ -3,7 +3,8 @@ ghost use Rattle.std.specs.Prelude.{◌≡◌, IfOk, None, option_copied, positi
 ghost use Rattle.std.specs.BTreeMap.{get};
 ghost use Rattle.std.specs.Cmp.Lexicographic.{slice_cmp};
 ghost use Rattle.std.specs.Ordering.{nat_cmp};
-ghost use Rattle.cost_table.specs.Names.{first_repeated, is_name, pair_of};
+ghost use Rattle.cost_table.specs.DistinctNames.{first_repeated};
+ghost use Rattle.cost_table.specs.Names.{is_name, pair_of};
 ghost use Rattle.cost_table.specs.Problem.{names_of_problem, order_names, wagon_names};
 ghost use Rattle.commit_book.specs.Commits.{wagon_of};
 ghost use Rattle.commit_book.specs.inner.Indexed.{Ascend, IsOrderIndex};

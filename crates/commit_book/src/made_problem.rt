@@ -1,13 +1,14 @@
 //! Problems with their tables, as they are kept.
 ghost use Rattle.std.specs.Prelude.{◌≡◌, ◌≤◌, ◌↔◌, IfOk, IsTrue};
-ghost use Rattle.cost_table.specs.Allowed.{IsLastingTable};
+ghost use Rattle.problem_table.specs.Lasting.{IsLastingTable};
 ghost use Rattle.commit_book.specs.inner.Indexed.{Ascend};
 ghost use Rattle.commit_book.specs.inner.Kept.{IsMadeOf, IsMendable, covers};
 
 use crate::indexed_problem::IndexedProblem;
 use crate::same_orders::are_same_orders;
-use cost_table::{Problem, TimedCells, mended_cells, timed_cells};
+use cost_table::Problem;
 use distance_tables::Tables;
+use problem_table::{TimedCells, mended_cells, timed_cells};
 use rail_codes::Moment;
 use std::alloc::{AllocError, Global};
 

@@ -4,8 +4,7 @@ ghost use Rattle.commit_book.specs.Snap.{IsInRange, IsVersionNumber, named_pair}
 
 use cost_table::{Plan, Problem};
 use move_messages::{CommitText, Pairs, PriceList};
-use named_pairs::{order_name, wagon_name};
-use price_checker::Prices;
+use price_checker::{Prices, order_name, wagon_name};
 use rail_codes::{Moment, OrderId, WagonNumber};
 use std::alloc::{AllocError, Global};
 use std::marker::Model;

@@ -3,7 +3,7 @@ use Rattle.std.proofs.Common.{◌≡◌, ◌∙◌, ◌+◌, ◌<◌, ◌≤◌,
 use Rattle.std.specs.Prelude.{All}
 use Rattle.std.proofs.lemmas.List.{get_or_append_left, get_or_push, get_or-map, length-append, length-map, take_more, map-append}
 use Rattle.std.proofs.lemmas.List.Elements.{All-head, All-push, All-tail, All-weaker}
-use Rattle.cost_table.specs.inner.Among.{ArePlaces, row_among, rows_among}
+use Rattle.cost_table.specs.SharedRows.{ArePlaces, row_among, rows_among}
 
 -- the row of a place
 pub row_of_place : (shared own : List (List (ℕ × ℕ))) (places : List ℕ) (i : ℕ) → i < length places → get_or (rows_among shared own places) i [] ≡ row_among shared own (get_or places i 0)

@@ -3,7 +3,8 @@ use Rattle.std.specs.Prelude.{All}
 use Rattle.std.specs.List.{sum_by, AllByRecursion}
 use Rattle.std.proofs.lemmas.List.Elements.{All-from_recursion}
 use Rattle.cost_table.specs.Table.{Table, penalty_at, lack_at, wagon_count, order_count}
-use Rattle.cost_table.specs.Plan.{sum_below, IsPlan, AllAllowed, serves, pair_penalty, missed_cost}
+use Rattle.cost_table.specs.Plan.{sum_below, IsPlan, AllAllowed, serves, missed_cost}
+use Rattle.cost_table.specs.inner.Spared.{pair_penalty}
 use Rattle.cost_table.proofs.Sums.{AllBelow, double_count, distributes, sum_below-same, sum_below-add}
 
 pub wagons_below : (t : Table) (ps : List (ℕ × ℕ)) → AllAllowed t ps → AllBelow (λ p. p.0) (wagon_count t) ps

@@ -5,9 +5,4 @@ pub mod CostLemmas
 pub mod NameLemmas
 pub mod Search
 pub mod ProblemLemmas
-pub mod AllowedLemmas
 pub mod AmongLemmas
-pub mod Made
-pub mod MendedLemmas
-pub mod GoalLemmas
-pub mod GoalSteps

@@ -7,7 +7,8 @@ use Rattle.std.proofs.lemmas.List.Sums.{position_or_len_is}
 use Rattle.std.proofs.lemmas.List.Quantifiers.{position-Some}
 use Rattle.std.proofs.lemmas.Option.{slice_get_within, get_or_from_slice_get, slice_get-get_or}
 use Rattle.std.proofs.lemmas.Bool.Decides.{nat_tests}
-use Rattle.cost_table.specs.Names.{NameLists, is_name, is_among, repeated_after, repeated_from, first_repeated, both, pair_of}
+use Rattle.cost_table.specs.Names.{NameLists, is_name, both, pair_of}
+use Rattle.cost_table.specs.DistinctNames.{is_name_among, repeated_after, repeated_from, first_repeated}
 
 module _ {A : Type 0} (same : A → A → Bool) where
   one_repeated : (before rest : List A) (x : A) (b : Bool) → list_any (λ y. same y x) before ≡ b → repeated_from same before (x ∷ rest) ≡ cond b (Some x) (repeated_from same (before ++ x ∷ []) rest)
@@ -34,15 +35,15 @@ unrepeated_tail true rest x h = cc
 unrepeated_tail false rest x h = (refl, h)
 
 -- where no name is repeated, none stands before it
-pub not_before : (before names : List (List ℕ)) (i : ℕ) → repeated_after before names ≡ None → i < length names → is_among (before ++ take i names) (get_or names i []) ≡ false
+pub not_before : (before names : List (List ℕ)) (i : ℕ) → repeated_after before names ≡ None → i < length names → is_name_among (before ++ take i names) (get_or names i []) ≡ false
 not_before before [] i h l = absurd (omega arith)
 not_before before (x ∷ names) zero h l =
-    let f = unrepeated_tail (is_among before x) (repeated_after (before ++ x ∷ []) names) x h in
-    subst (λ (front : List (List ℕ)). is_among front x ≡ false) (sym (append-nil before)) f.0
+    let f = unrepeated_tail (is_name_among before x) (repeated_after (before ++ x ∷ []) names) x h in
+    subst (λ (front : List (List ℕ)). is_name_among front x ≡ false) (sym (append-nil before)) f.0
 not_before before (x ∷ names) (suc i) h l =
-    let f = unrepeated_tail (is_among before x) (repeated_after (before ++ x ∷ []) names) x h in
+    let f = unrepeated_tail (is_name_among before x) (repeated_after (before ++ x ∷ []) names) x h in
     let rest = not_before (before ++ x ∷ []) names i f.1 (omega arith) in
-    subst (λ (front : List (List ℕ)). is_among front (get_or names i []) ≡ false) (append_assoc before (x ∷ []) (take i names)) rest
+    subst (λ (front : List (List ℕ)). is_name_among front (get_or names i []) ≡ false) (append_assoc before (x ∷ []) (take i names)) rest
 
 either_false : (a b : Bool) → (a || b) ≡ false → (a ≡ false) × (b ≡ false)
 either_false true b h = cc

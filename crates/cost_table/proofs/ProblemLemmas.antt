@@ -6,7 +6,8 @@ use Rattle.std.proofs.lemmas.List.{length-map, get_or-map, take-map}
 use Rattle.std.proofs.lemmas.List.Recursion.{is_position_or_len}
 use Rattle.wagon_state.specs.declared.free_wagon.FreeWagon.{FreeWagon}
 use Rattle.load_orders.specs.Wanted.{WantedOrder}
-use Rattle.cost_table.specs.Names.{is_name, is_among, repeated_after, both, pair_of}
+use Rattle.cost_table.specs.Names.{is_name, both, pair_of}
+use Rattle.cost_table.specs.DistinctNames.{is_name_among, repeated_after}
 use Rattle.cost_table.specs.Problem.{ProblemValue, names_of_problem}
 use Rattle.cost_table.proofs.NameLemmas.{repeated_here, repeated_later}
 
@@ -32,12 +33,12 @@ named_at f xs k x name l is named = named ∙ (ap f is ∙ sym (get_or-map f xs 
 pub named_before : {X : Type 0} (f : X → List ℕ) (xs : List X) (k : ℕ) (x : X) (name : List ℕ) → k < length xs → x ≡ get_or xs k x → name ≡ f x → list_any (λ y. is_name name (f y)) (take k xs) ≡ true → repeated_after (take k (map f xs)) (drop k (map f xs)) ≡ Some name
 named_before f xs k x name l is named h =
     repeated_here (λ name other. pointwise nat_eq name other) (map f xs) k name (omega (arith, length-map xs f)) (named_at f xs k x name l is named)
-    (ap (λ names. is_among names name) (take-map f k xs) ∙ (list_any-map (is_name name) f (take k xs) ∙ h))
+    (ap (λ names. is_name_among names name) (take-map f k xs) ∙ (list_any-map (is_name name) f (take k xs) ∙ h))
 
 pub named_later : {X : Type 0} (f : X → List ℕ) (xs : List X) (k : ℕ) (x : X) (name : List ℕ) → k < length xs → x ≡ get_or xs k x → name ≡ f x → list_any (λ y. is_name name (f y)) (take k xs) ≡ false → repeated_after (take (k + 1) (map f xs)) (drop (k + 1) (map f xs)) ≡ repeated_after (take k (map f xs)) (drop k (map f xs))
 named_later f xs k x name l is named h =
     repeated_later (λ name other. pointwise nat_eq name other) (map f xs) k name (omega (arith, length-map xs f)) (named_at f xs k x name l is named)
-    (ap (λ names. is_among names name) (take-map f k xs) ∙ (list_any-map (is_name name) f (take k xs) ∙ h))
+    (ap (λ names. is_name_among names name) (take-map f k xs) ∙ (list_any-map (is_name name) f (take k xs) ∙ h))
 
 -- where a pair stands, by the lists themselves
 pub pair_of-names : (problem : ProblemValue) (number id : List ℕ) → both (position (λ (w : FreeWagon). is_name number w.number) problem.wagons) (position (λ (o : WantedOrder). is_name id o.order.id) problem.orders) ≡ pair_of (names_of_problem problem) number id

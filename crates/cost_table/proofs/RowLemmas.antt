@@ -5,8 +5,8 @@ use Rattle.std.proofs.lemmas.List.{take-append-le, drop-append-le, drop_at, take
 use Rattle.std.proofs.lemmas.List.Sums.{sum_by-cons}
 use Rattle.std.proofs.lemmas.List.Elements.{recursion_from_All}
 use Rattle.std.proofs.lemmas.Bool.Decides.{nat_tests}
-use Rattle.cost_table.specs.inner.Flat.{rows_of, AreEnds, last_end, HoldRows}
-use Rattle.load_orders.specs.Wanted.{IsLack}
+use Rattle.cost_table.specs.RowBlocks.{rows_of, AreEnds, last_end, HoldRows}
+use Rattle.load_orders.specs.WantedLimits.{IsLack}
 use Rattle.cost_table.specs.TableLimits.{max_table_lack, max_table_orders}
 use Rattle.cost_table.specs.Rows.{Rows, is_too_large}
 

@@ -1,8 +1,12 @@
 pub mod TableLimits
 pub mod Table
 pub mod Plan
+pub mod PlanList
 pub mod Rows
+pub mod SharedRows
+pub mod RowBlocks
 pub mod Names
+pub mod DistinctNames
 pub mod Problem
-pub mod Allowed
+pub mod ProblemLimits
 pub mod inner

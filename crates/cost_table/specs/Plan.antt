@@ -1,5 +1,5 @@
 -- Plans of a table: which pairs are a plan, what a plan costs, and when no plan costs less.
-use Rattle.std.specs.Prelude.{◌≡◌, ◌+◌, ◌-◌, ◌*◌, ◌<◌, ◌≤◌, ◌⊎◌, ℕ, zero, suc, ◌==◌, List, [], ◌∷◌, Some, unwrap_or}
+use Rattle.std.specs.Prelude.{◌≡◌, ◌+◌, ◌-◌, ◌*◌, ◌<◌, ◌≤◌, ℕ, zero, suc, ◌==◌, List, [], ◌∷◌, Some, unwrap_or}
 use Rattle.std.specs.List.{count_by, sum_by}
 use Rattle.cost_table.specs.Table.{Table, cost_at, penalty_at, lack_at, wagon_count, order_count}
 
@@ -31,10 +31,6 @@ pub record IsPlan (t : Table) (pairs : List (ℕ × ℕ)) : Type 0 where
 abbrev pub pair_cost : Table → ℕ × ℕ → ℕ
 pair_cost t p = unwrap_or (cost_at t p.0 p.1) 0
 
--- the penalty that one wagon for a pair's order spares
-abbrev pub pair_penalty : Table → ℕ × ℕ → ℕ
-pair_penalty t p = penalty_at t p.1
-
 -- the penalty of each wagon that order j misses
 abbrev pub missed_cost : Table → List (ℕ × ℕ) → ℕ → ℕ
 missed_cost t pairs j = penalty_at t j * (lack_at t j - serves j pairs)
@@ -45,20 +41,3 @@ cost_of t pairs = sum_by (pair_cost t) pairs + sum_below (order_count t) (missed
 -- no plan of the table costs less
 abbrev pub IsOptimal : Table → List (ℕ × ℕ) → Type 0
 IsOptimal t pairs = IsPlan t pairs × ((others : List (ℕ × ℕ)) → IsPlan t others → cost_of t pairs ≤ cost_of t others)
-
--- by order, then by wagon
-abbrev pub Precedes : ℕ × ℕ → ℕ × ℕ → Type 0
-Precedes p q = (p.1 < q.1) ⊎ ((p.1 ≡ q.1) × (p.0 < q.0))
-
-abbrev pub IsAscendingFrom : ℕ × ℕ → List (ℕ × ℕ) → Type 0
-IsAscendingFrom p [] = Unit {0}
-IsAscendingFrom p (q ∷ pairs) = Precedes p q × IsAscendingFrom q pairs
-
-abbrev pub IsAscending : List (ℕ × ℕ) → Type 0
-IsAscending [] = Unit {0}
-IsAscending (p ∷ pairs) = IsAscendingFrom p pairs
-
--- how a plan is kept: its pairs ascend by order, then by wagon, and no wagon stands twice
-pub record IsPlanList (pairs : List (ℕ × ℕ)) : Type 0 where
-  pub ascending : IsAscending pairs
-  pub once : (i : ℕ) → uses i pairs ≤ 1

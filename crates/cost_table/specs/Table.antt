@@ -1,7 +1,5 @@
 -- A table of costs: what each wagon may serve at which cost, what each order lacks and what a missed wagon costs.
-use Rattle.std.specs.Prelude.{◌≡◌, ◌≤◌, ◌<◌, ◌+◌, ℕ, if◌then◌else◌, ◌==◌, List, [], ◌∷◌, length, Option, Some, None, All, sum, slice_index, slice_index_or}
-use Rattle.load_orders.specs.Wanted.{IsLack}
-use Rattle.cost_table.specs.TableLimits.{max_table_wagons, max_table_orders, max_cost, max_table_lack}
+use Rattle.std.specs.Prelude.{ℕ, if◌then◌else◌, ◌==◌, List, [], ◌∷◌, length, Option, Some, None, slice_index, slice_index_or}
 
 -- What is distributed. Each wagon has the orders that it may serve, each with its cost. Each order has the
 -- penalty of a wagon that it misses, and how many wagons it lacks.
@@ -34,19 +32,3 @@ wagon_count t = length t.rows
 
 abbrev pub order_count : Table → ℕ
 order_count t = length t.lacks
-
--- a row from order `low` on: ascending by order, each order one of the table's, each cost within its limit
-abbrev pub IsRow : ℕ → ℕ → List (ℕ × ℕ) → Type 0
-IsRow orders low [] = Unit {0}
-IsRow orders low (cell ∷ row) =
-    (low ≤ cell.0) × (cell.0 < orders) × (cell.1 ≤ max_cost) × IsRow orders (cell.0 + 1) row
-
--- what each table of the program keeps
-pub record IsTable (t : Table) : Type 0 where
-  pub wagons : wagon_count t ≤ max_table_wagons
-  pub orders : order_count t ≤ max_table_orders
-  pub penalty_count : length t.penalties ≡ order_count t
-  pub rows : All (IsRow (order_count t) 0) t.rows
-  pub penalties : All (λ penalty. penalty ≤ max_cost) t.penalties
-  pub lacks : All IsLack t.lacks
-  pub lack_in_all : sum t.lacks ≤ max_table_lack

@@ -1,5 +1,7 @@
 -- The limits of a table.
-use Rattle.std.specs.Prelude.{ℕ}
+use Rattle.std.specs.Prelude.{ℕ, ◌≡◌, ◌≤◌, ◌<◌, ◌+◌, List, [], ◌∷◌, length, All, sum}
+use Rattle.load_orders.specs.WantedLimits.{IsLack}
+use Rattle.cost_table.specs.Table.{Table, wagon_count, order_count}
 
 -- the most wagons
 abbrev pub max_table_wagons : ℕ
@@ -16,3 +18,19 @@ max_table_lack = 500
 -- the most that a cell or a missed wagon costs, in km
 abbrev pub max_cost : ℕ
 max_cost = 1_000_000_000
+
+-- a row from order `low` on: ascending by order, each order one of the table's, each cost within its limit
+abbrev pub IsRow : ℕ → ℕ → List (ℕ × ℕ) → Type 0
+IsRow orders low [] = Unit {0}
+IsRow orders low (cell ∷ row) =
+    (low ≤ cell.0) × (cell.0 < orders) × (cell.1 ≤ max_cost) × IsRow orders (cell.0 + 1) row
+
+-- what each table of the program keeps
+pub record IsTable (t : Table) : Type 0 where
+  pub wagons : wagon_count t ≤ max_table_wagons
+  pub orders : order_count t ≤ max_table_orders
+  pub penalty_count : length t.penalties ≡ order_count t
+  pub rows : All (IsRow (order_count t) 0) t.rows
+  pub penalties : All (λ penalty. penalty ≤ max_cost) t.penalties
+  pub lacks : All IsLack t.lacks
+  pub lack_in_all : sum t.lacks ≤ max_table_lack

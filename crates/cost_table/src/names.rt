@@ -1,6 +1,7 @@
 //! The names of a table's wagons and orders.
 ghost use Rattle.std.specs.Prelude.{◌≡◌, ℕ, [], Some, IfSome, position, slice_get};
-ghost use Rattle.cost_table.specs.Names.{is_name, names_of, pair_of, repeated_from};
+ghost use Rattle.cost_table.specs.Names.{is_name, pair_of};
+ghost use Rattle.cost_table.specs.DistinctNames.{names_or_fault, repeated_from};
 
 use crate::limits::{MAX_TABLE_ORDERS, MAX_TABLE_WAGONS};
 use crate::pair_names::PairNames;
@@ -17,7 +18,8 @@ pub struct Names {
 
 impl Model for Names {
     ghost use Rattle.std.specs.Prelude.{◌≡◌, None};
-    ghost use Rattle.cost_table.specs.Names.{NameLists, first_repeated};
+    ghost use Rattle.cost_table.specs.Names.{NameLists};
+    ghost use Rattle.cost_table.specs.DistinctNames.{first_repeated};
 
     ghost Value = { NameLists };
 
@@ -31,7 +33,7 @@ impl Names {
     /// or over 500 orders, else `DuplicateWagon` (51) with the first wagon that repeats an earlier one, else
     /// `DuplicateOrder` (52) likewise.
     pub fn new(wagons: Vec<WagonNumber>, orders: Vec<OrderId>) -> Result<Names, TableFault>
-        ensures { result ≡ names_of wagons.items orders.items }
+        ensures { result ≡ names_or_fault wagons.items orders.items }
     {
         if wagons.len() > MAX_TABLE_WAGONS || orders.len() > MAX_TABLE_ORDERS {
             return Err(TableFault::TooLarge);

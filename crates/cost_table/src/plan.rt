@@ -1,6 +1,6 @@
 //! Plans: which wagon goes to which order.
 ghost use Rattle.std.specs.Prelude.{◌≡◌};
-ghost use Rattle.cost_table.specs.Plan.{IsPlanList};
+ghost use Rattle.cost_table.specs.PlanList.{IsPlanList};
 
 use std::marker::Model;
 
@@ -12,7 +12,7 @@ pub struct Plan {
 
 impl Model for Plan {
     ghost use Rattle.std.specs.Prelude.{List, ℕ};
-    ghost use Rattle.cost_table.specs.Plan.{IsPlanList};
+    ghost use Rattle.cost_table.specs.PlanList.{IsPlanList};
 
     ghost Value = { List (ℕ × ℕ) };
 

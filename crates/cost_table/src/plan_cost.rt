@@ -2,7 +2,8 @@
 ghost use Rattle.std.specs.Prelude.{◌≡◌, ◌<◌, ◌≤◌, ◌+◌, ◌*◌, ◌^◌, All};
 ghost use Rattle.std.specs.List.{sum_by};
 ghost use Rattle.cost_table.specs.Table.{penalty_at, lack_at, order_count};
-ghost use Rattle.cost_table.specs.Plan.{IsPlan, cost_of, pair_cost, pair_penalty, sum_below};
+ghost use Rattle.cost_table.specs.Plan.{IsPlan, cost_of, pair_cost, sum_below};
+ghost use Rattle.cost_table.specs.inner.Spared.{pair_penalty};
 
 use crate::table_cells::Cells;
 

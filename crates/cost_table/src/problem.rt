@@ -1,9 +1,11 @@
 //! What is to be distributed.
 ghost use Rattle.std.specs.Prelude.{◌≡◌, ◌≤◌, ℕ, Some, IfOk, IfSome, length, position, slice_get, sum};
 ghost use Rattle.std.specs.List.{list_any};
-ghost use Rattle.cost_table.specs.Names.{both, is_name, first_repeated, pair_of};
+ghost use Rattle.cost_table.specs.Names.{both, is_name, pair_of};
+ghost use Rattle.cost_table.specs.DistinctNames.{first_repeated};
 ghost use Rattle.cost_table.specs.TableLimits.{max_table_orders};
-ghost use Rattle.cost_table.specs.Problem.{problem_of, wagon_names, order_names, lacks_of, names_of_problem, is_too_much, IsProblem};
+ghost use Rattle.cost_table.specs.ProblemLimits.{problem_or_fault, is_too_much, IsProblem};
+ghost use Rattle.cost_table.specs.Problem.{wagon_names, order_names, lacks_of, names_of_problem};
 
 use crate::limits::{MAX_TABLE_LACK, MAX_TABLE_ORDERS, MAX_TABLE_WAGONS};
 use crate::pair_names::PairNames;
@@ -24,7 +26,8 @@ pub struct Problem {
 }
 
 impl Model for Problem {
-    ghost use Rattle.cost_table.specs.Problem.{ProblemValue, IsProblem};
+    ghost use Rattle.cost_table.specs.Problem.{ProblemValue};
+    ghost use Rattle.cost_table.specs.ProblemLimits.{IsProblem};
 
     ghost Value = { ProblemValue };
 
@@ -42,7 +45,7 @@ impl Problem {
         wagons: Vec<FreeWagon>,
         orders: Vec<Wanted>,
     ) -> Result<Problem, TableFault>
-        ensures { result ≡ problem_of at wagons.items orders.items }
+        ensures { result ≡ problem_or_fault at wagons.items orders.items }
     {
         if wagons.len() > MAX_TABLE_WAGONS || lack_too_much(&orders) {
             return Err(TableFault::TooLarge);

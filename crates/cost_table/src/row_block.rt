@@ -1,20 +1,20 @@
 //! Rows of cells that lie one after another in one list.
 ghost use Rattle.std.specs.Prelude.{◌≡◌, ◌<◌, ◌≤◌, ◌^◌, [], ◌∷◌, ◌++◌, OnOk, length, slice_index, slice_index_or};
-ghost use Rattle.cost_table.specs.inner.Flat.{rows_of, AreEnds, HoldRows};
+ghost use Rattle.cost_table.specs.RowBlocks.{rows_of, AreEnds, HoldRows};
 
 use std::alloc::{AllocError, Global};
 use std::marker::Model;
 
 /// Rows that lie one after another in one list, and where each ends. A contract sees the list of rows.
 #[derive(Debug, Drop)]
-pub(crate) struct RowBlock {
+pub struct RowBlock {
     entries: Vec<(u32, u32)>,
     ends: Vec<usize>,
 }
 
 impl Model for RowBlock {
     ghost use Rattle.std.specs.Prelude.{ℕ, List};
-    ghost use Rattle.cost_table.specs.inner.Flat.{rows_of, HoldRows};
+    ghost use Rattle.cost_table.specs.RowBlocks.{rows_of, HoldRows};
 
     ghost Value = { List (List (ℕ × ℕ)) };
 
@@ -25,7 +25,7 @@ impl Model for RowBlock {
 
 impl RowBlock {
     /// No row.
-    pub(crate) fn new(alloc: Global) -> RowBlock
+    pub fn new(alloc: Global) -> RowBlock
         ensures { result ≡ [] }
     {
         RowBlock {
@@ -35,7 +35,7 @@ impl RowBlock {
     }
 
     /// The rows of these entries, each of which ends where the list says.
-    pub(crate) fn of(entries: Vec<(u32, u32)>, ends: Vec<usize>) -> RowBlock
+    pub fn of(entries: Vec<(u32, u32)>, ends: Vec<usize>) -> RowBlock
         requires { HoldRows entries.items ends.items (rows_of entries.items 0 ends.items) }
         ensures { result ≡ rows_of entries.items 0 ends.items }
     {
@@ -43,7 +43,7 @@ impl RowBlock {
     }
 
     /// Appends a row.
-    pub(crate) fn push(&mut self, row: &[(u32, u32)]) -> Result<(), AllocError>
+    pub fn push(&mut self, row: &[(u32, u32)]) -> Result<(), AllocError>
         ensures { OnOk result (self.new ≡ self.old ++ row.now ∷ []) }
     {
         self.ends.reserve(1)?;
@@ -53,7 +53,7 @@ impl RowBlock {
     }
 
     /// How many rows there are.
-    pub(crate) fn len(&self) -> usize
+    pub fn len(&self) -> usize
         ensures value { result ≡ length self.now }
         ensures limit { result < 2 ^ 63 }
     {
@@ -61,7 +61,7 @@ impl RowBlock {
     }
 
     /// Row `i`.
-    pub(crate) fn row(&self, i: usize) -> &[(u32, u32)]
+    pub fn row(&self, i: usize) -> &[(u32, u32)]
         requires { i < length self.now }
         ensures { result.now ≡ slice_index_or self.now i [] }
     {

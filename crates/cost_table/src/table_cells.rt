@@ -1,13 +1,13 @@
 //! The table of a distribution.
 ghost use Rattle.std.specs.Prelude.{◌≡◌, ◌<◌, ◌≤◌, ℕ, All, IfOk, OnOk, IfSome, OnSome, IfErr, unwrap_or};
 ghost use Rattle.std.specs.Result.{result_err};
-ghost use Rattle.cost_table.specs.TableLimits.{max_cost};
+ghost use Rattle.cost_table.specs.TableLimits.{max_cost, IsTable, IsRow};
 ghost use Rattle.cost_table.specs.Rows.{IsNumber, table_of, number_at, rows_fault};
 ghost use Rattle.faults.specs.declared.faults.TableFault.TheVariants.{OutOfMemory};
-ghost use Rattle.cost_table.specs.Table.{IsTable, IsRow, row_at, cost_in, cost_at, penalty_at, lack_at, wagon_count, order_count};
-ghost use Rattle.load_orders.specs.Wanted.{IsLack};
+ghost use Rattle.cost_table.specs.Table.{row_at, cost_in, cost_at, penalty_at, lack_at, wagon_count, order_count};
+ghost use Rattle.load_orders.specs.WantedLimits.{IsLack};
 ghost use Rattle.cost_table.specs.inner.Searched.{IsAscendingRow};
-ghost use Rattle.cost_table.specs.inner.Among.{ArePlaced, rows_in};
+ghost use Rattle.cost_table.specs.SharedRows.{ArePlaced, rows_in};
 
 use crate::rows::{are_even, are_too_large, flatten};
 use crate::table_rows::TableRows;
@@ -26,8 +26,9 @@ pub struct Cells {
 }
 
 impl Model for Cells {
-    ghost use Rattle.cost_table.specs.Table.{Table, IsTable};
-    ghost use Rattle.cost_table.specs.inner.Among.{ArePlaced, rows_in};
+    ghost use Rattle.cost_table.specs.Table.{Table};
+    ghost use Rattle.cost_table.specs.TableLimits.{IsTable};
+    ghost use Rattle.cost_table.specs.SharedRows.{ArePlaced, rows_in};
 
     ghost Value = { Table };
 
@@ -38,7 +39,7 @@ impl Model for Cells {
 
 impl Cells {
     /// The table of rows that are found.
-    pub(crate) fn of_rows(rows: TableRows, penalties: Vec<u64>, lacks: Vec<u32>) -> Cells
+    pub fn of_rows(rows: TableRows, penalties: Vec<u64>, lacks: Vec<u32>) -> Cells
         requires placed { ArePlaced rows }
         requires table { IsTable (record { rows = rows_in rows; penalties = penalties.items; lacks = lacks.items }) }
         ensures { result ≡ record { rows = rows_in rows; penalties = penalties.items; lacks = lacks.items } }
@@ -51,7 +52,7 @@ impl Cells {
     }
 
     /// The rows.
-    pub(crate) fn rows(&self) -> &TableRows
+    pub fn rows(&self) -> &TableRows
         ensures rows { rows_in result.now ≡ self.now.rows }
         ensures placed { ArePlaced result.now }
         ensures table { IsTable self.now }

@@ -1,6 +1,6 @@
 //! The rows of a table, some of which it may share with other tables.
 ghost use Rattle.std.specs.Prelude.{◌≡◌, ◌+◌, ◌<◌, [], IfOk, OnOk, length, slice_index_or};
-ghost use Rattle.cost_table.specs.inner.Among.{ArePlaced, ArePlaces, HasRowMore, row_among, rows_among, rows_in};
+ghost use Rattle.cost_table.specs.SharedRows.{ArePlaced, ArePlaces, HasRowMore, row_among, rows_among, rows_in};
 
 use crate::row_block::RowBlock;
 use std::alloc::{AllocError, Global};
@@ -8,16 +8,16 @@ use std::sync::Arc;
 
 /// The rows of a table: each stands in a block that tables share, or in the table's own.
 #[derive(Debug, Drop)]
-pub(crate) struct TableRows {
-    pub(crate) shared: Arc<RowBlock>,
-    pub(crate) own: RowBlock,
+pub struct TableRows {
+    pub shared: Arc<RowBlock>,
+    pub own: RowBlock,
     /// For each wagon where its row stands among those of the shared block, then of the own one.
-    pub(crate) places: Vec<usize>,
+    pub places: Vec<usize>,
 }
 
 impl TableRows {
     /// The rows of a block, which other tables may share.
-    pub(crate) fn of_block(alloc: Global, block: RowBlock) -> Result<TableRows, AllocError>
+    pub fn of_block(alloc: Global, block: RowBlock) -> Result<TableRows, AllocError>
         ensures rows { IfOk result (λ rows. rows_in rows ≡ block) }
         ensures placed { IfOk result ArePlaced }
     {
@@ -30,11 +30,7 @@ impl TableRows {
     }
 
     /// No row yet, with room for the places of so many; it shares the block of another table's rows.
-    pub(crate) fn sharing(
-        alloc: Global,
-        other: &TableRows,
-        count: usize,
-    ) -> Result<TableRows, AllocError>
+    pub fn sharing(alloc: Global, other: &TableRows, count: usize) -> Result<TableRows, AllocError>
         ensures shared { IfOk result (λ rows. rows.shared.value ≡ other.now.shared.value) }
         ensures rows { IfOk result (λ rows. rows_in rows ≡ []) }
         ensures placed { IfOk result ArePlaced }
@@ -47,14 +43,14 @@ impl TableRows {
     }
 
     /// How many rows there are.
-    pub(crate) fn len(&self) -> usize
+    pub fn len(&self) -> usize
         ensures { result ≡ length (rows_in self.now) }
     {
         self.places.len()
     }
 
     /// The row of wagon `i`.
-    pub(crate) fn row(&self, i: usize) -> &[(u32, u32)]
+    pub fn row(&self, i: usize) -> &[(u32, u32)]
         requires placed { ArePlaced self.now }
         requires wagon { i < length (rows_in self.now) }
         ensures { result.now ≡ slice_index_or (rows_in self.now) i [] }
@@ -63,7 +59,7 @@ impl TableRows {
     }
 
     /// Appends a row.
-    pub(crate) fn push(&mut self, row: &[(u32, u32)]) -> Result<(), AllocError>
+    pub fn push(&mut self, row: &[(u32, u32)]) -> Result<(), AllocError>
         requires { ArePlaced self.old }
         ensures { OnOk result (HasRowMore self.old self.new row.now) }
     {
@@ -74,7 +70,7 @@ impl TableRows {
     }
 
     /// Appends row `i` of another table, whose shared block is this one's too: a row of that block isn't copied.
-    pub(crate) fn take_over(&mut self, other: &TableRows, i: usize) -> Result<(), AllocError>
+    pub fn take_over(&mut self, other: &TableRows, i: usize) -> Result<(), AllocError>
         requires placed { ArePlaced self.old }
         requires shared { self.old.shared.value ≡ other.now.shared.value }
         requires others { ArePlaced other.now }
@@ -90,7 +86,7 @@ impl TableRows {
     }
 
     /// Whether so many rows are the table's own that a table made anew would serve better as one to share.
-    pub(crate) fn are_scattered(&self) -> bool {
+    pub fn are_scattered(&self) -> bool {
         self.own.len() > self.shared.len() / 4
     }
 }

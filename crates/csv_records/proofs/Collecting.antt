@@ -7,7 +7,7 @@ use Rattle.csv.specs.Reading.{ReadRecord, source_of}
 use Rattle.csv.specs.declared.reader.Reader.{Reader}
 use Rattle.csv_records.proofs.Remaining.{Between, between_more, between_start, left_after, none_left, records_left}
 use Rattle.csv_records.specs.Fields.{Record}
-use Rattle.csv_records.specs.Requests.{AreLeft, IsAnswer, IsSetUp}
+use Rattle.csv_records.specs.Requests.{AreLeft, IsOutcome, IsSetUp}
 
 module _ {R T F : Type 0} (remaining : R → Option (List ℕ)) (made_of : T → List Record → Type 0) (refuses : F → List Record → Type 0) (start : Reader R) where
   -- From start on a reader has given the records below a number, and this value is collected from them.
@@ -19,7 +19,7 @@ module _ {R T F : Type 0} (remaining : R → Option (List ℕ)) (made_of : T →
 
   -- what was answered is that of all records from start on
   abbrev pub Answers : Result T F → Type 0
-  Answers result = (all : List Record) × AreLeft remaining start all × IsAnswer made_of refuses result all
+  Answers result = (all : List Record) × AreLeft remaining start all × IsOutcome made_of refuses result all
 
   -- the first record
   first_between : (b : Reader R) (fields : Record) → IsSetUp start → ReadRecord remaining start b true fields → Between remaining start b (fields ∷ [])

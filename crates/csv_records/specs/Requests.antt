@@ -33,6 +33,6 @@ pub record AsksAtMost {R : Type 0} (remaining : R → Option (List ℕ)) (before
   pub requests : AreRequests remaining before count after
 
 -- what was made of these records, or why they were refused
-abbrev pub IsAnswer : {T F : Type 0} → (T → List Record → Type 0) → (F → List Record → Type 0) → Result T F → List Record → Type 0
-IsAnswer made_of refuses (Ok made) records = made_of made records
-IsAnswer made_of refuses (Err fault) records = refuses fault records
+abbrev pub IsOutcome : {T F : Type 0} → (T → List Record → Type 0) → (F → List Record → Type 0) → Result T F → List Record → Type 0
+IsOutcome made_of refuses (Ok made) records = made_of made records
+IsOutcome made_of refuses (Err fault) records = refuses fault records

@@ -4,7 +4,7 @@ ghost use Rattle.csv.specs.Reading.{ReadRecord, error_kind, has_failed, is_io, r
 ghost use Rattle.csv.specs.Records.{fields_of};
 ghost use Rattle.csv.specs.declared.parser.State.TheVariants as st;
 ghost use Rattle.csv_records.specs.Fields.{Record};
-ghost use Rattle.csv_records.specs.Requests.{AreLeft, AsksAtMost, IsAnswer, IsRequest, IsSetUp};
+ghost use Rattle.csv_records.specs.Requests.{AreLeft, AsksAtMost, IsOutcome, IsRequest, IsSetUp};
 
 use crate::{FromRecords, RecordFault};
 use csv::{ByteRecord, Error, Reader, ReaderBuilder};
@@ -32,7 +32,7 @@ pub fn read_records<R: Read, T: FromRecords>(
     reader: &mut Reader<R>,
 ) -> Result<T, T::Fault>
     requires { IsSetUp reader.old }
-    ensures meaning { (all : List Record) × AreLeft R.remaining reader.old all × IsAnswer T.made_of T.refuses result all }
+    ensures meaning { (all : List Record) × AreLeft R.remaining reader.old all × IsOutcome T.made_of T.refuses result all }
     ensures stopped { IfErr result (λ fault. T.Fault.from_gives RecordFault.ReadFailed fault → has_failed reader.new ≡ true) }
     ensures asked { AsksAtMost R.remaining reader.old (T.MOST_RECORDS + 2) reader.new }
 {

@@ -11,7 +11,8 @@ use Rattle.std.proofs.lemmas.List.{length-set}
 use Rattle.std.proofs.lemmas.Map.Keys.{IsDistinct-from_sorted}
 use Rattle.std.proofs.lemmas.Option.{get_or_from_slice_get, slice_get-get_or}
 use Rattle.std.proofs.Math.Seq.{map-set_same}
-use Rattle.wagon_roster.specs.Roster.{by_number, compare_numbers, has_wagon}
+use Rattle.wagon_roster.specs.Roster.{by_number, compare_numbers}
+use Rattle.wagon_roster.specs.SameWagons.{has_wagon}
 use Rattle.wagon_roster.proofs.RosterLemmas.{none_at_gap, searched}
 use Rattle.wagon_state.specs.declared.wagon_row.WagonRow.{WagonRow}
 use Rattle.database_rows.specs.Kept.{IsWagonRows}

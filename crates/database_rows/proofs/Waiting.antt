@@ -10,7 +10,8 @@ use Rattle.std.proofs.lemmas.List.Sums.{sum_by-cons}
 use Rattle.load_orders.specs.Lack.{is_waiting}
 use Rattle.load_orders.specs.OrderRow.{IsOrderRow, OrderRowValue}
 use Rattle.database_rows.specs.Kept.{IsOrderRows}
-use Rattle.database_rows.specs.Rows.{at_order, is_order, max_open_wagons, open_wagons, order_in, waiting_from, wanted_open}
+use Rattle.database_rows.specs.Rows.{at_order, is_order, max_open_wagons, open_wagons, order_in, wanted_open}
+use Rattle.database_rows.specs.WaitingOrders.{waiting_from}
 use Rattle.database_rows.specs.inner.Indexed.{IsIndexed, IsStored, IsWaitingList, noted, without_place}
 use Rattle.database_rows.proofs.Orders.{IsRowAt, changed_is, indexed_new, indexed_with, row_at, wanted_within}
 

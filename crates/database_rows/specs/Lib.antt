@@ -1,4 +1,5 @@
 pub mod EmptyWagons
 pub mod Kept
 pub mod Rows
+pub mod WaitingOrders
 pub mod inner

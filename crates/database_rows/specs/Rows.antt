@@ -3,7 +3,7 @@ use Rattle.std.specs.Prelude.{ℕ, ◌+◌, Bool, true, nat_eq, if◌then◌else
 use Rattle.std.specs.Cmp.Lexicographic.{pointwise}
 use Rattle.std.specs.List.{find, sum_by}
 use Rattle.wagon_state.specs.declared.wagon_row.WagonRow.{WagonRow}
-use Rattle.load_orders.specs.Lack.{is_open, is_waiting}
+use Rattle.load_orders.specs.Lack.{is_open}
 use Rattle.load_orders.specs.Numbers.{with_number, without_number}
 use Rattle.load_orders.specs.OrderRow.{OrderRowValue}
 
@@ -60,7 +60,6 @@ freed_of number row = record row { promised = without_number number row.promised
 abbrev pub taken_back : OrderRowValue → OrderRowValue
 taken_back row = record row { promised = []; withdrawn = true }
 
--- the places of the orders that wait, ascending, where the first row stands at this place
-abbrev pub waiting_from : ℕ → List OrderRowValue → List ℕ
-waiting_from first [] = []
-waiting_from first (row ∷ rows) = if is_waiting row then first ∷ waiting_from (first + 1) rows else waiting_from (first + 1) rows
+-- the names of orders
+abbrev pub names_of : List OrderRowValue → List (List ℕ)
+names_of rows = map (λ row. row.text.id) rows

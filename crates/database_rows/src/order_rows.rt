@@ -3,7 +3,8 @@ ghost use Rattle.std.specs.Prelude.{◌≡◌, ◌+◌, ◌<◌, ◌≤◌, ◌+
 ghost use Rattle.std.specs.List.{Contains};
 ghost use Rattle.load_orders.specs.Lack.{lack_of};
 ghost use Rattle.load_orders.specs.OrderRow.{placed_row};
-ghost use Rattle.database_rows.specs.Rows.{at_order, filled_by, freed_of, is_order, max_open_wagons, open_wagons, order_in, promised_to, taken_back, waiting_from, wanted_open};
+ghost use Rattle.database_rows.specs.Rows.{at_order, filled_by, freed_of, is_order, max_open_wagons, open_wagons, order_in, promised_to, taken_back, wanted_open};
+ghost use Rattle.database_rows.specs.WaitingOrders.{waiting_from};
 ghost use Rattle.database_rows.specs.inner.Indexed.{noted, without_place};
 
 use crate::limits::MAX_OPEN_WAGONS;

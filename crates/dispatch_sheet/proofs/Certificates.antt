@@ -17,7 +17,7 @@ use Rattle.rail_codes.specs.Moment.{moment_of}
 use Rattle.rail_codes.specs.OrderId.{order_id_of, IsOrderId}
 use Rattle.rail_codes.specs.WagonNumber.{IsWagonNumber}
 use Rattle.rail_codes.proofs.WagonNumbers.{wagon_number_of-IsWagonNumber}
-use Rattle.json_fields.specs.Values.{list_of_each, number_within, text_of, moment_from, pair_of}
+use Rattle.json_fields.specs.Values.{list_of_each, number_within, text_of, moment_from, wagon_and_order}
 use Rattle.json_fields.specs.Written.{list_data, number_data, pair_data}
 use Rattle.json_fields.specs.Field.{field_name}
 use Rattle.json_fields.specs.Fields.{member, field_of}
@@ -89,7 +89,7 @@ commit-reads : (commit : CommitText) (at : List ℕ) → IsReadable commit → m
 unfolding commit_text_of field_of member field_name
 commit-reads commit at readable moment =
     let version = number_reads 0 max_version commit.version (omega arith) readable.version in
-    rw (version, moment-reads at commit.at moment, list-reads pair_of pair_data commit.pairs readable.pairs, prices-read commit.u readable.u, prices-read commit.v readable.v) refl
+    rw (version, moment-reads at commit.at moment, list-reads wagon_and_order pair_data commit.pairs readable.pairs, prices-read commit.u readable.u, prices-read commit.v readable.v) refl
 
 command-reads : (bytes : List ℕ) (commit : CommitText) (at : List ℕ) → IsUtf8 bytes → read bytes ≡ Some (commit_data commit at) → commit_text_of (commit_data commit at) ≡ Ok commit → command_of bytes ≡ Ok (Commit commit)
 unfolding command_of command_of_type field_of member field_name text_of line_type_of type_name

@@ -5,3 +5,4 @@ pub mod Lists
 pub mod Certificates
 pub mod CommitTokens
 pub mod Moments
+pub mod InRange

@@ -4,7 +4,8 @@ use Rattle.std.specs.Prelude.{◌==◌, filter, replicate}
 use Rattle.std.specs.List.{concat, flat_map, prefix_len}
 use Rattle.std.proofs.lemmas.Bool.{cases_lt, cases_eq, ne_eqb, eq-eqb, le-leb, lt-leb}
 use Rattle.std.proofs.lemmas.List.Sums.{length-filter}
-use Rattle.cost_table.specs.Plan.{serves, AllAllowed, IsAllowed, IsAscending, IsAscendingFrom, IsPlanList, Precedes}
+use Rattle.cost_table.specs.Plan.{serves, AllAllowed, IsAllowed}
+use Rattle.cost_table.specs.PlanList.{IsAscendingPlan, IsAscendingFrom, IsPlanList, Precedes}
 use Rattle.cost_table.specs.Problem.{ProblemValue}
 use Rattle.cost_table.specs.Table.{lack_at, Table}
 use Rattle.dispatch_sheet.specs.PlanText.{assign_line, order_lines, refuse_line}
@@ -25,7 +26,7 @@ not_below : (p q : ℕ × ℕ) → Precedes p q → p.1 ≤ q.1
 not_below p q (inl l) = omega arith
 not_below p q (inr l) = let e = l.0 in omega arith
 
-ascends_behind : (p : ℕ × ℕ) (pairs : List (ℕ × ℕ)) → IsAscendingFrom p pairs → IsAscending pairs
+ascends_behind : (p : ℕ × ℕ) (pairs : List (ℕ × ℕ)) → IsAscendingFrom p pairs → IsAscendingPlan pairs
 ascends_behind p [] h = tt
 ascends_behind p (q ∷ pairs) h = h.1
 
@@ -46,7 +47,7 @@ all_from k p (q ∷ pairs) l h =
     rw (le-leb k q.1 m) (ap (λ more. q ∷ more) (all_from k q pairs m h.1))
 
 -- of the pairs from order j on, those at the front that go to it are all its pairs
-front_at : (j : ℕ) (pairs : List (ℕ × ℕ)) → IsAscending pairs → take (count_at j (pairs_from j pairs)) (pairs_from j pairs) ≡ pairs_at j pairs
+front_at : (j : ℕ) (pairs : List (ℕ × ℕ)) → IsAscendingPlan pairs → take (count_at j (pairs_from j pairs)) (pairs_from j pairs) ≡ pairs_at j pairs
 front_at j [] h = refl
 front_at j (p ∷ pairs) h =
     elim (cases_lt p.1 j) [
@@ -59,7 +60,7 @@ front_at j (p ∷ pairs) h =
     ]
 
 -- and the others are those from the next order on
-behind_at : (j : ℕ) (pairs : List (ℕ × ℕ)) → IsAscending pairs → drop (count_at j (pairs_from j pairs)) (pairs_from j pairs) ≡ pairs_from (j + 1) pairs
+behind_at : (j : ℕ) (pairs : List (ℕ × ℕ)) → IsAscendingPlan pairs → drop (count_at j (pairs_from j pairs)) (pairs_from j pairs) ≡ pairs_from (j + 1) pairs
 behind_at j [] h = refl
 behind_at j (p ∷ pairs) h =
     elim (cases_lt p.1 j) [

@@ -3,3 +3,4 @@ pub mod PlanText
 pub mod Sheet
 pub mod Certificate
 pub mod inner
+pub mod ReportText

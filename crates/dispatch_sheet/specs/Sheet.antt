@@ -1,6 +1,6 @@
 -- The sheet of an office: lines for its version, for each wagon, for each order and, among several, for its network.
 -- Each line ends with a line feed, and its words are parted by one space.
-use Rattle.std.specs.Prelude.{◌≡◌, ℕ, Bool, true, false, List, [], ◌∷◌, ◌++◌, map, Option, Some, None, nat_lt, if◌then◌else◌, codes, decimal}
+use Rattle.std.specs.Prelude.{◌≡◌, ℕ, Bool, true, false, List, [], ◌∷◌, ◌++◌, length, map, Option, Some, None, nat_lt, if◌then◌else◌, codes, decimal}
 use Rattle.std.specs.List.{AllZip, concat, join_with_byte}
 use Rattle.rail_codes.specs.Moment.{IsMomentText}
 use Rattle.wagon_state.specs.declared.load.Load.TheVariants.{Loaded, Unladen}
@@ -10,9 +10,11 @@ use Rattle.wagon_state.specs.declared.wagon_row.WagonRow.{WagonRow}
 use Rattle.wagon_state.specs.StatusTable.{place_of}
 use Rattle.load_orders.specs.declared.order_state.OrderState.{OrderState}
 use Rattle.load_orders.specs.declared.order_state.OrderState.TheVariants.{Waiting, Promised, Filled, Withdrawn}
-use Rattle.load_orders.specs.Lack.{state_of}
+use Rattle.load_orders.specs.States.{state_of}
 use Rattle.load_orders.specs.OrderRow.{OrderRowValue}
-use Rattle.operating_db.specs.Office.{StateValue}
+use Rattle.operating_db.specs.State.{StateValue}
+use Rattle.commit_book.specs.Books.{BookValue}
+use Rattle.commit_book.specs.History.{replay}
 use Rattle.dispatch_sheet.specs.Words.{next_word}
 
 -- ---- wagons
@@ -91,6 +93,10 @@ pub record AreLines {A : Type 0} (IsLine : A → List ℕ → Type 0) (rows : Li
   pub lines : List (List ℕ)
   pub each : AllZip IsLine rows lines
   pub whole : text ≡ concat lines
+
+-- the office of a book's present version
+abbrev pub present_office : BookValue → StateValue
+present_office book = record { office = replay book.setting book.state.history; networks = length book.setting.networks }
 
 -- the version that the sheet is of
 abbrev pub version_line : ℕ → List ℕ

@@ -12,8 +12,7 @@ use crate::words::ascii_str;
 use commit_book::Snap;
 use cost_table::{Plan, Problem};
 use json::Writer;
-use named_pairs::{order_name, wagon_name};
-use price_checker::Prices;
+use price_checker::{Prices, order_name, wagon_name};
 use rail_codes::{OrderId, WagonNumber};
 use std::alloc::AllocError;
 

@@ -9,7 +9,7 @@ ghost use Rattle.dispatch_sheet.specs.inner.PairLines.{lines_of_pairs};
 use crate::words::{push_code, push_number};
 use commit_book::Snap;
 use cost_table::{Cells, Plan, Problem};
-use named_pairs::{order_name, wagon_name};
+use price_checker::{order_name, wagon_name};
 use std::alloc::{AllocError, Global};
 
 /// The lines of a plan: order by order as placed, `assign WAGON ORDER KM` for each wagon that the plan gives it, in

@@ -8,7 +8,7 @@ use Rattle.std.proofs.lemmas.List.Elements.{All-map, All-same, All-weaker, Conta
 use Rattle.line_network.specs.declared.line.Line.{Line}
 use Rattle.distance_tables.specs.declared.step.Step.{Step}
 use Rattle.distance_tables.specs.inner.Starts.{AreStarts}
-use Rattle.distance_tables.specs.inner.Steps.{step_of, IsStepFrom}
+use Rattle.distance_tables.specs.inner.Steps.{step_along, IsStepFrom}
 
 some_line : Line
 some_line = record { from = 0; to = 0; km = 0; minutes = 0 }
@@ -72,27 +72,27 @@ module _ (lines : List Line) (starts : List ℕ) (k s e : ℕ) (h : AreStarts li
       ]
 
   -- the same without their origins
-  module _ (steps : List Step) (same : steps ≡ map step_of lines) where
-    part_of_steps : take (e - s) (drop s steps) ≡ map step_of (take (e - s) (drop s lines))
-    part_of_steps = ap (λ xs. take (e - s) (drop s xs)) same ∙ (ap (take (e - s)) (drop-map step_of s lines) ∙ take-map step_of (e - s) (drop s lines))
+  module _ (steps : List Step) (same : steps ≡ map step_along lines) where
+    part_of_steps : take (e - s) (drop s steps) ≡ map step_along (take (e - s) (drop s lines))
+    part_of_steps = ap (λ xs. take (e - s) (drop s xs)) same ∙ (ap (take (e - s)) (drop-map step_along s lines) ∙ take-map step_along (e - s) (drop s lines))
 
     pub end_of_steps : e ≤ length steps
-    end_of_steps = omega (arith, end_within, ap length same, length-map lines step_of)
+    end_of_steps = omega (arith, end_within, ap length same, length-map lines step_along)
 
     pub own_steps : All (IsStepFrom lines k) (take (e - s) (drop s steps))
     own_steps =
         All-same (IsStepFrom lines k) _ _ part_of_steps
-        (All-map (IsStepFrom lines k) step_of (take (e - s) (drop s lines))
-        (All-weaker (λ line. Contains lines line × (line.from ≡ k)) (λ line. IsStepFrom lines k (step_of line))
+        (All-map (IsStepFrom lines k) step_along (take (e - s) (drop s lines))
+        (All-weaker (λ line. Contains lines line × (line.from ≡ k)) (λ line. IsStepFrom lines k (step_along line))
         (λ line h. record { line = line; has = h.0; from = h.1; same = refl })
         (take (e - s) (drop s lines)) own_lines))
 
-    pub all_steps : (line : Line) → Contains lines line → line.from ≡ k → Contains (take (e - s) (drop s steps)) (step_of line)
+    pub all_steps : (line : Line) → Contains lines line → line.from ≡ k → Contains (take (e - s) (drop s steps)) (step_along line)
     all_steps line has from =
         let part = all_lines line has from in
-        let P : List Step → Type 0 = λ xs. Contains xs (step_of line) in
+        let P : List Step → Type 0 = λ xs. Contains xs (step_along line) in
         subst P (sym part_of_steps)
-        (part.0, omega (arith, part.1, length-map (take (e - s) (drop s lines)) step_of), get_or-map step_of (take (e - s) (drop s lines)) part.0 line (step_of line) part.1 ∙ ap step_of part.2)
+        (part.0, omega (arith, part.1, length-map (take (e - s) (drop s lines)) step_along), get_or-map step_along (take (e - s) (drop s lines)) part.0 line (step_along line) part.1 ∙ ap step_along part.2)
 
 -- a fact of each start and of one more
 each_start : (starts : List ℕ) (place s : ℕ) → length starts ≡ place → (P : ℕ → ℕ → Type 0) → ((k : ℕ) → k < length starts → P k (get_or starts k 0)) → P place s → (k : ℕ) → k < length (starts ++ s ∷ []) → P k (get_or (starts ++ s ∷ []) k 0)

@@ -9,7 +9,7 @@ use Rattle.distance_tables.specs.declared.length.Length.{Length}
 use Rattle.distance_tables.specs.declared.step.Step.{Step}
 use Rattle.distance_tables.specs.inner.Lengths.{Distance, distance_of, label_of, known}
 use Rattle.distance_tables.specs.inner.Search.{label_at, plus_line, LabelAbove, LabelAtMost, Relaxes, falls}
-use Rattle.distance_tables.specs.inner.Steps.{step_of, line_from}
+use Rattle.distance_tables.specs.inner.Steps.{step_along, line_from}
 use Rattle.distance_tables.specs.inner.Turns.{Waiting, entry}
 
 pub length_known : (labels : List Length) → length (known labels) ≡ length labels
@@ -41,7 +41,7 @@ pub known_lower : (labels : List Length) (place : ℕ) (way : Length) → way.nu
 known_lower labels place way short = known_set labels place way (distance_of way) (some_label way short)
 
 -- the line of a step
-pub line_of_step : (place : ℕ) (s : Step) (l : Line) → s ≡ step_of l → l.from ≡ place → l.minutes ≤ 10000 → line_from place s ≡ l
+pub line_of_step : (place : ℕ) (s : Step) (l : Line) → s ≡ step_along l → l.from ≡ place → l.minutes ≤ 10000 → line_from place s ≡ l
 line_of_step place s l same from few =
     let number : ℕ = l.km * 33554432 + l.minutes in
     let of_km : ℕ → Line = λ k. record { from = place; to = l.to; km = k; minutes = number % 33554432 } in

@@ -6,7 +6,7 @@ use Rattle.line_network.specs.declared.line.Line.{Line}
 use Rattle.distance_tables.specs.inner.Lengths.{Distance}
 use Rattle.distance_tables.specs.Walk.{IsPath, km_of, minutes_of}
 use Rattle.distance_tables.specs.Distance.{AtMost}
-use Rattle.distance_tables.specs.inner.Rows.{IsPathPair, IsAnswer, IsNear, IsRow}
+use Rattle.distance_tables.specs.inner.Rows.{IsPathPair, IsLeastOrNone, IsNear, IsRow}
 use Rattle.distance_tables.specs.inner.Search.{plus_line, label_at, LabelAtMost, AreLabels, IsRelaxed}
 
 -- a path goes on with a path
@@ -63,7 +63,7 @@ IsRow-relaxed lines places origin labels full are relaxed near = record {
       let start = some_label (label_at labels origin) (record { km = 0; minutes = 0 }) are.started in
       LabelAtMost-weaker (label_at labels b) (plus_path start.0 path) (record { km = km_of path; minutes = minutes_of path }) (omega (arith, start.2.0), λ s. omega (arith, start.2.0, start.2.1 (omega (arith, start.2.0)))) (path_leads lines labels relaxed origin b start.0 path start.1 leads)
 
-  answer : (b : ℕ) (o : Option Distance) → label_at labels b ≡ o → IsAnswer lines origin b o
+  answer : (b : ℕ) (o : Option Distance) → label_at labels b ≡ o → IsLeastOrNone lines origin b o
   answer b None at = λ path leads. let P : Option Distance → Type 0 = λ o. LabelAtMost o (record { km = km_of path; minutes = minutes_of path }) in subst P at (least b path leads)
   answer b (Some d) at = record {
     some = are.paths b d at;

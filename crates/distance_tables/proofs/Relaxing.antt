@@ -9,7 +9,7 @@ use Rattle.std.proofs.lemmas.List.Elements.{All-cons, All-contains, AllWithin-mo
 use Rattle.std.proofs.lemmas.List.Sorted.{All-permutation, Contains-permutation, length_permutation}
 use Rattle.std.proofs.lemmas.List.Sums.{sum_by-set, count_by-le-length}
 use Rattle.line_network.specs.declared.line.Line.{Line}
-use Rattle.line_network.specs.Network.{IsLine}
+use Rattle.line_network.specs.NetworkLimits.{IsLine}
 use Rattle.distance_tables.specs.inner.Lengths.{Distance}
 use Rattle.distance_tables.specs.declared.step.Step.{Step}
 use Rattle.distance_tables.specs.inner.Steps.{IsStepFrom, line_from}

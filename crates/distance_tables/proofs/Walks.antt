@@ -13,9 +13,10 @@ use Rattle.line_network.specs.declared.line.Line.{Line}
 use Rattle.line_network.specs.Network.{NetworkValue, place_index}
 use Rattle.distance_tables.specs.declared.length.Length.{Length}
 use Rattle.distance_tables.specs.Walk.{IsPath, IsWalk, km_of, minutes_of}
-use Rattle.distance_tables.specs.Distance.{AtMost, IsDistance, IsAnswered, max_distance}
-use Rattle.distance_tables.specs.inner.Lengths.{Distance, label_of, known, pair_of}
-use Rattle.distance_tables.specs.inner.Rows.{IsLeast, IsAnswer, IsNear, IsRow, AreRows}
+use Rattle.distance_tables.specs.Distance.{AtMost, IsDistance}
+use Rattle.distance_tables.specs.DistanceAnswers.{IsAnswered, max_distance}
+use Rattle.distance_tables.specs.inner.Lengths.{Distance, label_of, known, as_pair}
+use Rattle.distance_tables.specs.inner.Rows.{IsLeastPair, IsLeastOrNone, IsNear, IsRow, AreRows}
 use Rattle.distance_tables.specs.Laws.{TriangleHolds}
 use Rattle.distance_tables.proofs.Numbering.{length_known, known_read}
 use Rattle.distance_tables.proofs.Paths.{IsPath-append}
@@ -28,7 +29,7 @@ path_of_walk net a b i j walk at to h =
     subst P (same_Some h.first i (sym h.begins ∙ at)) (subst Q (same_Some h.last j (sym h.ends ∙ to)) h.path)
 
 -- the least pair between two numbers is the distance of their places
-pub IsDistance-least : (net : NetworkValue) (a b : List ℕ) (i j : ℕ) (d : Distance) → place_index net.places a ≡ Some i → place_index net.places b ≡ Some j → IsLeast net.lines i j d → IsDistance net a b (d.km, d.minutes)
+pub IsDistance-least : (net : NetworkValue) (a b : List ℕ) (i j : ℕ) (d : Distance) → place_index net.places a ≡ Some i → place_index net.places b ≡ Some j → IsLeastPair net.lines i j d → IsDistance net a b (d.km, d.minutes)
 IsDistance-least net a b i j d at to h = record {
   walk = h.some.path;
   leads = record { first = i; last = j; begins = at; ends = to; path = h.some.leads };
@@ -61,7 +62,7 @@ pub IsPath-among : (xs ys : List Line) (a b : ℕ) (path : List Line) → ((l : 
 IsPath-among xs ys a b [] among h = h
 IsPath-among xs ys a b (l ∷ path) among h = (among l h.0, h.1, IsPath-among xs ys l.to b path among h.2)
 
-IsAnswer-same : (xs ys : List Line) (a b : ℕ) (o : Option Distance) → ((l : Line) → Contains xs l → Contains ys l) → ((l : Line) → Contains ys l → Contains xs l) → IsAnswer xs a b o → IsAnswer ys a b o
+IsAnswer-same : (xs ys : List Line) (a b : ℕ) (o : Option Distance) → ((l : Line) → Contains xs l → Contains ys l) → ((l : Line) → Contains ys l → Contains xs l) → IsLeastOrNone xs a b o → IsLeastOrNone ys a b o
 IsAnswer-same xs ys a b None there back h = λ path leads. h path (IsPath-among ys xs a b path back leads)
 IsAnswer-same xs ys a b (Some d) there back h = record {
   some = record { path = h.some.path; leads = IsPath-among xs ys a b h.some.path there h.some.leads; km = h.some.km; minutes = h.some.minutes };
@@ -94,23 +95,23 @@ AreFirstRows-push lines places count rows row same each last a d below = elim (c
 ]
 
 -- what a row has for a place, as it is read
-pub answer_read : (lines : List Line) (places a b : ℕ) (rows : List (Vec Length Global)) (row : Vec Length Global) (l : Length) → AreRows lines places rows → a < places → b < places → row ≡ get_or rows a row → l ≡ get_or row.items b l → IsAnswer lines a b (label_of l) × IsNear places (label_of l)
+pub answer_read : (lines : List Line) (places a b : ℕ) (rows : List (Vec Length Global)) (row : Vec Length Global) (l : Length) → AreRows lines places rows → a < places → b < places → row ≡ get_or rows a row → l ≡ get_or row.items b l → IsLeastOrNone lines a b (label_of l) × IsNear places (label_of l)
 answer_read lines places a b rows row l h from to at here =
     let P : Vec Length Global → Type 0 = λ r. IsRow lines places a (known r.items) in
     let is : IsRow lines places a (known row.items) = subst P (sym at) (h.each a row from) in
     let same = sym (known_read row.items b l (omega (arith, is.full, length_known row.items)) here) in
-    (subst (IsAnswer lines a b) same (is.answers b to), subst (IsNear places) same (is.near b to))
+    (subst (IsLeastOrNone lines a b) same (is.answers b to), subst (IsNear places) same (is.near b to))
 
 -- what is near is of few kilometres and minutes
 pub few_km : (places : ℕ) (o : Option Distance) → places ≤ 2000 → IsNear places o → IfSome o (λ d. d.km < 2 ^ 25)
 few_km places None few near = tt
 few_km places (Some d) few near = omega (arith, near)
 
-pub within_limit : (places : ℕ) (o : Option Distance) → places ≤ 2000 → IsNear places o → IfSome (pair_of o) (λ d. (d.0 ≤ max_distance) × (d.1 ≤ max_distance))
+pub within_limit : (places : ℕ) (o : Option Distance) → places ≤ 2000 → IsNear places o → IfSome (as_pair o) (λ d. (d.0 ≤ max_distance) × (d.1 ≤ max_distance))
 within_limit places None few near = tt
 within_limit places (Some d) few near = (omega (arith, near), omega (arith, near))
 
 -- what a row has for a place is what is to be answered
-pub IsAnswered-answer : (net : NetworkValue) (a b : List ℕ) (i j : ℕ) (o : Option Distance) → place_index net.places a ≡ Some i → place_index net.places b ≡ Some j → IsAnswer net.lines i j o → IsAnswered net a b (pair_of o)
+pub IsAnswered-answer : (net : NetworkValue) (a b : List ℕ) (i j : ℕ) (o : Option Distance) → place_index net.places a ≡ Some i → place_index net.places b ≡ Some j → IsLeastOrNone net.lines i j o → IsAnswered net a b (as_pair o)
 IsAnswered-answer net a b i j None at to h = λ walk leads. h walk (path_of_walk net a b i j walk at to leads)
 IsAnswered-answer net a b i j (Some d) at to h = IsDistance-least net a b i j d at to h

@@ -1,7 +1,8 @@
 //! The distances of a network.
 ghost use Rattle.std.specs.Prelude.{◌≡◌, ◌<◌, ◌≤◌, ℕ, List, Some, IfSome, IfNone, length};
 ghost use Rattle.line_network.specs.Network.{place_index};
-ghost use Rattle.distance_tables.specs.Distance.{IsDistance, HasNoWalk, IsAnswered, max_distance};
+ghost use Rattle.distance_tables.specs.Distance.{IsDistance};
+ghost use Rattle.distance_tables.specs.DistanceAnswers.{HasNoWalk, IsAnswered, max_distance};
 
 use crate::length::Length;
 use line_network::Network;
@@ -18,7 +19,8 @@ pub struct Tables {
 
 impl Model for Tables {
     ghost use Rattle.std.specs.Prelude.{◌≤◌, length};
-    ghost use Rattle.line_network.specs.Network.{NetworkValue, max_places};
+    ghost use Rattle.line_network.specs.Network.{NetworkValue};
+    ghost use Rattle.line_network.specs.NetworkLimits.{max_places};
     ghost use Rattle.distance_tables.specs.inner.Rows.{AreRows};
 
     ghost Value = { NetworkValue };

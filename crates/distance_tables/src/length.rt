@@ -1,6 +1,6 @@
 //! The lengths of walks, as numbers.
 ghost use Rattle.std.specs.Prelude.{◌≡◌, ◌+◌, ◌^◌, ◌<◌, MatchBool, IfSome, None};
-ghost use Rattle.distance_tables.specs.inner.Lengths.{distance_of, label_of, length_of, pair_of};
+ghost use Rattle.distance_tables.specs.inner.Lengths.{distance_of, label_of, length_of, as_pair};
 ghost use Rattle.distance_tables.specs.inner.Search.{LabelAbove, LabelAtMost};
 
 /// More than the minutes of any walk that a search looks at: it is of 2,001 lines at most, each of which has 10,000
@@ -35,7 +35,7 @@ impl Length {
     /// The kilometres and minutes, if a way is found.
     pub(crate) fn pair(self) -> Option<(u32, u32)>
         requires { IfSome (label_of self) (λ d. d.km < 2 ^ 25) }
-        ensures { result ≡ pair_of (label_of self) }
+        ensures { result ≡ as_pair (label_of self) }
     {
         if self.number == u64::MAX {
             return None;

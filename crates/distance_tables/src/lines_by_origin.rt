@@ -2,7 +2,7 @@
 ghost use Rattle.std.specs.Prelude.{◌≡◌, ◌+◌, ◌^◌, ◌<◌, IfOk, All, Contains, length, map, vec_len};
 ghost use Rattle.std.specs.List.Sorted.{IsPermutation, IsNonDecreasingBy};
 ghost use Rattle.distance_tables.specs.inner.Starts.{AreStarts};
-ghost use Rattle.distance_tables.specs.inner.Steps.{step_of, IsStepFrom};
+ghost use Rattle.distance_tables.specs.inner.Steps.{step_along, IsStepFrom};
 
 use crate::step::Step;
 use line_network::Line;
@@ -17,7 +17,7 @@ pub(crate) struct LinesByOrigin {
     // where the lines from each place begin, and behind the last place their end
     starts: Vec<usize>,
     ghost indexed: { AreStarts lines.items starts.items },
-    ghost stepped: { steps.items ≡ map step_of lines.items },
+    ghost stepped: { steps.items ≡ map step_along lines.items },
 }
 
 impl LinesByOrigin {
@@ -46,7 +46,7 @@ impl LinesByOrigin {
     pub(crate) fn from_place(&self, place: usize) -> &[Step]
         requires { place + 1 < vec_len self.now.starts }
         ensures own { All (IsStepFrom self.now.lines.items place) result.now }
-        ensures complete { (l : Line) → Contains self.now.lines.items l → l.from ≡ place → Contains result.now (step_of l) }
+        ensures complete { (l : Line) → Contains self.now.lines.items l → l.from ≡ place → Contains result.now (step_along l) }
     {
         let start = self.starts[place];
         let end = self.starts[place + 1];
@@ -70,7 +70,7 @@ fn starts_of(alloc: Global, lines: &[Line], places: usize) -> Result<Vec<usize>,
 
 /// The lines without their origins.
 fn steps_of(alloc: Global, lines: &[Line]) -> Result<Vec<Step>, AllocError>
-    ensures { IfOk result (λ steps. steps.items ≡ map step_of lines.now) }
+    ensures { IfOk result (λ steps. steps.items ≡ map step_along lines.now) }
 {
     let mut steps = Vec::with_capacity(alloc, lines.len())?;
     for line in lines {

@@ -1,7 +1,8 @@
 //! Several networks, by their numbers.
 ghost use Rattle.std.specs.Prelude.{◌≡◌, ◌↔◌, length, vec_len, IsOk, IfOk, Err};
 ghost use Rattle.std.specs.Option.{option_copied};
-ghost use Rattle.distance_tables.specs.Networks.{IsNetworkCount, network_at};
+ghost use Rattle.distance_tables.specs.NetworkCount.{IsNetworkCount};
+ghost use Rattle.distance_tables.specs.Networks.{network_at};
 
 use crate::{NetworksFault, Tables};
 use std::marker::Model;
@@ -19,7 +20,7 @@ pub struct Networks {
 impl Model for Networks {
     ghost use Rattle.std.specs.Prelude.{List, length};
     ghost use Rattle.line_network.specs.Network.{NetworkValue};
-    ghost use Rattle.distance_tables.specs.Networks.{IsNetworkCount};
+    ghost use Rattle.distance_tables.specs.NetworkCount.{IsNetworkCount};
 
     ghost Value = { List NetworkValue };
 

@@ -1,6 +1,6 @@
 //! The tables of a network, made by one thread.
 ghost use Rattle.std.specs.Prelude.{◌≡◌, ◌+◌, ◌≤◌, All, IfOk, vec_len};
-ghost use Rattle.line_network.specs.Network.{IsLine, max_places};
+ghost use Rattle.line_network.specs.NetworkLimits.{IsLine, max_places};
 ghost use Rattle.distance_tables.specs.inner.Rows.{AreRows};
 
 use crate::Tables;

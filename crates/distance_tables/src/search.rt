@@ -9,7 +9,7 @@ ghost use Rattle.distance_tables.specs.inner.Rows.{IsRow};
 ghost use Rattle.distance_tables.specs.inner.Search.{label_at, AreBounded, IsRelaxed, Improves, Relaxes};
 ghost use Rattle.distance_tables.specs.inner.Steps.{line_from};
 ghost use Rattle.distance_tables.specs.inner.Turns.{waiting_of, waits};
-ghost use Rattle.line_network.specs.Network.{IsLine, max_places};
+ghost use Rattle.line_network.specs.NetworkLimits.{IsLine, max_places};
 
 use crate::length::Length;
 use crate::lines_by_origin::LinesByOrigin;

@@ -1,6 +1,6 @@
 //! Lines without the place where they begin.
 ghost use Rattle.std.specs.Prelude.{◌≡◌};
-ghost use Rattle.distance_tables.specs.inner.Steps.{step_of};
+ghost use Rattle.distance_tables.specs.inner.Steps.{step_along};
 
 use crate::length::Length;
 use line_network::Line;
@@ -15,7 +15,7 @@ pub(crate) struct Step {
 impl Step {
     /// The step of a line.
     pub(crate) fn of_line(line: &Line) -> Step
-        ensures { result ≡ step_of line.now }
+        ensures { result ≡ step_along line.now }
     {
         Step {
             to: line.to,

@@ -1,7 +1,8 @@
 //! Why calls of the libraries are refused: each type of fault above those of codes and of lines, with its numbers, in one place.
 ghost use Rattle.std.specs.Prelude.{◌≡◌};
 ghost use Rattle.faults.specs.Numbers.{step_fault_number, record_fault_number, network_fault_number, roster_fault_number, work_fault_number, table_fault_number, check_fault_number, named_fault_number, apply_fault_number, refusal_number, plan_fault_number, feed_fault_number};
-ghost use Rattle.faults.specs.Conversions.{network_fault_of, roster_fault_of, refusal_of, refusal_of_fault};
+ghost use Rattle.faults.specs.ReadingFaults.{network_fault_of, roster_fault_of};
+ghost use Rattle.faults.specs.Conversions.{refusal_of, refusal_of_fault};
 ghost use Rattle.faults.specs.declared.faults.NetworkFault.TheVariants as network_fault;
 ghost use Rattle.faults.specs.declared.faults.RosterFault.TheVariants as roster_fault;
 ghost use Rattle.faults.specs.declared.faults.WorkFault.TheVariants as work_fault;

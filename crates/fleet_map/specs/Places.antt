@@ -10,8 +10,8 @@ use Rattle.fleet_map.specs.Wagons.{wagon_lines}
 use Rattle.fleet_map.specs.Words.{label_break, quoted}
 
 -- whether a wagon is at a place, or was when last heard of
-abbrev pub is_at : List ℕ → WagonRow → Bool
-is_at place row = pointwise nat_eq (place_of row.status) place
+abbrev pub stands_at : List ℕ → WagonRow → Bool
+stands_at place row = pointwise nat_eq (place_of row.status) place
 
 -- whether an order wants its wagons at a place
 abbrev pub wants_at : List ℕ → WantedOrder → Bool
@@ -51,4 +51,4 @@ node_of here waiting place =
 
 -- a place with those of all wagons that are there
 abbrev pub place_node : List WagonRow → List WantedOrder → List ℕ → List ℕ
-place_node rows waiting place = node_of (filter (is_at place) rows) waiting place
+place_node rows waiting place = node_of (filter (stands_at place) rows) waiting place

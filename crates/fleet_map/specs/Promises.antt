@@ -38,13 +38,13 @@ promise_edge order place =
     ++ arrow_words (pointwise nat_eq place order.place) ++ codes "];" ++ 10 ∷ []
 
 -- The promises of the wagons at this place, where it is the first of their places; `earlier` are the places before it.
-abbrev pub promise_of : Order → (earlier places : List (List ℕ)) → Option (List ℕ) → List ℕ
-promise_of order earlier places None = []
-promise_of order earlier places (Some place) =
+abbrev pub promise_lines : Order → (earlier places : List (List ℕ)) → Option (List ℕ) → List ℕ
+promise_lines order earlier places None = []
+promise_lines order earlier places (Some place) =
     if list_any (pointwise nat_eq place) earlier then [] else promise_node order place (count_by (pointwise nat_eq place) places) ++ promise_edge order place
 
 abbrev pub promise_at : Order → List (List ℕ) → ℕ → List ℕ
-promise_at order places i = promise_of order (take i places) places (slice_get places i)
+promise_at order places i = promise_lines order (take i places) places (slice_get places i)
 
 -- the promises from these places
 abbrev pub promises_from : Order → List (List ℕ) → List ℕ

@@ -1,6 +1,6 @@
 //! Places.
 ghost use Rattle.std.specs.Prelude.{◌≡◌, ◌++◌, IfOk, OnOk, filter, string_bytes};
-ghost use Rattle.fleet_map.specs.Places.{back_of, front_of, has_free, is_at, lack_line, place_node, style_words, waiting_lines, waits_at};
+ghost use Rattle.fleet_map.specs.Places.{back_of, front_of, has_free, stands_at, lack_line, place_node, style_words, waiting_lines, waits_at};
 
 use crate::wagon_groups::push_wagon_lines;
 use crate::words::{push_number, push_quoted};
@@ -47,7 +47,7 @@ fn push_back(text: &mut String, waits: bool, has_free: bool) -> Result<(), Alloc
 
 /// The wagons at a place, in order.
 fn wagons_at(alloc: Global, rows: &[WagonRow], place: Place) -> Result<Vec<WagonRow>, AllocError>
-    ensures { IfOk result (λ here. here.items ≡ filter (is_at place) rows.now) }
+    ensures { IfOk result (λ here. here.items ≡ filter (stands_at place) rows.now) }
 {
     rows.iter()
         .filter(|row| row.status.place() == place)

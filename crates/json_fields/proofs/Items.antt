@@ -11,8 +11,8 @@ use Rattle.json_fields.specs.declared.field.Field.{Field}
 use Rattle.json_fields.specs.declared.fault.FieldFault.{FieldFault}
 use Rattle.json_fields.specs.declared.fault.FieldFault.TheVariants.{OutOfRange}
 use Rattle.json_fields.specs.declared.fault.LineFault.{LineFault}
-use Rattle.json_fields.specs.Values.{◌>>=◌, each, list_of, both, wagon_number_from, order_id_from, pair_of}
-use Rattle.json_fields.specs.inner.Loops.{after}
+use Rattle.json_fields.specs.Values.{◌>>=◌, each, list_of, two_items, wagon_number_from, order_id_from, wagon_and_order}
+use Rattle.json_fields.specs.inner.Loops.{with_front}
 use Rattle.json_fields.specs.Fields.{in_field}
 
 pub items_len_is_length : (vs : List Value) → items_len (items_view vs) ≡ length vs
@@ -35,40 +35,40 @@ first_is vs i v lt is =
     let whole : drop i vs ≡ v ∷ drop (i + 1) vs = rw (add-one) (drop-cons vs i v lt ∙ ap (λ (w : Value). w ∷ drop (suc i) vs) (sym is)) in
     ap items_view whole
 
-regroup : {A : Type 0} (front : List A) (x : A) (rest : Result (List A) FieldFault) → after front (rest >>= λ xs. Ok (x ∷ xs)) ≡ after (front ++ x ∷ []) rest
+regroup : {A : Type 0} (front : List A) (x : A) (rest : Result (List A) FieldFault) → with_front front (rest >>= λ xs. Ok (x ∷ xs)) ≡ with_front (front ++ x ∷ []) rest
 regroup front x (Ok xs) = ap (λ ys. Ok ys) (sym (append_assoc front (x ∷ []) xs))
 regroup front x (Err f) = refl
 
 pub goes_on : {A : Type 0} (read : Data → Result A FieldFault) (vs : List Value) (i : ℕ) (v : Value) (front : List A) (x : A) (total : Result (List A) FieldFault) → i < length vs → v ≡ get_or vs i v → read (view v) ≡ Ok x
-    → after front (each read (items_view (drop i vs))) ≡ total → after (front ++ x ∷ []) (each read (items_view (drop (i + 1) vs))) ≡ total
+    → with_front front (each read (items_view (drop i vs))) ≡ total → with_front (front ++ x ∷ []) (each read (items_view (drop (i + 1) vs))) ≡ total
 unfolding each
 goes_on read vs i v front x total lt is ok so_far =
-    let one : after front (each read (items_view (drop i vs))) ≡ after (front ++ x ∷ []) (each read (items_view (drop (i + 1) vs))) = rw (first_is vs i v lt is, ok) (regroup front x (each read (items_view (drop (i + 1) vs)))) in
+    let one : with_front front (each read (items_view (drop i vs))) ≡ with_front (front ++ x ∷ []) (each read (items_view (drop (i + 1) vs))) = rw (first_is vs i v lt is, ok) (regroup front x (each read (items_view (drop (i + 1) vs)))) in
     sym one ∙ so_far
 
 pub stops : {A : Type 0} (read : Data → Result A FieldFault) (vs : List Value) (i : ℕ) (v : Value) (front : List A) (f : FieldFault) (total : Result (List A) FieldFault) → i < length vs → v ≡ get_or vs i v → read (view v) ≡ Err f
-    → after front (each read (items_view (drop i vs))) ≡ total → total ≡ Err f
+    → with_front front (each read (items_view (drop i vs))) ≡ total → total ≡ Err f
 unfolding each
 stops read vs i v front f total lt is err so_far =
-    let one : after front (each read (items_view (drop i vs))) ≡ Err f = rw (first_is vs i v lt is, err) refl in
+    let one : with_front front (each read (items_view (drop i vs))) ≡ Err f = rw (first_is vs i v lt is, err) refl in
     sym so_far ∙ one
 
 pub is_done : {A : Type 0} (read : Data → Result A FieldFault) (vs : List Value) (i : ℕ) (front : List A) (total : Result (List A) FieldFault) → length vs ≤ i
-    → after front (each read (items_view (drop i vs))) ≡ total → total ≡ Ok front
+    → with_front front (each read (items_view (drop i vs))) ≡ total → total ≡ Ok front
 unfolding each
 is_done read vs i front total past so_far =
     let nothing : drop i vs ≡ [] = drop_all i vs past in
-    let one : after front (each read (items_view (drop i vs))) ≡ Ok front = rw nothing (ap (λ ys. Ok ys) (append-nil front)) in
+    let one : with_front front (each read (items_view (drop i vs))) ≡ Ok front = rw nothing (ap (λ ys. Ok ys) (append-nil front)) in
     sym so_far ∙ one
 
 -- ---- pairs
 
-both_needs_two : {A B : Type 0} (first : Data → Result A FieldFault) (second : Data → Result B FieldFault) (vs : List Value) → (length vs ≡ 2 → ⊥) → both first second (items_view vs) ≡ Err OutOfRange
+both_needs_two : {A B : Type 0} (first : Data → Result A FieldFault) (second : Data → Result B FieldFault) (vs : List Value) → (length vs ≡ 2 → ⊥) → two_items first second (items_view vs) ≡ Err OutOfRange
 both_needs_two first second [] other = refl
 both_needs_two first second (v ∷ []) other = refl
 both_needs_two first second (v ∷ w ∷ []) other = absurd (other refl)
 both_needs_two first second (v ∷ w ∷ x ∷ vs) other = refl
 
-pub pair_of_needs_two : (d : Data) (vs : List Value) → list_of d ≡ Ok (items_view vs) → (length vs ≡ 2 → ⊥) → pair_of d ≡ Err OutOfRange
-unfolding pair_of
+pub pair_of_needs_two : (d : Data) (vs : List Value) → list_of d ≡ Ok (items_view vs) → (length vs ≡ 2 → ⊥) → wagon_and_order d ≡ Err OutOfRange
+unfolding wagon_and_order
 pair_of_needs_two d vs is other = rw is (both_needs_two wagon_number_from order_id_from vs other)

@@ -7,7 +7,7 @@ use Rattle.serde_json.specs.Events.{items_len}
 use Rattle.rail_codes.specs.WagonNumber.{wagon_number_of}
 use Rattle.rail_codes.specs.OrderId.{order_id_of}
 use Rattle.rail_codes.specs.Company.{company_of}
-use Rattle.rail_codes.specs.Place.{place_of}
+use Rattle.rail_codes.specs.Place.{place_read}
 use Rattle.rail_codes.specs.ClassCode.{class_code_of}
 use Rattle.rail_codes.specs.Moment.{moment_of}
 use Rattle.rail_codes.specs.declared.code_fault.CodeFault.{CodeFault}
@@ -54,7 +54,7 @@ unfoldable pub company_from : Data → Result (List ℕ) FieldFault
 company_from d = text_of d >>= λ text. with_code (company_of text)
 
 unfoldable pub place_from : Data → Result (List ℕ) FieldFault
-place_from d = text_of d >>= λ text. with_code (place_of text)
+place_from d = text_of d >>= λ text. with_code (place_read text)
 
 unfoldable pub class_from : Data → Result (List ℕ) FieldFault
 class_from d = text_of d >>= λ text. with_code (class_code_of text)
@@ -87,15 +87,15 @@ unfoldable pub list_of_each : {A : Type 0} → (Data → Result A FieldFault) �
 list_of_each read d = list_of d >>= each read
 
 -- the two items of a pair; a list of another count is out of range
-abbrev pub both : {A B : Type 0} → (Data → Result A FieldFault) → (Data → Result B FieldFault) → Items → Result (A × B) FieldFault
-both first second (item d (item e no_items)) = do
+abbrev pub two_items : {A B : Type 0} → (Data → Result A FieldFault) → (Data → Result B FieldFault) → Items → Result (A × B) FieldFault
+two_items first second (item d (item e no_items)) = do
   x ← first d
   y ← second e
   Ok (x, y)
-both first second no_items = Err OutOfRange
-both first second (item d no_items) = Err OutOfRange
-both first second (item d (item e (item f rest))) = Err OutOfRange
+two_items first second no_items = Err OutOfRange
+two_items first second (item d no_items) = Err OutOfRange
+two_items first second (item d (item e (item f rest))) = Err OutOfRange
 
 -- a wagon and an order
-unfoldable pub pair_of : Data → Result (List ℕ × List ℕ) FieldFault
-pair_of d = list_of d >>= both wagon_number_from order_id_from
+unfoldable pub wagon_and_order : Data → Result (List ℕ × List ℕ) FieldFault
+wagon_and_order d = list_of d >>= two_items wagon_number_from order_id_from

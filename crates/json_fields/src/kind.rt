@@ -95,9 +95,9 @@ pub(crate) struct PairKind;
 impl ItemKind for PairKind {
     type Item = (WagonNumber, OrderId);
 
-    ghost meaning = { λ _. values.pair_of };
+    ghost meaning = { λ _. values.wagon_and_order };
 
-    #[tactic(auto, unfolding(crate::specs::Values::pair_of))]
+    #[tactic(auto, unfolding(crate::specs::Values::wagon_and_order))]
     fn read(&self, value: &Value) -> Result<(WagonNumber, OrderId), FieldFault> {
         let [wagon, order] = list_of(value)? else {
             return Err(FieldFault::OutOfRange);

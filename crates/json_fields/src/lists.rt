@@ -129,7 +129,7 @@ pub fn pairs_at(
     object: &Value,
     field: Field,
 ) -> Result<Vec<(WagonNumber, OrderId)>, LineFault>
-    ensures { Gives (λ v. v.items) result (meaning.list_at values.pair_of field (view object.now)) }
+    ensures { Gives (λ v. v.items) result (meaning.list_at values.wagon_and_order field (view object.now)) }
 {
     list_at(alloc, object, field, &PairKind)
 }

@@ -51,7 +51,7 @@ impl WrittenItem for OrderId {
 impl WrittenItem for (WagonNumber, OrderId) {
     ghost json = { written.pair_data };
 
-    ghost holds = { λ pair. values.pair_of (written.pair_data pair) ≡ Ok pair };
+    ghost holds = { λ pair. values.wagon_and_order (written.pair_data pair) ≡ Ok pair };
 
     fn value(&self, alloc: Global) -> Result<Value, AllocError> {
         let (number, id) = *self;
@@ -62,7 +62,7 @@ impl WrittenItem for (WagonNumber, OrderId) {
 /// A wagon and an order, as a list of two texts.
 fn pair_value(alloc: Global, number: WagonNumber, id: OrderId) -> Result<Value, AllocError>
     ensures value { IfOk result (λ value. view value ≡ written.pair_data (number, id)) }
-    ensures reads { OnOk result (values.pair_of (written.pair_data (number, id)) ≡ Ok (number, id)) }
+    ensures reads { OnOk result (values.wagon_and_order (written.pair_data (number, id)) ≡ Ok (number, id)) }
 {
     let wagon = number.text(alloc)?;
     let order = id.text(alloc)?;

@@ -5,6 +5,10 @@ use Rattle.std.specs.List.{list_all, list_any, flat_map, AllByRecursion}
 abbrev pub line_feed : ℕ
 line_feed = 10
 
+-- the most inputs that are read side by side
+abbrev pub max_files : ℕ
+max_files = 16
+
 -- the most lines of an input
 abbrev pub max_input_lines : ℕ
 max_input_lines = 1000000

@@ -15,5 +15,5 @@ pub use from_read::FromRead;
 pub use handler::{Handler, Outcome, Responder};
 pub use line_buffer::MAX_LINE_BYTES;
 pub use reply_text::ReplyText;
-pub use run::{MAX_INPUT_LINES, RunCount, RunFault, run_lines, run_replies};
+pub use run::{MAX_FILES, MAX_INPUT_LINES, RunCount, RunFault, run_lines, run_replies};
 pub use to_write::ToWrite;

@@ -15,6 +15,11 @@ use thiserror::Error;
 
 /// The most lines of an input.
 pub const MAX_INPUT_LINES: u64 = 1_000_000;
+/// The most inputs that are read side by side.
+pub const MAX_FILES: usize = 16;
+
+// No clause names it, since who feeds a book tests the number of files by it.
+const _: () = prove!(MAX_FILES == 16);
 
 /// How many lines a run has read, blank ones too, and how many of its replies are refusals.
 #[derive(Clone, Copy, Debug, PartialEq, Eq)]

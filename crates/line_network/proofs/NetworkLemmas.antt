@@ -9,7 +9,8 @@ use Rattle.std.proofs.lemmas.Map.Keys.{IsDistinct-push}
 use Rattle.std.specs.Cmp.{IsEquivalence, nat_eq_equiv}
 use Rattle.std.specs.Cmp.Lexicographic.{bytes_decides, lists_equiv}
 use Rattle.std.specs.List.{IsDistinct, list_any, position_or_len, slice_get}
-use Rattle.line_network.specs.Network.{IsLine, IsNetwork, NetworkValue, is_same_place, max_network_lines, max_places, place_index}
+use Rattle.line_network.specs.NetworkLimits.{IsLine, IsNetwork, max_network_lines, max_places}
+use Rattle.line_network.specs.Network.{NetworkValue, are_one_place, place_index}
 use Rattle.line_network.specs.Reading.{after_record, line_of, lines_between, lines_by_way, lines_of, number_of, with_ends, with_place, with_record}
 use Rattle.line_network.specs.inner.Reading.{HasLengths}
 use Rattle.line_network.specs.declared.line.Line.{Line}
@@ -17,7 +18,7 @@ use Rattle.line_network.specs.declared.line_record.LineRecord.{LineRecord}
 use Rattle.line_network.specs.declared.line_record.Way.{Way}
 use Rattle.line_network.specs.declared.line_record.Way.TheVariants.{One, Both}
 
-pub same_place : IsEquivalence is_same_place
+pub same_place : IsEquivalence are_one_place
 same_place = lists_equiv nat_eq_equiv
 
 -- where something is found, it stands below the length
@@ -37,38 +38,38 @@ found_before test (x ∷ xs) more h = elim (cases_Bool (test x)) [
 ]
 
 -- a place that is named is there
-pub named : (places : List (List ℕ)) (place : List ℕ) → list_any (is_same_place place) (with_place places place) ≡ true
-named places place = elim (cases_Bool (list_any (is_same_place place) places)) [
+pub named : (places : List (List ℕ)) (place : List ℕ) → list_any (are_one_place place) (with_place places place) ≡ true
+named places place = elim (cases_Bool (list_any (are_one_place place) places)) [
   | inl there ↦ rw there there
   | inr other ↦ rw other (rw (list_any-append, other, same_place.refl place) refl)
 ]
 
 -- and is there still when another is named, with the same number
-pub still_named : (places : List (List ℕ)) (place other : List ℕ) → list_any (is_same_place place) places ≡ true
-    → list_any (is_same_place place) (with_place places other) ≡ true
-still_named places place other h = elim (cases_Bool (list_any (is_same_place other) places)) [
+pub still_named : (places : List (List ℕ)) (place other : List ℕ) → list_any (are_one_place place) places ≡ true
+    → list_any (are_one_place place) (with_place places other) ≡ true
+still_named places place other h = elim (cases_Bool (list_any (are_one_place other) places)) [
   | inl there ↦ rw there h
   | inr new ↦ rw new (rw (list_any-append, h) refl)
 ]
 
-pub same_number : (places : List (List ℕ)) (place other : List ℕ) → list_any (is_same_place place) places ≡ true
+pub same_number : (places : List (List ℕ)) (place other : List ℕ) → list_any (are_one_place place) places ≡ true
     → number_of (with_place places other) place ≡ number_of places place
-same_number places place other h = elim (cases_Bool (list_any (is_same_place other) places)) [
+same_number places place other h = elim (cases_Bool (list_any (are_one_place other) places)) [
   | inl there ↦ rw there refl
-  | inr new ↦ rw new (found_before (is_same_place place) places (other ∷ []) h)
+  | inr new ↦ rw new (found_before (are_one_place place) places (other ∷ []) h)
 ]
 
-pub number_below : (places : List (List ℕ)) (place : List ℕ) → list_any (is_same_place place) places ≡ true → number_of places place < length places
-number_below places place h = found_below (is_same_place place) places h
+pub number_below : (places : List (List ℕ)) (place : List ℕ) → list_any (are_one_place place) places ≡ true → number_of places place < length places
+number_below places place h = found_below (are_one_place place) places h
 
-pub distinct_still : (places : List (List ℕ)) (place : List ℕ) → IsDistinct is_same_place places → IsDistinct is_same_place (with_place places place)
-distinct_still places place h = elim (cases_Bool (list_any (is_same_place place) places)) [
+pub distinct_still : (places : List (List ℕ)) (place : List ℕ) → IsDistinct are_one_place places → IsDistinct are_one_place (with_place places place)
+distinct_still places place h = elim (cases_Bool (list_any (are_one_place place) places)) [
   | inl there ↦ rw there h
   | inr new ↦ rw new (IsDistinct-push same_place places place h new)
 ]
 
 pub no_fewer : (places : List (List ℕ)) (place : List ℕ) → length places ≤ length (with_place places place)
-no_fewer places place = elim (cases_Bool (list_any (is_same_place place) places)) [
+no_fewer places place = elim (cases_Bool (list_any (are_one_place place) places)) [
   | inl there ↦ rw there (omega arith)
   | inr new ↦ rw new (omega (arith, length-append places (place ∷ [])))
 ]
@@ -155,7 +156,7 @@ with_record-made network self r made view h =
 pub place_known : (places : List (List ℕ)) (place : List ℕ) (found : Option ℕ) → found ≡ place_index places place → IfSome found (λ k. slice_get places k ≡ Some place)
 place_known places place None e = tt
 place_known places place (Some k) e =
-    let (below, same, first) = position-Some (is_same_place place) places k [] (sym e) in
+    let (below, same, first) = position-Some (are_one_place place) places k [] (sym e) in
     slice_get-get_or places k [] below ∙ ap Some (sym ((bytes_decides place (get_or places k [])).0 same))
 
 -- and what has no number stands nowhere
@@ -164,7 +165,7 @@ pub place_unknown : (places : List (List ℕ)) (place : List ℕ) (found : Optio
 place_unknown places place (Some k) e = tt
 place_unknown places place None e = λ k there.
     let read : get_or places k [] ≡ place = get_or_from_slice_get places k place [] there in
-    let test : is_same_place place (get_or places k []) ≡ true = rw read (same_place.refl place) in
-    let below : position_or_len (is_same_place place) places < length places =
-    found_below (is_same_place place) places (list_any_at (is_same_place place) places k [] (slice_get_within places k place there) test) in
-    cc (rw (lt-ltb (position_or_len (is_same_place place) places) (length places) below) at e)
+    let test : are_one_place place (get_or places k []) ≡ true = rw read (same_place.refl place) in
+    let below : position_or_len (are_one_place place) places < length places =
+    found_below (are_one_place place) places (list_any_at (are_one_place place) places k [] (slice_get_within places k place there) test) in
+    cc (rw (lt-ltb (position_or_len (are_one_place place) places) (length places) below) at e)

@@ -4,7 +4,8 @@ use Rattle.std.proofs.lemmas.Bool.{cases_Bool}
 use Rattle.std.proofs.lemmas.List.{append-nil, append_assoc}
 use Rattle.std.specs.List.{flat_map, list_any}
 use Rattle.line_network.proofs.NetworkLemmas.{named, no_fewer, same_number, still_named}
-use Rattle.line_network.specs.Network.{NetworkValue, is_same_place, max_places}
+use Rattle.line_network.specs.Network.{NetworkValue, are_one_place}
+use Rattle.line_network.specs.NetworkLimits.{max_places}
 use Rattle.line_network.specs.NetworkOf.{IsNetworkOf, IsReadFrom, ends_of}
 use Rattle.line_network.specs.Reading.{◌>>=◌, Gives, after_record, lines_between, lines_of, max_line_records, network_of, no_network, number_of, with_ends, with_place, with_read, with_row, with_rows}
 use Rattle.line_network.specs.Records.{is_header, line_record}
@@ -20,7 +21,7 @@ ends_in_turn places [] = refl
 ends_in_turn places (r ∷ records) = ends_in_turn (with_ends places r) records
 
 -- a place keeps its number while records are read
-kept_number : (places : List (List ℕ)) (place : List ℕ) (records : List LineRecord) → list_any (is_same_place place) places ≡ true
+kept_number : (places : List (List ℕ)) (place : List ℕ) (records : List LineRecord) → list_any (are_one_place place) places ≡ true
     → number_of (fold with_ends places records) place ≡ number_of places place
 kept_number places place [] h = refl
 kept_number places place (r ∷ records) h =

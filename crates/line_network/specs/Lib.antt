@@ -1,4 +1,5 @@
 pub mod Network
+pub mod NetworkLimits
 pub mod NetworkOf
 pub mod Reading
 pub mod Records

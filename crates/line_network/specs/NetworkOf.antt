@@ -3,7 +3,8 @@ use Rattle.std.specs.Prelude.{◌≡◌, ℕ, ◌≤◌, List, [], ◌∷◌, le
 use Rattle.std.specs.List.{flat_map}
 use Rattle.csv_records.specs.Fields.{Record}
 use Rattle.csv_records.specs.Files.{AreBelowHeader, AreRecordsOf}
-use Rattle.line_network.specs.Network.{NetworkValue, max_places}
+use Rattle.line_network.specs.Network.{NetworkValue}
+use Rattle.line_network.specs.NetworkLimits.{max_places}
 use Rattle.line_network.specs.Reading.{Gives, lines_of, max_line_records, network_of, with_place}
 use Rattle.line_network.specs.Records.{is_header, line_record}
 use Rattle.line_network.specs.declared.line_record.LineRecord.{LineRecord}

@@ -2,7 +2,8 @@
 use Rattle.std.specs.Prelude.{◌≡◌, ℕ, ◌+◌, if◌then◌else◌, nat_lt, List, [], ◌∷◌, ◌++◌, length, Option, Some, None, Result, Ok, Err}
 use Rattle.std.specs.List.{list_any, position_or_len}
 use Rattle.csv_records.specs.Fields.{Record}
-use Rattle.line_network.specs.Network.{NetworkValue, is_same_place, max_places}
+use Rattle.line_network.specs.Network.{NetworkValue, are_one_place}
+use Rattle.line_network.specs.NetworkLimits.{max_places}
 use Rattle.line_network.specs.Records.{is_header, line_record}
 use Rattle.line_network.specs.declared.line.Line.{Line}
 use Rattle.line_network.specs.declared.line_record.LineRecord.{LineRecord}
@@ -20,14 +21,14 @@ no_network = record { places = []; lines = [] }
 
 -- the places after one is named: a new place stands last
 abbrev pub with_place : List (List ℕ) → List ℕ → List (List ℕ)
-with_place places place = if list_any (is_same_place place) places then places else places ++ place ∷ []
+with_place places place = if list_any (are_one_place place) places then places else places ++ place ∷ []
 
 -- the places after a record is read, which names where its line begins before where it ends
 abbrev pub with_ends : List (List ℕ) → LineRecord → List (List ℕ)
 with_ends places r = with_place (with_place places r.from) r.to
 
 abbrev pub number_of : List (List ℕ) → List ℕ → ℕ
-number_of places place = position_or_len (is_same_place place) places
+number_of places place = position_or_len (are_one_place place) places
 
 abbrev pub line_of : ℕ → ℕ → LineRecord → Line
 line_of from to r = record { from = from; to = to; km = r.km; minutes = r.minutes }

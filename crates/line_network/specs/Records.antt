@@ -1,7 +1,7 @@
 -- What the fields of a record of a network say.
 use Rattle.std.specs.Prelude.{ℕ, Bool, false, ◌&&◌, ◌||◌, if◌then◌else◌, nat_lt, List, [], ◌∷◌, Option, Some, None, codes}
 use Rattle.csv_records.specs.Fields.{Record, ◌>>=◌, is_text, whole_number_in, place_in}
-use Rattle.line_network.specs.Network.{max_line_km, max_line_minutes}
+use Rattle.line_network.specs.NetworkLimits.{max_line_km, max_line_minutes}
 use Rattle.line_network.specs.declared.line_record.LineRecord.{LineRecord}
 use Rattle.line_network.specs.declared.line_record.Way.{Way}
 use Rattle.line_network.specs.declared.line_record.Way.TheVariants.{One, Both}

@@ -1,6 +1,7 @@
 //! A network: its places and its lines.
 ghost use Rattle.std.specs.Prelude.{◌≡◌, ◌≢◌, ◌+◌, ◌≤◌, ◌++◌, ℕ, IfErr, IfNone, IfOk, IfSome, OnOk, length, slice_get};
-ghost use Rattle.line_network.specs.Network.{IsNetwork, max_network_lines, max_places, place_index};
+ghost use Rattle.line_network.specs.NetworkLimits.{IsNetwork, max_network_lines, max_places};
+ghost use Rattle.line_network.specs.Network.{place_index};
 ghost use Rattle.line_network.specs.Reading.{Gives, lines_between, no_network, number_of, with_place, with_record};
 ghost use Rattle.line_network.specs.inner.Reading.{HasLengths, RefusesPlace};
 
@@ -21,7 +22,8 @@ pub struct Network {
 }
 
 impl Model for Network {
-    ghost use Rattle.line_network.specs.Network.{NetworkValue, IsNetwork};
+    ghost use Rattle.line_network.specs.Network.{NetworkValue};
+    ghost use Rattle.line_network.specs.NetworkLimits.{IsNetwork};
 
     ghost Value = { NetworkValue };
 

@@ -4,7 +4,8 @@ use Rattle.std.specs.List.{filter, insert, Contains, slice_index_or}
 use Rattle.std.specs.Cmp.Lexicographic.{bytes_decides}
 use Rattle.std.proofs.lemmas.List.{take-append-drop}
 use Rattle.std.proofs.lemmas.List.Elements.{Contains-append_left, Contains-append_right, Contains-append_cases}
-use Rattle.load_orders.specs.Numbers.{HasOneMore, HasAllBut, is_number, with_number, without_number}
+use Rattle.load_orders.specs.NumberChanges.{HasOneMore, HasAllBut}
+use Rattle.load_orders.specs.Numbers.{is_number, with_number, without_number}
 
 first : {X : Type 0} (x : X) (xs : List X) → Contains (x ∷ xs) x
 first x xs = (0, omega arith, refl)

@@ -1,5 +1,9 @@
 pub mod Lack
+pub mod States
 pub mod Numbers
+pub mod NumberChanges
 pub mod OrderRow
 pub mod Suits
+pub mod Listed
 pub mod Wanted
+pub mod WantedLimits

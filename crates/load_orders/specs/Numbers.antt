@@ -1,6 +1,6 @@
 -- Ascending lists of wagon numbers, each by its digits.
-use Rattle.std.specs.Prelude.{◌≡◌, ◌↔◌, ◌⊎◌, ℕ, Bool, not, nat_eq, List, count_by}
-use Rattle.std.specs.List.{filter, insert, Contains}
+use Rattle.std.specs.Prelude.{ℕ, Bool, not, nat_eq, List, count_by}
+use Rattle.std.specs.List.{filter, insert}
 use Rattle.std.specs.Ordering.{is_lt, nat_cmp}
 use Rattle.std.specs.Cmp.Lexicographic.{pointwise, slice_cmp}
 use Rattle.std.specs.List.Sorted.{IsStrictlySortedBy}
@@ -24,11 +24,3 @@ with_number number numbers = insert numbers (count_by (is_below number) numbers)
 -- the numbers but this one
 unfoldable pub without_number : List ℕ → List (List ℕ) → List (List ℕ)
 without_number number numbers = filter (λ other. not (is_number number other)) numbers
-
--- it has the numbers that it had, and one more
-abbrev pub HasOneMore : List ℕ → (before after : List (List ℕ)) → Type 0
-HasOneMore number before after = (other : List ℕ) → Contains after other ↔ ((other ≡ number) ⊎ Contains before other)
-
--- it has the numbers that it had but one
-abbrev pub HasAllBut : List ℕ → (before after : List (List ℕ)) → Type 0
-HasAllBut number before after = (other : List ℕ) → Contains after other ↔ (Contains before other × ¬ (other ≡ number))

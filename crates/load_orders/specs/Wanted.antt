@@ -1,16 +1,8 @@
 -- Orders that lack wagons.
-use Rattle.std.specs.Prelude.{ℕ, ◌≤◌, nat_le, ◌&&◌, if◌then◌else◌, Option, Some, None}
-use Rattle.move_messages.specs.Order.{Order, max_order_wagons}
+use Rattle.std.specs.Prelude.{ℕ}
+use Rattle.move_messages.specs.Order.{Order}
 
 -- an order, with how many wagons it lacks
 pub record WantedOrder : Type 0 where
   pub order : Order
   pub lack : ℕ
-
--- one wagon at least, and no more than an order wants
-abbrev pub IsLack : ℕ → Type 0
-IsLack lack = (1 ≤ lack) × (lack ≤ max_order_wagons)
-
--- an order that lacks a number of wagons within these limits
-abbrev pub wanted_of : Order → ℕ → Option WantedOrder
-wanted_of order lack = if nat_le 1 lack && nat_le lack max_order_wagons then Some (record { order = order; lack = lack }) else None

@@ -35,8 +35,10 @@ impl Model for OrderRow {
 
 impl OrderRow {
     ghost use Rattle.load_orders.specs.OrderRow.{placed_row, IsOrderRow};
-    ghost use Rattle.load_orders.specs.Lack.{lack_of, is_open, is_open_state, is_waiting, state_of};
-    ghost use Rattle.load_orders.specs.Numbers.{with_number, without_number, HasOneMore, HasAllBut};
+    ghost use Rattle.load_orders.specs.Lack.{lack_of, is_open, is_waiting};
+    ghost use Rattle.load_orders.specs.States.{is_open_state, state_of};
+    ghost use Rattle.load_orders.specs.Numbers.{with_number, without_number};
+    ghost use Rattle.load_orders.specs.NumberChanges.{HasOneMore, HasAllBut};
 
     /// The row of an order just placed: it waits for all its wagons.
     pub fn new(alloc: Global, text: OrderText) -> Result<OrderRow, AllocError>

@@ -1,7 +1,8 @@
 //! Which wagon suits which order.
 ghost use Rattle.std.specs.Prelude.{◌≡◌, ◌≤◌, ◌↔◌, IsTrue};
 ghost use Rattle.std.specs.List.{Contains};
-ghost use Rattle.load_orders.specs.Suits.{Suits, is_listed};
+ghost use Rattle.load_orders.specs.Suits.{Suits};
+ghost use Rattle.load_orders.specs.Listed.{is_listed};
 
 use move_messages::OrderText;
 use rail_codes::ClassCode;

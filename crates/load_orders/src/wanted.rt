@@ -12,7 +12,8 @@ pub struct Wanted {
 }
 
 impl Model for Wanted {
-    ghost use Rattle.load_orders.specs.Wanted.{WantedOrder, IsLack};
+    ghost use Rattle.load_orders.specs.Wanted.{WantedOrder};
+    ghost use Rattle.load_orders.specs.WantedLimits.{IsLack};
 
     ghost Value = { WantedOrder };
 
@@ -24,7 +25,7 @@ impl Model for Wanted {
 }
 
 impl Wanted {
-    ghost use Rattle.load_orders.specs.Wanted.{wanted_of, IsLack};
+    ghost use Rattle.load_orders.specs.WantedLimits.{wanted_of, IsLack};
 
     /// An order that lacks so many wagons; none where they are not 1 to 20. Takes no memory.
     pub fn new(order: OrderText, lack: u32) -> Option<Wanted>

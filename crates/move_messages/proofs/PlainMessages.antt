@@ -15,7 +15,7 @@ use Rattle.json_fields.proofs.PlainTexts.{read-print}
 use Rattle.json_fields.proofs.Lines.{object_of-ok}
 use Rattle.rail_codes.specs.Company.{company_of}
 use Rattle.rail_codes.specs.WagonNumber.{wagon_number_of}
-use Rattle.rail_codes.specs.Place.{place_of}
+use Rattle.rail_codes.specs.Place.{place_read}
 use Rattle.rail_codes.specs.Moment.{moment_of}
 use Rattle.move_messages.specs.Commands.{command_of, message_of}
 use Rattle.move_messages.specs.declared.command.Command.TheVariants.{Message}
@@ -44,7 +44,7 @@ object_of-plain m line small utf8 is = object_of-ok line (plain_object m) utf8 (
 
 -- the fields of the object
 message_of-plain : (m : PlainMessage) (kind : MessageKind) (company wagon place : List ℕ) (moment : ℕ) → m.number < 2 ^ 32
-    → company_of m.company.now ≡ Ok company → wagon_number_of m.wagon.now ≡ Ok wagon → place_of m.place.now ≡ Ok place → moment_of m.moment.now ≡ Ok moment
+    → company_of m.company.now ≡ Ok company → wagon_number_of m.wagon.now ≡ Ok wagon → place_read m.place.now ≡ Ok place → moment_of m.moment.now ≡ Ok moment
     → message_of kind (plain_object m) ≡ Ok (record { id = record { company = company; number = m.number }; kind = kind; wagon = wagon; place = place; moment = moment })
 unfolding message_of field_of member field_name text_of number_within company_from wagon_number_from place_from moment_from
 message_of-plain m kind company wagon place moment small is_company is_wagon is_place is_moment =
@@ -53,7 +53,7 @@ message_of-plain m kind company wagon place moment small is_company is_wagon is_
     rw (is_company, least, most, is_wagon, is_place, is_moment) refl
 
 pub command_of-plain : (m : PlainMessage) (kind : MessageKind) (company wagon place : List ℕ) (moment : ℕ) → m.number < 2 ^ 32 → IsTypeOf m.type_name.now kind
-    → company_of m.company.now ≡ Ok company → wagon_number_of m.wagon.now ≡ Ok wagon → place_of m.place.now ≡ Ok place → moment_of m.moment.now ≡ Ok moment
+    → company_of m.company.now ≡ Ok company → wagon_number_of m.wagon.now ≡ Ok wagon → place_read m.place.now ≡ Ok place → moment_of m.moment.now ≡ Ok moment
     → (line : List ℕ) → object_of line ≡ Ok (plain_object m)
     → command_of line ≡ Ok (Message (record { id = record { company = company; number = m.number }; kind = kind; wagon = wagon; place = place; moment = moment }))
 unfolding command_of field_of member field_name text_of

@@ -13,8 +13,9 @@ use Rattle.move_messages.specs.declared.commit_text.CommitText.{CommitText}
 use Rattle.move_messages.specs.declared.command.Command.{Command}
 use Rattle.move_messages.specs.declared.command.Command.TheVariants.{Message, Place, Withdraw, Begin, Plan, Commit, Sheet, Revise}
 use Rattle.move_messages.specs.Classes.{max_classes}
-use Rattle.move_messages.specs.Order.{Order, max_load, max_penalty, max_order_wagons}
-use Rattle.json_fields.specs.Values.{◌>>=◌, number_within, boolean_of, company_from, wagon_number_from, place_from, moment_from, order_id_from, class_from, list_within, each, text_of, pair_of}
+use Rattle.move_messages.specs.Order.{Order, max_load}
+use Rattle.move_messages.specs.OrderLimits.{max_penalty, max_order_wagons}
+use Rattle.json_fields.specs.Values.{◌>>=◌, number_within, boolean_of, company_from, wagon_number_from, place_from, moment_from, order_id_from, class_from, list_within, each, text_of, wagon_and_order}
 use Rattle.json_fields.specs.Fields.{field_of, optional_field_of, list_at}
 use Rattle.json_fields.specs.Line.{object_of}
 use Rattle.move_messages.specs.LineType.{line_type_of}
@@ -65,7 +66,7 @@ unfoldable pub commit_text_of : Data → Result CommitText LineFault
 commit_text_of d = do
   version ← field_of (number_within 0 max_version) field.Version d
   at ← field_of moment_from field.At d
-  pairs ← list_at pair_of field.Pairs d
+  pairs ← list_at wagon_and_order field.Pairs d
   u ← list_at (number_within 0 (2 ^ 64 - 1)) field.WagonPrices d
   v ← list_at (number_within 0 (2 ^ 64 - 1)) field.OrderPrices d
   Ok (record { version = version; at = at; pairs = pairs; u = u; v = v })

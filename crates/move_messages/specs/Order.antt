@@ -1,5 +1,5 @@
 -- An order, as a contract sees it: codes are texts.
-use Rattle.std.specs.Prelude.{ℕ, Bool, ◌≤◌, nat_le, ◌&&◌, if◌then◌else◌, List, Option, Some, None}
+use Rattle.std.specs.Prelude.{ℕ, List}
 
 pub record Order : Type 0 where
   pub id : List ℕ
@@ -16,24 +16,3 @@ pub record Order : Type 0 where
 -- the greatest load of a wagon, in kg
 abbrev pub max_load : ℕ
 max_load = 200_000
-
--- the greatest penalty of a missing wagon, in km
-abbrev pub max_penalty : ℕ
-max_penalty = 1_000_000_000
-
--- the most wagons that one order wants; it wants one at least
-abbrev pub max_order_wagons : ℕ
-max_order_wagons = 20
-
--- an order whose numbers are within their limits
-abbrev pub IsOrder : Order → Type 0
-IsOrder order =
-    (order.load ≤ max_load) × (order.penalty ≤ max_penalty) × (1 ≤ order.wagons) × (order.wagons ≤ max_order_wagons)
-
-abbrev pub is_order : Order → Bool
-is_order order =
-    nat_le order.load max_load && nat_le order.penalty max_penalty && nat_le 1 order.wagons && nat_le order.wagons max_order_wagons
-
--- an order within its limits
-abbrev pub order_of : Order → Option Order
-order_of order = if is_order order then Some order else None

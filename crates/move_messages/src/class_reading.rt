@@ -4,7 +4,7 @@ ghost use Rattle.std.specs.Prelude.{◌≡◌, ◌<◌, [], ◌∷◌, length};
 ghost use Rattle.serde_json.specs.View.{view, items_view};
 ghost use Rattle.json_fields.specs.Fields.{field_of};
 ghost use Rattle.json_fields.specs.Values.{each, class_from};
-ghost use Rattle.json_fields.specs.inner.Loops.{after};
+ghost use Rattle.json_fields.specs.inner.Loops.{with_front};
 ghost use Rattle.json_fields.specs.declared.field.Field.TheVariants as field;
 ghost use Rattle.move_messages.specs.Classes.{max_classes};
 ghost use Rattle.move_messages.specs.Commands as meaning;
@@ -43,7 +43,7 @@ fn classes_from(value: &Value) -> Result<Classes, FieldFault>
 /// The class and those behind it, up to the first that is refused.
 fn with_more_classes(first: ClassCode, rest: &[Value]) -> Result<Classes, FieldFault>
     requires { length rest.now < max_classes }
-    ensures { result ≡ after (first ∷ []) (each class_from (items_view rest.now)) }
+    ensures { result ≡ with_front (first ∷ []) (each class_from (items_view rest.now)) }
 {
     let mut classes = Classes::one(first);
     for item in rest {

@@ -1,9 +1,8 @@
 //! The classes that an order accepts.
 
-ghost use Rattle.std.specs.Prelude.{◌≡◌, ◌<◌, [], ◌∷◌, ◌++◌, length};
+ghost use Rattle.std.specs.Prelude.{◌≡◌, ◌<◌, [], ◌∷◌, ◌++◌, length, nat_eq};
 ghost use Rattle.std.specs.Cmp.{partial_equiv_from_equiv};
 ghost use Rattle.std.specs.Cmp.Lexicographic.{pointwise, lists_equiv, nat_list_eq_equiv};
-ghost use Rattle.std.specs.Prelude.{nat_eq};
 ghost use Rattle.move_messages.specs.Classes.{max_classes, IsClassList, class_list};
 ghost use Rattle.move_messages.specs.inner.PaddedClasses.{padded};
 

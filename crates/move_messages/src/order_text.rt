@@ -1,7 +1,7 @@
 //! Orders: who wants which wagons, where and until when.
 
 ghost use Rattle.std.specs.Prelude.{◌≡◌, ◌≤◌};
-ghost use Rattle.move_messages.specs.Order.{IsOrder, order_of};
+ghost use Rattle.move_messages.specs.OrderLimits.{IsOrder, order_of};
 
 use crate::classes::Classes;
 use crate::limits::{MAX_LOAD, MAX_ORDER_WAGONS, MAX_PENALTY};
@@ -22,7 +22,8 @@ pub struct OrderText {
 }
 
 impl Model for OrderText {
-    ghost use Rattle.move_messages.specs.Order.{Order, IsOrder};
+    ghost use Rattle.move_messages.specs.Order.{Order};
+    ghost use Rattle.move_messages.specs.OrderLimits.{IsOrder};
 
     ghost Value = { Order };
 

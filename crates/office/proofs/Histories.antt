@@ -13,11 +13,12 @@ use Rattle.move_messages.specs.declared.command.Command.{Command}
 use Rattle.commit_book.specs.Requests.{request_of}
 use Rattle.commit_book.specs.declared.request.Request.{Request}
 use Rattle.commit_book.specs.declared.request.Request.TheVariants as request
-use Rattle.commit_book.specs.BookStep.{BookState, BookValue, IsRun, IsStep}
+use Rattle.commit_book.specs.BookStep.{BookState, IsRun, IsStep}
+use Rattle.commit_book.specs.Books.{BookValue}
 use Rattle.commit_book.specs.Setting.{Setting}
 use Rattle.commit_book.specs.declared.answer.Answer.{Answer}
 use Rattle.commit_book.specs.declared.call.Call.{Call}
-use Rattle.office.specs.CommandReplies.{CommandLeaves, IsBegun, IsLedTo, LeavesOutOfMemory, RepliesToCall, RepliesToCommand, RepliesToLine, RepliesToRequest, RunsOutOfMemory}
+use Rattle.office.specs.CommandReplies.{CommandLeaves, IsBegun, IsLedTo, LeavesOutOfMemory, RepliesToCall, RepliesToCommand, RepliesToLine, RepliesToRequest, LineRunsOutOfMemory}
 
 -- ---- calls
 
@@ -77,26 +78,26 @@ left_by_command : (old new : BookValue) (read : Result Command LineFault) → Co
 left_by_command old new (Err fault) leaves = led_nowhere old new leaves
 left_by_command old new (Ok asked) leaves = left_by_request old new (request_of asked) leaves
 
-led_by_response : (old new : BookValue) (line body : List ℕ) (refused : Bool) → Responds RepliesToLine RunsOutOfMemory old line body refused new → IsLedTo old new
+led_by_response : (old new : BookValue) (line body : List ℕ) (refused : Bool) → Responds RepliesToLine LineRunsOutOfMemory old line body refused new → IsLedTo old new
 led_by_response old new line body refused responds = elim responds [
   | inl replies ↦ led_by_command old new (command_of line) body refused replies
   | inr memory ↦ left_by_command old new (command_of line) memory.0
 ]
 
-led_by_line : (n : ℕ) (old new : BookValue) (line text : List ℕ) (refused blank : Bool) → is_blank line ≡ blank → AnswersLine RepliesToLine RunsOutOfMemory n old line text refused new → IsLedTo old new
+led_by_line : (n : ℕ) (old new : BookValue) (line text : List ℕ) (refused blank : Bool) → is_blank line ≡ blank → AnswersLine RepliesToLine LineRunsOutOfMemory n old line text refused new → IsLedTo old new
 led_by_line n old new line text refused true is answers = led_nowhere old new (rw is at answers).2
 led_by_line n old new line text refused false is answers =
     let says = rw is at answers in
     led_by_response old new line says.0 refused says.2
 
-led_by_lines : (n : ℕ) (old new : BookValue) (lines : List (List ℕ)) (output : List ℕ) (refusals : ℕ) → Replies RepliesToLine RunsOutOfMemory n old lines output refusals new → IsLedTo old new
+led_by_lines : (n : ℕ) (old new : BookValue) (lines : List (List ℕ)) (output : List ℕ) (refusals : ℕ) → Replies RepliesToLine LineRunsOutOfMemory n old lines output refusals new → IsLedTo old new
 led_by_lines n old new [] output refusals replies = led_nowhere old new replies.2
 led_by_lines n old new (line ∷ lines) output refusals replies =
     led_on old replies.4 new (led_by_line n old replies.4 line replies.0 replies.2 (is_blank line) refl replies.5) (led_by_lines (n + 1) replies.4 new lines replies.1 replies.3 replies.6)
 
 -- ---- runs
 
-led_by_stop : (run : Run BookValue) (failed : Failures) (fault : RunFault) → Stops RepliesToLine RunsOutOfMemory run failed fault → IsLedTo run.old run.new
+led_by_stop : (run : Run BookValue) (failed : Failures) (fault : RunFault) → Stops RepliesToLine LineRunsOutOfMemory run failed fault → IsLedTo run.old run.new
 led_by_stop run failed OutOfMemory stops = led_nowhere run.old run.new stops.2
 led_by_stop run failed (TooManyLines n) stops = led_by_lines 1 run.old run.new stops.0.lines stops.0.output stops.0.refusals stops.0.replies
 led_by_stop run failed (LineTooLong n) stops = led_by_lines 1 run.old run.new stops.0.lines stops.0.output stops.0.refusals stops.0.replies
@@ -108,6 +109,6 @@ led_by_stop run failed (WriteFailed n) stops =
 
 -- a run, however it ended
 pub led_by_run : (run : Run BookValue) (failed : Failures) (result : Result RunCount RunFault)
-    → IfOk result (λ count. Ends RepliesToLine RunsOutOfMemory run count) → IfErr result (λ fault. Stops RepliesToLine RunsOutOfMemory run failed fault) → IsLedTo run.old run.new
+    → IfOk result (λ count. Ends RepliesToLine LineRunsOutOfMemory run count) → IfErr result (λ fault. Stops RepliesToLine LineRunsOutOfMemory run failed fault) → IsLedTo run.old run.new
 led_by_run run failed (Ok count) ends stops = led_by_lines 1 run.old run.new _ ends.output count.refused ends.replies
 led_by_run run failed (Err fault) ends stops = led_by_stop run failed fault stops

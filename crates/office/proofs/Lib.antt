@@ -1,7 +1,2 @@
-pub mod FedFiles
-pub mod FedSeats
-pub mod FeedTallies
-pub mod Handles
 pub mod Histories
-pub mod NewSeats
 pub mod Plans

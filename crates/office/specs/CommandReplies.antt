@@ -4,12 +4,13 @@ use Rattle.json_fields.specs.declared.fault.LineFault.{LineFault}
 use Rattle.move_messages.specs.Commands.{command_of}
 use Rattle.move_messages.specs.declared.command.Command.{Command}
 use Rattle.move_messages.specs.declared.command.Command.TheVariants as command
-use Rattle.cost_table.specs.Plan.{IsOptimal, IsPlanList, cost_of}
+use Rattle.cost_table.specs.Plan.{IsOptimal, cost_of}
+use Rattle.cost_table.specs.PlanList.{IsPlanList}
 use Rattle.cost_table.specs.Table.{Table}
 use Rattle.price_checker.specs.Certificate.{IsCertificate}
-use Rattle.operating_db.specs.Office.{StateValue}
-use Rattle.commit_book.specs.BookStep.{BookValue, IsRun, IsStep}
-use Rattle.commit_book.specs.History.{IsTableAt, replay}
+use Rattle.commit_book.specs.Books.{BookValue}
+use Rattle.commit_book.specs.BookStep.{IsRun, IsStep}
+use Rattle.commit_book.specs.History.{IsTableAt}
 use Rattle.commit_book.specs.Requests.{call_of, request_of}
 use Rattle.commit_book.specs.declared.request.Request.{Request}
 use Rattle.commit_book.specs.declared.request.Request.TheVariants as request
@@ -22,15 +23,11 @@ use Rattle.commit_book.specs.declared.reply.Reply.TheVariants.{Accepted, Repeate
 use Rattle.reply_texts.specs.ReplyTexts.{accepted_text, begun_text, book_refused_text, line_refused_text, planned_text, repeated_text}
 use Rattle.dispatch_sheet.specs.Certificate.{IsCertificateLine, commit_of}
 use Rattle.dispatch_sheet.specs.PlanText.{plan_text_of}
-use Rattle.dispatch_sheet.specs.Sheet.{IsSheetText}
+use Rattle.dispatch_sheet.specs.Sheet.{IsSheetText, present_office}
 
 -- the version that a book has reached, and its problem at a moment
 abbrev pub present : BookValue → (at : ℕ) → SnapValue
 present book at = snap_of book.setting book.state.history at
-
--- the office of that version
-abbrev pub present_office : BookValue → StateValue
-present_office book = record { office = replay book.setting book.state.history; networks = length book.setting.networks }
 
 -- ---- events
 
@@ -115,8 +112,8 @@ CommandLeaves old (Ok asked) new = LeavesOutOfMemory old (request_of asked) new
 CommandLeaves old (Err fault) new = new ≡ old
 
 -- the same of a line's bytes
-abbrev pub RunsOutOfMemory : BookValue → List ℕ → BookValue → Type 0
-RunsOutOfMemory old line new = CommandLeaves old (command_of line) new
+abbrev pub LineRunsOutOfMemory : BookValue → List ℕ → BookValue → Type 0
+LineRunsOutOfMemory old line new = CommandLeaves old (command_of line) new
 
 -- ---- runs
 

@@ -1,6 +1,7 @@
 //! The run that brings command lines to a book.
 ghost use Rattle.std.specs.Prelude.{◌≡◌, ◌≢◌, ◌⊎◌, ◌≤◌, ◌++◌, false, true, List, ℕ, All, Err, IfOk, IfErr, MatchResult, Ok, IsOk, OnErr, OnOk, length};
-ghost use Rattle.commit_book.specs.BookStep.{answer_of, is_kept};
+ghost use Rattle.commit_book.specs.Books.{answer_of};
+ghost use Rattle.commit_book.specs.BookStep.{is_kept};
 ghost use Rattle.commit_book.specs.Headline.{IsProved};
 ghost use Rattle.commit_book.specs.declared.answer.Answer.TheVariants.{Refused};
 ghost use Rattle.faults.specs.declared.faults.Refusal.TheVariants.{OutOfMemory};
@@ -11,7 +12,7 @@ ghost use Rattle.commit_book.specs.Snap.{IsInRange};
 ghost use Rattle.cost_table.specs.Plan.{IsOptimal};
 ghost use Rattle.price_checker.specs.Certificate.{IsCertificate};
 ghost use Rattle.dispatch_sheet.specs.PlanText.{FitsProblem};
-ghost use Rattle.office.specs.CommandReplies.{IsLedTo, IsPlanOf, IsPlanned, LeavesOutOfMemory, RepliesToLine, RepliesToRequest, RunsOutOfMemory, answer_text, begun_reply, is_refused, present};
+ghost use Rattle.office.specs.CommandReplies.{IsLedTo, IsPlanOf, IsPlanned, LeavesOutOfMemory, RepliesToLine, RepliesToRequest, LineRunsOutOfMemory, answer_text, begun_reply, is_refused, present};
 ghost use Rattle.office.specs.inner.OutOfMemory.{MayAnswerOutOfMemory};
 
 use assignment::plan;
@@ -37,7 +38,7 @@ impl Handler for CommandLines {
 
     ghost answers = { RepliesToLine };
 
-    ghost runs_out = { RunsOutOfMemory };
+    ghost runs_out = { LineRunsOutOfMemory };
 
     fn answer(
         &self,
@@ -183,7 +184,7 @@ pub fn run<R: Source, W: Sink>(
 ) -> Result<RunCount, RunFault>
     requires reader { R.has_failed reader.old ≡ false }
     requires writer { W.has_failed writer.old ≡ false }
-    ensures ok { IfOk result (λ count. Ends RepliesToLine RunsOutOfMemory (record {
+    ensures ok { IfOk result (λ count. Ends RepliesToLine LineRunsOutOfMemory (record {
       from = R.remaining reader.old;
       to = R.remaining reader.new;
       held = W.contents writer.old;
@@ -191,7 +192,7 @@ pub fn run<R: Source, W: Sink>(
       old = book.old;
       new = book.new;
     }) count) }
-    ensures err { IfErr result (λ fault. Stops RepliesToLine RunsOutOfMemory (record {
+    ensures err { IfErr result (λ fault. Stops RepliesToLine LineRunsOutOfMemory (record {
       from = R.remaining reader.old;
       to = R.remaining reader.new;
       held = W.contents writer.old;

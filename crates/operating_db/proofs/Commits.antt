@@ -17,7 +17,8 @@ use Rattle.load_orders.proofs.Rows.{length-with}
 use Rattle.database_rows.specs.Rows.{wagon_in, order_in, promised_to}
 use Rattle.operating_db.specs.Commits.{Pair, times_of_wagon, times_of_order, is_free_row, lack_in, IsPromisable, CanPromise, given_to, promise_pair, promise_all}
 use Rattle.operating_db.specs.inner.EventParts.{IsNext, is_promisable}
-use Rattle.operating_db.specs.Office.{Office, StateValue}
+use Rattle.operating_db.specs.Office.{Office}
+use Rattle.operating_db.specs.State.{StateValue}
 use Rattle.operating_db.specs.Promises.{is_among, is_promise_to, promise_of, promised_of, SidesAgree}
 use Rattle.operating_db.proofs.Agree.{promised_agree}
 use Rattle.operating_db.proofs.Lookups.{wagon_in-at, order_in-at}

@@ -21,10 +21,9 @@ use Rattle.operating_db.specs.declared.event.Event.{Event}
 use Rattle.operating_db.specs.declared.event.Event.TheVariants.{Message, Place, Withdraw, Commit, Revise}
 use Rattle.operating_db.specs.After.{orders_after, order_place, moved, message_to, unpromised, withdrawn_from, after_call}
 use Rattle.operating_db.specs.Commits.{Pair, given_to, promise_pair, promise_all}
-use Rattle.operating_db.specs.Laws.{IsKept, EventsKeepOffices, RostersAgree}
-use Rattle.operating_db.specs.Office.{Office, first_office, numbers_of, texts_of}
+use Rattle.operating_db.specs.Laws.{IsKept, EventsKeepOffices, RostersAgree, numbers_of, texts_of, Steps}
+use Rattle.operating_db.specs.Office.{Office, first_office}
 use Rattle.operating_db.specs.Promises.{is_promise_to, promise_of, PromisesAgree, SidesAgree}
-use Rattle.operating_db.specs.Steps.{Steps}
 use Rattle.operating_db.proofs.Agree.{kept_agree, released_agree, withdrawn_agree, ordered_agree, number-unpromised}
 use Rattle.operating_db.proofs.Changes.{among_promised, order_known}
 use Rattle.operating_db.proofs.Commits.{next_of_can, AreNext}

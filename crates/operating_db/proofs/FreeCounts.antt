@@ -9,7 +9,8 @@ use Rattle.wagon_state.specs.declared.free_wagon.FreeWagon.{FreeWagon}
 use Rattle.wagon_state.specs.declared.wagon_row.WagonRow.{WagonRow}
 use Rattle.wagon_state.specs.Free.{free_by, free_of}
 use Rattle.database_rows.specs.EmptyWagons.{is_free_at, is_stand, stand_by, stand_of}
-use Rattle.operating_db.specs.Problem.{free_count, free_wagons, is_of_class_at}
+use Rattle.operating_db.specs.FreeCount.{free_count, is_of_class_at}
+use Rattle.operating_db.specs.Problem.{free_wagons}
 
 -- whether there is a free wagon, and it is of this class, at this place
 abbrev is_counted : (class place : List ℕ) → Option FreeWagon → Bool

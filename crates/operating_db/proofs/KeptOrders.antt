@@ -12,8 +12,7 @@ use Rattle.load_orders.specs.OrderRow.{IsOrderRow, OrderRowValue, placed_row}
 use Rattle.load_orders.proofs.Rows.{row_filled, row_placed, row_with, row_without, row_withdrawn}
 use Rattle.wagon_state.specs.declared.change.Effect.{Effect}
 use Rattle.wagon_state.specs.declared.change.Effect.TheVariants as effect
-use Rattle.database_rows.specs.Kept.{names_of}
-use Rattle.database_rows.specs.Rows.{at_order, filled_by, freed_of, order_in, promised_to, taken_back}
+use Rattle.database_rows.specs.Rows.{names_of, at_order, filled_by, freed_of, order_in, promised_to, taken_back}
 use Rattle.database_rows.proofs.Named.{nothing_named, same_name}
 use Rattle.database_rows.proofs.Orders.{names-at_order, order_in-there}
 use Rattle.database_rows.proofs.Wagons.{ascending_distinct}

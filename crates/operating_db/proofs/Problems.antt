@@ -13,10 +13,13 @@ use Rattle.wagon_state.specs.declared.wagon_row.WagonRow.{WagonRow}
 use Rattle.wagon_state.specs.Free.{free_of, free_by}
 use Rattle.load_orders.specs.Lack.{lack_of, is_waiting}
 use Rattle.load_orders.specs.OrderRow.{OrderRowValue}
-use Rattle.load_orders.specs.Wanted.{WantedOrder, wanted_of}
-use Rattle.cost_table.specs.Names.{first_repeated, is_name, repeated_after}
-use Rattle.cost_table.specs.Names as names
-use Rattle.cost_table.specs.Problem.{IsProblem, wagon_names, order_names, lacks_of}
+use Rattle.load_orders.specs.Wanted.{WantedOrder}
+use Rattle.load_orders.specs.WantedLimits.{wanted_of}
+use Rattle.cost_table.specs.DistinctNames.{first_repeated, repeated_after}
+use Rattle.cost_table.specs.Names.{is_name}
+use Rattle.cost_table.specs.DistinctNames as names
+use Rattle.cost_table.specs.ProblemLimits.{IsProblem}
+use Rattle.cost_table.specs.Problem.{wagon_names, order_names, lacks_of}
 use Rattle.database_rows.specs.Kept.{IsOrderRows, IsWagonRows}
 use Rattle.database_rows.specs.Rows.{open_wagons, wanted_open}
 use Rattle.database_rows.proofs.Wagons.{numbers_distinct}
@@ -50,7 +53,7 @@ picked_distinct key name pick keeps (x ∷ xs) h =
 -- ---- no name is repeated where all are distinct
 
 abbrev IsNew : List (List ℕ) → List ℕ → Type 0
-IsNew before n = names.is_among before n ≡ false
+IsNew before n = names.is_name_among before n ≡ false
 
 new_more : (before : List (List ℕ)) (n : List ℕ) (others : List (List ℕ)) → AllByRecursion (IsNew before) others → AllByRecursion (λ m. same n m ≡ false) others → AllByRecursion (IsNew (before ++ n ∷ [])) others
 new_more before n [] new apart = tt

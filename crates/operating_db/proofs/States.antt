@@ -19,10 +19,10 @@ use Rattle.faults.specs.declared.faults.ApplyFault.TheVariants.{OrderClosed, Ord
 use Rattle.operating_db.specs.After.{after_order, message_to, moved, order_place, orders_after, unpromised, withdrawn_from}
 use Rattle.operating_db.specs.ApplyFault.{EmptiesWagon}
 use Rattle.operating_db.specs.Commits.{Pair}
-use Rattle.operating_db.specs.Office.{Office, StateValue, first_office}
+use Rattle.operating_db.specs.Office.{Office, first_office}
+use Rattle.operating_db.specs.State.{StateValue, IsState}
 use Rattle.operating_db.specs.Promises.{is_among, promised_of, PromisesAgree}
-use Rattle.distance_tables.specs.Networks.{max_networks}
-use Rattle.operating_db.specs.State.{IsState}
+use Rattle.distance_tables.specs.NetworkCount.{max_networks}
 use Rattle.operating_db.proofs.Changes.{among_known, order_known, withdrawn_wagons}
 use Rattle.operating_db.proofs.Events.{change_kept, not_there, placed_kept, rosters_agree, step_keeps, withdrawn_kept}
 use Rattle.operating_db.proofs.KeptOrders.{next_keeps}

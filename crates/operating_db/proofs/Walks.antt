@@ -6,7 +6,7 @@ use Rattle.std.specs.Option.{option_and_then}
 use Rattle.load_orders.specs.Lack.{is_waiting, lack_of}
 use Rattle.load_orders.specs.OrderRow.{OrderRowValue}
 use Rattle.load_orders.specs.Wanted.{WantedOrder}
-use Rattle.database_rows.specs.Rows.{waiting_from}
+use Rattle.database_rows.specs.WaitingOrders.{waiting_from}
 use Rattle.operating_db.specs.Problem.{wanted_in, waiting_orders}
 use Rattle.operating_db.specs.inner.Walks.{wanted_at}
 

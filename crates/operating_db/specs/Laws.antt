@@ -1,12 +1,29 @@
 -- What holds of every office that a roster and events lead to.
-use Rattle.std.specs.Prelude.{◌≡◌, ℕ, List, ◌++◌}
+use Rattle.std.specs.Prelude.{◌≡◌, ℕ, List, ◌++◌, [], map, ◌∷◌, Ok}
 use Rattle.move_messages.specs.Order.{Order}
 use Rattle.wagon_state.specs.declared.wagon_row.WagonRow.{WagonRow}
 use Rattle.wagon_roster.specs.Roster.{IsRoster}
 use Rattle.operating_db.specs.declared.event.Event.{Event}
-use Rattle.operating_db.specs.Office.{Office, first_office, numbers_of, texts_of}
+use Rattle.operating_db.specs.Office.{Office, first_office}
 use Rattle.operating_db.specs.Promises.{PromisesAgree}
-use Rattle.operating_db.specs.Steps.{Leads}
+use Rattle.operating_db.specs.After.{after_call}
+use Rattle.operating_db.specs.Steps.{IsPromised}
+
+-- the numbers of the wagons; what the orders ask for
+abbrev pub numbers_of : Office → List (List ℕ)
+numbers_of office = map (λ row. row.number) office.wagons
+
+abbrev pub texts_of : Office → List Order
+texts_of office = map (λ row. row.text) office.orders
+
+-- from an office to a new one by an event
+abbrev pub Steps : (networks : ℕ) → Office → Event → Office → Type 0
+Steps networks office event new = IsPromised office event × (after_call networks office event ≡ Ok new)
+
+-- from an office to a new one by events, one after the other
+abbrev pub Leads : (networks : ℕ) → Office → List Event → Office → Type 0
+Leads networks office [] new = new ≡ office
+Leads networks office (event ∷ events) new = (next : Office) × Steps networks office event next × Leads networks next events new
 
 -- From an office to a later one: the promises agree; the wagons are the same, in the same order; the orders stay as
 -- they were placed, and new ones stand behind them.

@@ -1,7 +1,6 @@
 -- The problem of an office at a moment: what is to be distributed.
-use Rattle.std.specs.Prelude.{ℕ, Bool, nat_eq, ◌&&◌, if◌then◌else◌, List, Option, Some, None, count_by}
+use Rattle.std.specs.Prelude.{ℕ, if◌then◌else◌, List, Option, Some, None}
 use Rattle.std.specs.List.{filter_map}
-use Rattle.std.specs.Cmp.Lexicographic.{pointwise}
 use Rattle.wagon_state.specs.declared.wagon_row.WagonRow.{WagonRow}
 use Rattle.wagon_state.specs.declared.free_wagon.FreeWagon.{FreeWagon}
 use Rattle.wagon_state.specs.Free.{free_of}
@@ -14,14 +13,6 @@ use Rattle.operating_db.specs.Office.{Office}
 -- every free wagon, in order
 abbrev pub free_wagons : List WagonRow → List FreeWagon
 free_wagons rows = filter_map free_of rows
-
--- whether a wagon is of this class, at this place
-abbrev pub is_of_class_at : (class place : List ℕ) → FreeWagon → Bool
-is_of_class_at class place wagon = pointwise nat_eq wagon.class class && pointwise nat_eq wagon.place place
-
--- how many free wagons of a class stand at a place
-abbrev pub free_count : List WagonRow → (class place : List ℕ) → ℕ
-free_count rows class place = count_by (is_of_class_at class place) (free_wagons rows)
 
 -- an order that waits, with how many wagons it lacks
 abbrev pub wanted_in : OrderRowValue → Option WantedOrder

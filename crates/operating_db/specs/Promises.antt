@@ -4,8 +4,7 @@ use Rattle.std.specs.List.{IsDistinct, list_any}
 use Rattle.std.specs.Cmp.Lexicographic.{pointwise}
 use Rattle.wagon_state.specs.declared.wagon_row.WagonRow.{WagonRow}
 use Rattle.load_orders.specs.OrderRow.{OrderRowValue, IsOrderRow}
-use Rattle.database_rows.specs.Kept.{names_of}
-use Rattle.database_rows.specs.Rows.{wagon_in, order_in}
+use Rattle.database_rows.specs.Rows.{names_of, wagon_in, order_in}
 use Rattle.operating_db.specs.Office.{Office}
 
 -- whether a promise is one to this order

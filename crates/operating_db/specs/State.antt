@@ -1,8 +1,13 @@
--- What the state of an office keeps.
-use Rattle.std.specs.Prelude.{◌≤◌}
-use Rattle.operating_db.specs.Office.{StateValue}
+-- The state of an office, and what it keeps.
+use Rattle.std.specs.Prelude.{◌≤◌, ℕ}
 use Rattle.operating_db.specs.Promises.{PromisesAgree}
-use Rattle.distance_tables.specs.Networks.{max_networks}
+use Rattle.distance_tables.specs.NetworkCount.{max_networks}
+use Rattle.operating_db.specs.Office.{Office}
+
+-- an office, and how many networks there are
+pub record StateValue : Type 0 where
+  pub office : Office
+  pub networks : ℕ
 
 -- the promises agree, and one of the networks, 8 at most, is in force
 pub record IsState (state : StateValue) : Type 0 where

@@ -8,9 +8,10 @@ ghost use Rattle.operating_db.specs.inner.EventParts.{IsChange, IsNext, is_promi
 ghost use Rattle.operating_db.specs.ApplyFault.{EmptiesWagon, IsRefusal, IsRefusalOf, MayWantMemory};
 ghost use Rattle.operating_db.specs.Commits.{CanPromise, is_free_row, lack_in, promise_all, promise_pair};
 ghost use Rattle.operating_db.specs.Office.{first_office};
-ghost use Rattle.operating_db.specs.Problem.{free_count, problem_of};
+ghost use Rattle.operating_db.specs.FreeCount.{free_count};
+ghost use Rattle.operating_db.specs.Problem.{problem_of};
 ghost use Rattle.operating_db.specs.Promises.{PromisesAgree};
-ghost use Rattle.distance_tables.specs.Networks.{max_networks};
+ghost use Rattle.distance_tables.specs.NetworkCount.{max_networks};
 ghost use Rattle.operating_db.specs.State.{IsState};
 ghost use Rattle.operating_db.specs.Steps.{IsPromised};
 ghost use Rattle.wagon_state.specs.declared.wagon_row.WagonRow.{WagonRow};
@@ -42,9 +43,8 @@ pub struct OfficeState {
 }
 
 impl Model for OfficeState {
-    ghost use Rattle.operating_db.specs.Office.{StateValue};
+    ghost use Rattle.operating_db.specs.State.{StateValue, IsState};
     ghost use Rattle.operating_db.specs.Promises.{PromisesAgree};
-    ghost use Rattle.operating_db.specs.State.{IsState};
 
     ghost Value = { StateValue };
 

@@ -1,6 +1,8 @@
 //! Problems, and their tables over the sample network, on 1 March 2026.
 
-use cost_table::{Cells, Problem, TableFault, cells};
+use cost_table::{Cells, Problem, TableFault};
+
+use problem_table::cells;
 use distance_tables::{Tables, tables};
 use line_network::read_lines;
 use load_orders::Wanted;

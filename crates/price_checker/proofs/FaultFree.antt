@@ -4,7 +4,8 @@ use Rattle.std.specs.List.{sum_by}
 use Rattle.std.proofs.lemmas.List.Sums.{sum_by_push, sum_by-append, sum_by-cons}
 use Rattle.std.proofs.lemmas.Bool.Decides.{nat_tests}
 use Rattle.faults.specs.declared.faults.CheckFault.TheVariants.{WrongLengths, NotAllowed, UsedTwice, PriceGap, OverPenalty, SumsDiffer}
-use Rattle.cost_table.specs.Table.{Table, IsTable, cost_at, lack_at, penalty_at, wagon_count, order_count}
+use Rattle.cost_table.specs.Table.{Table, cost_at, lack_at, penalty_at, wagon_count, order_count}
+use Rattle.cost_table.specs.TableLimits.{IsTable}
 use Rattle.cost_table.specs.Plan.{IsPlan, uses, serves, AllAllowed, cost_of}
 use Rattle.cost_table.proofs.TableLemmas.{cost_at_within}
 use Rattle.price_checker.specs.Certificate.{IsCertificate}

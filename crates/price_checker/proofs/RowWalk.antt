@@ -5,7 +5,8 @@ use Rattle.std.specs.List.{AllByRecursion}
 use Rattle.std.proofs.Math.Nat.{eq-or-lt_of_le}
 use Rattle.std.proofs.lemmas.Bool.Decides.{nat_tests}
 use Rattle.std.proofs.lemmas.List.Elements.{All-from_recursion}
-use Rattle.cost_table.specs.Table.{Table, IsRow, cost_in, row_at, order_count}
+use Rattle.cost_table.specs.Table.{Table, cost_in, row_at, order_count}
+use Rattle.cost_table.specs.TableLimits.{IsRow}
 use Rattle.faults.specs.declared.faults.CheckFault.{CheckFault}
 use Rattle.faults.specs.declared.faults.CheckFault.TheVariants.{PriceGap}
 use Rattle.price_checker.specs.Faults.{first_below, gap_at, gap_of_wagon}

@@ -1,7 +1,8 @@
 use Rattle.std.proofs.Common.{◌≡◌, ℕ, List, Ok, Err, Result, refl, sym}
 use Rattle.std.specs.Prelude.{◌↔◌, IsOk, OnOk}
 use Rattle.std.specs.Result.{result_err}
-use Rattle.cost_table.specs.Table.{Table, IsTable}
+use Rattle.cost_table.specs.Table.{Table}
+use Rattle.cost_table.specs.TableLimits.{IsTable}
 use Rattle.cost_table.specs.Plan.{IsOptimal}
 use Rattle.faults.specs.declared.faults.CheckFault.{CheckFault}
 use Rattle.price_checker.specs.Certificate.{IsCertificate}

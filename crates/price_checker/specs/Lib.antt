@@ -1,3 +1,6 @@
 pub mod Certificate
 pub mod Faults
 pub mod inner
+pub mod NamedFaults
+pub mod NamedPairs
+pub mod CertifiedPairs

@@ -2,7 +2,8 @@
 
 use distance_tables::{NetworksFault, WorkFault};
 use line_network::NetworkFault;
-use office::{FeedFault, RunFault};
+use office::RunFault;
+use book_feed::FeedFault;
 use std::test::Fail;
 use test_samples::{misnamed, wagon};
 use wagon_roster::RosterFault;

@@ -3,7 +3,7 @@
 use clap::Error;
 use std::alloc::{AllocError, Global};
 use std::test::Fail;
-use wagons_program::{OfficeOptions, Word, not_utf8, read_words};
+use command_line::{OfficeOptions, Word, not_utf8, read_words};
 
 /// Calls with a fault, each with what is said of it, by the usage that is printed below (none where it is empty); the
 /// exit status is 2.

@@ -7,14 +7,14 @@ use Rattle.std.proofs.lemmas.List.Folds.{list_all-append}
 use Rattle.std.proofs.lemmas.List.Sums.{AllPass-from_list_all}
 use Rattle.std.specs.List.{list_all}
 use Rattle.std.specs.Char.{is_ascii_digit}
-use Rattle.rail_codes.specs.WagonNumber.{is_kept, kept_characters, are_twelve_digits, digit_sum, weighted_from, weighted_digit_sum, wagon_number_of, IsWagonNumber}
+use Rattle.rail_codes.specs.WagonNumber.{is_no_separator, kept_characters, are_twelve_digits, digit_sum, weighted_from, weighted_digit_sum, wagon_number_of, IsWagonNumber}
 
 -- what is kept of the rest of a text, whose next character is kept
-pub kept_characters-kept : (text : List ℕ) (i : ℕ) → i < length text → is_kept (get_or text i 0) ≡ true → kept_characters (drop i text) ≡ get_or text i 0 ∷ kept_characters (drop (i + 1) text)
+pub kept_characters-kept : (text : List ℕ) (i : ℕ) → i < length text → is_no_separator (get_or text i 0) ≡ true → kept_characters (drop i text) ≡ get_or text i 0 ∷ kept_characters (drop (i + 1) text)
 kept_characters-kept text i within kept = rw (add-one, drop-cons text i 0 within, kept) refl
 
 -- a digit is kept
-pub is_kept-digit : (c : ℕ) → is_ascii_digit c ≡ true → is_kept c ≡ true
+pub is_kept-digit : (c : ℕ) → is_ascii_digit c ≡ true → is_no_separator c ≡ true
 is_kept-digit c digit = grind (arith, nat_tests)
 
 -- digits are kept as they are
@@ -54,7 +54,7 @@ wagon_number_of-IsWagonNumber number valid =
     rw (kept, valid.0, sum) refl
 
 -- one more digit is written behind those so far
-pub take-digit : (text digits : List ℕ) (i count : ℕ) → i < length text → is_kept (get_or text i 0) ≡ true → count < length digits → take count digits ++ kept_characters (drop i text) ≡ kept_characters text → take (count + 1) (set digits count (get_or text i 0)) ++ kept_characters (drop (i + 1) text) ≡ kept_characters text
+pub take-digit : (text digits : List ℕ) (i count : ℕ) → i < length text → is_no_separator (get_or text i 0) ≡ true → count < length digits → take count digits ++ kept_characters (drop i text) ≡ kept_characters text → take (count + 1) (set digits count (get_or text i 0)) ++ kept_characters (drop (i + 1) text) ≡ kept_characters text
 take-digit text digits i count within kept room so_far =
     rw (take_more_set digits count (get_or text i 0) room, append_assoc) (ap (λ rest. take count digits ++ rest) (sym (kept_characters-kept text i within kept)) ∙ so_far)
 
@@ -62,7 +62,7 @@ pub list_all-take-digit : (digits : List ℕ) (count c : ℕ) → count < length
 list_all-take-digit digits count c room digit all = rw (take_more_set digits count c room, list_all-append, all, digit) refl
 
 -- a text with a character too many, or with one that is no digit
-pub are_twelve_digits-false : (text front : List ℕ) (i : ℕ) → i < length text → is_kept (get_or text i 0) ≡ true → front ++ kept_characters (drop i text) ≡ kept_characters text → (length front ≡ 12) ⊎ (is_ascii_digit (get_or text i 0) ≡ false) → are_twelve_digits (kept_characters text) ≡ false
+pub are_twelve_digits-false : (text front : List ℕ) (i : ℕ) → i < length text → is_no_separator (get_or text i 0) ≡ true → front ++ kept_characters (drop i text) ≡ kept_characters text → (length front ≡ 12) ⊎ (is_ascii_digit (get_or text i 0) ≡ false) → are_twelve_digits (kept_characters text) ≡ false
 are_twelve_digits-false text front i within kept so_far fault =
     let split = kept_characters-kept text i within kept in
     rw (← so_far, split) (elim fault [

@@ -14,5 +14,5 @@ abbrev pub IsPlace : List ℕ → Type 0
 IsPlace text = IsTrue (is_place text)
 
 -- what a text is read as: itself, or the fault
-abbrev pub place_of : List ℕ → Result (List ℕ) CodeFault
-place_of text = if is_place text then Ok text else Err BadPlace
+abbrev pub place_read : List ℕ → Result (List ℕ) CodeFault
+place_read text = if is_place text then Ok text else Err BadPlace

@@ -8,12 +8,12 @@ use Rattle.rail_codes.specs.declared.code_fault.CodeFault.TheVariants.{NotTwelve
 -- A text is the list of its UTF-8 bytes, and a digit is an ASCII digit.
 
 -- neither a space nor a hyphen
-abbrev pub is_kept : ℕ → Bool
-is_kept c = not (c == 32 || c == 45)
+abbrev pub is_no_separator : ℕ → Bool
+is_no_separator c = not (c == 32 || c == 45)
 
 -- a text without its spaces and hyphens, wherever they stand
 abbrev pub kept_characters : List ℕ → List ℕ
-kept_characters text = filter is_kept text
+kept_characters text = filter is_no_separator text
 
 abbrev pub are_twelve_digits : List ℕ → Bool
 are_twelve_digits characters = length characters == 12 && list_all is_ascii_digit characters

@@ -4,7 +4,7 @@ ghost use Rattle.std.specs.List.{list_all};
 ghost use Rattle.rail_codes.specs.ClassCode.{is_class_code, class_code_of, IsClassCode};
 ghost use Rattle.rail_codes.specs.Company.{is_company, is_company_character, company_of, IsCompany};
 ghost use Rattle.rail_codes.specs.OrderId.{is_order_id, is_order_character, order_id_of, IsOrderId};
-ghost use Rattle.rail_codes.specs.Place.{is_place, place_of, IsPlace};
+ghost use Rattle.rail_codes.specs.Place.{is_place, place_read, IsPlace};
 
 use crate::CodeFault;
 use crate::ascii_array::AsciiArray;
@@ -257,7 +257,7 @@ impl Model for Place {
 impl Place {
     /// Reads a place. Refused with `BadPlace` (13) where the text is not of this shape.
     pub fn read(text: &str) -> Result<Place, CodeFault>
-        ensures meaning { result ≡ place_of text.now }
+        ensures meaning { result ≡ place_read text.now }
         ensures accepts { IsOk result ↔ IsPlace text.now }
         ensures kept { IfOk result (λ place. place ≡ text.now) }
     {
@@ -291,7 +291,7 @@ impl Place {
     /// The place as text.
     pub fn text(self, alloc: Global) -> Result<String, AllocError>
         ensures printed { IfOk result (λ s. string_bytes s ≡ self) }
-        ensures reads_back { place_of self ≡ Ok self }
+        ensures reads_back { place_read self ≡ Ok self }
     {
         ascii_text(alloc, self.as_bytes())
     }

@@ -1,4 +1,3 @@
 pub mod Numbers
 pub mod Manual
-pub mod Laws
 pub mod inner

@@ -1,12 +1,11 @@
 //! The manual of refusals: what each refusal number means, where it comes, its usual cause, and what to do about it.
 //!
-//! There is an entry exactly for each number that a fault of the libraries has.
+//! There is an entry for each number of the list; that these are the numbers of all faults is a law of `wagons_program`.
 #![tactic(auto)]
 
 mod codes;
 mod entry;
 mod events;
-mod laws;
 mod lines;
 mod manual;
 mod movements;
@@ -15,5 +14,4 @@ mod runs;
 mod tables;
 
 pub use entry::entry_text;
-pub use laws::{each_fault_is_listed, each_number_is_a_faults};
 pub use manual::manual_text;

@@ -3,11 +3,9 @@ ghost use Rattle.std.specs.Prelude.{◌≡◌, ◌++◌, ℕ, List, OnOk};
 ghost use Rattle.reply_texts.specs.Details.{book_details, check_details, line_details, table_details, table_line_details};
 
 use crate::words::{push_number, push_numbers, push_pair, push_word};
-use commit_book::Refusal;
-use cost_table::TableFault;
+use faults::{NamedFault, Refusal, TableFault};
 use json_fields::LineFault;
 use line_engine::ReplyText;
-use named_pairs::NamedFault;
 use std::alloc::AllocError;
 use table_lines::TableRefusal;
 

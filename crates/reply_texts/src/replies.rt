@@ -6,7 +6,7 @@ ghost use Rattle.reply_texts.specs.ReplyTexts.{accepted_text, book_refused_text,
 
 use crate::details::Detailed;
 use crate::words::{push_number, push_numbers};
-use commit_book::Refusal;
+use faults::Refusal;
 use json_fields::LineFault;
 use line_engine::ReplyText;
 use std::alloc::AllocError;

@@ -7,7 +7,8 @@ use Rattle.std.specs.Result.{result_unwrap_or}
 use Rattle.wagon_roster.specs.Roster.{IsRoster}
 use Rattle.database_rows.proofs.Wagons.{numbers_distinct}
 use Rattle.operating_db.specs.After.{after_call}
-use Rattle.operating_db.specs.Office.{Office, first_office, numbers_of}
+use Rattle.operating_db.specs.Office.{Office, first_office}
+use Rattle.operating_db.specs.Laws.{numbers_of}
 use Rattle.operating_db.specs.Promises.{PromisesAgree}
 use Rattle.operating_db.specs.Steps.{IsPromised}
 use Rattle.faults.specs.declared.faults.ApplyFault.{ApplyFault}

@@ -6,7 +6,7 @@ use Rattle.std.proofs.lemmas.Bool.Decides.{nat_tests}
 use Rattle.move_messages.specs.declared.commit_text.CommitText.{CommitText}
 use Rattle.line_network.specs.Network.{NetworkValue}
 use Rattle.distance_tables.specs.Networks.{network_at}
-use Rattle.cost_table.specs.Allowed.{IsTableOf}
+use Rattle.problem_table.specs.Allowed.{IsTableOf}
 use Rattle.cost_table.specs.Plan.{cost_of}
 use Rattle.cost_table.specs.Problem.{ProblemValue, names_of_problem, order_names, wagon_names}
 use Rattle.cost_table.specs.Table.{Table}
@@ -14,7 +14,7 @@ use Rattle.price_checker.specs.Certificate.{IsCertificate}
 use Rattle.faults.specs.declared.faults.CheckFault.{CheckFault}
 use Rattle.price_checker.proofs.FaultFree.{fault_free}
 use Rattle.price_checker.proofs.FirstBelow.{none_both}
-use Rattle.named_pairs.specs.NamedPairs.{checked, checked_at, cost_unless, positions_of}
+use Rattle.price_checker.specs.NamedPairs.{checked, checked_at, cost_unless, positions_of}
 use Rattle.operating_db.specs.Office.{Office}
 use Rattle.operating_db.specs.Problem.{problem_of}
 use Rattle.operating_db.specs.declared.event.Event.{Event}

@@ -6,14 +6,15 @@ use Rattle.std.proofs.lemmas.Option.{slice_get-get_or}
 use Rattle.wagon_state.specs.declared.free_wagon.FreeWagon.{FreeWagon}
 use Rattle.load_orders.specs.Wanted.{WantedOrder}
 use Rattle.line_network.specs.Network.{NetworkValue}
-use Rattle.cost_table.specs.Allowed.{IsTableOf}
-use Rattle.cost_table.specs.Names.{first_repeated, is_name, pair_of}
+use Rattle.problem_table.specs.Allowed.{IsTableOf}
+use Rattle.cost_table.specs.DistinctNames.{first_repeated}
+use Rattle.cost_table.specs.Names.{is_name, pair_of}
 use Rattle.cost_table.specs.Plan.{AllAllowed}
 use Rattle.cost_table.specs.Problem.{ProblemValue, names_of_problem, order_names, wagon_names}
 use Rattle.cost_table.specs.Table.{Table}
 use Rattle.cost_table.proofs.NameLemmas.{held_at}
-use Rattle.named_pairs.specs.NamedFaults.{name_at}
-use Rattle.named_pairs.specs.NamedPairs.{before_rest, found_or, positions_of}
+use Rattle.price_checker.specs.NamedFaults.{name_at}
+use Rattle.price_checker.specs.NamedPairs.{before_rest, found_or, positions_of}
 use Rattle.commit_book.specs.Snap.{named_pair}
 use Rattle.sessions.proofs.SameTables.{columns}
 

@@ -12,7 +12,7 @@ use Rattle.cost_table.specs.Plan.{sum_below}
 use Rattle.cost_table.proofs.Sums.{sum_below-add, sum_below-at, sum_below-same, sum_below-zero}
 use Rattle.assignment.proofs.Placing.{sum_below-limit}
 use Rattle.operating_db.specs.declared.event.Event.{Event}
-use Rattle.commit_book.specs.History.{entry_at}
+use Rattle.commit_book.specs.Books.{entry_at}
 use Rattle.sessions.specs.Closing.{HasEntries, HasEntry}
 use Rattle.sessions.specs.OnlyReceipts.{IsReceived, IsReceivedAt, ReceiptsAgree, ReceiptsAreTheHistory, times_at_seats, times_of_entry}
 use Rattle.sessions.specs.Seat.{SeatValue, count_of}

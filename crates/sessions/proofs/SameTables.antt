@@ -6,11 +6,11 @@ use Rattle.std.proofs.lemmas.List.{length-map}
 use Rattle.std.proofs.lemmas.List.Sums.{sum_by-cons}
 use Rattle.load_orders.specs.Wanted.{WantedOrder}
 use Rattle.line_network.specs.Network.{NetworkValue}
-use Rattle.cost_table.specs.Allowed.{IsTableOf}
+use Rattle.problem_table.specs.Allowed.{IsTableOf}
 use Rattle.cost_table.specs.Plan.{AllAllowed, pair_cost, serves, sum_below}
 use Rattle.cost_table.specs.Problem.{ProblemValue}
 use Rattle.cost_table.specs.Table.{Table, cost_at, lack_at, order_count, penalty_at, wagon_count}
-use Rattle.cost_table.proofs.AllowedLemmas.{some_at}
+use Rattle.problem_table.proofs.AllowedLemmas.{some_at}
 use Rattle.price_checker.specs.Certificate.{IsCertificate}
 
 -- two choices that have each value where the other has it

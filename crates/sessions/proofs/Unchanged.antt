@@ -7,7 +7,7 @@ use Rattle.std.proofs.lemmas.List.Sums.{sum_by-append, sum_by-cons}
 use Rattle.std.proofs.lemmas.Option.{slice_get_within}
 use Rattle.load_orders.specs.Wanted.{WantedOrder}
 use Rattle.line_network.specs.Network.{NetworkValue}
-use Rattle.cost_table.specs.Allowed.{IsTableOf}
+use Rattle.problem_table.specs.Allowed.{IsTableOf}
 use Rattle.cost_table.specs.Plan.{serves}
 use Rattle.cost_table.specs.Table.{Table, lack_at, order_count}
 use Rattle.database_rows.specs.Rows.{order_in}

@@ -1,9 +1,10 @@
 -- What is known of the book behind the lock: some book that there can be answers the call.
 use Rattle.std.specs.Prelude.{◌≡◌, ◌≤◌, ℕ, List, length, Result}
 use Rattle.operating_db.specs.declared.event.Event.{Event}
-use Rattle.commit_book.specs.BookStep.{BookState, IsCall, answer_of}
+use Rattle.commit_book.specs.BookStep.{BookState, IsCall}
+use Rattle.commit_book.specs.Books.{answer_of, IsSetting}
 use Rattle.commit_book.specs.Headline.{IsProved}
-use Rattle.commit_book.specs.Setting.{IsSetting, Setting}
+use Rattle.commit_book.specs.Setting.{Setting}
 use Rattle.commit_book.specs.Snap.{SnapValue, snap_of}
 use Rattle.commit_book.specs.declared.answer.Answer.{Answer}
 use Rattle.commit_book.specs.declared.call.Call.{Call}

@@ -2,7 +2,7 @@
 use Rattle.std.specs.Prelude.{◌≡◌, ◌≤◌, ◌<◌, ℕ, List, length, Vec, Result, Ok, Err}
 use Rattle.std.specs.List.{sum_by}
 use Rattle.std.specs.declared.alloc.Global.{Global}
-use Rattle.commit_book.specs.BookStep.{BookValue}
+use Rattle.commit_book.specs.Books.{BookValue}
 use Rattle.sessions.specs.Closing.{IsLost}
 use Rattle.sessions.specs.Seat.{OfficeValue, SeatValue, count_of}
 use Rattle.sessions.specs.declared.close_fault.CloseFault.{CloseFault}

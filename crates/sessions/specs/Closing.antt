@@ -1,7 +1,7 @@
 -- What a book says of the receipts of its seats.
 use Rattle.std.specs.Prelude.{◌≡◌, ◌≢◌, ℕ, List, All, Some, slice_get}
 use Rattle.operating_db.specs.declared.event.Event.{Event}
-use Rattle.commit_book.specs.History.{entry_at}
+use Rattle.commit_book.specs.Books.{entry_at}
 use Rattle.sessions.specs.Seat.{SeatValue}
 use Rattle.sessions.specs.declared.receipt.Receipt.{Receipt}
 

@@ -2,7 +2,7 @@
 use Rattle.std.specs.Prelude.{◌≡◌, ◌≤◌, ◌==◌, ℕ, List, length, All, Some, count_by, slice_get}
 use Rattle.std.specs.List.{sum_by}
 use Rattle.operating_db.specs.declared.event.Event.{Event}
-use Rattle.commit_book.specs.History.{entry_at}
+use Rattle.commit_book.specs.Books.{entry_at}
 use Rattle.sessions.specs.Closing.{HasEntries, HasEntry}
 use Rattle.sessions.specs.Seat.{SeatValue, count_of}
 use Rattle.sessions.specs.declared.receipt.Receipt.{Receipt}

@@ -5,7 +5,7 @@ use Rattle.wagon_roster.specs.Roster.{IsRoster}
 use Rattle.cost_table.specs.Problem.{names_of_problem}
 use Rattle.cost_table.specs.Table.{Table}
 use Rattle.price_checker.specs.Certificate.{IsCertificate}
-use Rattle.named_pairs.specs.NamedPairs.{positions_of}
+use Rattle.price_checker.specs.NamedPairs.{positions_of}
 use Rattle.operating_db.specs.declared.event.Event.{Event}
 use Rattle.commit_book.specs.BookStep.{BookState, IsCall}
 use Rattle.commit_book.specs.History.{IsLegal, IsTableAt, problem_at}

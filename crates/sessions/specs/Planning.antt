@@ -2,7 +2,7 @@
 use Rattle.std.specs.Prelude.{◌≡◌, ◌<◌, ◌⊎◌, ℕ, List, length, Some}
 use Rattle.line_network.specs.Network.{NetworkValue}
 use Rattle.distance_tables.specs.Networks.{network_at}
-use Rattle.cost_table.specs.Allowed.{IsTableOf}
+use Rattle.problem_table.specs.Allowed.{IsTableOf}
 use Rattle.cost_table.specs.Plan.{IsOptimal}
 use Rattle.cost_table.specs.Table.{Table}
 use Rattle.price_checker.specs.Certificate.{IsCertificate}

@@ -6,9 +6,10 @@ ghost use Rattle.sessions.specs.Planning.{IsPlanned, IsUnknownNetwork};
 use crate::PlanFault;
 use assignment::plan;
 use commit_book::Snap;
-use cost_table::{Plan, cells};
+use cost_table::Plan;
 use distance_tables::Networks;
 use price_checker::Prices;
+use problem_table::cells;
 use std::alloc::Global;
 
 /// A plan of the snapshot's problem at the lowest total cost over the network of its version, and prices in kilometres that

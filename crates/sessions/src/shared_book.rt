@@ -1,9 +1,9 @@
 //! The book behind the lock.
 ghost use Rattle.std.specs.Prelude.{◌≡◌, ◌≤◌, ◌<◌, ◌+◌, IfOk, length};
-ghost use Rattle.commit_book.specs.BookStep.{IsCall, IsNoEntry, answer_of, begun_of};
+ghost use Rattle.commit_book.specs.BookStep.{IsCall};
+ghost use Rattle.commit_book.specs.Books.{IsNoEntry, answer_of, begun_of, IsSetting};
 ghost use Rattle.commit_book.specs.Headline.{IsProved};
 ghost use Rattle.commit_book.specs.Requests.{call_of};
-ghost use Rattle.commit_book.specs.Setting.{IsSetting};
 ghost use Rattle.commit_book.specs.Snap.{snap_of};
 ghost use Rattle.commit_book.specs.declared.answer.Answer.TheVariants.{Refused};
 ghost use Rattle.commit_book.specs.declared.call.Call.TheVariants as call;

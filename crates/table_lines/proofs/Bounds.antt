@@ -12,11 +12,11 @@ use Rattle.json_fields.specs.declared.fault.LineFault.{LineFault}
 use Rattle.json_fields.specs.Values.{◌>>=◌, number_within, list_of_each}
 use Rattle.json_fields.specs.Fields.{Gives}
 use Rattle.json_fields.proofs.Bounds.{bind_ok, number_is_within, HoldsOfRead, list_holds, field_holds, optional_field_holds}
-use Rattle.move_messages.specs.Order.{max_order_wagons}
+use Rattle.move_messages.specs.OrderLimits.{max_order_wagons}
 use Rattle.cost_table.specs.TableLimits.{max_cost}
 use Rattle.cost_table.specs.Rows.{IsNumber}
-use Rattle.load_orders.specs.Wanted.{IsLack}
-use Rattle.table_lines.specs.TableLine.{cell_of, row_of, cells_of, lacks_of}
+use Rattle.load_orders.specs.WantedLimits.{IsLack}
+use Rattle.table_lines.specs.TableLine.{cell_of, row_of, cells_of, lacks_field}
 
 abbrev done : Option ℕ → Result (Option ℕ) FieldFault
 done x = Ok x
@@ -44,7 +44,7 @@ cells_are d (Ok rows) given =
     All-from_recursion (λ row. All IsNumber row.items) rows.items (all_under (All IsNumber) (λ row. row.items) rows.items (recursion_from_All (All IsNumber) (map (λ row. row.items) rows.items) whole))
 cells_are d (Err e) given = tt
 
-pub lacks_are : (d : Data) (r : Result (Option (Vec ℕ)) LineFault) → Gives (λ lacks. option_map (λ list. list.items) lacks) r (lacks_of d) → IfOk r (λ lacks. IfSome lacks (λ list. All IsLack list.items))
+pub lacks_are : (d : Data) (r : Result (Option (Vec ℕ)) LineFault) → Gives (λ lacks. option_map (λ list. list.items) lacks) r (lacks_field d) → IfOk r (λ lacks. IfSome lacks (λ list. All IsLack list.items))
 lacks_are d (Ok None) given = tt
 lacks_are d (Ok (Some list)) given = optional_field_holds (list_of_each (number_within 1 max_order_wagons)) (All IsLack) (list_holds (number_within 1 max_order_wagons) IsLack (number_is_within 1 max_order_wagons)) Lacks d list.items given
 lacks_are d (Err e) given = tt

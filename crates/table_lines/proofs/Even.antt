@@ -5,7 +5,8 @@ use Rattle.std.specs.List.{list_all}
 use Rattle.std.proofs.lemmas.List.Folds.{list_all-map}
 use Rattle.std.proofs.lemmas.Bool.Decides.{nat_tests}
 use Rattle.cost_table.specs.Table.{Table, wagon_count, order_count}
-use Rattle.cost_table.specs.Names.{NameLists, names_of, unrepeated, first_repeated}
+use Rattle.cost_table.specs.Names.{NameLists}
+use Rattle.cost_table.specs.DistinctNames.{names_or_fault, unrepeated, first_repeated}
 use Rattle.json_fields.specs.Values.{◌>>=◌}
 use Rattle.table_lines.specs.TableLine.{TableText}
 use Rattle.cost_table.specs.Rows.{Rows, cells_of, table_of, is_even as are_even, is_too_large as are_too_large, rows_fault}
@@ -13,8 +14,9 @@ use Rattle.cost_table.specs.TableLimits.{max_table_lack, max_table_orders, max_t
 use Rattle.faults.specs.declared.faults.TableFault.{TableFault}
 use Rattle.faults.specs.declared.faults.TableFault.TheVariants as table
 use Rattle.table_lines.specs.TableRefusals.{refusal_of_table}
-use Rattle.table_lines.specs.TableCost.{is_even, even_table, is_too_large, lacks_in, table_in, with_check_fault, cost_in, IsCertified}
-use Rattle.named_pairs.specs.NamedPairs.{checked, CertifiesPairs}
+use Rattle.table_lines.specs.TableCost.{is_even, even_table, is_too_large, lacks_in, table_in, with_check_fault, cost_of_text, IsCertified}
+use Rattle.price_checker.specs.NamedPairs.{checked}
+use Rattle.price_checker.specs.CertifiedPairs.{CertifiesPairs}
 use Rattle.table_lines.specs.declared.table_refusal.TableRefusal.TheVariants.{OutOfMemory, Table as OfTable}
 
 -- the cells of rows
@@ -100,7 +102,7 @@ pub even_is_stated : (t : TableText) (table : Table) → even_table (length t.wa
 even_is_stated t table h = sym (if_even (is_even (length t.wagons) (length t.orders) t.cells t.penalties (lacks_in t)) (table_in t) table h).1
 
 -- what a table's pairs are certified for, its line is
-pub certifies_text : (t : TableText) (names : NameLists) (table : Table) (cost : ℕ) → names_of t.wagons t.orders ≡ Ok names → even_table (length t.wagons) (length t.orders) t.cells t.penalties (lacks_in t) ≡ Ok table
+pub certifies_text : (t : TableText) (names : NameLists) (table : Table) (cost : ℕ) → names_or_fault t.wagons t.orders ≡ Ok names → even_table (length t.wagons) (length t.orders) t.cells t.penalties (lacks_in t) ≡ Ok table
     → CertifiesPairs names table t.pairs t.u t.v cost → IsCertified t cost
 certifies_text t names table cost named even certified =
     let stated = subst (λ (x : Table). CertifiesPairs names x t.pairs t.u t.v cost) (even_is_stated t table even) certified in
@@ -113,14 +115,14 @@ if_unrepeated names found false None (Some o) h = absurd cc
 if_unrepeated names found false None None h = cc
 
 -- the names of a table are those that were given
-pub names_kept : (wagons orders : List (List ℕ)) (names : NameLists) → names_of wagons orders ≡ Ok names → (names.wagons ≡ wagons) × (names.orders ≡ orders)
+pub names_kept : (wagons orders : List (List ℕ)) (names : NameLists) → names_or_fault wagons orders ≡ Ok names → (names.wagons ≡ wagons) × (names.orders ≡ orders)
 names_kept wagons orders names h =
     let f = if_unrepeated (record { wagons = wagons; orders = orders }) names (nat_lt max_table_wagons (length wagons) || nat_lt max_table_orders (length orders)) (first_repeated wagons) (first_repeated orders) h in
     (ap (λ (n : NameLists). n.wagons) (sym f), ap (λ (n : NameLists). n.orders) (sym f))
 
 -- an even table of them has a row for each wagon named and a lack for each order named
 pub named_counts : (w o : List (List ℕ)) (names : NameLists) (wagons orders : ℕ) (cells : List (List (Option ℕ))) (penalties lacks : List ℕ) (table : Table)
-    → names_of w o ≡ Ok names → even_table wagons orders cells penalties lacks ≡ Ok table → length w ≡ wagons → length o ≡ orders
+    → names_or_fault w o ≡ Ok names → even_table wagons orders cells penalties lacks ≡ Ok table → length w ≡ wagons → length o ≡ orders
     → (wagon_count table ≡ length names.wagons) × (order_count table ≡ length names.orders)
 named_counts w o names wagons orders cells penalties lacks table named even same_wagons same_orders =
     let counts = even_counts wagons orders cells penalties lacks table even in
@@ -128,9 +130,9 @@ named_counts w o names wagons orders cells penalties lacks table named even same
     (counts.0 ∙ sym same_wagons ∙ ap length (sym kept.0), counts.1 ∙ sym same_orders ∙ ap length (sym kept.1))
 
 -- a line's answer, once its names are read
-pub cost_in-named : (t : TableText) (names : NameLists) → is_too_large t ≡ false → names_of t.wagons t.orders ≡ Ok names
-    → cost_in t ≡ (even_table (length t.wagons) (length t.orders) t.cells t.penalties (lacks_in t) >>= λ stated. with_check_fault (checked names stated t.pairs t.u t.v))
-unfolding cost_in
+pub cost_in-named : (t : TableText) (names : NameLists) → is_too_large t ≡ false → names_or_fault t.wagons t.orders ≡ Ok names
+    → cost_of_text t ≡ (even_table (length t.wagons) (length t.orders) t.cells t.penalties (lacks_in t) >>= λ stated. with_check_fault (checked names stated t.pairs t.u t.v))
+unfolding cost_of_text
 cost_in-named t names small named = rw (small, named) refl
 
 pub same_even : (w x o q : ℕ) (cells others : List (List (Option ℕ))) (p r l k : List ℕ) → w ≡ x → o ≡ q → cells ≡ others → p ≡ r → l ≡ k → even_table w o cells p l ≡ even_table x q others r k

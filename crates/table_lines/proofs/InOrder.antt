@@ -10,14 +10,14 @@ use Rattle.serde_json.specs.Data.{Data, array, object, Items, Members, no_member
 use Rattle.serde_json.specs.Read.{of_json, of_members, converted}
 use Rattle.json_fields.specs.declared.field.Field.TheVariants.{Wagons, Orders, Penalties, Pairs, WagonPrices, OrderPrices}
 use Rattle.json_fields.specs.Field.{field_name}
-use Rattle.json_fields.specs.Values.{number_within, wagon_number_from, order_id_from, pair_of, list_of_each}
+use Rattle.json_fields.specs.Values.{number_within, wagon_number_from, order_id_from, wagon_and_order, list_of_each}
 use Rattle.json_fields.specs.Fields.{field_of, optional_field_of, member, list_at}
 use Rattle.json_fields.proofs.Lines.{object_of-ok}
 use Rattle.json_fields.proofs.Bounds.{numbers_within}
 use Rattle.cost_table.specs.TableLimits.{max_cost}
 use Rattle.cost_table.specs.Rows.{IsNumber}
 use Rattle.table_lines.specs.declared.table_line.TableLine.{TableLine}
-use Rattle.table_lines.specs.TableLine.{row_of, cells_of, lacks_of, prices_of, table_of, table_text, table_text_of, table_line_of, with_plan_of}
+use Rattle.table_lines.specs.TableLine.{row_of, cells_of, lacks_field, prices_of, table_of, table_text, table_text_of, table_line_of, with_plan_of}
 use Rattle.table_lines.specs.inner.Tokens.{AreRead, SpellsMember}
 use Rattle.table_lines.specs.inner.InOrder.{IsTable}
 use Rattle.table_lines.proofs.Bounds.{cells_are}
@@ -64,11 +64,11 @@ module _ (w o c p q u v : Items) where
   unfolding field_of member field_name
   at_penalties xs h = rw h refl
 
-  no_lacks : lacks_of d ≡ Ok None
+  no_lacks : lacks_field d ≡ Ok None
   unfolding optional_field_of field_name
   no_lacks = refl
 
-  at_pairs : (xs : List (List ℕ × List ℕ)) → list_of_each pair_of (array q) ≡ Ok xs → list_at pair_of Pairs d ≡ Ok xs
+  at_pairs : (xs : List (List ℕ × List ℕ)) → list_of_each wagon_and_order (array q) ≡ Ok xs → list_at wagon_and_order Pairs d ≡ Ok xs
   unfolding field_of member field_name
   at_pairs xs h = rw h refl
 
@@ -82,7 +82,7 @@ module _ (w o c p q u v : Items) where
 
   pub table_is : (line : TableLine) → AreRead (λ e x. wagon_number_from e ≡ Ok x) w line.wagons.items → AreRead (λ e x. order_id_from e ≡ Ok x) o line.orders.items
       → AreRead (λ e row. row_of e ≡ Ok row.items) c line.cells.items → AreRead (λ e x. number_within 0 max_cost e ≡ Ok x) p line.penalties.items
-      → AreRead (λ e x. pair_of e ≡ Ok x) q line.pairs.items → AreRead (λ e x. number_within 0 (2 ^ 64 - 1) e ≡ Ok x) u line.u.items
+      → AreRead (λ e x. wagon_and_order e ≡ Ok x) q line.pairs.items → AreRead (λ e x. number_within 0 (2 ^ 64 - 1) e ≡ Ok x) u line.u.items
       → AreRead (λ e x. number_within 0 (2 ^ 64 - 1) e ≡ Ok x) v line.v.items → line.lacks ≡ None → IsTable d line
   unfolding table_text_of table_of with_plan_of
   table_is line hw ho hc hp hq hu hv none =
@@ -90,7 +90,7 @@ module _ (w o c p q u v : Items) where
       let eo = at_orders line.orders.items (list_read order_id_from o line.orders.items ho) in
       let ec = at_cells (map (λ row. row.items) line.cells.items) (rows_read c line.cells.items hc) in
       let ep = at_penalties line.penalties.items (list_read (number_within 0 max_cost) p line.penalties.items hp) in
-      let eq = at_pairs line.pairs.items (list_read pair_of q line.pairs.items hq) in
+      let eq = at_pairs line.pairs.items (list_read wagon_and_order q line.pairs.items hq) in
       let eu = at_u line.u.items (list_read (number_within 0 (2 ^ 64 - 1)) u line.u.items hu) in
       let ev = at_v line.v.items (list_read (number_within 0 (2 ^ 64 - 1)) v line.v.items hv) in
       record { whole = rw (ew, eo, ec, ep, no_lacks, eq, eu, ev, none) refl; cells = ec; penalties = ep; lacks = none }

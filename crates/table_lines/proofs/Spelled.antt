@@ -8,7 +8,7 @@ use Rattle.serde_json.specs.Data.{Data, null, unsigned, number, string, array, I
 use Rattle.serde_json.specs.Read.{number_of, of_json, of_items, converted}
 use Rattle.table_lines.proofs.Turns.{converted-array, item_read, items_over, none_before}
 use Rattle.json_fields.specs.declared.fault.FieldFault.{FieldFault}
-use Rattle.json_fields.specs.Values.{text_of, number_within, wagon_number_from, order_id_from, list_of, each, list_of_each, pair_of}
+use Rattle.json_fields.specs.Values.{text_of, number_within, wagon_number_from, order_id_from, list_of, each, list_of_each, wagon_and_order}
 use Rattle.rail_codes.specs.WagonNumber.{wagon_number_of}
 use Rattle.rail_codes.specs.OrderId.{order_id_of}
 use Rattle.cost_table.specs.TableLimits.{max_cost}
@@ -73,12 +73,12 @@ no_end depth (Token.boolean b ∷ ts) rest d e = refl
 no_end depth (Token.null ∷ ts) rest d e = refl
 no_end depth (Token.bad ∷ ts) rest d e = refl
 
-both_are : (d e : Data) (wagon order : List ℕ) → wagon_number_from d ≡ Ok wagon → order_id_from e ≡ Ok order → pair_of (array (item d (item e no_items))) ≡ Ok (wagon, order)
-unfolding pair_of list_of
+both_are : (d e : Data) (wagon order : List ℕ) → wagon_number_from d ≡ Ok wagon → order_id_from e ≡ Ok order → wagon_and_order (array (item d (item e no_items))) ≡ Ok (wagon, order)
+unfolding wagon_and_order list_of
 both_are d e wagon order w o = rw (w, o) refl
 
 pub pair_spelled : (ts a b c rest : List Token) (wagon order : List ℕ) → ts ≡ Token.begin_array ∷ a → Spells 0 (λ d. wagon_number_from d ≡ Ok wagon) a b → length b < length a
-    → Spells 0 (λ d. order_id_from d ≡ Ok order) b c → length c < length b → after_end_array c ≡ Some rest → Spells 1 (λ d. pair_of d ≡ Ok (wagon, order)) ts rest
+    → Spells 0 (λ d. order_id_from d ≡ Ok order) b c → length c < length b → after_end_array c ≡ Some rest → Spells 1 (λ d. wagon_and_order d ≡ Ok (wagon, order)) ts rest
 pair_spelled ts a b c rest wagon order opens w fewer o fewer_still close = (
   array (item w.0 (item o.0 no_items)),
   both_are w.0 o.0 wagon order w.1 o.1,

@@ -1,13 +1,14 @@
 -- The table that a line states, by its names: whether it is one, and what a plan of it costs.
 use Rattle.std.specs.Prelude.{◌≡◌, ℕ, List, length, if◌then◌else◌, Result, Ok, Err}
-use Rattle.cost_table.specs.Names.{NameLists, names_of}
+use Rattle.cost_table.specs.Names.{NameLists}
+use Rattle.cost_table.specs.DistinctNames.{names_or_fault}
 use Rattle.cost_table.specs.Table.{Table}
 use Rattle.faults.specs.declared.faults.TableFault.TheVariants.{TooLarge}
 use Rattle.json_fields.specs.Values.{◌>>=◌}
-use Rattle.named_pairs.specs.NamedPairs.{checked}
+use Rattle.price_checker.specs.NamedPairs.{checked}
 use Rattle.table_lines.specs.TableLine.{TableText, with_plan}
 use Rattle.table_lines.specs.TablePart.{table_of_line}
-use Rattle.table_lines.specs.TableCost.{cost_in, even_table, is_too_large, lacks_in, with_check_fault, with_line_fault, with_table_fault}
+use Rattle.table_lines.specs.TableCost.{cost_of_text, even_table, is_too_large, lacks_in, with_check_fault, with_line_fault, with_table_fault}
 use Rattle.table_lines.specs.declared.table_refusal.TableRefusal.{TableRefusal}
 use Rattle.table_lines.specs.declared.table_refusal.TableRefusal.TheVariants.{Table as OfTable}
 
@@ -16,14 +17,14 @@ use Rattle.table_lines.specs.declared.table_refusal.TableRefusal.TheVariants.{Ta
 unfoldable pub stated_in : TableText → Result (NameLists × Table) TableRefusal
 stated_in t =
     if is_too_large t then Err (OfTable TooLarge)
-    else (with_table_fault (names_of t.wagons t.orders) >>= λ names.
+    else (with_table_fault (names_or_fault t.wagons t.orders) >>= λ names.
     even_table (length t.wagons) (length t.orders) t.cells t.penalties (lacks_in t) >>= λ table.
     Ok (names, table))
 
 -- the cost of any plan with any prices: what the check of it says once the table is stated
 abbrev pub CostsOfPlans : TableText → Type 0
 CostsOfPlans t =
-    (pairs : List (List ℕ × List ℕ)) (u v : List ℕ) → cost_in (with_plan t pairs u v) ≡ (stated_in t >>= λ s. with_check_fault (checked s.0 s.1 pairs u v))
+    (pairs : List (List ℕ × List ℕ)) (u v : List ℕ) → cost_of_text (with_plan t pairs u v) ≡ (stated_in t >>= λ s. with_check_fault (checked s.0 s.1 pairs u v))
 
 -- the table that a line states, or the first refusal: of the line, then of the table
 unfoldable pub stated_line : List ℕ → Result TableText TableRefusal

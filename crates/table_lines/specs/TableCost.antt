@@ -6,11 +6,12 @@ use Rattle.cost_table.specs.Table.{Table}
 use Rattle.cost_table.specs.TableLimits.{max_table_lack, max_table_orders, max_table_wagons}
 use Rattle.cost_table.specs.Rows.{cells_of}
 use Rattle.cost_table.specs.Plan.{IsOptimal, cost_of}
-use Rattle.cost_table.specs.Names.{NameLists, names_of}
+use Rattle.cost_table.specs.Names.{NameLists}
+use Rattle.cost_table.specs.DistinctNames.{names_or_fault}
 use Rattle.faults.specs.declared.faults.TableFault.{TableFault}
 use Rattle.faults.specs.declared.faults.TableFault.TheVariants.{TooLarge, UnevenRows}
 use Rattle.price_checker.specs.Certificate.{IsCertificate}
-use Rattle.named_pairs.specs.NamedPairs.{checked, positions_of}
+use Rattle.price_checker.specs.NamedPairs.{checked, positions_of}
 use Rattle.faults.specs.declared.faults.NamedFault.{NamedFault}
 use Rattle.json_fields.specs.Values.{◌>>=◌}
 use Rattle.json_fields.specs.declared.fault.LineFault.{LineFault}
@@ -58,21 +59,21 @@ abbrev pub with_check_fault : {A : Type 0} → Result A NamedFault → Result A 
 with_check_fault (Ok x) = Ok x
 with_check_fault (Err fault) = Err (refusal_of_check fault)
 
-unfoldable pub cost_in : TableText → Result ℕ TableRefusal
-cost_in t =
+unfoldable pub cost_of_text : TableText → Result ℕ TableRefusal
+cost_of_text t =
     if is_too_large t then Err (OfTable TooLarge)
-    else (with_table_fault (names_of t.wagons t.orders) >>= λ names.
+    else (with_table_fault (names_or_fault t.wagons t.orders) >>= λ names.
     even_table (length t.wagons) (length t.orders) t.cells t.penalties (lacks_in t) >>= λ table.
     with_check_fault (checked names table t.pairs t.u t.v))
 
 unfoldable pub cost_of_line : List ℕ → Result ℕ TableRefusal
-cost_of_line bytes = with_line_fault (table_line_of bytes) >>= cost_in
+cost_of_line bytes = with_line_fault (table_line_of bytes) >>= cost_of_text
 
 -- A stated table whose pairs and prices are a certificate: its plan is an optimal one, of this cost.
 pub record IsCertified (t : TableText) (cost : ℕ) : Type 0 where
   pub names : NameLists
   pub positions : List (ℕ × ℕ)
-  pub named : names_of t.wagons t.orders ≡ Ok names
+  pub named : names_or_fault t.wagons t.orders ≡ Ok names
   pub found : positions_of names t.pairs ≡ Ok positions
   pub certificate : IsCertificate (table_in t) positions t.u t.v
   pub optimal : IsOptimal (table_in t) positions

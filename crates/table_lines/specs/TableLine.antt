@@ -6,10 +6,10 @@ use Rattle.json_fields.specs.declared.field.Field.{Field}
 use Rattle.json_fields.specs.declared.field.Field.TheVariants.{Wagons, Orders, Cells, Penalties, Lacks, Pairs, WagonPrices, OrderPrices}
 use Rattle.json_fields.specs.declared.fault.FieldFault.{FieldFault}
 use Rattle.json_fields.specs.declared.fault.LineFault.{LineFault}
-use Rattle.json_fields.specs.Values.{◌>>=◌, number_within, wagon_number_from, order_id_from, list_of_each, pair_of}
+use Rattle.json_fields.specs.Values.{◌>>=◌, number_within, wagon_number_from, order_id_from, list_of_each, wagon_and_order}
 use Rattle.json_fields.specs.Fields.{list_at, optional_list_at}
 use Rattle.json_fields.specs.Line.{object_of}
-use Rattle.move_messages.specs.Order.{max_order_wagons}
+use Rattle.move_messages.specs.OrderLimits.{max_order_wagons}
 use Rattle.cost_table.specs.TableLimits.{max_cost}
 use Rattle.table_lines.specs.declared.table_line.TableLine.{TableLine}
 
@@ -44,8 +44,8 @@ abbrev pub cells_of : Data → Result (List (List (Option ℕ))) LineFault
 cells_of d = list_at row_of Cells d
 
 -- how many wagons each order lacks: one at least, and no more than an order wants
-abbrev pub lacks_of : Data → Result (Option (List ℕ)) LineFault
-lacks_of d = optional_list_at (number_within 1 max_order_wagons) Lacks d
+abbrev pub lacks_field : Data → Result (Option (List ℕ)) LineFault
+lacks_field d = optional_list_at (number_within 1 max_order_wagons) Lacks d
 
 -- the dual prices of the wagons, or those of the orders, in km
 abbrev pub prices_of : Field → Data → Result (List ℕ) LineFault
@@ -65,13 +65,13 @@ table_of d = do
   orders ← list_at order_id_from Orders d
   cells ← cells_of d
   penalties ← list_at (number_within 0 max_cost) Penalties d
-  lacks ← lacks_of d
+  lacks ← lacks_field d
   Ok (record { wagons = wagons; orders = orders; cells = cells; penalties = penalties; lacks = lacks; pairs = []; u = []; v = [] })
 
 -- a table with the plan and the prices that an object gives
 unfoldable pub with_plan_of : Data → TableText → Result TableText LineFault
 with_plan_of d t = do
-  pairs ← list_at pair_of Pairs d
+  pairs ← list_at wagon_and_order Pairs d
   u ← prices_of WagonPrices d
   v ← prices_of OrderPrices d
   Ok (with_plan t pairs u v)

@@ -3,17 +3,17 @@ ghost use Rattle.std.specs.Prelude.{◌≡◌, ◌<◌, ◌≤◌, ℕ, All, IfO
 ghost use Rattle.cost_table.specs.Rows.{IsNumber};
 ghost use Rattle.cost_table.specs.Table.{wagon_count, order_count};
 ghost use Rattle.cost_table.specs.TableLimits.{max_cost, max_table_lack, max_table_orders, max_table_wagons};
-ghost use Rattle.load_orders.specs.Wanted.{IsLack};
-ghost use Rattle.named_pairs.specs.NamedPairs.{checked, CertifiesPairs};
+ghost use Rattle.load_orders.specs.WantedLimits.{IsLack};
+ghost use Rattle.price_checker.specs.NamedPairs.{checked};
+ghost use Rattle.price_checker.specs.CertifiedPairs.{CertifiesPairs};
 ghost use Rattle.table_lines.specs.TableLine.{table_text};
-ghost use Rattle.table_lines.specs.TableCost.{Yields, lacks_in, is_too_large as is_large, even_table, with_check_fault, cost_in, cost_of_line, IsCertified, CertifiesLine};
+ghost use Rattle.table_lines.specs.TableCost.{Yields, lacks_in, is_too_large as is_large, even_table, with_check_fault, cost_of_text, cost_of_line, IsCertified, CertifiesLine};
 
 use crate::table_line::TableLine;
 use crate::table_reading::read_table_line;
 use crate::table_refusal::TableRefusal;
 use cost_table::{Cells, MAX_TABLE_LACK, MAX_TABLE_ORDERS, MAX_TABLE_WAGONS, Names, TableFault};
-use named_pairs::check_named;
-use price_checker::Prices;
+use price_checker::{Prices, check_named};
 use rail_codes::{OrderId, WagonNumber};
 use std::alloc::{AllocError, Global};
 
@@ -108,12 +108,12 @@ fn checked_cost(
 }
 
 /// The cost of a table's plan.
-#[tactic(auto, unfolding(crate::specs::TableCost::cost_in))]
+#[tactic(auto, unfolding(crate::specs::TableCost::cost_of_text))]
 fn cost_of(alloc: Global, table: TableLine) -> Result<u128, TableRefusal>
     requires costs { All (λ row. All IsNumber row.items) table.cells.items }
     requires penalties { All (λ penalty. penalty ≤ max_cost) table.penalties.items }
     requires lacks { IfSome table.lacks (λ lacks. All IsLack lacks.items) }
-    ensures meaning { Yields (λ cost. cost) result (cost_in (table_text table)) }
+    ensures meaning { Yields (λ cost. cost) result (cost_of_text (table_text table)) }
     ensures optimal { IfOk result (IsCertified (table_text table)) }
 {
     let lacks = lacks_of(alloc, &table)?;

@@ -7,7 +7,7 @@ ghost use Rattle.table_lines.specs.TableLine.{table_line_of, table_of, table_tex
 ghost use Rattle.table_lines.specs.TablePart.{table_of_line, table_then_plan};
 ghost use Rattle.cost_table.specs.Rows.{IsNumber};
 ghost use Rattle.cost_table.specs.TableLimits.{max_cost};
-ghost use Rattle.load_orders.specs.Wanted.{IsLack};
+ghost use Rattle.load_orders.specs.WantedLimits.{IsLack};
 
 use crate::cells::cells_at;
 use crate::lacks::lacks_at;

@@ -6,7 +6,7 @@ ghost use Rattle.json_fields.specs.Fields.{Gives};
 ghost use Rattle.table_lines.specs.TableLine.{table_text, table_text_of, table_line_of};
 ghost use Rattle.cost_table.specs.Rows.{IsNumber};
 ghost use Rattle.cost_table.specs.TableLimits.{max_cost};
-ghost use Rattle.load_orders.specs.Wanted.{IsLack};
+ghost use Rattle.load_orders.specs.WantedLimits.{IsLack};
 
 use crate::table_in_order::table_in_order;
 use crate::table_line::TableLine;

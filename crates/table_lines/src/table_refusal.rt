@@ -5,7 +5,7 @@ ghost use Rattle.table_lines.specs.declared.table_refusal.TableRefusal.TheVarian
 
 use cost_table::TableFault;
 use json_fields::LineFault;
-use named_pairs::NamedFault;
+use price_checker::NamedFault;
 use std::alloc::{AllocError, AllocFailed};
 use thiserror::Error;
 

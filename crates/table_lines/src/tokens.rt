@@ -155,7 +155,7 @@ pub(crate) struct PairToken;
 impl TokenKind for PairToken {
     type Item = (WagonNumber, OrderId);
 
-    ghost reads = { λ _ d pair. values.pair_of d ≡ Ok pair };
+    ghost reads = { λ _ d pair. values.wagon_and_order d ≡ Ok pair };
 
     ghost nests = { λ _. 1 };
 

@@ -3,7 +3,8 @@ use Rattle.std.proofs.Common.{◌≡◌, ℕ, ◌<◌, Bool, true, false, cond, 
 use Rattle.std.specs.Prelude.{Option, Some, None, Ok, Err, position}
 use Rattle.std.proofs.lemmas.List.Elements.{All-cons, All-nil}
 use Rattle.std.proofs.lemmas.Option.{slice_get-get_or}
-use Rattle.cost_table.specs.Names.{NameLists, first_repeated, is_name, names_of, pair_of, unrepeated}
+use Rattle.cost_table.specs.Names.{NameLists, is_name, pair_of}
+use Rattle.cost_table.specs.DistinctNames.{first_repeated, names_or_fault, unrepeated}
 use Rattle.cost_table.specs.Plan.{AllAllowed, IsOptimal, cost_of}
 use Rattle.cost_table.specs.Table.{Table, order_count, wagon_count}
 use Rattle.faults.specs.declared.faults.TableFault.TheVariants.{TooLarge}
@@ -11,11 +12,11 @@ use Rattle.cost_table.proofs.NameLemmas.{held_at}
 use Rattle.price_checker.specs.Certificate.{IsCertificate}
 use Rattle.faults.specs.declared.faults.CheckFault.{CheckFault}
 use Rattle.price_checker.proofs.FaultFree.{fault_free}
-use Rattle.named_pairs.specs.NamedFaults.{name_at}
-use Rattle.named_pairs.specs.NamedPairs.{before_rest, checked, checked_at, cost_unless, found_or, positions_of}
-use Rattle.named_pairs.specs.inner.Naming.{IsNamed}
+use Rattle.price_checker.specs.NamedFaults.{name_at}
+use Rattle.price_checker.specs.NamedPairs.{before_rest, checked, checked_at, cost_unless, found_or, positions_of}
+use Rattle.price_checker.specs.inner.Naming.{IsNamed}
 use Rattle.table_lines.specs.StatedTable.{stated_in}
-use Rattle.table_lines.specs.TableCost.{IsCertified, cost_in}
+use Rattle.table_lines.specs.TableCost.{IsCertified, cost_of_text}
 use Rattle.table_lines.specs.TableLine.{TableText, with_plan}
 use Rattle.table_lines.proofs.Even.{certifies_text, named_counts}
 use Rattle.table_lines.proofs.Parts.{costs_of_plans, stated_parts}
@@ -34,7 +35,7 @@ record AreOnce (names : NameLists) : Type 0 where
   wagons : first_repeated names.wagons ≡ None
   orders : first_repeated names.orders ≡ None
 
-once : (wagons orders : List (List ℕ)) (names : NameLists) → names_of wagons orders ≡ Ok names → AreOnce names
+once : (wagons orders : List (List ℕ)) (names : NameLists) → names_or_fault wagons orders ≡ Ok names → AreOnce names
 once wagons orders names h =
     let lists : NameLists = record { wagons = wagons; orders = orders } in
     let f = unrepeated_by lists names _ (first_repeated wagons) (first_repeated orders) h in
@@ -79,12 +80,12 @@ plan_named t names table plan u v stated certificate =
 -- the plan passes the check, which answers its cost
 pub plan_passes : (t : TableText) (names : NameLists) (table : Table) (plan : List (ℕ × ℕ)) (pairs : List (List ℕ × List ℕ)) (u v : List ℕ) (cost : ℕ) → stated_in t ≡ Ok (names, table)
     → pairs ≡ map (named_at names) plan → IsCertificate table plan u v → IsOptimal table plan → cost ≡ cost_of table plan
-    → IsCertified (with_plan t pairs u v) cost × (cost_in (with_plan t pairs u v) ≡ Ok cost)
+    → IsCertified (with_plan t pairs u v) cost × (cost_of_text (with_plan t pairs u v) ≡ Ok cost)
 plan_passes t names table plan pairs u v cost stated by_name certificate optimal least =
     let parts = stated_parts t names table stated in
     let counts = named_counts t.wagons t.orders names _ _ _ _ _ table parts.named parts.even refl refl in
     let one = once t.wagons t.orders names parts.named in
     let found : positions_of names pairs ≡ Ok plan = ap (positions_of names) by_name ∙ positions_found names table one counts.0 counts.1 plan certificate.plan.allowed in
     let passes : checked names table pairs u v ≡ Ok cost = checked_free names table pairs plan u v found certificate ∙ ap Ok (sym least) in
-    let answer : cost_in (with_plan t pairs u v) ≡ Ok cost = costs_of_plans t pairs u v ∙ rw (stated, passes) refl in
+    let answer : cost_of_text (with_plan t pairs u v) ≡ Ok cost = costs_of_plans t pairs u v ∙ rw (stated, passes) refl in
     (certifies_text (with_plan t pairs u v) names table cost parts.named parts.even (plan, found, certificate, optimal, least), answer)

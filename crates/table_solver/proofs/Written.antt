@@ -10,14 +10,14 @@ use Rattle.serde_json.specs.View.{items_of}
 use Rattle.serde_json.specs.Written.{has_float, members_have_float}
 use Rattle.json_fields.specs.Field.{field_name}
 use Rattle.json_fields.specs.Fields.{member, field_of, optional_field_of}
-use Rattle.json_fields.specs.Values.{list_of_each, number_within, order_id_from, pair_of, wagon_number_from}
+use Rattle.json_fields.specs.Values.{list_of_each, number_within, order_id_from, wagon_and_order, wagon_number_from}
 use Rattle.json_fields.specs.Written.{list_data, number_data, number_or_null, pair_data}
 use Rattle.json_fields.proofs.Lines.{object_of-ok}
 use Rattle.json_fields.proofs.Writing.{list-reads, number_reads}
-use Rattle.move_messages.specs.Order.{max_order_wagons}
+use Rattle.move_messages.specs.OrderLimits.{max_order_wagons}
 use Rattle.cost_table.specs.Rows.{IsNumber, Rows}
 use Rattle.cost_table.specs.TableLimits.{max_cost}
-use Rattle.load_orders.specs.Wanted.{IsLack}
+use Rattle.load_orders.specs.WantedLimits.{IsLack}
 use Rattle.table_lines.specs.TableLine.{TableText, cell_of, row_of, table_line_of, table_of, table_text, table_text_of, with_plan, with_plan_of}
 use Rattle.table_lines.specs.declared.table_line.TableLine.{TableLine}
 use Rattle.table_solver.specs.SolvedText.{last_members, solved_data, with_lacks}
@@ -128,7 +128,7 @@ record ListsRead (t : TableText) : Type 0 where
   orders : list_of_each order_id_from (list_data string t.orders) ≡ Ok t.orders
   cells : list_of_each row_of (list_data (list_data number_or_null) t.cells) ≡ Ok t.cells
   penalties : list_of_each (number_within 0 max_cost) (list_data number_data t.penalties) ≡ Ok t.penalties
-  pairs : list_of_each pair_of (list_data pair_data t.pairs) ≡ Ok t.pairs
+  pairs : list_of_each wagon_and_order (list_data pair_data t.pairs) ≡ Ok t.pairs
   u : list_of_each (number_within 0 (2 ^ 64 - 1)) (list_data number_data t.u) ≡ Ok t.u
   v : list_of_each (number_within 0 (2 ^ 64 - 1)) (list_data number_data t.v) ≡ Ok t.v
 
@@ -154,7 +154,7 @@ lacks_seen (Some list) h = h
 pub planned_reads : (table : TableLine) (pairs : List (List ℕ × List ℕ)) (u v : List ℕ) (cost : ℕ)
     → All (λ row. All IsNumber row.items) table.cells.items → All (λ penalty. penalty ≤ max_cost) table.penalties.items → IfSome table.lacks (λ list. All IsLack list.items)
     → All (λ number. wagon_number_from (string number) ≡ Ok number) table.wagons.items → All (λ id. order_id_from (string id) ≡ Ok id) table.orders.items
-    → All (λ pair. pair_of (pair_data pair) ≡ Ok pair) pairs
+    → All (λ pair. wagon_and_order (pair_data pair) ≡ Ok pair) pairs
     → All (λ price. number_within 0 (2 ^ 64 - 1) (number_data price) ≡ Ok price) u → All (λ price. number_within 0 (2 ^ 64 - 1) (number_data price) ≡ Ok price) v
     → table_text_of (solved_data (with_plan (table_text table) pairs u v) cost) ≡ Ok (with_plan (table_text table) pairs u v)
 planned_reads table pairs u v cost costs penalties lacks wagons orders named of_wagons of_orders =
@@ -164,7 +164,7 @@ planned_reads table pairs u v cost costs penalties lacks wagons orders named of_
       orders = list-reads order_id_from string table.orders.items orders;
       cells = cells_read table.cells.items costs;
       penalties = penalties_read table.penalties.items penalties;
-      pairs = list-reads pair_of pair_data pairs named;
+      pairs = list-reads wagon_and_order pair_data pairs named;
       u = list-reads (number_within 0 (2 ^ 64 - 1)) number_data u of_wagons;
       v = list-reads (number_within 0 (2 ^ 64 - 1)) number_data v of_orders;
     } in

@@ -1,10 +1,10 @@
 //! The pairs of a plan by name.
 ghost use Rattle.std.specs.Prelude.{◌≡◌, All, IfOk, map};
-ghost use Rattle.named_pairs.specs.inner.Naming.{IsNamed};
+ghost use Rattle.price_checker.specs.inner.Naming.{IsNamed};
 ghost use Rattle.table_solver.specs.inner.Naming.{named_at};
 
 use cost_table::Names;
-use named_pairs::{order_name, wagon_name};
+use price_checker::{order_name, wagon_name};
 use rail_codes::{OrderId, WagonNumber};
 use std::alloc::{AllocError, Global};
 

@@ -2,11 +2,11 @@
 ghost use Rattle.std.specs.Prelude.{◌≡◌, ◌≤◌, ◌-◌, ◌^◌, All, IfOk, IfSome, OnOk, option_map, string_bytes};
 ghost use Rattle.serde_json.specs.Data.{object, string};
 ghost use Rattle.serde_json.specs.View.{members_view, view};
-ghost use Rattle.json_fields.specs.Values.{number_within, order_id_from, pair_of, wagon_number_from};
+ghost use Rattle.json_fields.specs.Values.{number_within, order_id_from, wagon_and_order, wagon_number_from};
 ghost use Rattle.json_fields.specs.Written.{list_data, number_data, number_or_null, pair_data};
 ghost use Rattle.cost_table.specs.Rows.{IsNumber};
 ghost use Rattle.cost_table.specs.TableLimits.{max_cost};
-ghost use Rattle.load_orders.specs.Wanted.{IsLack};
+ghost use Rattle.load_orders.specs.WantedLimits.{IsLack};
 ghost use Rattle.table_lines.specs.TableLine.{table_line_of, table_text, with_plan};
 ghost use Rattle.table_solver.specs.SolvedText.{solved_text};
 ghost use Rattle.table_solver.specs.inner.Members.{plain_members, put_lacks};
@@ -75,7 +75,7 @@ fn members_without_lacks(
     ensures members { let t = with_plan (table_text table.now) pairs.now prices.now.u.items prices.now.v.items in IfOk result (λ members. members_view members.entries ≡ plain_members t cost) }
     ensures wagons { OnOk result (All (λ number. wagon_number_from (string number) ≡ Ok number) table.now.wagons.items) }
     ensures orders { OnOk result (All (λ id. order_id_from (string id) ≡ Ok id) table.now.orders.items) }
-    ensures pairs { OnOk result (All (λ pair. pair_of (pair_data pair) ≡ Ok pair) pairs.now) }
+    ensures pairs { OnOk result (All (λ pair. wagon_and_order (pair_data pair) ≡ Ok pair) pairs.now) }
     ensures prices_of_wagons { OnOk result (All (λ price. number_within 0 (2 ^ 64 - 1) (number_data price) ≡ Ok price) prices.now.u.items) }
     ensures prices_of_orders { OnOk result (All (λ price. number_within 0 (2 ^ 64 - 1) (number_data price) ≡ Ok price) prices.now.v.items) }
 {

@@ -4,11 +4,12 @@ use Rattle.std.proofs.lemmas.List.{append-nil, append_assoc}
 use Rattle.std.proofs.lemmas.List.Sorted.{IsPermutation-cons, IsPermutation-to_front, IsPermutation-trans, length_permutation, list_any-IsPermutation}
 use Rattle.std.specs.List.Sorted.{IsPermutation}
 use Rattle.csv_records.specs.Fields.{Record}
-use Rattle.csv_records.specs.Requests.{IsAnswer}
+use Rattle.csv_records.specs.Requests.{IsOutcome}
 use Rattle.wagon_state.specs.declared.wagon_row.WagonRow.{WagonRow}
 use Rattle.wagon_roster.specs.Reading.{Gives, Stops, rows_of, with_record, with_records, with_wagon}
 use Rattle.wagon_roster.specs.Records.{wagon_record}
-use Rattle.wagon_roster.specs.Roster.{IsRoster, has_wagon, is_same_number, max_roster_wagons}
+use Rattle.wagon_roster.specs.Roster.{IsRoster, max_roster_wagons}
+use Rattle.wagon_roster.specs.SameWagons.{has_wagon, is_same_number}
 use Rattle.wagon_roster.specs.inner.Reading.{IsReadSoFar, RefusesWagon}
 use Rattle.faults.specs.declared.faults.RosterFault.{RosterFault}
 use Rattle.faults.specs.declared.faults.RosterFault.TheVariants.{OutOfMemory, DuplicateWagon, TooLarge, BadRosterRow, ReadFailed}
@@ -77,14 +78,14 @@ refused_from number roster fields row (Err fault) few says refused = λ done res
     stops_along fault _ _ (h.so_far (fields ∷ rest)) (stops_at (length done + 1) h.rows fields rest fault first)
 
 -- what reading answers gives what the records say, and is a roster
-pub gives_from : (result : Result (List WagonRow) RosterFault) (records : List Record) → IsAnswer IsReadSoFar (λ fault records. Stops fault (rows_of records)) result records
+pub gives_from : (result : Result (List WagonRow) RosterFault) (records : List Record) → IsOutcome IsReadSoFar (λ fault records. Stops fault (rows_of records)) result records
     → Gives result (rows_of records)
 gives_from (Ok roster) records h =
     let all : rows_of (records ++ []) ≡ Ok h.rows = h.so_far [] in
     record { rows = h.rows; are_read = rw append-nil at all; same = h.same }
 gives_from (Err fault) records h = h
 
-pub roster_from : (result : Result (List WagonRow) RosterFault) (records : List Record) → IsAnswer IsReadSoFar (λ fault records. Stops fault (rows_of records)) result records
+pub roster_from : (result : Result (List WagonRow) RosterFault) (records : List Record) → IsOutcome IsReadSoFar (λ fault records. Stops fault (rows_of records)) result records
     → IfOk result IsRoster
 roster_from (Ok roster) records h = h.kept
 roster_from (Err fault) records h = tt

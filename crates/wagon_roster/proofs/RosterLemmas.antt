@@ -15,7 +15,8 @@ use Rattle.std.specs.Ordering.{is_eq, ordering_index, ordering_reverse}
 use Rattle.std.specs.declared.cmp.Ordering.{Ordering}
 use Rattle.std.specs.declared.cmp.Ordering.TheVariants.{Less, Equal, Greater}
 use Rattle.wagon_state.specs.declared.wagon_row.WagonRow.{WagonRow}
-use Rattle.wagon_roster.specs.Roster.{IsRoster, IsRosterRow, by_number, compare_numbers, has_wagon, is_same_number, max_roster_wagons}
+use Rattle.wagon_roster.specs.Roster.{IsRoster, IsRosterRow, by_number, compare_numbers, max_roster_wagons}
+use Rattle.wagon_roster.specs.SameWagons.{has_wagon, is_same_number}
 use Rattle.wagon_roster.specs.inner.Places.{IsGapFor}
 
 pub by_number_total : IsTotalOrder by_number

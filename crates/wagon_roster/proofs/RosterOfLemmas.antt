@@ -14,12 +14,13 @@ use Rattle.wagon_state.specs.declared.wagon_row.WagonRow.{WagonRow}
 use Rattle.wagon_roster.proofs.RosterLemmas.{by_number_total, same_order}
 use Rattle.wagon_roster.specs.Reading.{◌>>=◌, Gives, Stops, is_failure, rows_of, with_read, with_record, with_records}
 use Rattle.wagon_roster.specs.Records.{is_header, wagon_record}
-use Rattle.wagon_roster.specs.Roster.{IsRoster, has_wagon, is_same_wagon, max_roster_wagons}
+use Rattle.wagon_roster.specs.Roster.{IsRoster, max_roster_wagons}
+use Rattle.wagon_roster.specs.SameWagons.{has_wagon, have_one_number}
 use Rattle.wagon_roster.specs.RosterOf.{IsAnswered, IsReadFrom, IsRosterOf}
 use Rattle.faults.specs.declared.faults.RosterFault.{RosterFault}
 use Rattle.faults.specs.declared.faults.RosterFault.TheVariants.{OutOfMemory, DuplicateWagon, TooLarge, BadRosterRow, ReadFailed}
 
-same_wagon : IsEquivalence is_same_wagon
+same_wagon : IsEquivalence have_one_number
 same_wagon = on_equiv (λ (row : WagonRow). row.number) (lists_equiv nat_eq_equiv)
 
 -- From these rows on, the records say the rows at the end.
@@ -28,7 +29,7 @@ record SaysFrom (n : ℕ) (rows : List WagonRow) (records : List Record) (end : 
   each_read : map wagon_record records ≡ map Some more
   few_records : length records + n ≤ max_roster_wagons + 2
   all : end ≡ rows ++ more
-  no_wagon_twice : IsDistinct is_same_wagon end
+  no_wagon_twice : IsDistinct have_one_number end
 
 -- what a record said that was no fault
 record SaysOne (n : ℕ) (rows : List WagonRow) (fields : Record) (more : List WagonRow) : Type 0 where
@@ -74,7 +75,7 @@ says_step n rows fields records end (Ok more) is others e =
     let one = says_one n rows fields more is in
     says_then n rows more fields records end one (others more one e)
 
-says_from : (n : ℕ) (rows : List WagonRow) (records : List Record) (end : List WagonRow) → n ≤ max_roster_wagons + 2 → IsDistinct is_same_wagon rows
+says_from : (n : ℕ) (rows : List WagonRow) (records : List Record) (end : List WagonRow) → n ≤ max_roster_wagons + 2 → IsDistinct have_one_number rows
     → with_records n rows records ≡ Ok end → SaysFrom n rows records end
 says_from n rows [] end few apart e =
     let same : rows ≡ end = cc e in
@@ -82,11 +83,11 @@ says_from n rows [] end few apart e =
 says_from n rows (fields ∷ records) end few apart e =
     says_step n rows fields records end (with_record n rows fields) refl
     (λ more one rest.
-    let still : IsDistinct is_same_wagon more = rw one.made (IsDistinct-push same_wagon rows one.row apart one.new) in
+    let still : IsDistinct have_one_number more = rw one.made (IsDistinct-push same_wagon rows one.row apart one.new) in
     says_from (n + 1) more records end (omega (arith, one.few_records)) still rest)
     e
 
-none_twice : IsDistinct is_same_wagon []
+none_twice : IsDistinct have_one_number []
 unfolding IsDistinct
 none_twice = tt
 
@@ -119,16 +120,16 @@ at_middle P [] row more h = h.0
 at_middle P (x ∷ xs) row more h = at_middle P xs row more h.1
 
 -- where no wagon stands twice, none before a row is its wagon
-none_before : (rows : List WagonRow) (row : WagonRow) (more : List WagonRow) → IsDistinct is_same_wagon (rows ++ row ∷ more) → has_wagon rows row.number ≡ false
+none_before : (rows : List WagonRow) (row : WagonRow) (more : List WagonRow) → IsDistinct have_one_number (rows ++ row ∷ more) → has_wagon rows row.number ≡ false
 none_before [] row more apart = refl
 none_before (x ∷ xs) row more apart =
-    let first : is_same_wagon x row ≡ false = at_middle (λ y. is_same_wagon x y ≡ false) xs row more (IsDistinct-head is_same_wagon x (xs ++ row ∷ more) apart) in
-    let flipped : is_same_wagon row x ≡ false = same_wagon.symm row x ∙ first in
-    let others : has_wagon xs row.number ≡ false = none_before xs row more (IsDistinct-tail is_same_wagon x (xs ++ row ∷ more) apart) in
+    let first : have_one_number x row ≡ false = at_middle (λ y. have_one_number x y ≡ false) xs row more (IsDistinct-head have_one_number x (xs ++ row ∷ more) apart) in
+    let flipped : have_one_number row x ≡ false = same_wagon.symm row x ∙ first in
+    let others : has_wagon xs row.number ≡ false = none_before xs row more (IsDistinct-tail have_one_number x (xs ++ row ∷ more) apart) in
     rw (flipped, others) refl
 
 rows_are_read : (n : ℕ) (rows : List WagonRow) (records : List Record) (more : List WagonRow) → map wagon_record records ≡ map Some more
-    → length records + n ≤ max_roster_wagons + 2 → IsDistinct is_same_wagon (rows ++ more) → with_records n rows records ≡ Ok (rows ++ more)
+    → length records + n ≤ max_roster_wagons + 2 → IsDistinct have_one_number (rows ++ more) → with_records n rows records ≡ Ok (rows ++ more)
 rows_are_read n rows [] [] each few apart = ap Ok (sym (append-nil rows))
 rows_are_read n rows [] (row ∷ more) each few apart = cc each
 rows_are_read n rows (fields ∷ records) [] each few apart = cc each

@@ -4,7 +4,8 @@ use Rattle.std.specs.List.Sorted.{IsPermutation}
 use Rattle.csv_records.specs.Fields.{Record}
 use Rattle.wagon_state.specs.declared.wagon_row.WagonRow.{WagonRow}
 use Rattle.wagon_roster.specs.Records.{is_header, wagon_record}
-use Rattle.wagon_roster.specs.Roster.{has_wagon, max_roster_wagons}
+use Rattle.wagon_roster.specs.SameWagons.{has_wagon}
+use Rattle.wagon_roster.specs.Roster.{max_roster_wagons}
 use Rattle.faults.specs.declared.faults.RosterFault.{RosterFault}
 use Rattle.faults.specs.declared.faults.RosterFault.TheVariants.{OutOfMemory, DuplicateWagon, TooLarge, BadRosterRow, ReadFailed}
 

@@ -50,8 +50,8 @@ status_in word place moment =
     else None
 
 -- the row of the wagon that six fields say, if each is as its rule asks: nobody holds it, and it is promised to nobody
-abbrev pub wagon_in : (wagon class load status place moment : List ℕ) → Option WagonRow
-wagon_in wagon class load status place moment = do
+abbrev pub wagon_said : (wagon class load status place moment : List ℕ) → Option WagonRow
+wagon_said wagon class load status place moment = do
   at ← place_in place
   last ← moment_in moment
   number ← number_in wagon
@@ -62,5 +62,5 @@ wagon_in wagon class load status place moment = do
 
 -- what a record says, if it has six fields that say a wagon
 abbrev pub wagon_record : Record → Option WagonRow
-wagon_record (wagon ∷ class ∷ load ∷ status ∷ place ∷ moment ∷ []) = wagon_in wagon class load status place moment
+wagon_record (wagon ∷ class ∷ load ∷ status ∷ place ∷ moment ∷ []) = wagon_said wagon class load status place moment
 wagon_record fields = None

@@ -1,7 +1,6 @@
 -- What a roster is.
-use Rattle.std.specs.Prelude.{◌≡◌, ℕ, ◌≤◌, Bool, false, nat_eq, List, length, None, All}
-use Rattle.std.specs.Cmp.Lexicographic.{pointwise, slice_cmp}
-use Rattle.std.specs.List.{list_any}
+use Rattle.std.specs.Prelude.{◌≡◌, ℕ, ◌≤◌, false, List, length, None, All}
+use Rattle.std.specs.Cmp.Lexicographic.{slice_cmp}
 use Rattle.std.specs.List.Sorted.{IsStrictlySortedBy}
 use Rattle.std.specs.Ordering.{nat_cmp}
 use Rattle.std.specs.declared.cmp.Ordering.{Ordering}
@@ -13,17 +12,6 @@ use Rattle.wagon_state.specs.declared.wagon_row.WagonRow.{WagonRow}
 -- the most wagons of a roster
 abbrev pub max_roster_wagons : ℕ
 max_roster_wagons = 1000
-
--- whether two wagon numbers are the same
-abbrev pub is_same_number : List ℕ → List ℕ → Bool
-is_same_number number other = pointwise nat_eq number other
-
-abbrev pub is_same_wagon : WagonRow → WagonRow → Bool
-is_same_wagon a b = is_same_number a.number b.number
-
--- whether one of the rows is that of this wagon
-abbrev pub has_wagon : List WagonRow → List ℕ → Bool
-has_wagon rows number = list_any (λ row. is_same_number number row.number) rows
 
 -- wagon numbers by their digits, the first digit first
 abbrev pub compare_numbers : List ℕ → List ℕ → Ordering

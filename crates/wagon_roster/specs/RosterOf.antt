@@ -7,7 +7,8 @@ use Rattle.csv_records.specs.Files.{AreBelowHeader, AreRecordsOf}
 use Rattle.wagon_state.specs.declared.wagon_row.WagonRow.{WagonRow}
 use Rattle.wagon_roster.specs.Reading.{Gives, is_failure, rows_of}
 use Rattle.wagon_roster.specs.Records.{is_header, wagon_record}
-use Rattle.wagon_roster.specs.Roster.{IsRoster, is_same_wagon, max_roster_wagons}
+use Rattle.wagon_roster.specs.Roster.{IsRoster, max_roster_wagons}
+use Rattle.wagon_roster.specs.SameWagons.{have_one_number}
 use Rattle.faults.specs.declared.faults.RosterFault.{RosterFault}
 
 -- The records are the header and below it one for each wagon, in any order, and the roster has exactly their rows,
@@ -15,7 +16,7 @@ use Rattle.faults.specs.declared.faults.RosterFault.{RosterFault}
 pub record IsRosterOf (records : List Record) (roster : List WagonRow) : Type 0 where
   pub rows : List WagonRow
   pub file : AreBelowHeader is_header wagon_record max_roster_wagons records rows
-  pub no_wagon_twice : IsDistinct is_same_wagon rows
+  pub no_wagon_twice : IsDistinct have_one_number rows
   pub same_rows : IsPermutation rows roster
   pub in_order : IsRoster roster
 

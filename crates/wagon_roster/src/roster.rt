@@ -1,7 +1,8 @@
 //! A roster: the rows of a fleet.
 ghost use Rattle.std.specs.Prelude.{◌≡◌, ◌<◌, ◌∷◌, [], true, false, IfErr, IfOk, OnOk, length};
 ghost use Rattle.std.specs.List.Sorted.{IsPermutation, IsStrictlySortedBy};
-ghost use Rattle.wagon_roster.specs.Roster.{IsRoster, IsRosterRow, by_number, has_wagon, max_roster_wagons};
+ghost use Rattle.wagon_roster.specs.Roster.{IsRoster, IsRosterRow, by_number, max_roster_wagons};
+ghost use Rattle.wagon_roster.specs.SameWagons.{has_wagon};
 ghost use Rattle.wagon_roster.specs.inner.Reading.{RefusesWagon};
 ghost use Rattle.wagon_roster.specs.inner.Places.{IsGapFor};
 

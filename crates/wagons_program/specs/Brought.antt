@@ -1,11 +1,11 @@
 -- What a run over the lines of an input does, up to the status of the program.
 use Rattle.std.specs.Prelude.{◌≡◌, ℕ, List, Option}
-use Rattle.commit_book.specs.BookStep.{BookValue}
+use Rattle.commit_book.specs.Books.{BookValue}
 use Rattle.line_engine.specs.Replies.{Numbered, Replying}
 use Rattle.line_engine.specs.Runs.{Failures, Run, RunEnds, RunStops}
 use Rattle.line_engine.specs.declared.run.RunCount.{RunCount}
 use Rattle.line_engine.specs.declared.run.RunFault.{RunFault}
-use Rattle.office.specs.CommandReplies.{RepliesToLine, RunsOutOfMemory}
+use Rattle.office.specs.CommandReplies.{RepliesToLine, LineRunsOutOfMemory}
 use Rattle.office.specs.Replies.{ChecksLine}
 use Rattle.table_solver.specs.Solving.{SolvesLine}
 use Rattle.wagons_program.specs.Status.{status_of_count}
@@ -43,7 +43,7 @@ pub record AreStopped {H : Type 0} (replying : Replying H) (lines : Lines H) (wh
 
 -- the replies to command lines, to table lines with a plan, and to table lines that are to be planned
 abbrev pub ToCommands : Replying BookValue
-ToCommands = Numbered RepliesToLine RunsOutOfMemory
+ToCommands = Numbered RepliesToLine LineRunsOutOfMemory
 
 abbrev pub ToPlans : Replying (Unit {0})
 ToPlans = Numbered ChecksLine (λ _ _ _. Unit {0})

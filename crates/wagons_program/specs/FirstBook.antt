@@ -1,6 +1,6 @@
 -- The book that an office is opened with.
 use Rattle.std.specs.Prelude.{◌≡◌, List, []}
-use Rattle.commit_book.specs.BookStep.{BookValue}
+use Rattle.commit_book.specs.Books.{BookValue}
 use Rattle.commit_book.specs.Limits.{LimitNumbers}
 use Rattle.line_network.specs.Network.{NetworkValue}
 use Rattle.wagon_state.specs.declared.wagon_row.WagonRow.{WagonRow}

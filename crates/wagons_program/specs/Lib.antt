@@ -2,3 +2,4 @@ pub mod Stop
 pub mod Status
 pub mod FirstBook
 pub mod Brought
+pub mod Laws

@@ -1,14 +1,14 @@
 //! An office that is opened, and the command lines of an input brought to it.
 ghost use Rattle.std.specs.Prelude.{IfErr, IfOk, List};
-ghost use Rattle.commit_book.specs.BookStep.{BookValue};
+ghost use Rattle.commit_book.specs.Books.{BookValue};
 ghost use Rattle.wagon_state.specs.declared.wagon_row.WagonRow.{WagonRow};
 ghost use Rattle.wagons_program.specs.Brought.{AreAnswered, AreStopped, ToCommands};
 ghost use Rattle.wagons_program.specs.FirstBook.{IsFirstBook};
 
 use crate::new_book::{OfficeFiles, new_book, read_files};
-use crate::office_options::OfficeOptions;
 use crate::status::status_of_run;
 use crate::stop::Stop;
+use command_line::OfficeOptions;
 use commit_book::Book;
 use line_network::Network;
 use office::{FromRead, ToWrite};

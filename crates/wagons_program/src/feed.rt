@@ -5,11 +5,13 @@ ghost use Rattle.wagons_program.specs.Status.{status_of_files};
 
 use crate::bringing::leave;
 use crate::new_book::{NewBook, OfficeFiles, new_book, open, read_files};
-use crate::office_options::FeedOptions;
 use crate::printing::print_whole;
 use crate::status::{DONE, REFUSED, STOPPED};
 use crate::stop::Stop;
-use office::{FeedReport, FromRead, MAX_FILES, Source, report_text};
+use book_feed::{FeedReport, report_text};
+use command_line::FeedOptions;
+use line_engine::MAX_FILES;
+use office::{FromRead, Source};
 use std::rt::Files;
 use std::sync::Wait;
 use std::thread::Threads;
@@ -31,7 +33,7 @@ where
     if readers.is_empty() || readers.len() > MAX_FILES {
         return Err(Stop::OpenFailed);
     }
-    match office::feed(rt, rt.alloc(), readers, book, &networks) {
+    match book_feed::feed(rt, rt.alloc(), readers, book, &networks) {
         Ok(report) => {
             let status = print_report(rt, &report);
             leave(report.book);

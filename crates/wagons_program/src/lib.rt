@@ -1,15 +1,13 @@
-//! The program `wagons` as a library: its command line, its words, and how it ends.
+//! The program `wagons` as a library: what its words do, and how it ends.
 #![tactic(auto)]
 
 mod bringing;
 mod check;
-mod command_line;
 mod explain;
 mod feed;
-mod help;
+mod laws;
 mod map;
 mod new_book;
-mod office_options;
 mod printing;
 mod program;
 mod run;
@@ -17,7 +15,6 @@ mod solve;
 mod status;
 mod stop;
 
-pub use command_line::{Word, not_utf8, read_words};
-pub use office_options::{FeedOptions, OfficeOptions};
+pub use laws::{each_fault_is_listed, each_number_is_a_faults};
 pub use program::{run_program, run_words};
 pub use stop::Stop;

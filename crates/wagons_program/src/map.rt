@@ -1,10 +1,13 @@
 //! The word `map`.
 
-use crate::bringing::{Brought, bring};
-use crate::office_options::OfficeOptions;
+use crate::bringing::{Brought, bring, leave};
 use crate::printing::print_whole;
 use crate::stop::Stop;
+use command_line::OfficeOptions;
+use commit_book::Book;
 use fleet_map::map_text;
+use line_network::Network;
+use std::alloc::Global;
 use std::io;
 use std::io::Read;
 use std::rt::Files;
@@ -23,12 +26,18 @@ pub(crate) fn map<R: Print + Files + Threads + Wait + AllocGlobal, I: Read + Dro
         networks,
         status,
     } = bring(rt, options, input, io::sink())?;
+    let text = map_of(rt.alloc(), &book, &networks);
+    leave(book);
+    print_whole(rt, &text?)?;
+    Ok(status)
+}
+
+/// The graph of a book's present office.
+fn map_of(alloc: Global, book: &Book, networks: &[Network]) -> Result<String, Stop> {
     let state = book.state();
     // A book's network in force is one of its networks, which are numbered from 1.
     let Some(network) = networks.get(state.network() as usize - 1) else {
         return Err(Stop::OpenFailed);
     };
-    let text = map_text(rt.alloc(), state, network)?;
-    print_whole(rt, &text)?;
-    Ok(status)
+    Ok(map_text(alloc, state, network)?)
 }

@@ -2,8 +2,8 @@
 ghost use Rattle.std.specs.Prelude.{◌≡◌, IfOk};
 ghost use Rattle.wagons_program.specs.FirstBook.{IsFirstBook};
 
-use crate::office_options::OfficeOptions;
 use crate::stop::Stop;
+use command_line::OfficeOptions;
 use commit_book::Book;
 use distance_tables::{MAX_NETWORKS, Networks, NetworksFault, OpenGate, Tables, tables_by_workers};
 use line_network::{Network, read_lines};

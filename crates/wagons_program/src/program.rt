@@ -3,7 +3,6 @@ ghost use Rattle.std.specs.Prelude.{◌≡◌};
 ghost use Rattle.wagons_program.specs.Status.{exit_status};
 
 use crate::check::check;
-use crate::command_line::{Word, not_utf8, read_words};
 use crate::explain::explain;
 use crate::feed::feed;
 use crate::map::map;
@@ -13,6 +12,7 @@ use crate::status::{DONE, STOPPED};
 use crate::stop::Stop;
 use clap::Error;
 use clap::error::ErrorKind;
+use command_line::{Word, not_utf8, read_words};
 use std::convert::AsStr;
 use std::io::Read;
 use std::process::ExitCode;

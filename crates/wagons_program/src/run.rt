@@ -1,14 +1,14 @@
 //! The word `run`.
 ghost use Rattle.std.specs.Prelude.{◌≡◌, IfOk, List};
-ghost use Rattle.commit_book.specs.BookStep.{BookValue};
+ghost use Rattle.commit_book.specs.Books.{BookValue};
 ghost use Rattle.line_network.specs.Network.{NetworkValue};
 ghost use Rattle.wagon_state.specs.declared.wagon_row.WagonRow.{WagonRow};
 ghost use Rattle.wagons_program.specs.Brought.{AreAnswered, Lines, ToCommands};
 ghost use Rattle.wagons_program.specs.FirstBook.{IsFirstBook};
 
 use crate::bringing::{Brought, bring, leave};
-use crate::office_options::OfficeOptions;
 use crate::stop::Stop;
+use command_line::OfficeOptions;
 use std::io;
 use std::io::Read;
 use std::rt::Files;

@@ -3,9 +3,10 @@ ghost use Rattle.std.specs.Prelude.{◌≡◌};
 ghost use Rattle.std.specs.Str.{IsAscii};
 ghost use Rattle.wagons_program.specs.Stop.{stop_number};
 
+use book_feed::FeedFault;
 use distance_tables::{NetworksFault, WorkFault};
 use line_network::NetworkFault;
-use office::{FeedFault, RunFault};
+use office::RunFault;
 use std::alloc::{AllocError, AllocFailed};
 use std::fmt;
 use std::fmt::{Display, Formatter};

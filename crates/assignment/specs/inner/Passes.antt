@@ -26,11 +26,11 @@ pub record HasLabel (label : ℕ → ℕ) (orders : List ℕ) (is_idle : Bool) (
   pub among : IsAmong orders is_idle place
 
 -- the least label of such wagons, FAR where there is none
-pub record IsLeast (label : ℕ → ℕ) (orders : List ℕ) (is_idle : Bool) (least n : ℕ) : Type 0 where
+pub record IsLeastLabel (label : ℕ → ℕ) (orders : List ℕ) (is_idle : Bool) (least n : ℕ) : Type 0 where
   pub below : (i : ℕ) → i < n → IsAmong orders is_idle i → least ≤ label i
   pub attained : least < FAR → HasLabel label orders is_idle least n
 
 -- the least labels of the wagons that lead on to a target, and of those without an order
 pub record AreNearest (label : ℕ → ℕ) (target orders : List ℕ) (nearest : Nearest) (n : ℕ) : Type 0 where
-  pub onward : IsLeast label target false nearest.onward n
-  pub idle : IsLeast label orders true nearest.idle n
+  pub onward : IsLeastLabel label target false nearest.onward n
+  pub idle : IsLeastLabel label orders true nearest.idle n

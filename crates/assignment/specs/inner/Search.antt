@@ -2,8 +2,8 @@
 use Rattle.std.specs.Prelude.{◌≡◌, ◌≢◌, ◌+◌, ◌<◌, ◌≤◌, nat_lt, ℕ, Bool, length, min, Some, None, slice_index}
 use Rattle.std.specs.List.{count_by}
 use Rattle.std.specs.Vec.{vec_capacity}
-use Rattle.cost_table.specs.Table.{Table, IsTable, cost_at, penalty_at, wagon_count, order_count}
-use Rattle.cost_table.specs.TableLimits.{max_cost}
+use Rattle.cost_table.specs.Table.{Table, cost_at, penalty_at, wagon_count, order_count}
+use Rattle.cost_table.specs.TableLimits.{IsTable, max_cost}
 use Rattle.assignment.specs.declared.passes.TheConstants.{FAR}
 use Rattle.assignment.specs.declared.state.TheConstants.{NO_ORDER}
 use Rattle.assignment.specs.declared.search.Search.{Search}
@@ -44,7 +44,7 @@ pub record IsReachedFrom (s : Kept) (f : Search) (i x : ℕ) : Type 0 where
   pub exact : label_at f i + slice_index s.v (settled_at f x) ≡ reach s f i (settled_at f x)
 
 -- wagon i was reached from one of the first n orders settled
-pub record IsReached (s : Kept) (f : Search) (n i : ℕ) : Type 0 where
+pub record IsWagonReached (s : Kept) (f : Search) (n i : ℕ) : Type 0 where
   pub place : ℕ
   pub before : place < n
   pub from : IsReachedFrom s f i place
@@ -59,7 +59,7 @@ pub record IsLed (s : Kept) (f : Search) (x : ℕ) : Type 0 where
   pub wagon : slice_index f.via.items x < wagon_count s.table
   pub held : order_at s.order_of (slice_index f.via.items x) ≡ Some (settled_at f x)
   pub as_far : label_at f (slice_index f.via.items x) ≡ distance_at f (settled_at f x)
-  pub reached : IsReached s f x (slice_index f.via.items x)
+  pub reached : IsWagonReached s f x (slice_index f.via.items x)
 
 -- where an order stands among those settled
 pub record IsAt (f : Search) (k : ℕ) : Type 0 where
@@ -104,7 +104,7 @@ pub record IsRefusal (s : Kept) (f : Search) : Type 0 where
 -- A search of which the first `scanned` settled orders are relaxed.
 pub record IsSearch (s : Kept) (f : Search) (scanned : ℕ) : Type 0 where
   pub room : HasRoom s.table f
-  pub labels : (i : ℕ) → i < wagon_count s.table → label_at f i < FAR → IsReached s f (length f.orders.items) i
+  pub labels : (i : ℕ) → i < wagon_count s.table → label_at f i < FAR → IsWagonReached s f (length f.orders.items) i
   pub relaxed : (x : ℕ) → x < scanned → IsRelaxed s f (settled_at f x)
   pub opens : (i : ℕ) → i < wagon_count s.table → IsOpen s f i
   pub beyond : (i : ℕ) → i < wagon_count s.table → IsBeyond s f i
@@ -143,7 +143,7 @@ pub record IsSearchOf (state : State) (f : Search) : Type 0 where
   pub settled : (x : ℕ) → x < length f.orders.items → settled_at f x < order_count state.cells.now
 
 -- A shortest path of a search that is done.
-pub record IsPath (s : Kept) (f : Search) (path : Path) : Type 0 where
+pub record IsShortestPath (s : Kept) (f : Search) (path : Path) : Type 0 where
   pub search : IsSearch s f (length f.orders.items)
   pub some : 0 < length f.orders.items
   pub limit : path.distance ≤ max_cost

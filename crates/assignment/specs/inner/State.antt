@@ -1,7 +1,8 @@
 -- What is kept between searches: prices, and the order of each wagon.
 use Rattle.std.specs.Prelude.{◌≡◌, ◌+◌, ◌<◌, ◌≤◌, ◌==◌, ℕ, Bool, false, if◌then◌else◌, List, map, length, Option, Some, None, slice_index, slice_index_or}
 use Rattle.std.specs.List.{count_by}
-use Rattle.cost_table.specs.Table.{Table, IsTable, cost_at, penalty_at, wagon_count, order_count}
+use Rattle.cost_table.specs.Table.{Table, cost_at, penalty_at, wagon_count, order_count}
+use Rattle.cost_table.specs.TableLimits.{IsTable}
 use Rattle.assignment.specs.declared.state.TheConstants.{NO_ORDER}
 use Rattle.assignment.specs.declared.state.State.{State}
 use Rattle.assignment.specs.inner.Costs.{AreCosts}
@@ -17,13 +18,13 @@ orders_of numbers = map order_of_number numbers
 abbrev pub order_at : List (Option ℕ) → ℕ → Option ℕ
 order_at order_of i = slice_index_or order_of i None
 
-abbrev pub is_order : ℕ → Option ℕ → Bool
-is_order k None = false
-is_order k (Some q) = q == k
+abbrev pub has_order : ℕ → Option ℕ → Bool
+has_order k None = false
+has_order k (Some q) = q == k
 
 -- how many wagons have order k
 abbrev pub served : ℕ → List (Option ℕ) → ℕ
-served k order_of = count_by (is_order k) order_of
+served k order_of = count_by (has_order k) order_of
 
 -- a table, a price u for each wagon and a price v for each order, and the order of each wagon
 pub record Kept : Type 0 where

@@ -2,7 +2,7 @@
 
 use book_samples::{Line, call, reply_text};
 use commit_book::{Answer, Book, Call, Refusal, Reply};
-use named_pairs::NamedFault;
+use price_checker::NamedFault;
 use std::alloc::Global;
 use std::test::Fail;
 

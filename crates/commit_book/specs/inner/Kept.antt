@@ -2,10 +2,11 @@
 use Rattle.std.specs.Prelude.{◌≡◌, ◌≤◌, ◌==◌, ◌&&◌, nat_le, nat_lt, ℕ, Bool, if◌then◌else◌, List, [], ◌∷◌, ◌++◌, Some, length, drop, map, All}
 use Rattle.line_network.specs.Network.{NetworkValue}
 use Rattle.distance_tables.specs.Networks.{network_at}
-use Rattle.cost_table.specs.Allowed.{IsLastingTable, IsTableOf}
+use Rattle.problem_table.specs.Allowed.{IsTableOf}
+use Rattle.problem_table.specs.Lasting.{IsLastingTable}
 use Rattle.cost_table.specs.Problem.{ProblemValue}
 use Rattle.operating_db.specs.declared.event.Event.{Event}
-use Rattle.commit_book.specs.BookStep.{BookValue}
+use Rattle.commit_book.specs.Books.{BookValue}
 use Rattle.commit_book.specs.History.{IsLegal, IsTableAt, problem_at}
 use Rattle.commit_book.specs.inner.Ledger.{LedgerValue}
 use Rattle.commit_book.specs.Limits.{LimitNumbers}

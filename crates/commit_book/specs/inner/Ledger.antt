@@ -9,7 +9,8 @@ use Rattle.move_messages.specs.declared.message.Message as movement
 use Rattle.wagon_state.specs.declared.wagon_row.WagonRow.{WagonRow}
 use Rattle.operating_db.specs.After.{after_call}
 use Rattle.operating_db.specs.ApplyFault.{IsRefusal}
-use Rattle.operating_db.specs.Office.{Office, StateValue, first_office}
+use Rattle.operating_db.specs.Office.{Office, first_office}
+use Rattle.operating_db.specs.State.{StateValue}
 use Rattle.faults.specs.declared.faults.ApplyFault.{ApplyFault}
 use Rattle.operating_db.specs.declared.event.Event.{Event}
 use Rattle.operating_db.specs.declared.event.Event.TheVariants.{Message, Place, Withdraw, Commit, Revise}

@@ -3,7 +3,8 @@ use Rattle.std.specs.Prelude.{◌≡◌, ◌<◌, ℕ, Bool, nat_eq, nat_lt, not
 use Rattle.std.specs.List.{filter, insert}
 use Rattle.load_orders.specs.OrderRow.{OrderRowValue}
 use Rattle.database_rows.specs.Kept.{IsOrderRows}
-use Rattle.database_rows.specs.Rows.{is_order, max_open_wagons, open_wagons, waiting_from}
+use Rattle.database_rows.specs.Rows.{is_order, max_open_wagons, open_wagons}
+use Rattle.database_rows.specs.WaitingOrders.{waiting_from}
 
 -- rows with an index that finds the place of each order's row by its name, and the count of the wagons that open orders
 -- want

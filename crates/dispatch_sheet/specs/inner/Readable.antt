@@ -1,13 +1,13 @@
 -- What makes the line of a commit read as that commit.
 use Rattle.std.specs.Prelude.{◌≡◌, ◌<◌, ◌≤◌, ◌^◌, ℕ, List, All, Ok}
-use Rattle.json_fields.specs.Values.{pair_of}
+use Rattle.json_fields.specs.Values.{wagon_and_order}
 use Rattle.json_fields.specs.Written.{pair_data}
 use Rattle.move_messages.specs.Commands.{max_version}
 use Rattle.move_messages.specs.declared.commit_text.CommitText.{CommitText}
 
 -- a wagon and an order that are read as themselves
 abbrev pub IsReadablePair : List ℕ × List ℕ → Type 0
-IsReadablePair pair = pair_of (pair_data pair) ≡ Ok pair
+IsReadablePair pair = wagon_and_order (pair_data pair) ≡ Ok pair
 
 -- prices that fit 64 bits
 abbrev pub AreReadablePrices : List ℕ → Type 0

@@ -22,6 +22,6 @@ abbrev pub known : List Length → List (Option Distance)
 known labels = map label_of labels
 
 -- as a pair of numbers
-abbrev pub pair_of : Option Distance → Option (ℕ × ℕ)
-pair_of None = None
-pair_of (Some d) = Some (d.km, d.minutes)
+abbrev pub as_pair : Option Distance → Option (ℕ × ℕ)
+as_pair None = None
+as_pair (Some d) = Some (d.km, d.minutes)

@@ -1,7 +1,7 @@
 -- The search from one place: labels, what waits, and what relaxing a line keeps.
 use Rattle.std.specs.Prelude.{◌≡◌, ℕ, ◌+◌, ◌*◌, ◌^◌, ◌<◌, ◌≤◌, ◌⊎◌, ⊤, Bool, false, ◌&&◌, ◌||◌, ◌==◌, nat_lt, List, ◌∷◌, length, Option, Some, None, All, Contains, count_by, sum_by, slice_set, slice_index_or, IsSomeAnd}
 use Rattle.std.specs.List.Sorted.{IsPermutation}
-use Rattle.line_network.specs.Network.{max_line_km, max_line_minutes}
+use Rattle.line_network.specs.NetworkLimits.{max_line_km, max_line_minutes}
 use Rattle.line_network.specs.declared.line.Line.{Line}
 use Rattle.distance_tables.specs.inner.Lengths.{Distance}
 use Rattle.distance_tables.specs.Distance.{AtMost}

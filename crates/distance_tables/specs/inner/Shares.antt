@@ -4,7 +4,7 @@ use Rattle.std.specs.List.{range_with_len}
 use Rattle.std.specs.declared.alloc.AllocError.{AllocError}
 use Rattle.std.specs.declared.alloc.Global.{Global}
 use Rattle.std.specs.declared.vec.Vec.{Vec}
-use Rattle.line_network.specs.Network.{IsLine, max_places}
+use Rattle.line_network.specs.NetworkLimits.{IsLine, max_places}
 use Rattle.line_network.specs.declared.line.Line.{Line}
 use Rattle.distance_tables.specs.declared.length.Length.{Length}
 use Rattle.distance_tables.specs.declared.share.OriginRow.{OriginRow}

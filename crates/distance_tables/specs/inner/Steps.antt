@@ -5,8 +5,8 @@ use Rattle.distance_tables.specs.declared.step.Step.{Step}
 use Rattle.distance_tables.specs.inner.Lengths.{distance_of, length_of}
 
 -- a line without the place where it begins, and with it again
-abbrev pub step_of : Line → Step
-step_of l = record { to = l.to; length = length_of l.km l.minutes }
+abbrev pub step_along : Line → Step
+step_along l = record { to = l.to; length = length_of l.km l.minutes }
 
 abbrev pub line_from : ℕ → Step → Line
 line_from place s = record { from = place; to = s.to; km = (distance_of s.length).km; minutes = (distance_of s.length).minutes }
@@ -16,4 +16,4 @@ pub record IsStepFrom (lines : List Line) (place : ℕ) (s : Step) : Type 0 wher
   pub line : Line
   pub has : Contains lines line
   pub from : line.from ≡ place
-  pub same : s ≡ step_of line
+  pub same : s ≡ step_along line

@@ -3,5 +3,5 @@ use Rattle.std.specs.Prelude.{List, ◌++◌, Result, Ok}
 use Rattle.json_fields.specs.Values.{◌>>=◌}
 
 -- the items so far, and what is still read behind them
-abbrev pub after : {A E : Type 0} → List A → Result (List A) E → Result (List A) E
-after front rest = rest >>= λ xs. Ok (front ++ xs)
+abbrev pub with_front : {A E : Type 0} → List A → Result (List A) E → Result (List A) E
+with_front front rest = rest >>= λ xs. Ok (front ++ xs)

@@ -1,10 +1,11 @@
 -- What reading a network keeps from record to record, and why a place is not added.
 use Rattle.std.specs.Prelude.{◌≡◌, ℕ, ◌+◌, ◌*◌, ◌<◌, ◌≤◌, ◌++◌, List, length, Result}
 use Rattle.csv_records.specs.Fields.{Record}
-use Rattle.faults.specs.Conversions.{network_fault_of}
+use Rattle.faults.specs.ReadingFaults.{network_fault_of}
 use Rattle.faults.specs.declared.faults.RecordFault.{RecordFault}
 use Rattle.faults.specs.declared.faults.RecordFault.TheVariants as rf
-use Rattle.line_network.specs.Network.{NetworkValue, max_line_km, max_line_minutes, max_places}
+use Rattle.line_network.specs.Network.{NetworkValue}
+use Rattle.line_network.specs.NetworkLimits.{max_line_km, max_line_minutes, max_places}
 use Rattle.line_network.specs.Reading.{Stops, network_of, with_rows}
 use Rattle.line_network.specs.declared.line_record.LineRecord.{LineRecord}
 use Rattle.faults.specs.declared.faults.NetworkFault.{NetworkFault}

@@ -1,6 +1,7 @@
 -- Where a run may answer that memory is out to a command that was read.
 use Rattle.std.specs.Prelude.{◌≡◌, ◌⊎◌, true}
-use Rattle.commit_book.specs.BookStep.{BookValue, IsAnswer, MayRunOutOfMemory}
+use Rattle.commit_book.specs.Books.{BookValue}
+use Rattle.commit_book.specs.BookStep.{IsAnswer, MayRunOutOfMemory}
 use Rattle.commit_book.specs.Requests.{call_of}
 use Rattle.commit_book.specs.declared.answer.Answer.{Answer}
 use Rattle.commit_book.specs.declared.call.Call.{Call}

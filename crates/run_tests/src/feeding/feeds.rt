@@ -1,11 +1,11 @@
 //! Feeds from memory.
 ghost use Rattle.std.specs.Prelude.{◌≡◌, ◌≤◌, [], All, IfOk, false, length, vec_len};
-ghost use Rattle.office.specs.FeedCounts.{max_files};
+ghost use Rattle.line_engine.specs.Lines.{max_files};
 
 use book_samples::{SAMPLE, networks_of};
 use commit_book::{Book, Limits};
 use line_engine::Source;
-use office::{FeedReport, feed};
+use book_feed::{FeedReport, feed};
 use std::alloc::{AllocError, Global};
 use std::sync::{Arc, Wait};
 use std::test::Fail;

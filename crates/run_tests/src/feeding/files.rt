@@ -1,9 +1,9 @@
 //! Files that are read to their end, and files that are not.
 ghost use Rattle.std.specs.Prelude.{◌≤◌, length};
-ghost use Rattle.office.specs.FeedCounts.{max_files};
+ghost use Rattle.line_engine.specs.Lines.{max_files};
 
 use super::feeds::{fed_texts, totals};
-use office::{FeedReport, report_text};
+use book_feed::{FeedReport, report_text};
 use std::alloc::Global;
 use std::sync::Wait;
 use std::test::Fail;

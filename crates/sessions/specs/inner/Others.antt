@@ -1,7 +1,7 @@
 -- A receipt whose event is not the entry of its number.
 use Rattle.std.specs.Prelude.{◌≡◌, ◌≢◌, ℕ, List, Some, slice_get}
 use Rattle.operating_db.specs.declared.event.Event.{Event}
-use Rattle.commit_book.specs.History.{entry_at}
+use Rattle.commit_book.specs.Books.{entry_at}
 use Rattle.sessions.specs.declared.receipt.Receipt.{Receipt}
 
 -- one of the receipts has this number, and another event than the entry

@@ -1,7 +1,7 @@
 -- The names at positions of a table.
 use Rattle.std.specs.Prelude.{ℕ, List}
 use Rattle.cost_table.specs.Names.{NameLists}
-use Rattle.named_pairs.specs.NamedFaults.{name_at}
+use Rattle.price_checker.specs.NamedFaults.{name_at}
 
 -- the wagon and the order at a pair of positions
 abbrev pub named_at : NameLists → ℕ × ℕ → List ℕ × List ℕ

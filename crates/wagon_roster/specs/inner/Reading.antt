@@ -2,12 +2,13 @@
 use Rattle.std.specs.Prelude.{◌≡◌, ◌+◌, true, ◌++◌, List, length, Result}
 use Rattle.std.specs.List.Sorted.{IsPermutation}
 use Rattle.csv_records.specs.Fields.{Record}
-use Rattle.faults.specs.Conversions.{roster_fault_of}
+use Rattle.faults.specs.ReadingFaults.{roster_fault_of}
 use Rattle.faults.specs.declared.faults.RecordFault.{RecordFault}
 use Rattle.faults.specs.declared.faults.RecordFault.TheVariants as rf
 use Rattle.wagon_state.specs.declared.wagon_row.WagonRow.{WagonRow}
 use Rattle.wagon_roster.specs.Reading.{Stops, rows_of, with_records}
-use Rattle.wagon_roster.specs.Roster.{IsRoster, has_wagon}
+use Rattle.wagon_roster.specs.Roster.{IsRoster}
+use Rattle.wagon_roster.specs.SameWagons.{has_wagon}
 use Rattle.faults.specs.declared.faults.RosterFault.{RosterFault}
 use Rattle.faults.specs.declared.faults.RosterFault.TheVariants.{OutOfMemory, DuplicateWagon, TooLarge, BadRosterRow, ReadFailed}
 

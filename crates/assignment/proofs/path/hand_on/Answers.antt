@@ -3,7 +3,7 @@ use Rattle.std.specs.Vec.{with_item}
 use Rattle.std.proofs.lemmas.List.{get_or_read}
 use Rattle.assignment.specs.declared.state.State.{State}
 use Rattle.assignment.specs.inner.State.{kept, orders_of}
-use Rattle.assignment.specs.inner.Search.{IsReached}
+use Rattle.assignment.specs.inner.Search.{IsWagonReached}
 use Rattle.assignment.proofs.HandOn.{handing_more, handing_all, order_written, reached_then, reached_before}
 use Rattle.assignment.proofs.path.hand_on.Goals as goal
 
@@ -17,7 +17,7 @@ place_of-place-requires-in-loop-place-clause-reached c =
     let vias = settled.vias in
     let now : State = record c.loop-place.state { order_of = with_item c.loop-place.state.order_of c.loop-place.wagon c.index.result.now } in
     let via = get_or_read f.via.items place c.index-wagon.result.now (omega (arith, within, vias)) c.index-wagon.ensures 0 in
-    let reached : IsReached (kept state) f place c.index-wagon.result.now = subst (IsReached (kept state) f place) (sym via) (settled.led place c.loop-place-test.true within).reached in
+    let reached : IsWagonReached (kept state) f place c.index-wagon.result.now = subst (IsWagonReached (kept state) f place) (sym via) (settled.led place c.loop-place-test.true within).reached in
     reached_then state now f place c.index-wagon.result.now (ap (λ (x : State). record x { order_of = now.order_of }) c.loop-place.invariant.same) reached
 
 pub loop-place-preserved : goal.loop-place-preserved

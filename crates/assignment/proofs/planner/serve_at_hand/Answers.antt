@@ -2,7 +2,7 @@ use Rattle.std.proofs.Common.{◌≡◌, ◌+◌, Some, set, sym, ap, arith, sub
 use Rattle.std.proofs.lemmas.List.{get_or_read}
 use Rattle.std.proofs.lemmas.List.Sums.{count_by-le-length}
 use Rattle.cost_table.specs.Table.{order_count}
-use Rattle.assignment.specs.inner.State.{AreServed, is_order, kept, orders_of}
+use Rattle.assignment.specs.inner.State.{AreServed, has_order, kept, orders_of}
 use Rattle.assignment.proofs.Numbers.{orders_set}
 use Rattle.assignment.proofs.AtHand.{kept_at_hand, counted_at_hand, numbers_at_hand}
 use Rattle.assignment.proofs.Taking.{HasTaken-none}
@@ -21,7 +21,7 @@ overflow_add-index_mut c =
     let counts = h.state.served.count in
     let read = get_or_read c.units.state.served.items j c.index_mut-in-units.result.now (omega (arith, order, same, counts)) c.index_mut-in-units.ensures.value 0 in
     let is = h.state.served.each j (omega (arith, order, same)) in
-    let most = count_by-le-length (is_order j) s.order_of in
+    let most = count_by-le-length (has_order j) s.order_of in
     let wagons = h.state.keeps.held.wagons in
     let few = h.state.keeps.table.wagons in
     omega (arith, read, is, most, wagons, few)

@@ -6,7 +6,7 @@ use Rattle.cost_table.specs.Table.{order_count}
 use Rattle.assignment.specs.declared.state.State.{State}
 use Rattle.assignment.specs.inner.Costs.{AreCosts}
 use Rattle.assignment.specs.inner.Path.{given_up, one_if}
-use Rattle.assignment.specs.inner.State.{IsKept, AreCounted, AreServed, is_order, kept, orders_of, more}
+use Rattle.assignment.specs.inner.State.{IsKept, AreCounted, AreServed, has_order, kept, orders_of, more}
 use Rattle.assignment.proofs.Limits.{wagon_limit}
 use Rattle.assignment.proofs.Raised.{raised, priced_raised, held_raised, has_raised}
 use Rattle.assignment.proofs.Unit.{counted_more}
@@ -28,7 +28,7 @@ count_unit-requires-clause-limit c = λ k l.
     let len = ap length numbers in
     let count = c.requires.state.served.count in
     let is = c.requires.state.served.each k (omega (arith, l, len, count)) in
-    let most = count_by-le-length (is_order k) s.order_of in
+    let most = count_by-le-length (has_order k) s.order_of in
     let wagons = c.requires.state.keeps.held.wagons in
     let few = c.requires.state.keeps.table.wagons in
     omega (arith, read, is, most, wagons, few)

@@ -1,5 +1,5 @@
 use Rattle.std.proofs.Common.{◌≡◌, [], take, drop}
-use Rattle.cost_table.specs.Names.{repeated_from}
+use Rattle.cost_table.specs.DistinctNames.{repeated_from}
 use Rattle.cost_table.proofs.names.repeated.Given as goal
 
 abbrev pub invariant-loop-k : goal.invariant-loop-k

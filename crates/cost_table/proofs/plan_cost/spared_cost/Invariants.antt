@@ -1,6 +1,6 @@
 use Rattle.std.proofs.Common.{◌≡◌, ◌≤◌, ◌*◌, take}
 use Rattle.std.specs.List.{sum_by}
-use Rattle.cost_table.specs.Plan.{pair_penalty}
+use Rattle.cost_table.specs.inner.Spared.{pair_penalty}
 use Rattle.cost_table.proofs.plan_cost.spared_cost.Given as goal
 
 abbrev pub invariant-loop-pair : goal.invariant-loop-pair

@@ -1,5 +1,5 @@
 use Rattle.std.proofs.Common.{◌≡◌, take, drop}
-use Rattle.cost_table.specs.Names.{first_repeated, repeated_after}
+use Rattle.cost_table.specs.DistinctNames.{first_repeated, repeated_after}
 use Rattle.cost_table.specs.Problem.{order_names}
 use Rattle.cost_table.proofs.problem.repeated_order.Given as goal
 

@@ -1,6 +1,6 @@
 use Rattle.std.proofs.Common.{take, map}
 use Rattle.cost_table.specs.Rows.{cells_of}
-use Rattle.cost_table.specs.inner.Flat.{HoldRows}
+use Rattle.cost_table.specs.RowBlocks.{HoldRows}
 use Rattle.cost_table.proofs.rows.flatten.Given as goal
 
 abbrev pub invariant-loop-row : goal.invariant-loop-row

@@ -1,5 +1,5 @@
 use Rattle.std.proofs.Common.{◌≡◌, [], take}
-use Rattle.cost_table.specs.inner.Among.{ArePlaces, rows_among}
+use Rattle.cost_table.specs.SharedRows.{ArePlaces, rows_among}
 use Rattle.cost_table.proofs.table_rows.all_places.Given as goal
 
 abbrev pub invariant-loop-k : goal.invariant-loop-k

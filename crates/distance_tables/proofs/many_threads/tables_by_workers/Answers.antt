@@ -1,6 +1,6 @@
 use Rattle.std.proofs.Common.{arith}
 use Rattle.std.proofs.lemmas.List.Sorted.{All-permutation}
-use Rattle.line_network.specs.Network.{IsLine}
+use Rattle.line_network.specs.NetworkLimits.{IsLine}
 use Rattle.distance_tables.proofs.Walks.{AreRows-permutation}
 use Rattle.distance_tables.proofs.many_threads.tables_by_workers.Goals as goal
 

@@ -1,5 +1,5 @@
 use Rattle.std.proofs.lemmas.List.Sorted.{All-permutation}
-use Rattle.line_network.specs.Network.{IsLine}
+use Rattle.line_network.specs.NetworkLimits.{IsLine}
 use Rattle.distance_tables.proofs.Walks.{AreRows-permutation}
 use Rattle.distance_tables.proofs.one_thread.tables.Goals as goal
 

@@ -1,9 +1,9 @@
 use Rattle.std.proofs.Common.{◌<◌, ◌≤◌, length, get_or, refl, subst, arith}
 use Rattle.std.proofs.lemmas.List.Elements.{All-contains}
-use Rattle.line_network.specs.Network.{IsLine}
+use Rattle.line_network.specs.NetworkLimits.{IsLine}
 use Rattle.line_network.specs.declared.line.Line.{Line}
 use Rattle.distance_tables.specs.declared.step.Step.{Step}
-use Rattle.distance_tables.specs.inner.Steps.{step_of, line_from}
+use Rattle.distance_tables.specs.inner.Steps.{step_along, line_from}
 use Rattle.std.specs.List.{Contains}
 use Rattle.distance_tables.specs.inner.Search.{label_at, plus_line, LabelAtMost}
 use Rattle.distance_tables.specs.inner.Lengths.{known}
@@ -55,8 +55,8 @@ loop-step-preserved c =
 
 pub returns-clause-relaxed : goal.returns-clause-relaxed
 returns-clause-relaxed c = λ l has from.
-    let in_part : Contains c.from_place-step-items.result.now (step_of l) = c.from_place-step-items.ensures.complete l has (rw c.place.ensures from) in
+    let in_part : Contains c.from_place-step-items.result.now (step_along l) = c.from_place-step-items.ensures.complete l has (rw c.place.ensures from) in
     let P : Step → Type 0 = λ x. LabelAtMost (label_at (known c.loop-step.labels) x.to) (plus_line (waiting_of c.args.at).distance (line_from (waiting_of c.args.at).place x)) in
     let Q : Line → Type 0 = λ m. LabelAtMost (label_at (known c.loop-step.labels) m.to) (plus_line (waiting_of c.args.at).distance m) in
     let is = All-contains (IsLine (length c.args.labels.now)) _ l c.requires.lines has in
-    subst Q (line_of_step (waiting_of c.args.at).place (step_of l) l refl from is.most_minutes) (subst P in_part.2 (c.loop-step.invariant.relaxed in_part.0 (step_of l) (omega arith) (omega arith)))
+    subst Q (line_of_step (waiting_of c.args.at).place (step_along l) l refl from is.most_minutes) (subst P in_part.2 (c.loop-step.invariant.relaxed in_part.0 (step_along l) (omega arith) (omega arith)))

@@ -4,7 +4,8 @@ use Rattle.cost_table.specs.Plan.{cost_of}
 use Rattle.dispatch_sheet.specs.PlanText.{plan_text_of}
 use Rattle.reply_texts.specs.ReplyTexts.{planned_text}
 use Rattle.office.specs.CommandReplies.{IsPlanned, planned_reply}
-use Rattle.office.proofs.Plans.{added_parts, plan_in_range}
+use Rattle.dispatch_sheet.proofs.InRange.{plan_in_range}
+use Rattle.office.proofs.Plans.{added_parts}
 use Rattle.office.proofs.command_lines.push_planned_reply.Goals as goal
 
 pub certificate_line-requires : goal.certificate_line-requires

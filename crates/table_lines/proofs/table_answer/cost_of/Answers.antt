@@ -1,8 +1,8 @@
 use Rattle.std.proofs.Common.{◌≡◌, ℕ, length, Result, refl, sym, ap, ◌∙◌, subst, arith, false}
 use Rattle.std.proofs.lemmas.Result.{err_from_is_err_and, IfOk-weaker}
 use Rattle.table_lines.specs.TableLine.{table_text}
-use Rattle.table_lines.specs.TableCost.{Yields, is_too_large, with_check_fault, cost_in, IsCertified}
-use Rattle.named_pairs.specs.NamedPairs.{checked}
+use Rattle.table_lines.specs.TableCost.{Yields, is_too_large, with_check_fault, cost_of_text, IsCertified}
+use Rattle.price_checker.specs.NamedPairs.{checked}
 use Rattle.table_lines.specs.declared.table_refusal.TableRefusal.{TableRefusal}
 use Rattle.table_lines.proofs.Even.{cells_in, named_counts, cost_in-named, same_even, certifies_text}
 use Rattle.table_lines.proofs.table_answer.cost_of.Goals as goal
@@ -32,7 +32,7 @@ returns-clause-meaning c =
     let wagons : length t.wagons ≡ c.len-wagons.result = omega (arith, c.len-wagons.ensures, c.args.table.wagons.ok.0) in
     let orders : length t.orders ≡ c.len-orders.result = omega (arith, c.len-orders.ensures, c.args.table.orders.ok.0) in
     let same = same_even _ _ _ _ _ _ t.penalties t.penalties _ _ wagons orders (ap cells_in (sym c.deref-2.ensures.value)) refl (sym c.in_ok-lacks.ensures.lacks) in
-    let whole : cost_in t ≡ with_check_fault (checked c.in_ok-names.names c.in_ok-cells.cells t.pairs t.u t.v) =
+    let whole : cost_of_text t ≡ with_check_fault (checked c.in_ok-names.names c.in_ok-cells.cells t.pairs t.u t.v) =
     cost_in-named t c.in_ok-names.names small (sym c.in_ok-names.ensures) ∙ rw (same, c.in_ok-cells.ensures) refl in
     subst (λ (meaning : Result ℕ TableRefusal). Yields (λ cost. cost) c.checked_cost.result meaning) (sym whole) (rw c.deref-3.ensures.value at c.checked_cost.ensures.meaning)
 

@@ -3,7 +3,7 @@ use Rattle.std.specs.Vec.{with_items}
 use Rattle.std.proofs.lemmas.List.{with_items_is}
 use Rattle.std.proofs.lemmas.List.Elements.{All-get_or}
 use Rattle.cost_table.specs.Table.{Table, order_count, lack_at}
-use Rattle.cost_table.specs.Plan.{IsPlanList}
+use Rattle.cost_table.specs.PlanList.{IsPlanList}
 use Rattle.price_checker.specs.Certificate.{IsCertificate}
 use Rattle.price_checker.proofs.Duality.{certificates_optimal}
 use Rattle.assignment.specs.inner.State.{Kept, AreCounted, kept, more}

@@ -1,6 +1,6 @@
 use Rattle.std.proofs.Common.{sym, ap, ◌∙◌, ◌≡◌}
 use Rattle.std.proofs.lemmas.Result.{IfErr-weaker, on_ok_weaker}
-use Rattle.operating_db.specs.Office.{StateValue}
+use Rattle.operating_db.specs.State.{StateValue}
 use Rattle.commit_book.specs.BookStep.{refusal_in}
 use Rattle.commit_book.specs.History.{replay}
 use Rattle.commit_book.specs.inner.Kept.{setting_of}

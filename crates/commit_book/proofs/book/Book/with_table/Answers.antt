@@ -1,6 +1,6 @@
 use Rattle.std.proofs.Common.{ℕ, ◌∙◌, ap, subst}
 use Rattle.database_rows.specs.Kept.{IsWagonRows}
-use Rattle.operating_db.specs.Office.{StateValue}
+use Rattle.operating_db.specs.State.{StateValue}
 use Rattle.commit_book.specs.History.{replay}
 use Rattle.commit_book.specs.inner.Kept.{IsMadeOf}
 use Rattle.commit_book.specs.declared.made_problem.MadeProblem.{MadeProblem}

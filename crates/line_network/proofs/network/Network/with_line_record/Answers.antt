@@ -1,6 +1,7 @@
 use Rattle.std.proofs.Common.{◌≤◌, ◌+◌, sym, subst, length}
 use Rattle.line_network.proofs.NetworkLemmas.{IsNetwork-made, made_in_turn, with_record-made}
-use Rattle.line_network.specs.Network.{NetworkValue, max_network_lines}
+use Rattle.line_network.specs.Network.{NetworkValue}
+use Rattle.line_network.specs.NetworkLimits.{max_network_lines}
 use Rattle.line_network.proofs.network.Network.with_line_record.Goals as goal
 
 pub invariant_of-result : goal.invariant_of-result

@@ -1,5 +1,6 @@
 use Rattle.std.proofs.Common.{◌≡◌, ◌∙◌, ap, sym, subst}
-use Rattle.load_orders.specs.Numbers.{HasAllBut, without_number}
+use Rattle.load_orders.specs.NumberChanges.{HasAllBut}
+use Rattle.load_orders.specs.Numbers.{without_number}
 use Rattle.load_orders.specs.OrderRow.{OrderRowValue}
 use Rattle.load_orders.proofs.Membership.{has_all_but}
 use Rattle.load_orders.proofs.Rows.{row_without}

@@ -1,5 +1,6 @@
 use Rattle.std.proofs.Common.{◌≡◌, ◌∙◌, ap, sym, subst, rules, arith}
-use Rattle.load_orders.specs.Numbers.{HasOneMore, with_number}
+use Rattle.load_orders.specs.NumberChanges.{HasOneMore}
+use Rattle.load_orders.specs.Numbers.{with_number}
 use Rattle.load_orders.specs.OrderRow.{OrderRowValue}
 use Rattle.load_orders.proofs.Membership.{has_one_more}
 use Rattle.load_orders.proofs.Rows.{row_with}

@@ -2,7 +2,7 @@ use Rattle.std.proofs.Common.{◌≡◌, ◌∷◌, false, subst}
 use Rattle.std.proofs.lemmas.List.Sorted.{IsPermutation-insert}
 use Rattle.std.specs.List.Sorted.{IsPermutation}
 use Rattle.wagon_roster.proofs.RosterLemmas.{IsRoster-insert, none_at_gap}
-use Rattle.wagon_roster.specs.Roster.{has_wagon}
+use Rattle.wagon_roster.specs.SameWagons.{has_wagon}
 use Rattle.wagon_roster.specs.inner.Places.{IsGapFor}
 use Rattle.wagon_roster.proofs.roster.Roster.with_wagon.Goals as goal
 

@@ -1,0 +1,5 @@
+pub mod FedFiles
+pub mod FedSeats
+pub mod FeedTallies
+pub mod Handles
+pub mod NewSeats

@@ -1,0 +1,3 @@
+pub mod FedLines
+pub mod FeedCounts
+pub mod inner

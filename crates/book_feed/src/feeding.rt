@@ -1,0 +1,288 @@
+//! Several files, fed to one book by a thread each.
+ghost use Rattle.std.specs.Prelude.{◌≡◌, ◌+◌, ◌≤◌, [], All, IfOk, false, length, map, vec_len, vec_capacity};
+ghost use Rattle.std.specs.List.{AllZip, sum_by};
+ghost use Rattle.commit_book.specs.Headline.{IsProved};
+ghost use Rattle.sessions.specs.Closing.{HasEntries};
+ghost use Rattle.sessions.specs.Seat.{count_of};
+ghost use Rattle.book_feed.specs.FeedCounts.{IsFed};
+ghost use Rattle.line_engine.specs.Lines.{max_files};
+ghost use Rattle.book_feed.specs.inner.Fed.{AreFed, IsFedFile, handed_to, given_with};
+
+use crate::fed_file::{FedFile, FileOf, fed_file};
+use crate::{FeedFault, FeedReport, FileCount};
+use commit_book::Book;
+use distance_tables::Networks;
+use line_engine::Source;
+use sessions::{CloseFault, Office, Seat, close, open};
+use std::alloc::{AllocError, Global};
+use std::marker::Brand;
+use std::snapshot::Snapshot;
+use std::sync::Wait;
+use std::sync::ledger::{Blank, Ledger};
+use std::thread;
+use std::thread::{PromisedHandle, Scope, Threads};
+
+/// A thread that brings a file's lines to its seat.
+type Running<L, R> = PromisedHandle<FedFile<L, R>, FileOf<R>>;
+
+/// Memory for what comes of the files, allocated before any thread is started.
+#[derive(Drop)]
+struct Room<L: Ledger, R: Source> {
+    running: Vec<Running<L, R>>,
+    files: Vec<FileCount<R>>,
+    seats: Vec<Seat<L>>,
+}
+
+/// What came of the files: their counts, and their seats.
+#[derive(Drop)]
+struct Fed<L: Ledger, R> {
+    files: Vec<FileCount<R>>,
+    seats: Vec<Seat<L>>,
+}
+
+/// Brings the command lines of 1 to 16 readers to a book without entries, by a thread and a seat for each, and answers what
+/// became of each file, in their order, and the book. Lines of several files are taken in as they come.
+///
+/// A message, an order, a withdrawal, a revision and a commit count as they are answered. A plan line is a begin, planning
+/// with no lock held, and a commit of the plan's certificate; it counts as that commit's answer, or as refused where the
+/// begin or the planning was. A begin counts only where it is refused; a sheet line is skipped; a line that isn't read
+/// counts as refused. A file stops at 1,000,001 lines (91), at a line of over 65,536 bytes (92), where its reader fails (93),
+/// or where memory is refused before its first line (1); the other files go on.
+///
+/// Lines count in the file's order, each by the answer that some book gives to its own event. An accepted one gives the
+/// file's seat a receipt, and each receipt is an entry of the book that is handed back.
+///
+/// Refused with `OutOfMemory` (1) before any thread is started; with `NoThread` (46) where no thread could be started for a
+/// file, after those that ran have ended; with `ReceiptLost` (96) as `close` says. May wait.
+pub fn feed<T: Threads + Wait + Sync, R: Source + Send + Drop>(
+    rt: &T,
+    alloc: Global,
+    readers: Vec<R>,
+    book: Book,
+    networks: &Networks,
+) -> Result<FeedReport<R>, FeedFault>
+    requires some { 1 ≤ vec_len readers }
+    requires few { vec_len readers ≤ max_files }
+    requires fresh { All (λ reader. R.has_failed reader ≡ false) readers.items }
+    requires no_entry { book.state.history ≡ [] }
+    ensures files { IfOk result (λ report. AllZip (IsFed networks.now report.book.state.history R.remaining R.has_failed) readers.items report.files.items) }
+    ensures entries { IfOk result (λ report. sum_by (λ file. file.accepted) report.files.items ≡ length report.book.state.history) }
+    ensures proved { IfOk result (λ report. IsProved report.book.setting report.book.state.history) }
+{
+    let blank = Blank::new(readers.len() as u64);
+    feed_by::<Brand, T, R>(rt, alloc, blank, readers, book, networks)
+}
+
+/// The same, over a ledger with a part for each file.
+fn feed_by<L: Ledger + Send + Sync, T: Threads + Wait + Sync, R: Source + Send + Drop>(
+    rt: &T,
+    alloc: Global,
+    blank: Blank,
+    readers: Vec<R>,
+    book: Book,
+    networks: &Networks,
+) -> Result<FeedReport<R>, FeedFault>
+    requires ledger { blank.name ≡ L.name }
+    requires parts { blank.parts ≡ L.parts }
+    requires one_each { blank.parts ≡ vec_len readers }
+    requires some { 1 ≤ vec_len readers }
+    requires few { vec_len readers ≤ max_files }
+    requires fresh { All (λ reader. R.has_failed reader ≡ false) readers.items }
+    requires no_entry { book.state.history ≡ [] }
+    ensures files { IfOk result (λ report. AllZip (IsFed networks.now report.book.state.history R.remaining R.has_failed) readers.items report.files.items) }
+    ensures entries { IfOk result (λ report. sum_by (λ file. file.accepted) report.files.items ≡ length report.book.state.history) }
+    ensures proved { IfOk result (λ report. IsProved report.book.setting report.book.state.history) }
+{
+    let count = readers.len();
+    let Ok(room) = Room::new(alloc, count) else {
+        return Err(FeedFault::OutOfMemory);
+    };
+    let Ok((office, seats)) = open::<L>(alloc, blank, book, count as u32) else {
+        return Err(FeedFault::OutOfMemory);
+    };
+    match fed_in_threads(rt, alloc, &office, networks, readers, seats, room) {
+        Ok(fed) => closed(office, fed),
+        Err(fault) => Err(fault),
+    }
+}
+
+impl<L: Ledger, R: Source + Drop> Room<L, R> {
+    /// Memory for so many files.
+    fn new(alloc: Global, count: usize) -> Result<Room<L, R>, AllocError>
+        ensures running { IfOk result (λ room. (room.running.items ≡ []) × (count ≤ vec_capacity room.running)) }
+        ensures files { IfOk result (λ room. (room.files.items ≡ []) × (count ≤ vec_capacity room.files)) }
+        ensures seats { IfOk result (λ room. (room.seats.items ≡ []) × (count ≤ vec_capacity room.seats)) }
+    {
+        let running = Vec::with_capacity(alloc, count)?;
+        let files = Vec::with_capacity(alloc, count)?;
+        let seats = Vec::with_capacity(alloc, count)?;
+        Ok(Room {
+            running,
+            files,
+            seats,
+        })
+    }
+}
+
+/// What came of all files, each brought to its seat by a thread of its own.
+fn fed_in_threads<L: Ledger + Send + Sync, T: Threads + Wait + Sync, R: Source + Send + Drop>(
+    rt: &T,
+    alloc: Global,
+    office: &Office<L>,
+    networks: &Networks,
+    readers: Vec<R>,
+    seats: Vec<Seat<L>>,
+    room: Room<L, R>,
+) -> Result<Fed<L, R>, FeedFault>
+    requires fresh { All (λ reader. R.has_failed reader ≡ false) readers.items }
+    requires new { All (λ seat. count_of seat ≡ 0) seats.items }
+    requires one_each { vec_len seats ≡ vec_len readers }
+    requires running { (room.running.items ≡ []) × (vec_len readers ≤ vec_capacity room.running) }
+    requires files { (room.files.items ≡ []) × (vec_len readers ≤ vec_capacity room.files) }
+    requires room { (room.seats.items ≡ []) × (vec_len readers ≤ vec_capacity room.seats) }
+    ensures files { IfOk result (λ fed. AreFed R.remaining R.has_failed (map (given_with networks.now) readers.items) fed.files.items fed.seats.items) }
+    ensures counts { IfOk result (λ fed. sum_by (λ file. file.accepted) fed.files.items ≡ sum_by count_of fed.seats.items) }
+    ensures seats { IfOk result (λ fed. vec_len fed.seats ≡ vec_len readers) }
+{
+    thread::scope(
+        thread::scope_env(),
+        rt,
+        |scope| -> Result<Fed<L, R>, FeedFault>
+            requires fresh { All (λ reader. R.has_failed reader ≡ false) readers.items }
+            requires new { All (λ seat. count_of seat ≡ 0) seats.items }
+            requires one_each { vec_len seats ≡ vec_len readers }
+            requires running { (room.running.items ≡ []) × (vec_len readers ≤ vec_capacity room.running) }
+            requires files { (room.files.items ≡ []) × (vec_len readers ≤ vec_capacity room.files) }
+            requires room { (room.seats.items ≡ []) × (vec_len readers ≤ vec_capacity room.seats) }
+            ensures files { IfOk result (λ fed. AreFed R.remaining R.has_failed (map (given_with networks.entry.now) readers.items) fed.files.items fed.seats.items) }
+            ensures counts { IfOk result (λ fed. sum_by (λ file. file.accepted) fed.files.items ≡ sum_by count_of fed.seats.items) }
+            ensures seats { IfOk result (λ fed. vec_len fed.seats ≡ vec_len readers) }
+        {
+            let Room {
+                running,
+                files,
+                seats: done,
+            } = room;
+            match started(scope, rt, alloc, office, networks, readers, seats, running) {
+                Ok(running) => Ok(gathered(rt, running, files, done)),
+                Err(running) => {
+                    drop_all(rt, running);
+                    Err(FeedFault::NoThread)
+                }
+            }
+        },
+    )
+}
+
+/// The threads of all files; those that run, where one could not be started.
+fn started<
+    's,
+    'e: 's,
+    L: Ledger + Send + Sync + 'e,
+    T: Threads + Wait + Sync,
+    R: Source + Send + Drop + 'e,
+>(
+    scope: &'s Scope<'s, &'e ()>,
+    rt: &'e T,
+    alloc: Global,
+    office: &'e Office<L>,
+    networks: &'e Networks,
+    readers: Vec<R>,
+    seats: Vec<Seat<L>>,
+    running: Vec<Running<L, R>>,
+) -> Result<Vec<Running<L, R>>, Vec<Running<L, R>>>
+    requires fresh { All (λ reader. R.has_failed reader ≡ false) readers.items }
+    requires new { All (λ seat. count_of seat ≡ 0) seats.items }
+    requires one_each { vec_len seats ≡ vec_len readers }
+    requires none { running.items ≡ [] }
+    requires room { vec_len readers ≤ vec_capacity running }
+    ensures { IfOk result (λ running. map (λ handle. handed_to handle.promise) running.items ≡ map (given_with networks.now) readers.items) }
+{
+    let mut running = running;
+    let mut seats = seats.into_iter();
+    for reader in readers {
+        let Some(seat) = seats.next() else {
+            unreachable!()
+        };
+        let before = FileOf {
+            networks: Snapshot::of(networks),
+            reader: Snapshot::of(&reader),
+        };
+        let work = move || -> FedFile<L, R>
+            requires fresh { R.has_failed reader ≡ false }
+            requires new { count_of seat ≡ 0 }
+            ensures { IsFedFile networks.entry.now R.remaining R.has_failed reader result }
+        { fed_file(rt, alloc, office, networks, seat, reader) };
+        match scope.spawn_with(before, work) {
+            Ok(handle) => running.push_reserved(handle),
+            Err(_) => return Err(running),
+        }
+    }
+    Ok(running)
+}
+
+/// What came of the files, each of whose threads has ended.
+fn gathered<L: Ledger, T: Threads, R: Source + Drop>(
+    rt: &T,
+    running: Vec<Running<L, R>>,
+    files: Vec<FileCount<R>>,
+    seats: Vec<Seat<L>>,
+) -> Fed<L, R>
+    requires files { (files.items ≡ []) × (vec_len running ≤ vec_capacity files) }
+    requires seats { (seats.items ≡ []) × (vec_len running ≤ vec_capacity seats) }
+    ensures files { AreFed R.remaining R.has_failed (map (λ handle. handed_to handle.promise) running.items) result.files.items result.seats.items }
+    ensures counts { sum_by (λ file. file.accepted) result.files.items ≡ sum_by count_of result.seats.items }
+    ensures seats { vec_len result.seats ≡ vec_len running }
+{
+    let mut files = files;
+    let mut seats = seats;
+    for handle in running {
+        let FedFile {
+            seat,
+            repeated,
+            refused,
+            failed,
+            reader,
+        } = handle.join(rt);
+        let accepted = seat.count();
+        files.push_reserved(FileCount {
+            accepted,
+            repeated,
+            refused,
+            failed,
+            reader,
+        });
+        seats.push_reserved(seat);
+    }
+    Fed { files, seats }
+}
+
+/// Waits for threads whose files are no longer needed.
+fn drop_all<L: Ledger, T: Threads, R: Source + Drop>(rt: &T, running: Vec<Running<L, R>>) {
+    for handle in running {
+        drop(handle.join(rt));
+    }
+}
+
+/// The report, once the office is closed.
+fn closed<L: Ledger, R: Drop>(office: Office<L>, fed: Fed<L, R>) -> Result<FeedReport<R>, FeedFault>
+    requires ledger { office.seats ≡ L.parts }
+    requires all { office.seats ≤ vec_len fed.seats }
+    ensures files { IfOk result (λ report. report.files ≡ fed.files) }
+    ensures receipts { IfOk result (λ report. All (HasEntries report.book.state.history) fed.seats.items) }
+    ensures entries { IfOk result (λ report. length report.book.state.history ≡ sum_by count_of fed.seats.items) }
+    ensures proved { IfOk result (λ report. IsProved report.book.setting report.book.state.history) }
+{
+    let Fed { files, seats } = fed;
+    match close(office, seats) {
+        Ok(book) => {
+            // For the prover alone: the history is as the headline says.
+            let _state = book.state();
+            Ok(FeedReport { files, book })
+        }
+        Err(CloseFault::ReceiptLost(seat, entry, _, _)) => {
+            Err(FeedFault::ReceiptLost(seat, entry))
+        }
+        Err(CloseFault::SeatsMissing(_, _)) => unreachable!(),
+    }
+}

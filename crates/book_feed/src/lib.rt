@@ -1,0 +1,10 @@
+//! The feed of several files of lines to one book, each by a thread and a seat of its own; and the report on them.
+#![tactic(auto)]
+
+mod fed_file;
+mod feed_lines;
+mod feeding;
+
+pub use dispatch_sheet::{FeedReport, FileCount, report_text};
+pub use faults::FeedFault;
+pub use feeding::feed;

@@ -1,0 +1,9 @@
+//! The command line of the program: its words, their options and their help.
+#![tactic(auto)]
+
+mod help;
+mod office_options;
+mod words;
+
+pub use office_options::{FeedOptions, OfficeOptions};
+pub use words::{Word, not_utf8, read_words};

@@ -1,6 +1,0 @@
-use Rattle.std.proofs.Common.{◌≡◌, take}
-use Rattle.cost_table.specs.inner.Goals.{goals_of}
-use Rattle.cost_table.proofs.goals.goals.Given as goal
-
-abbrev pub invariant-loop-j : goal.invariant-loop-j
-invariant-loop-j l = l.goals.items ≡ goals_of l.network l.class (take l.j l.orders)

@@ -1,6 +1,0 @@
-use Rattle.std.proofs.Common.{arith}
-use Rattle.cost_table.proofs.AllowedLemmas.{IsTable-with}
-use Rattle.cost_table.proofs.lasting.timed.Goals as goal
-
-pub returns-clause-within : goal.returns-clause-within
-returns-clause-within c = c.earliest-until.ensures.held c.args.problem.now.at (omega (arith, c.at-at.ensures)) (rw c.deref.ensures.value c.requires.within)

@@ -1,3 +1,0 @@
-pub mod Checked
-mod Named
-pub mod Fronts

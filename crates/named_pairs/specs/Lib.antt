@@ -1,3 +1,0 @@
-pub mod NamedFaults
-pub mod NamedPairs
-pub mod inner

@@ -1,0 +1,11 @@
+//! The cost table of a problem over a network: a cell exactly where a free wagon suits an order and reaches it in time.
+#![tactic(auto)]
+
+mod allowed;
+mod goals;
+mod lasting;
+mod mended;
+
+pub use allowed::{cells, timed_cells};
+pub use lasting::TimedCells;
+pub use mended::mended_cells;

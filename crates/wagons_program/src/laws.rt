@@ -1,0 +1,14 @@
+//! Which numbers are refusals. The functions do nothing: the contract is the law.
+ghost use Rattle.wagons_program.specs.Laws.{EachFaultIsListed, EachNumberIsAFaults};
+
+use std::sync::ledger::Ledger;
+
+/// The number of each fault that a library of this project can answer is in the list.
+pub fn each_fault_is_listed<L: Ledger>()
+    ensures { EachFaultIsListed L }
+{}
+
+/// Each number of the list is that of some fault.
+pub fn each_number_is_a_faults<L: Ledger>()
+    ensures { EachNumberIsAFaults L }
+{}
