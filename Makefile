@@ -1,7 +1,7 @@
 # The program and its tests. A machine needs the proof kit's command `rt` (with the Python 3 that it needs itself) and GNU
 # make, nothing else; `bench` needs more (bench/README.md).
 
-.PHONY: run demo prove build test examples hostile bench install uninstall
+.PHONY: run demo prove build claim test examples hostile bench install uninstall
 
 SHELL := /bin/bash
 .SHELLFLAGS := -o pipefail -c
@@ -38,6 +38,7 @@ $(WAGONS): $(SOURCES)
 test:
 	@sed -n '/^\$$ wagons explain$$/,$$p' crates/wagons_scripts/stdout | sed '1d;$$d' | cmp docs/REFUSALS.md -
 	@tools/try_make
+	@tools/claim
 	@mkdir -p out && touch out/tested
 	@echo "== rt ci: every proof from nothing (see docs/GATE.md for its time)"
 	@rt ci | tee out/test.log
@@ -45,6 +46,10 @@ test:
 	@tools/try_replies $(WAGONS)
 	@examples/try
 	@tail -n 1 out/test.log
+
+# Writes out/claim.md: all that one must believe of the headline beside the kit, on one page.
+claim:
+	@tools/claim
 
 # Runs each command of the examples' pages and compares what it prints with what the page says.
 examples:
