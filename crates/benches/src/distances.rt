@@ -5,6 +5,7 @@ use anyhow::Result;
 use distance_tables::{OpenGate, Tables, tables, tables_by_workers};
 use line_network::{Network, read_lines};
 use std::alloc::Global;
+use std::rt::Runtime;
 use std::sync::Wait;
 use std::thread::Threads;
 use std::time::Instant;
@@ -12,10 +13,13 @@ use std::time::Instant;
 /// Times how long the tables of a network take: `distances WORKERS TIMES` reads the network from standard input as CSV.
 /// With 0 workers the tables are made on one thread, else by so many workers. The sums of all distances, in kilometres
 /// and minutes, go to standard output, and the least time to standard error, in microseconds.
-pub(crate) fn time_distances(rt: &HostRuntime, words: &[String]) -> Result<()> {
+pub(crate) fn time_distances<R: Runtime + Threads + Wait + AllocGlobal>(
+    rt: &R,
+    words: &[String],
+) -> Result<()> {
     let workers = number(words, 2)? as usize;
     let times = number(words, 3)?;
-    let network = read_lines(rt.alloc(), rt.stdin())?;
+    let network = read_lines(rt.alloc(), rt.reader())?;
     let mut least = u128::MAX;
     for _ in 0..times {
         let start = Instant::now(rt)?;

@@ -5,8 +5,8 @@ use anyhow::{Context, Result};
 use assignment::{certified_plan, plan};
 use cost_table::Cells;
 use std::alloc::Global;
-use std::time::Instant;
 use std::io;
+use std::time::Instant;
 use table_lines::read_table_line;
 
 /// Times how long planning takes: `plan TIMES` reads a table line from standard input and plans its table so many times.
