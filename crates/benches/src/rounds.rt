@@ -4,7 +4,6 @@ use crate::growth::{Growth, SUITED, entered};
 use crate::times::KINDS;
 use anyhow::{Context, Result};
 use assignment::certified_plan;
-use book_samples::is_in_range;
 use commit_book::Snap;
 use cost_table::Cells;
 use move_messages::CommitText;
@@ -12,6 +11,7 @@ use problem_table::cells;
 use rail_codes::OrderId;
 use std::alloc::Global;
 use std::time::Instant;
+use test_samples::is_in_range;
 
 /// The nanoseconds that one call of each kind took. The order that is placed is promised a wagon, and withdrawn.
 pub(crate) fn round(rt: &HostRuntime, alloc: Global, growth: &mut Growth) -> Result<[u128; KINDS]> {

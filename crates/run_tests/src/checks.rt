@@ -1,6 +1,5 @@
-//! Table lines and their replies, whole runs and how they fail, and tables by the calls themselves.
+//! Whole runs over table lines and how they fail, solved tables, and tables by the calls themselves.
 
-mod check_lines;
 mod failures;
 mod runs;
 mod solved_lines;

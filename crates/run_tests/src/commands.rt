@@ -1,8 +1,6 @@
-//! Runs over scripts, cut and whole, and over devices that fail.
+//! Runs over scripts, over devices that fail, and over a million lines.
 
-mod cuts;
 mod failures;
 mod limits;
-mod messages;
 mod runs;
 mod scripts;

@@ -1,5 +1,6 @@
-//! Tests of runs over command lines and over table lines, and of feeds: worked scripts and examples, with expected values
-//! from the manual and not from the program.
+//! Tests of runs, feeds and the program which no script of `wagons_scripts` can make: devices that fail, pieces of any size, a
+//! million lines, plans that may be others, threads that meet; arguments that are no text, and each fault's message, which is
+//! its name, or that of the fault inside it.
 #![tactic(auto)]
 
 #[cfg(test)]
@@ -8,6 +9,14 @@ mod checks;
 mod commands;
 #[cfg(test)]
 mod feeding;
+#[cfg(test)]
+mod manual;
+#[cfg(test)]
+mod names;
+#[cfg(test)]
+mod stops;
+#[cfg(test)]
+mod words;
 
 /// How a run ends: the lines and the refusals, or the stop's number and line.
 #[cfg(test)]

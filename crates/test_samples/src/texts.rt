@@ -22,5 +22,5 @@ pub const ROSTER: &str =
     "wagon,class,load,status,place,moment\n338447961008,Eanos,60000,empty,DE00001,2026-03-01T00:00:00Z\n218124712173,Eanos,60000,empty,DE00002,2026-03-01T00:00:00Z\n";
 
 /// The sample order, for one wagon at DE00003.
-pub const ORDER: &str =
+pub const ORDER_TEXT: &str =
     r#"{"type":"order","order":"O1","place":"DE00003","classes":["Eanos"],"load":50000,"latest":"2026-03-01T04:00:00Z","penalty":1000}"#;

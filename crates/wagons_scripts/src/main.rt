@@ -1,5 +1,6 @@
-//! Scripts through the program's command line, with their files: each command as it is typed, what it prints, and its
-//! exit status.
+//! Plays scripts through the program's command line: each is printed again, with what its commands print in place of what they
+//! must print. So where the output is the scripts themselves, every command did as its script says. What a script looks like
+//! stands in `tools/scripts`, which plays all of them through the real program and sees standard error too.
 #![tactic(auto)]
 
 use anyhow::Result;
@@ -10,27 +11,70 @@ use std::thread::Threads;
 use wagons_program::run_words;
 
 fn main(rt: HostRuntime) -> Result<()> {
-    let commands = fs::read_to_string(&rt, "commands.txt")?;
-    for command in commands.lines() {
-        println!(rt; "$ {command}")?;
-        let (call, script) = command
-            .split_once(" < ")
-            .unwrap_or((command, "no_lines.jsonl"));
-        let status = status_of(&rt, call, script)?;
-        println!(rt; "status {status}")?;
+    let names = fs::read_to_string(&rt, "scripts.txt")?;
+    for name in names.lines() {
+        let script = fs::read_to_string(&rt, name)?;
+        play(&rt, &script)?;
     }
     Ok(())
 }
 
-/// The exit status of a command whose standard input is a file.
+/// Plays a script. What a command prints takes the place of the lines between its input and its standard error.
+fn play<R: Runtime + Threads + Wait + AllocGlobal + Sync>(rt: &R, script: &str) -> Result<()>
+where
+    R::File: Send,
+{
+    let mut command = "";
+    let mut given = String::new(rt.alloc());
+    let mut errors = String::new(rt.alloc());
+    for line in script.lines() {
+        if command.is_empty() || line.starts_with("< ") {
+            println!(rt; "{line}")?;
+        }
+        if let Some(call) = line.strip_prefix("$ ") {
+            command = call;
+        } else if let Some(more) = line.strip_prefix("< ") {
+            given.push_str(more)?;
+            given.push('\n')?;
+        } else if line.starts_with("! ") {
+            errors.push_str(line)?;
+            errors.push('\n')?;
+        } else if line.starts_with("status ") {
+            let status = status_of(rt, command, &given)?;
+            println!(rt; "{errors}status {status}")?;
+            command = "";
+            given.clear();
+            errors.clear();
+        }
+    }
+    Ok(())
+}
+
+/// The exit status of a command, whose standard input is the file behind ` < `, or else what is given.
 fn status_of<R: Runtime + Threads + Wait + AllocGlobal + Sync>(
     rt: &R,
+    command: &str,
+    given: &str,
+) -> Result<u8>
+where
+    R::File: Send,
+{
+    let Some((call, file)) = command.split_once(" < ") else {
+        return status_over(rt, command, given.as_bytes());
+    };
+    let input = fs::read(rt, file)?;
+    status_over(rt, call, &input)
+}
+
+/// The exit status of a call over this standard input.
+fn status_over<R: Runtime + Threads + Wait + AllocGlobal + Sync>(
+    rt: &R,
     call: &str,
-    script: &str,
+    input: &[u8],
 ) -> Result<u8>
 where
     R::File: Send,
 {
     let words: Vec<&str> = call.split_whitespace().collect(rt.alloc())?;
-    Ok(run_words(rt, words.as_slice(), fs::open(rt, script)?))
+    Ok(run_words(rt, words.as_slice(), input))
 }

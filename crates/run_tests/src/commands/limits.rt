@@ -1,27 +1,25 @@
-//! Limits of an input of commands.
+//! An input of a million lines.
 
 use super::runs::end_of;
 use crate::End;
-use book_samples::SAMPLE;
 use std::alloc::Global;
 use std::test::Fail;
+use test_samples::SAMPLE;
 
-/// How a run over so many times a byte ends, and how many entries the book has then.
-fn end_of_bytes(alloc: Global, byte: u8, count: usize) -> Result<(End, u64), Fail> {
-    let input = vec![in alloc; byte; count]?;
+/// How a run over so many line feeds ends, and how many entries the book has then.
+fn end_of_line_feeds(alloc: Global, count: usize) -> Result<(End, u64), Fail> {
+    let input = vec![in alloc; b'\n'; count]?;
     end_of(alloc, SAMPLE, &input)
 }
 
-/// The millionth line is the last; a line of 65,536 bytes the longest.
+/// The millionth line is the last.
 #[test]
 fn limits(rt: HostRuntime) -> Result<(), Fail> {
-    for (byte, count, end) in [
-        (b'\n', 1_000_000, Ok((1_000_000, 0))),
-        (b'\n', 1_000_001, Err((91, Some(1_000_001)))),
-        (b' ', 65_536, Ok((1, 0))),
-        (b' ', 65_537, Err((92, Some(1)))),
+    for (count, end) in [
+        (1_000_000, Ok((1_000_000, 0))),
+        (1_000_001, Err((91, Some(1_000_001)))),
     ] {
-        let found = end_of_bytes(rt.alloc(), byte, count)?;
+        let found = end_of_line_feeds(rt.alloc(), count)?;
         assert_eq!(rt; found, (end, 0), "{count}");
     }
     Ok(())

@@ -1,11 +1,10 @@
 //! Runs in memory.
 
 use crate::End;
-use book_samples::{SAMPLE, Start, book_of};
 use office::{RunCount, RunFault, run};
 use std::alloc::Global;
 use std::test::Fail;
-use test_samples::{MemorySink, MemorySource};
+use test_samples::{MemorySink, MemorySource, SAMPLE, Start, book_of};
 
 /// Whether a run over these bytes, from a book that starts so, ends with this output and counts these refusals.
 pub(crate) fn is_answered(

@@ -2,15 +2,14 @@
 ghost use Rattle.std.specs.Prelude.{◌≡◌, ◌≤◌, [], All, IfOk, false, length, vec_len};
 ghost use Rattle.line_engine.specs.Lines.{max_files};
 
-use book_samples::{SAMPLE, networks_of};
+use book_feed::{FeedReport, feed};
 use commit_book::{Book, Limits};
 use line_engine::Source;
-use book_feed::{FeedReport, feed};
 use std::alloc::{AllocError, Global};
 use std::sync::{Arc, Wait};
 use std::test::Fail;
 use std::thread::Threads;
-use test_samples::{MemorySource, ROSTER};
+use test_samples::{MemorySource, ROSTER, SAMPLE, networks_of};
 use wagon_roster::Roster;
 
 /// The sample's book, without an entry.

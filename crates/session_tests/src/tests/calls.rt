@@ -1,13 +1,12 @@
 //! What seats call, and each reason why a call is refused.
 
 use super::turns::{Case, Told, Turn, play};
-use book_samples::Line::{Commit, Hold, Revise, Tell, Text, Withdraw};
-use book_samples::{
-    BEGIN, BOTH, COMMIT, DEPARTURE, FARTHER, Line, NEAREST, ONE_ENTRY, ORDER, OTHER_PLACE,
-    REVISION, SAMPLE, Start, WITHDRAWAL,
-};
 use std::test::Fail;
-use test_samples::{FAR, NEAR, UNKNOWN};
+use test_samples::Line::{Commit, Hold, Revise, Tell, Text, Withdraw};
+use test_samples::{
+    BEGIN, BOTH, COMMIT, DEPARTURE, FAR, FARTHER, Line, NEAR, NEAREST, ONE_ENTRY, ORDER,
+    OTHER_PLACE, REVISION, SAMPLE, Start, UNKNOWN, WITHDRAWAL,
+};
 
 /// The farther wagon is loading at the order's place.
 const LOADING: Start<'static> = Start {

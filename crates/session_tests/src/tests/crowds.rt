@@ -2,7 +2,6 @@
 
 use super::desks::Desk;
 use super::scenes::{Action, played};
-use book_samples::SAMPLE;
 use commit_book::Reply;
 use move_messages::{Message, MessageKind};
 use rail_codes::{Company, MessageId, Moment, Place, WagonNumber};
@@ -12,7 +11,7 @@ use std::sync::Wait;
 use std::sync::ledger::Ledger;
 use std::test::Fail;
 use std::thread::{Threads, map_vec};
-use test_samples::{NEAR, UNKNOWN, company, moment, place, wagon};
+use test_samples::{NEAR, SAMPLE, UNKNOWN, company, moment, place, wagon};
 
 /// The seats of a thread.
 const SEATS: u32 = 8;

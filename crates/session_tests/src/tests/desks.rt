@@ -1,12 +1,12 @@
 //! Desks, where the seats of an office call and are told.
 
-use book_samples::{Line, call, reply_text};
 use commit_book::{Call, Refusal, Reply};
 use sessions::{Office, Seat};
 use std::alloc::{AllocError, Global};
 use std::sync::Wait;
 use std::sync::ledger::Ledger;
 use std::test::Fail;
+use test_samples::{Line, call, reply_text};
 
 /// An open office, and what the calls of its seats need.
 pub(crate) struct Desk<'a, L: Ledger, R: Wait> {

@@ -1,11 +1,11 @@
 //! Which problems are kept for seats: each begin keeps its own, and no other call keeps one.
 
 use super::turns::{Case, Told, Turn, play};
-use book_samples::Line::{Begin, Commit, Order, Text, Withdraw};
-use book_samples::{
+use std::test::Fail;
+use test_samples::Line::{Begin, Commit, Order, Text, Withdraw};
+use test_samples::{
     BEGIN, BOTH, COMMIT, DEPARTURE, Line, ORDER, OTHER_PLACE, REVISION, SAMPLE, Start,
 };
-use std::test::Fail;
 
 /// The sample, with room for two problems.
 const TWO_KEPT: Start<'static> = Start { kept: 2, ..SAMPLE };

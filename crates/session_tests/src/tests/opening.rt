@@ -2,11 +2,11 @@
 
 use super::desks::Desk;
 use super::scenes::{Action, played};
-use book_samples::{Line, SAMPLE, WITHDRAWAL};
 use sessions::Seat;
 use std::sync::Wait;
 use std::sync::ledger::Ledger;
 use std::test::Fail;
+use test_samples::{Line, SAMPLE, WITHDRAWAL};
 
 /// Whether a seat is told this when it places an order of this name for so many wagons.
 fn places<L: Ledger, R: Wait>(

@@ -2,20 +2,21 @@
 
 use super::desks::{Desk, text_of};
 use super::scenes::{Action, played};
-use book_samples::{BOTH, ORDER, REVISION, SAMPLE, Start, networks_of};
 use commit_book::Snap;
 use cost_table::Plan;
-use problem_table::cells;
 use distance_tables::Networks;
 use move_messages::CommitText;
 use price_checker::{Prices, check};
+use problem_table::cells;
 use sessions::{PlanFault, Seat, work};
 use std::alloc::Global;
 use std::sync::Wait;
 use std::sync::ledger::Ledger;
 use std::test::Fail;
 use std::thread::Threads;
-use test_samples::{NEAR, NETWORK, order_id, time, wagon};
+use test_samples::{
+    BOTH, NEAR, NETWORK, ORDER, REVISION, SAMPLE, Start, networks_of, order_id, time, wagon,
+};
 
 /// The cost of a plan of a snapshot, as the price checker has it.
 fn cost_of(

@@ -2,7 +2,6 @@
 
 use super::desks::Desk;
 use super::scenes::{Action, played};
-use book_samples::{BEGIN, COMMIT, Line, ORDER, SAMPLE, call};
 use commit_book::Call;
 use sessions::{Office, Seat};
 use std::alloc::Global;
@@ -10,6 +9,7 @@ use std::sync::Wait;
 use std::sync::ledger::Ledger;
 use std::test::Fail;
 use std::thread::{Threads, join};
+use test_samples::{BEGIN, COMMIT, Line, ORDER, SAMPLE, call};
 
 /// A seat's call, as a thread makes it: the seat, and what it is told, unless memory is out.
 fn calls<L: Ledger, R: Wait>(

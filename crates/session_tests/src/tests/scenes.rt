@@ -9,7 +9,6 @@ use super::opening::opens;
 use super::planning::{plans, revises};
 use super::races::races;
 use super::turns::{Turn, take_turns};
-use book_samples::{Start, book_of};
 use commit_book::Book;
 use sessions::{MAX_SEATS, Seat, open};
 use std::alloc::Global;
@@ -18,6 +17,7 @@ use std::sync::Wait;
 use std::sync::ledger::{Blank, Ledger};
 use std::test::Fail;
 use std::thread::Threads;
+use test_samples::{Start, book_of};
 
 /// What happens at an office.
 #[derive(Clone, Copy)]

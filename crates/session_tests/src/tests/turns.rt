@@ -2,7 +2,6 @@
 
 use super::desks::Desk;
 use super::scenes::{Action, played};
-use book_samples::{Line, Start, call};
 use commit_book::{Book, Call};
 use operating_db::Event;
 use sessions::Seat;
@@ -11,6 +10,7 @@ use std::sync::Wait;
 use std::sync::ledger::Ledger;
 use std::test::Fail;
 use std::thread::Threads;
+use test_samples::{Line, Start, call};
 
 /// A line, and what a seat is told on its call.
 pub(crate) type Told = (Line<'static>, &'static str);

@@ -1,0 +1,6 @@
+//! Books after a run of calls.
+
+mod entries;
+mod limits;
+mod runs;
+mod states;

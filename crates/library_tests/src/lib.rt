@@ -1,0 +1,27 @@
+//! Tests of what the libraries answer that no line of the program asks for: distances by several workers, small tables beside
+//! trying every plan, calls of networks, rosters, orders, problems, offices and books, and the seconds of moments. What lines
+//! and files ask for is tried by the scripts of `wagons_scripts`.
+#![tactic(auto)]
+
+#[cfg(test)]
+mod books;
+#[cfg(test)]
+mod commits;
+#[cfg(test)]
+mod distances;
+#[cfg(test)]
+mod examples;
+#[cfg(test)]
+mod moments;
+#[cfg(test)]
+mod networks;
+#[cfg(test)]
+mod orders;
+#[cfg(test)]
+mod problems;
+#[cfg(test)]
+mod rosters;
+#[cfg(test)]
+mod small_tables;
+#[cfg(test)]
+mod tables;
