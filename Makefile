@@ -1,7 +1,7 @@
 # The program and its tests. A machine needs the proof kit's command `rt` (with the Python 3 that it needs itself) and GNU
 # make, nothing else; `bench` needs more (bench/README.md).
 
-.PHONY: run demo prove build claim test examples hostile bench install uninstall
+.PHONY: run demo prove build claim test scripts examples hostile bench install uninstall
 
 SHELL := /bin/bash
 .SHELLFLAGS := -o pipefail -c
@@ -32,11 +32,12 @@ build: prove
 $(WAGONS): $(SOURCES)
 	@$(PROVE) wagons
 
-# Compares the manual of refusals with what `wagons explain` must print; tries what this file says of sources; proves every
+# Compares the manual of refusals with what `wagons explain` must print; tries what this file says of sources, and that the
+# definitions of the headline are found; proves every
 # crate from nothing, tries the edits that must fail, runs every test and the programs on their stored files; then tries
 # the program that was built so on the pages' commands. `make` need not build it again. The last line is that of `rt ci`.
 test:
-	@sed -n '/^\$$ wagons explain$$/,$$p' crates/wagons_scripts/stdout | sed '1d;$$d' | cmp docs/REFUSALS.md -
+	@sed '1,/^\$$ wagons explain$$/d;$$d' crates/wagons_scripts/data/explain.script | cmp docs/REFUSALS.md -
 	@tools/try_make
 	@tools/claim
 	@mkdir -p out && touch out/tested
@@ -44,12 +45,17 @@ test:
 	@rt ci | tee out/test.log
 	@cp crates/wagons/out/wagons $(WAGONS).new && touch -r out/tested $(WAGONS).new && mv $(WAGONS).new $(WAGONS)
 	@tools/try_replies $(WAGONS)
+	@tools/scripts $(WAGONS)
 	@examples/try
 	@tail -n 1 out/test.log
 
 # Writes out/claim.md: all that one must believe of the headline beside the kit, on one page.
 claim:
 	@tools/claim
+
+# Plays the scripts of crates/wagons_scripts/data through the program, in seconds.
+scripts:
+	@tools/scripts "$$(tools/program wagons)"
 
 # Runs each command of the examples' pages and compares what it prints with what the page says.
 examples:
