@@ -1,7 +1,7 @@
 # The program and its tests. A machine needs the proof kit's command `rt` (with the Python 3 that it needs itself) and GNU
 # make, nothing else; `bench` needs more (bench/README.md).
 
-.PHONY: run demo prove build claim test scripts examples hostile bench install uninstall
+.PHONY: run demo prove build claim test quick scripts examples hostile bench install uninstall
 
 SHELL := /bin/bash
 .SHELLFLAGS := -o pipefail -c
@@ -52,6 +52,11 @@ test:
 # Writes out/claim.md: all that one must believe of the headline beside the kit, on one page.
 claim:
 	@tools/claim
+
+# For one who changes the code: checks each crate that changed (SINCE=REV: since a revision), runs its tests, and plays the
+# scripts through a build with nothing proved.
+quick:
+	@tools/quick $(SINCE)
 
 # Plays the scripts of crates/wagons_scripts/data through the program, in seconds.
 scripts:
