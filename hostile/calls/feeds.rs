@@ -1,6 +1,7 @@
 //! A feed of one file: where a line is refused memory, the report is that of the file with that line blank, and one line
 //! more is counted as refused.
 
+use crate::books::DAY;
 use crate::runs::run_lines_text;
 use crate::samples::{book, networks};
 use crate::trying::{must, prepared, say_refused};
@@ -10,6 +11,9 @@ use std::alloc::{AllocError, Global};
 use std::sync::Wait;
 use std::thread::Threads;
 use test_samples::MemorySource;
+
+/// How many lines are accepted: those of the day, and the plan.
+const ACCEPTED: u64 = 18;
 
 pub(crate) fn all<T: Threads + Wait + Sync>(
     rt: &HostRuntime,
@@ -64,7 +68,7 @@ fn judge<T: Threads + Wait + Sync>(
         return Some(());
     }
     // The broken line is refused, and no other.
-    if file.refused == 1 && file.accepted == 12 {
+    if file.refused == 1 && file.accepted == ACCEPTED {
         must(println!(rt; "{text}").is_ok());
         return Some(());
     }
@@ -80,7 +84,7 @@ fn fits_some_line<T: Threads + Wait + Sync>(
     networks: &Networks,
     text: &str,
 ) -> bool {
-    for number in 1..=20 {
+    for number in 1..=DAY.len() as u64 + 4 {
         let lines = run_lines_text(alloc, Some(number)).unwrap();
         let Ok(mut report) = fed(rt, alloc, &lines, networks).unwrap() else {
             return false;
