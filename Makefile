@@ -90,7 +90,7 @@ install: $(WAGONS)
 	install -D -m 644 docs/wagons.1 $(SHARE)/man/man1/wagons.1
 	install -D -m 644 -t $(SHARE)/doc/wagons README.md
 	install -D -m 644 -t $(SHARE)/doc/wagons/docs docs/*.md docs/day.svg
-	install -D -m 644 -t $(SHARE)/doc/wagons/examples examples/README.md examples/*.jsonl
+	install -D -m 644 -t $(SHARE)/doc/wagons/examples examples/README.md examples/*.jsonl examples/judge.py
 	install -D -m 644 -t $(SHARE)/doc/wagons/examples/day examples/day/*
 	install -D -m 644 -t $(SHARE)/doc/wagons/examples/faults examples/faults/*
 	install -D -m 644 completions/wagons.bash $(SHARE)/bash-completion/completions/wagons
