@@ -2,8 +2,7 @@
 
 use crate::words::number;
 use anyhow::Result;
-use distance_tables::{OpenGate, Tables, tables, tables_by_workers};
-use line_network::{Network, read_lines};
+use line_network::{Network, OpenGate, Tables, read_lines, tables, tables_by_workers};
 use std::alloc::Global;
 use std::rt::Runtime;
 use std::sync::Wait;

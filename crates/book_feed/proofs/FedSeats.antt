@@ -5,7 +5,7 @@ use Rattle.std.specs.List.{count_by}
 use Rattle.std.specs.Io.KnownBytes.{Consumes, Keeps}
 use Rattle.std.proofs.lemmas.List.{length-append}
 use Rattle.std.proofs.lemmas.List.Sums.{sum_by-cons}
-use Rattle.json_fields.specs.declared.fault.LineFault.{LineFault}
+use Rattle.move_messages.specs.declared.fault.LineFault.{LineFault}
 use Rattle.line_engine.specs.Lines.{is_blank, lines_of, max_input_lines}
 use Rattle.line_engine.specs.Replies.{Answering, RunningOut, AnswersLine, Replies, Responds}
 use Rattle.line_engine.specs.RunFault.{number_of}

@@ -4,7 +4,7 @@ ghost use Rattle.book_feed.specs.FedLines.{IsLineTaken, IsPlannedIn, IsPlansComm
 ghost use Rattle.book_feed.specs.inner.FeedLines.{Adds, IsLineFed};
 
 use commit_book::{Refusal, Reply, Request, Snap};
-use distance_tables::Networks;
+use line_network::Networks;
 use line_engine::{DeviceFailed, Handler, Outcome, ReplyText, Sink};
 use move_messages::{CommitText, read_line};
 use operating_db::Event;

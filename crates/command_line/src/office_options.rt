@@ -5,7 +5,7 @@ use crate::help;
 use clap::builder::ValueParser;
 use clap::{Arg, ArgAction, ArgMatches, Command};
 use commit_book::{Limits, MAX_ENTRIES, MAX_KEPT_PROBLEMS};
-use distance_tables::MAX_WORKERS;
+use line_network::MAX_WORKERS;
 use line_engine::MAX_FILES;
 use std::alloc::{AllocError, Global};
 

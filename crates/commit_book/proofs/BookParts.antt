@@ -5,7 +5,7 @@ use Rattle.std.specs.Prelude.{IsOk, option_map}
 use Rattle.move_messages.specs.declared.commit_text.CommitText.{CommitText}
 use Rattle.std.proofs.Math.Seq.{take-length}
 use Rattle.line_network.specs.Network.{NetworkValue}
-use Rattle.distance_tables.specs.Networks.{network_at}
+use Rattle.line_network.specs.Networks.{network_at}
 use Rattle.problem_table.specs.Allowed.{IsTableOf}
 use Rattle.cost_table.specs.Problem.{ProblemValue}
 use Rattle.operating_db.specs.After.{after_call}

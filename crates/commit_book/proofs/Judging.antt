@@ -1,7 +1,7 @@
 -- What the tests of a commit say, of the kept problem that was found.
 use Rattle.std.proofs.Common.{◌≡◌, ◌≢◌, ◌∙◌, true, false, List, length, map, Some, None, is_some, refl, sym, ap, inl, inr}
 use Rattle.std.proofs.lemmas.List.{length-map}
-use Rattle.load_orders.specs.Wanted.{WantedOrder}
+use Rattle.wagons_and_orders.specs.Wanted.{WantedOrder}
 use Rattle.move_messages.specs.declared.commit_text.CommitText.{CommitText}
 use Rattle.cost_table.specs.Problem.{ProblemValue}
 use Rattle.cost_table.specs.Table.{order_count, wagon_count}

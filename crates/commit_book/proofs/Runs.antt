@@ -13,7 +13,7 @@ use Rattle.faults.specs.declared.faults.ApplyFault.{ApplyFault}
 use Rattle.operating_db.specs.declared.event.Event.{Event}
 use Rattle.operating_db.specs.declared.event.Event.TheVariants as event
 use Rattle.commit_book.specs.BookStep.{BookState, IsAnswer, IsCall, IsCommitAnswer, IsMessageAnswer, IsRun, accepted_unless, book_after, entered, entered_as, event_answer, is_full, is_kept, is_this, refusal_in}
-use Rattle.wagon_roster.specs.Roster.{IsRoster}
+use Rattle.fleet_rows.specs.Roster.{IsRoster}
 use Rattle.commit_book.specs.Headline.{Headline, IsProved}
 use Rattle.commit_book.specs.History.{IsEntry, IsLegal, IsTableAt, Owes, problem_at, replay}
 use Rattle.faults.specs.Conversions.{refusal_of}

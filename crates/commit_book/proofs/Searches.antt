@@ -13,19 +13,19 @@ use Rattle.std.proofs.lemmas.List.{length-map, get_or-map, take_more}
 use Rattle.std.proofs.lemmas.List.Folds.{list_any_none}
 use Rattle.std.proofs.lemmas.Map.Keys.{Less-from_sorted}
 use Rattle.std.proofs.lemmas.Option.{slice_get-get_or}
-use Rattle.wagon_state.specs.declared.free_wagon.FreeWagon.{FreeWagon}
-use Rattle.wagon_state.specs.declared.wagon_row.WagonRow.{WagonRow}
-use Rattle.wagon_state.specs.Free.{free_of}
-use Rattle.wagon_roster.specs.Roster.{by_number, compare_numbers}
-use Rattle.wagon_roster.proofs.RosterLemmas.{other_from_greater, other_from_less, rises}
-use Rattle.database_rows.proofs.Named.{is_same, no_place, position-new, position-push, same_name}
+use Rattle.wagons_and_orders.specs.declared.free_wagon.FreeWagon.{FreeWagon}
+use Rattle.wagons_and_orders.specs.declared.wagon_row.WagonRow.{WagonRow}
+use Rattle.wagons_and_orders.specs.Free.{free_of}
+use Rattle.fleet_rows.specs.Roster.{by_number, compare_numbers}
+use Rattle.fleet_rows.proofs.RosterLemmas.{other_from_greater, other_from_less, rises}
+use Rattle.fleet_rows.proofs.Named.{is_same, no_place, position-new, position-push, same_name}
 use Rattle.cost_table.specs.DistinctNames.{first_repeated}
 use Rattle.cost_table.specs.Names.{is_name}
-use Rattle.load_orders.specs.Wanted.{WantedOrder}
+use Rattle.wagons_and_orders.specs.Wanted.{WantedOrder}
 use Rattle.cost_table.specs.Problem.{ProblemValue, order_names, wagon_names}
 use Rattle.cost_table.proofs.NameLemmas.{held_at, not_before}
 use Rattle.cost_table.proofs.ProblemLemmas.{position-map}
-use Rattle.database_rows.specs.Kept.{IsWagonRows}
+use Rattle.fleet_rows.specs.Kept.{IsWagonRows}
 use Rattle.operating_db.specs.Office.{Office}
 use Rattle.operating_db.specs.Problem.{free_wagons, problem_of}
 use Rattle.operating_db.proofs.Problems.{free_keeps}

@@ -11,8 +11,8 @@ use Rattle.commit_book.specs.Snap.{SnapValue}
 use Rattle.commit_book.specs.declared.reply.Reply.{Reply}
 use Rattle.commit_book.specs.declared.reply.Reply.TheVariants.{Accepted, Repeated}
 use Rattle.commit_book.specs.BookStep.{BookState}
-use Rattle.wagon_roster.specs.Roster.{IsRoster}
-use Rattle.distance_tables.specs.NetworkCount.{IsNetworkCount}
+use Rattle.fleet_rows.specs.Roster.{IsRoster}
+use Rattle.line_network.specs.NetworkCount.{IsNetworkCount}
 use Rattle.commit_book.specs.Limits.{AreLimits}
 
 -- what a contract sees of a book: what it was given, its history, and which problems it keeps

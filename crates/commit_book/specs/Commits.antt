@@ -3,9 +3,9 @@ use Rattle.std.specs.Prelude.{ℕ, Bool, false, nat_eq, nat_lt, ◌==◌, ◌&&�
 use Rattle.std.specs.List.{find}
 use Rattle.std.specs.Option.{option_and_then}
 use Rattle.std.specs.Cmp.Lexicographic.{pointwise}
-use Rattle.wagon_state.specs.declared.free_wagon.FreeWagon.{FreeWagon}
-use Rattle.wagon_state.specs.Free.{free_of}
-use Rattle.database_rows.specs.Rows.{wagon_in, order_in}
+use Rattle.wagons_and_orders.specs.declared.free_wagon.FreeWagon.{FreeWagon}
+use Rattle.wagons_and_orders.specs.Free.{free_of}
+use Rattle.fleet_rows.specs.Rows.{wagon_in, order_in}
 use Rattle.cost_table.specs.Names.{is_name}
 use Rattle.cost_table.specs.Problem.{ProblemValue}
 use Rattle.operating_db.specs.Commits.{Pair, times_of_order, lack_in}

@@ -1,9 +1,9 @@
 -- The headline: what holds of every book, whatever was called.
 use Rattle.std.specs.Prelude.{◌≡◌, ◌≤◌, ℕ, List, [], take, Some, All, slice_get}
 use Rattle.move_messages.specs.declared.commit_text.CommitText.{CommitText}
-use Rattle.wagon_roster.specs.Roster.{IsRoster}
-use Rattle.wagon_state.specs.declared.free_wagon.FreeWagon.{FreeWagon}
-use Rattle.load_orders.specs.Wanted.{WantedOrder}
+use Rattle.fleet_rows.specs.Roster.{IsRoster}
+use Rattle.wagons_and_orders.specs.declared.free_wagon.FreeWagon.{FreeWagon}
+use Rattle.wagons_and_orders.specs.Wanted.{WantedOrder}
 use Rattle.line_network.specs.Network.{NetworkValue}
 use Rattle.problem_table.specs.Allowed.{Reaches}
 use Rattle.cost_table.specs.Problem.{ProblemValue}

@@ -6,9 +6,9 @@ use Rattle.std.specs.Result.{result_unwrap_or}
 use Rattle.rail_codes.specs.declared.message_id.MessageId.{MessageId}
 use Rattle.move_messages.specs.declared.message.Message as movement
 use Rattle.move_messages.specs.declared.commit_text.CommitText.{CommitText}
-use Rattle.wagon_state.specs.declared.free_wagon.FreeWagon.{FreeWagon}
+use Rattle.wagons_and_orders.specs.declared.free_wagon.FreeWagon.{FreeWagon}
 use Rattle.line_network.specs.Network.{NetworkValue}
-use Rattle.distance_tables.specs.Networks.{network_at}
+use Rattle.line_network.specs.Networks.{network_at}
 use Rattle.problem_table.specs.Allowed.{IsTableOf}
 use Rattle.cost_table.specs.Plan.{IsOptimal}
 use Rattle.cost_table.specs.Problem.{ProblemValue, names_of_problem}

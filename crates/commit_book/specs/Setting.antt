@@ -1,6 +1,6 @@
 -- What a book is made from.
 use Rattle.std.specs.Prelude.{ℕ, List}
-use Rattle.wagon_state.specs.declared.wagon_row.WagonRow.{WagonRow}
+use Rattle.wagons_and_orders.specs.declared.wagon_row.WagonRow.{WagonRow}
 use Rattle.line_network.specs.Network.{NetworkValue}
 
 -- What a book is given: the rows of the roster; the networks, numbered from 1; how many entries it may have, and how

@@ -1,6 +1,6 @@
 //! The book: its history, the office after it, and the problems that commits may name.
 ghost use Rattle.std.specs.Prelude.{◌≡◌, [], IfErr, IfOk, IfSome, OnErr, OnOk, Some, is_some, length, option_map, true};
-ghost use Rattle.distance_tables.specs.Networks.{network_at};
+ghost use Rattle.line_network.specs.Networks.{network_at};
 ghost use Rattle.operating_db.specs.Problem.{problem_of};
 ghost use Rattle.operating_db.specs.Steps.{IsPromised};
 ghost use Rattle.commit_book.specs.BookStep.{IsCall, is_full, is_kept, kept_after};
@@ -23,14 +23,14 @@ use crate::made_problem::MadeProblem;
 use crate::same_messages::is_same_message;
 use crate::{Limits, Refusal, Reply, Snap};
 use cost_table::{Cells, Problem};
-use distance_tables::{Networks, Tables};
+use line_network::{Networks, Tables};
 use move_messages::{CommitText, Message, OrderText};
 use operating_db::{Event, OfficeState};
 use rail_codes::{Moment, OrderId};
 use std::alloc::{AllocError, Global};
 use std::marker::Model;
 use std::sync::Arc;
-use wagon_roster::Roster;
+use fleet_rows::Roster;
 
 /// A history of events from a roster on, which is legal whatever is called; the office after it; and the problems that
 /// commits may name. Each `Book` method is one step of such a run, so any `Book` value has a history for which the

@@ -6,7 +6,7 @@ ghost use Rattle.commit_book.specs.BookStep.{refusal_in};
 ghost use Rattle.commit_book.specs.Commits.{free_in, is_same_free, order_changed, wagon_changed, wagon_of as wagon_in_problem};
 ghost use Rattle.faults.specs.declared.faults.Refusal.TheVariants.{OutOfMemory};
 ghost use Rattle.operating_db.specs.Commits.{lack_in, times_of_order as times_in};
-ghost use Rattle.database_rows.specs.Rows.{order_in};
+ghost use Rattle.fleet_rows.specs.Rows.{order_in};
 
 use crate::Refusal;
 use crate::indexed_problem::IndexedProblem;
@@ -16,7 +16,7 @@ use operating_db::{OfficeState, times_of_order};
 use price_checker::{Prices, check_named};
 use rail_codes::{OrderId, WagonNumber};
 use std::alloc::{AllocError, Global};
-use wagon_state::{FreeWagon, free};
+use wagons_and_orders::{FreeWagon, free};
 
 /// Tests a commit of a kept problem in the office as it is now, by what that problem may share with others; of its moment
 /// all depends on the table alone. Its pairs are of the problem (84); they and its prices are a certificate of the table

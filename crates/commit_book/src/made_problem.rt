@@ -7,7 +7,7 @@ ghost use Rattle.commit_book.specs.inner.Kept.{IsMadeOf, IsMendable, covers};
 use crate::indexed_problem::IndexedProblem;
 use crate::same_orders::are_same_orders;
 use cost_table::Problem;
-use distance_tables::Tables;
+use line_network::Tables;
 use problem_table::{TimedCells, mended_cells, timed_cells};
 use rail_codes::Moment;
 use std::alloc::{AllocError, Global};

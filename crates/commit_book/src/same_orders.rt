@@ -1,7 +1,7 @@
 //! Orders compared.
 ghost use Rattle.std.specs.Prelude.{◌≡◌, ◌↔◌, IsTrue};
 
-use load_orders::Wanted;
+use wagons_and_orders::Wanted;
 use move_messages::{Classes, OrderText};
 
 /// Whether two orders are one, field by field.

@@ -4,8 +4,8 @@ use Rattle.std.specs.Cmp.Lexicographic.{pointwise}
 use Rattle.std.specs.List.{list_any, position_or_len}
 use Rattle.std.proofs.lemmas.List.{length-map, get_or-map, take-map}
 use Rattle.std.proofs.lemmas.List.Recursion.{is_position_or_len}
-use Rattle.wagon_state.specs.declared.free_wagon.FreeWagon.{FreeWagon}
-use Rattle.load_orders.specs.Wanted.{WantedOrder}
+use Rattle.wagons_and_orders.specs.declared.free_wagon.FreeWagon.{FreeWagon}
+use Rattle.wagons_and_orders.specs.Wanted.{WantedOrder}
 use Rattle.cost_table.specs.Names.{is_name, both, pair_of}
 use Rattle.cost_table.specs.DistinctNames.{is_name_among, repeated_after}
 use Rattle.cost_table.specs.Problem.{ProblemValue, names_of_problem}

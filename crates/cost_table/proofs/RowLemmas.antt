@@ -6,7 +6,7 @@ use Rattle.std.proofs.lemmas.List.Sums.{sum_by-cons}
 use Rattle.std.proofs.lemmas.List.Elements.{recursion_from_All}
 use Rattle.std.proofs.lemmas.Bool.Decides.{nat_tests}
 use Rattle.cost_table.specs.RowBlocks.{rows_of, AreEnds, last_end, HoldRows}
-use Rattle.load_orders.specs.WantedLimits.{IsLack}
+use Rattle.wagons_and_orders.specs.WantedLimits.{IsLack}
 use Rattle.cost_table.specs.TableLimits.{max_table_lack, max_table_orders}
 use Rattle.cost_table.specs.Rows.{Rows, is_too_large}
 

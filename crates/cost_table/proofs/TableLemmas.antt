@@ -8,7 +8,7 @@ use Rattle.std.proofs.lemmas.List.Elements.{recursion_from_All, All-map}
 use Rattle.std.proofs.lemmas.Bool.Decides.{nat_tests}
 use Rattle.cost_table.specs.Table.{Table, cost_in, cost_at}
 use Rattle.cost_table.specs.TableLimits.{IsTable, IsRow, max_cost, max_table_lack, max_table_orders, max_table_wagons}
-use Rattle.load_orders.specs.WantedLimits.{IsLack}
+use Rattle.wagons_and_orders.specs.WantedLimits.{IsLack}
 use Rattle.cost_table.specs.Rows.{Rows, IsNumber, cells_of, table_of, number_at, is_too_large, is_even, rows_fault}
 
 cost_below : (k j : ℕ) (numbers : List (Option ℕ)) → j < k → cost_in (cells_of k numbers) j ≡ None

@@ -1,7 +1,7 @@
 -- A problem: what is to be distributed at a moment.
 use Rattle.std.specs.Prelude.{ℕ, List, map}
-use Rattle.wagon_state.specs.declared.free_wagon.FreeWagon.{FreeWagon}
-use Rattle.load_orders.specs.Wanted.{WantedOrder}
+use Rattle.wagons_and_orders.specs.declared.free_wagon.FreeWagon.{FreeWagon}
+use Rattle.wagons_and_orders.specs.Wanted.{WantedOrder}
 use Rattle.cost_table.specs.Names.{NameLists}
 
 -- what is to be distributed at a moment: free wagons, and orders with what they lack

@@ -1,7 +1,7 @@
 -- What each problem keeps, and why there is none.
 use Rattle.std.specs.Prelude.{◌≡◌, ◌≤◌, ℕ, if◌then◌else◌, nat_lt, ◌||◌, Bool, List, length, sum, None, Result, Err}
-use Rattle.wagon_state.specs.declared.free_wagon.FreeWagon.{FreeWagon}
-use Rattle.load_orders.specs.Wanted.{WantedOrder}
+use Rattle.wagons_and_orders.specs.declared.free_wagon.FreeWagon.{FreeWagon}
+use Rattle.wagons_and_orders.specs.Wanted.{WantedOrder}
 use Rattle.cost_table.specs.TableLimits.{max_table_wagons, max_table_orders, max_table_lack}
 use Rattle.faults.specs.declared.faults.TableFault.{TableFault}
 use Rattle.faults.specs.declared.faults.TableFault.TheVariants.{TooLarge}

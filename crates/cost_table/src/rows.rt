@@ -1,7 +1,7 @@
 //! Rows as they are handed in: their tests, and their cells one after another.
 ghost use Rattle.std.specs.Prelude.{◌≡◌, ◌≤◌, ◌++◌, All, IfOk, OnOk, IsTrue, ◌↔◌, length, map, sum, ◌==◌};
 ghost use Rattle.std.specs.List.{list_all};
-ghost use Rattle.load_orders.specs.WantedLimits.{IsLack};
+ghost use Rattle.wagons_and_orders.specs.WantedLimits.{IsLack};
 ghost use Rattle.cost_table.specs.TableLimits.{max_table_orders};
 ghost use Rattle.cost_table.specs.Rows.{IsNumber, cells_of, is_too_large, is_even};
 

@@ -5,7 +5,7 @@ ghost use Rattle.cost_table.specs.TableLimits.{max_cost, IsTable, IsRow};
 ghost use Rattle.cost_table.specs.Rows.{IsNumber, table_of, number_at, rows_fault};
 ghost use Rattle.faults.specs.declared.faults.TableFault.TheVariants.{OutOfMemory};
 ghost use Rattle.cost_table.specs.Table.{row_at, cost_in, cost_at, penalty_at, lack_at, wagon_count, order_count};
-ghost use Rattle.load_orders.specs.WantedLimits.{IsLack};
+ghost use Rattle.wagons_and_orders.specs.WantedLimits.{IsLack};
 ghost use Rattle.cost_table.specs.inner.Searched.{IsAscendingRow};
 ghost use Rattle.cost_table.specs.SharedRows.{ArePlaced, rows_in};
 

@@ -17,12 +17,12 @@ use Rattle.rail_codes.specs.Moment.{moment_of}
 use Rattle.rail_codes.specs.OrderId.{order_id_of, IsOrderId}
 use Rattle.rail_codes.specs.WagonNumber.{IsWagonNumber}
 use Rattle.rail_codes.proofs.WagonNumbers.{wagon_number_of-IsWagonNumber}
-use Rattle.json_fields.specs.Values.{list_of_each, number_within, text_of, moment_from, wagon_and_order}
-use Rattle.json_fields.specs.Written.{list_data, number_data, pair_data}
-use Rattle.json_fields.specs.Field.{field_name}
-use Rattle.json_fields.specs.Fields.{member, field_of}
-use Rattle.json_fields.proofs.Lines.{object_of-ok}
-use Rattle.json_fields.proofs.Writing.{list-reads, number_reads, pair_reads}
+use Rattle.move_messages.specs.Values.{list_of_each, number_within, text_of, moment_from, wagon_and_order}
+use Rattle.move_messages.specs.Written.{list_data, number_data, pair_data}
+use Rattle.move_messages.specs.Field.{field_name}
+use Rattle.move_messages.specs.Fields.{member, field_of}
+use Rattle.move_messages.proofs.Lines.{object_of-ok}
+use Rattle.move_messages.proofs.Writing.{list-reads, number_reads, pair_reads}
 use Rattle.move_messages.specs.declared.commit_text.CommitText.{CommitText}
 use Rattle.move_messages.specs.declared.command.Command.TheVariants.{Commit}
 use Rattle.move_messages.specs.LineType.{line_type_of, type_name}

@@ -8,7 +8,7 @@ use Rattle.json.specs.Tree.{items_tokens}
 use Rattle.serde_json.specs.Data.{Data, string}
 use Rattle.serde_json.specs.View.{items_of}
 use Rattle.serde_json.specs.Written.{items_outline}
-use Rattle.json_fields.specs.Written.{list_data, number_data, pair_data}
+use Rattle.move_messages.specs.Written.{list_data, number_data, pair_data}
 use Rattle.move_messages.specs.declared.commit_text.CommitText.{CommitText}
 use Rattle.dispatch_sheet.specs.Certificate.{commit_data}
 use Rattle.dispatch_sheet.specs.inner.Tokens.{data_tokens, member_tokens}

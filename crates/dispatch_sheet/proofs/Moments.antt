@@ -1,10 +1,10 @@
 -- The lines of a sheet, from their parts.
 use Rattle.std.proofs.Common.{◌≡◌, ℕ, List, [], ◌∷◌, ◌++◌, refl, ap, ◌∙◌, append_assoc}
 use Rattle.rail_codes.specs.Moment.{IsMomentText}
-use Rattle.wagon_state.specs.declared.wagon_row.WagonRow.{WagonRow}
-use Rattle.load_orders.specs.OrderRow.{OrderRowValue}
+use Rattle.wagons_and_orders.specs.declared.wagon_row.WagonRow.{WagonRow}
+use Rattle.wagons_and_orders.specs.OrderRow.{OrderRowValue}
 use Rattle.std.specs.Prelude.{decimal}
-use Rattle.load_orders.specs.States.{state_of}
+use Rattle.wagons_and_orders.specs.States.{state_of}
 use Rattle.dispatch_sheet.specs.Sheet.{hold_word, list_word, listed_wagons, order_text, promise_word, state_word, wagon_text, IsOrderLine, IsWagonLine}
 use Rattle.dispatch_sheet.specs.Words.{next_word}
 use Rattle.dispatch_sheet.specs.inner.Parts.{IsMomentWord, order_back, order_front, wagon_back, wagon_front}

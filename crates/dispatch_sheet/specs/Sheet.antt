@@ -3,15 +3,15 @@
 use Rattle.std.specs.Prelude.{◌≡◌, ℕ, Bool, true, false, List, [], ◌∷◌, ◌++◌, length, map, Option, Some, None, nat_lt, if◌then◌else◌, codes, decimal}
 use Rattle.std.specs.List.{AllZip, concat, join_with_byte}
 use Rattle.rail_codes.specs.Moment.{IsMomentText}
-use Rattle.wagon_state.specs.declared.load.Load.TheVariants.{Loaded, Unladen}
-use Rattle.wagon_state.specs.declared.status.Status.{Status}
-use Rattle.wagon_state.specs.declared.status.Status.TheVariants.{Empty, Loading, Ready, Journey, Yard, Arrived, Unloading}
-use Rattle.wagon_state.specs.declared.wagon_row.WagonRow.{WagonRow}
-use Rattle.wagon_state.specs.StatusTable.{place_of}
-use Rattle.load_orders.specs.declared.order_state.OrderState.{OrderState}
-use Rattle.load_orders.specs.declared.order_state.OrderState.TheVariants.{Waiting, Promised, Filled, Withdrawn}
-use Rattle.load_orders.specs.States.{state_of}
-use Rattle.load_orders.specs.OrderRow.{OrderRowValue}
+use Rattle.wagons_and_orders.specs.declared.load.Load.TheVariants.{Loaded, Unladen}
+use Rattle.wagons_and_orders.specs.declared.status.Status.{Status}
+use Rattle.wagons_and_orders.specs.declared.status.Status.TheVariants.{Empty, Loading, Ready, Journey, Yard, Arrived, Unloading}
+use Rattle.wagons_and_orders.specs.declared.wagon_row.WagonRow.{WagonRow}
+use Rattle.wagons_and_orders.specs.StatusTable.{place_of}
+use Rattle.wagons_and_orders.specs.declared.order_state.OrderState.{OrderState}
+use Rattle.wagons_and_orders.specs.declared.order_state.OrderState.TheVariants.{Waiting, Promised, Filled, Withdrawn}
+use Rattle.wagons_and_orders.specs.States.{state_of}
+use Rattle.wagons_and_orders.specs.OrderRow.{OrderRowValue}
 use Rattle.operating_db.specs.State.{StateValue}
 use Rattle.commit_book.specs.Books.{BookValue}
 use Rattle.commit_book.specs.History.{replay}

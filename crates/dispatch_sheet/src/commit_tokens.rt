@@ -2,7 +2,7 @@
 ghost use Rattle.std.specs.Prelude.{◌≡◌, ◌++◌, ◌∷◌, [], codes, map, All, OnOk};
 ghost use Rattle.json.specs.Token.{begin_object, end_object};
 ghost use Rattle.serde_json.specs.Data.{string};
-ghost use Rattle.json_fields.specs.Written.{list_data, number_data, pair_data};
+ghost use Rattle.move_messages.specs.Written.{list_data, number_data, pair_data};
 ghost use Rattle.commit_book.specs.Snap.{IsInRange, named_pair};
 ghost use Rattle.dispatch_sheet.specs.Certificate.{commit_data, commit_of};
 ghost use Rattle.dispatch_sheet.specs.inner.Readable.{AreReadablePrices, IsReadable, IsReadablePair};

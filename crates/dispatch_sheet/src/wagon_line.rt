@@ -1,6 +1,6 @@
 //! The lines of an office's wagons.
 ghost use Rattle.std.specs.Prelude.{◌≡◌, ◌++◌, OnOk, string_bytes};
-ghost use Rattle.wagon_state.specs.StatusTable.{place_of};
+ghost use Rattle.wagons_and_orders.specs.StatusTable.{place_of};
 ghost use Rattle.dispatch_sheet.specs.Sheet.{hold_word, promise_word, status_word, IsWagonLine};
 ghost use Rattle.dispatch_sheet.specs.Words.{next_word};
 ghost use Rattle.dispatch_sheet.specs.inner.Parts.{wagon_back, wagon_front};
@@ -10,7 +10,7 @@ use crate::row_lines::Lined;
 use crate::words::{push_code, push_moment, push_number, push_word};
 use rail_codes::OrderId;
 use std::alloc::AllocError;
-use wagon_state::{Status, WagonRow};
+use wagons_and_orders::{Status, WagonRow};
 
 impl Lined for WagonRow {
     ghost is_line = { IsWagonLine };

@@ -5,7 +5,7 @@ ghost use Rattle.dispatch_sheet.specs.Words.{next_word};
 ghost use Rattle.dispatch_sheet.specs.inner.Pushed.{listed};
 
 use crate::words::push_word;
-use load_orders::OrderRow;
+use wagons_and_orders::OrderRow;
 use rail_codes::{WagonNumber, push_ascii};
 use std::alloc::AllocError;
 

@@ -3,11 +3,11 @@ use Rattle.std.specs.Prelude.{ℕ, Bool, not, ◌||◌, ◌==◌, if◌then◌el
 use Rattle.std.specs.List.{fold}
 use Rattle.line_network.specs.Network.{NetworkValue, place_index}
 use Rattle.line_network.specs.Reading.{with_place}
-use Rattle.load_orders.specs.Lack.{is_waiting}
-use Rattle.load_orders.specs.OrderRow.{OrderRowValue}
+use Rattle.wagons_and_orders.specs.Lack.{is_waiting}
+use Rattle.wagons_and_orders.specs.OrderRow.{OrderRowValue}
 use Rattle.operating_db.specs.Office.{Office}
-use Rattle.wagon_state.specs.StatusTable.{place_of}
-use Rattle.wagon_state.specs.declared.wagon_row.WagonRow.{WagonRow}
+use Rattle.wagons_and_orders.specs.StatusTable.{place_of}
+use Rattle.wagons_and_orders.specs.declared.wagon_row.WagonRow.{WagonRow}
 
 -- the places with one more, where it is neither in the network nor among them
 abbrev pub with_outside : NetworkValue → List (List ℕ) → List ℕ → List (List ℕ)

@@ -2,10 +2,10 @@
 use Rattle.std.specs.Prelude.{ℕ, Bool, nat_eq, if◌then◌else◌, List, [], ◌∷◌, ◌++◌, codes, decimal, filter, is_some}
 use Rattle.std.specs.Cmp.Lexicographic.{pointwise}
 use Rattle.std.specs.List.{flat_map, list_any}
-use Rattle.load_orders.specs.Wanted.{WantedOrder}
-use Rattle.wagon_state.specs.Free.{free_of}
-use Rattle.wagon_state.specs.StatusTable.{place_of}
-use Rattle.wagon_state.specs.declared.wagon_row.WagonRow.{WagonRow}
+use Rattle.wagons_and_orders.specs.Wanted.{WantedOrder}
+use Rattle.wagons_and_orders.specs.Free.{free_of}
+use Rattle.wagons_and_orders.specs.StatusTable.{place_of}
+use Rattle.wagons_and_orders.specs.declared.wagon_row.WagonRow.{WagonRow}
 use Rattle.fleet_map.specs.Wagons.{wagon_lines}
 use Rattle.fleet_map.specs.Words.{label_break, quoted}
 

@@ -2,11 +2,11 @@
 use Rattle.std.specs.Prelude.{ℕ, Bool, nat_eq, if◌then◌else◌, List, [], ◌∷◌, ◌++◌, Option, Some, None, codes, count_by, decimal, length, slice_get, take}
 use Rattle.std.specs.Cmp.Lexicographic.{pointwise}
 use Rattle.std.specs.List.{filter_map, flat_map, list_any, range_with_len}
-use Rattle.database_rows.specs.Rows.{wagon_in}
-use Rattle.load_orders.specs.OrderRow.{OrderRowValue}
+use Rattle.fleet_rows.specs.Rows.{wagon_in}
+use Rattle.wagons_and_orders.specs.OrderRow.{OrderRowValue}
 use Rattle.move_messages.specs.Order.{Order}
-use Rattle.wagon_state.specs.StatusTable.{place_of}
-use Rattle.wagon_state.specs.declared.wagon_row.WagonRow.{WagonRow}
+use Rattle.wagons_and_orders.specs.StatusTable.{place_of}
+use Rattle.wagons_and_orders.specs.declared.wagon_row.WagonRow.{WagonRow}
 use Rattle.fleet_map.specs.Words.{label_break, quoted}
 
 abbrev pub place_of_row : Option WagonRow → Option (List ℕ)

@@ -2,10 +2,10 @@
 use Rattle.std.specs.Prelude.{ℕ, Bool, true, false, ◌&&◌, nat_eq, if◌then◌else◌, List, [], ◌∷◌, ◌++◌, Option, Some, None, codes, count_by, decimal, length, slice_get, take}
 use Rattle.std.specs.Cmp.Lexicographic.{pointwise}
 use Rattle.std.specs.List.{flat_map, list_any, range_with_len}
-use Rattle.wagon_state.specs.declared.load.Load.TheVariants.{Loaded, Unladen}
-use Rattle.wagon_state.specs.declared.status.Status.{Status}
-use Rattle.wagon_state.specs.declared.status.Status.TheVariants.{Empty, Loading, Ready, Journey, Yard, Arrived, Unloading}
-use Rattle.wagon_state.specs.declared.wagon_row.WagonRow.{WagonRow}
+use Rattle.wagons_and_orders.specs.declared.load.Load.TheVariants.{Loaded, Unladen}
+use Rattle.wagons_and_orders.specs.declared.status.Status.{Status}
+use Rattle.wagons_and_orders.specs.declared.status.Status.TheVariants.{Empty, Loading, Ready, Journey, Yard, Arrived, Unloading}
+use Rattle.wagons_and_orders.specs.declared.wagon_row.WagonRow.{WagonRow}
 use Rattle.fleet_map.specs.Words.{label_break}
 
 -- what a wagon is doing; one on a journey has left the place

@@ -13,11 +13,10 @@ use crate::place_node::push_place;
 use crate::promise_edges::push_promises;
 use crate::words::push_number;
 use line_network::Network;
-use load_orders::{OrderRow, Wanted};
+use wagons_and_orders::{OrderRow, WagonRow, Wanted};
 use operating_db::OfficeState;
 use rail_codes::Place;
 use std::alloc::{AllocError, Global};
-use wagon_state::WagonRow;
 
 /// The map of an office as a graph in Graphviz's language DOT, for `neato`. The network is to be the one in force.
 ///

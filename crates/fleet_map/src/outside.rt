@@ -5,11 +5,10 @@ ghost use Rattle.line_network.specs.Network.{NetworkValue};
 ghost use Rattle.fleet_map.specs.Outside.{is_drawn, outside_places, with_order_place, with_outside, with_wagon_place};
 
 use line_network::Network;
-use load_orders::OrderRow;
+use wagons_and_orders::{OrderRow, WagonRow};
 use operating_db::OfficeState;
 use rail_codes::Place;
 use std::alloc::{AllocError, Global};
-use wagon_state::WagonRow;
 
 /// The places at which wagons are or that orders on the map name, but that the network doesn't have, each once: those of
 /// the wagons first.

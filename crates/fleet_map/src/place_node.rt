@@ -4,10 +4,9 @@ ghost use Rattle.fleet_map.specs.Places.{back_of, front_of, has_free, stands_at,
 
 use crate::wagon_groups::push_wagon_lines;
 use crate::words::{push_number, push_quoted};
-use load_orders::Wanted;
+use wagons_and_orders::{WagonRow, Wanted, free};
 use rail_codes::{Place, push_ascii};
 use std::alloc::{AllocError, Global};
-use wagon_state::{WagonRow, free};
 
 /// Adds a place, with the wagons among these that are there, and the waiting orders among these that want some there.
 pub(crate) fn push_place(

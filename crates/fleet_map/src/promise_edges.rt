@@ -5,7 +5,7 @@ ghost use Rattle.std.specs.List.{filter_map, flat_map, list_any, range_with_len}
 ghost use Rattle.fleet_map.specs.Promises.{arrow_words, place_in, promise_at, promise_edge, promise_name, promise_node, promise_parts};
 
 use crate::words::{push_number, push_quoted};
-use load_orders::OrderRow;
+use wagons_and_orders::OrderRow;
 use move_messages::OrderText;
 use operating_db::OfficeState;
 use rail_codes::{Place, WagonNumber, push_ascii};

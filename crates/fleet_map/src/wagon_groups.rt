@@ -6,7 +6,7 @@ ghost use Rattle.fleet_map.specs.Wagons.{doing_word, group_at, group_line, hold_
 use crate::words::push_number;
 use rail_codes::push_ascii;
 use std::alloc::AllocError;
-use wagon_state::{Status, WagonRow};
+use wagons_and_orders::{Status, WagonRow};
 
 /// Adds a line of a label for each kind of wagon among these: how many there are, and what they are.
 pub(crate) fn push_wagon_lines(text: &mut String, rows: &[WagonRow]) -> Result<(), AllocError>

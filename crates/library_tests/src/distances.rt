@@ -1,7 +1,6 @@
 //! Distances by several workers, and beside another way to find them.
 
-use distance_tables::{Gate, OpenGate, Tables, WorkFault, tables, tables_by_workers};
-use line_network::{Network, NetworkFault, read_lines};
+use line_network::{Gate, Network, NetworkFault, OpenGate, Tables, WorkFault, read_lines, tables, tables_by_workers};
 use std::alloc::{AllocError, Global};
 use std::sync::Wait;
 use std::sync::atomic::{AtomicU64, Ordering};

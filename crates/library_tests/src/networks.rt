@@ -1,7 +1,6 @@
 //! How many networks there may be, and their numbers.
 
-use distance_tables::{Networks, Tables, tables};
-use line_network::{Network, read_lines};
+use line_network::{Network, Networks, Tables, read_lines, tables};
 use std::alloc::Global;
 use std::test::Fail;
 use test_samples::NETWORK_HEADER;

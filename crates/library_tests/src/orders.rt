@@ -1,6 +1,6 @@
 //! Orders and how many wagons they lack.
 
-use load_orders::Wanted;
+use wagons_and_orders::Wanted;
 use std::test::Fail;
 use test_samples::order_text;
 

@@ -3,8 +3,8 @@
 use std::alloc::Global;
 use std::test::Fail;
 use test_samples::{FAR, MemoryReader, NEAR, ROSTER, class, moment, place, wagon};
-use wagon_roster::{Roster, RosterFault};
-use wagon_state::{Status, WagonRow};
+use fleet_rows::{Roster, RosterFault};
+use wagons_and_orders::{Status, WagonRow};
 
 /// One of the sample's wagons.
 fn empty_wagon(number: &str, at: &str) -> Result<WagonRow, Fail> {

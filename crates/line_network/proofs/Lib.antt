@@ -2,3 +2,12 @@ pub mod NetworkLemmas
 pub mod NetworkOfLemmas
 pub mod ReadingLemmas
 pub mod RecordLemmas
+pub mod Labels
+pub mod Lines
+pub mod Numbering
+pub mod Paths
+pub mod Relaxing
+pub mod Searching
+pub mod Sharing
+pub mod Totals
+pub mod Walks

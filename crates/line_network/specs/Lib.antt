@@ -3,4 +3,11 @@ pub mod NetworkLimits
 pub mod NetworkOf
 pub mod Reading
 pub mod Records
+pub mod Distance
+pub mod DistanceAnswers
+pub mod Laws
+pub mod Networks
+pub mod NetworkCount
+pub mod Walk
+pub mod Workers
 pub mod inner

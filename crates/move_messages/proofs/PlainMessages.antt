@@ -7,12 +7,12 @@ use Rattle.json.specs.Tree.{json_tokens}
 use Rattle.json.proofs.Printed.Decimals.{IsNumber-decimal}
 use Rattle.serde_json.proofs.Numbers.{number_of-decimal}
 use Rattle.serde_json.specs.Read.{read}
-use Rattle.json_fields.specs.Line.{object_of}
-use Rattle.json_fields.specs.Fields.{field_of, member}
-use Rattle.json_fields.specs.Field.{field_name}
-use Rattle.json_fields.specs.Values.{text_of, number_within, company_from, wagon_number_from, place_from, moment_from}
-use Rattle.json_fields.proofs.PlainTexts.{read-print}
-use Rattle.json_fields.proofs.Lines.{object_of-ok}
+use Rattle.move_messages.specs.Line.{object_of}
+use Rattle.move_messages.specs.Fields.{field_of, member}
+use Rattle.move_messages.specs.Field.{field_name}
+use Rattle.move_messages.specs.Values.{text_of, number_within, company_from, wagon_number_from, place_from, moment_from}
+use Rattle.move_messages.proofs.PlainTexts.{read-print}
+use Rattle.move_messages.proofs.Lines.{object_of-ok}
 use Rattle.rail_codes.specs.Company.{company_of}
 use Rattle.rail_codes.specs.WagonNumber.{wagon_number_of}
 use Rattle.rail_codes.specs.Place.{place_read}

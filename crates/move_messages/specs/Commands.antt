@@ -1,9 +1,9 @@
 -- What a line is as a command: its type, and the fields of that type in the order in which they are tried.
 use Rattle.std.specs.Prelude.{ℕ, ◌^◌, ◌-◌, false, List, unwrap_or, Result, Ok}
 use Rattle.serde_json.specs.Data.{Data}
-use Rattle.json_fields.specs.declared.field.Field.TheVariants as field
-use Rattle.json_fields.specs.declared.fault.FieldFault.{FieldFault}
-use Rattle.json_fields.specs.declared.fault.LineFault.{LineFault}
+use Rattle.move_messages.specs.declared.field.Field.TheVariants as field
+use Rattle.move_messages.specs.declared.fault.FieldFault.{FieldFault}
+use Rattle.move_messages.specs.declared.fault.LineFault.{LineFault}
 use Rattle.move_messages.specs.declared.line_type.LineType.{LineType}
 use Rattle.move_messages.specs.declared.line_type.LineType.TheVariants as of_type
 use Rattle.move_messages.specs.declared.message.MessageKind.{MessageKind}
@@ -15,9 +15,9 @@ use Rattle.move_messages.specs.declared.command.Command.TheVariants.{Message, Pl
 use Rattle.move_messages.specs.Classes.{max_classes}
 use Rattle.move_messages.specs.Order.{Order, max_load}
 use Rattle.move_messages.specs.OrderLimits.{max_penalty, max_order_wagons}
-use Rattle.json_fields.specs.Values.{◌>>=◌, number_within, boolean_of, company_from, wagon_number_from, place_from, moment_from, order_id_from, class_from, list_within, each, text_of, wagon_and_order}
-use Rattle.json_fields.specs.Fields.{field_of, optional_field_of, list_at}
-use Rattle.json_fields.specs.Line.{object_of}
+use Rattle.move_messages.specs.Values.{◌>>=◌, number_within, boolean_of, company_from, wagon_number_from, place_from, moment_from, order_id_from, class_from, list_within, each, text_of, wagon_and_order}
+use Rattle.move_messages.specs.Fields.{field_of, optional_field_of, list_at}
+use Rattle.move_messages.specs.Line.{object_of}
 use Rattle.move_messages.specs.LineType.{line_type_of}
 
 -- the greatest version that a commit may name

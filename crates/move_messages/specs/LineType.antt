@@ -2,8 +2,8 @@
 use Rattle.std.specs.Prelude.{ℕ, nat_eq, List, [], ◌∷◌, find, codes, Result}
 use Rattle.std.specs.Option.{ok_or}
 use Rattle.std.specs.Cmp.Lexicographic.{pointwise}
-use Rattle.json_fields.specs.declared.fault.LineFault.{LineFault}
-use Rattle.json_fields.specs.declared.fault.LineFault.TheVariants.{UnknownType}
+use Rattle.move_messages.specs.declared.fault.LineFault.{LineFault}
+use Rattle.move_messages.specs.declared.fault.LineFault.TheVariants.{UnknownType}
 use Rattle.move_messages.specs.declared.line_type.LineType.{LineType}
 use Rattle.move_messages.specs.declared.line_type.LineType.TheVariants.{Release, Departure, YardArrival, YardDeparture, Exception, Arrival, Delivery, Order, Withdraw, Begin, Plan, Commit, Sheet, Network}
 

@@ -2,21 +2,21 @@
 
 ghost use Rattle.std.specs.Prelude.{◌≡◌, ◌<◌, [], ◌∷◌, length};
 ghost use Rattle.serde_json.specs.View.{view, items_view};
-ghost use Rattle.json_fields.specs.Fields.{field_of};
-ghost use Rattle.json_fields.specs.Values.{each, class_from};
-ghost use Rattle.json_fields.specs.inner.Loops.{with_front};
-ghost use Rattle.json_fields.specs.declared.field.Field.TheVariants as field;
+ghost use Rattle.move_messages.specs.Fields.{field_of};
+ghost use Rattle.move_messages.specs.Values.{each, class_from};
+ghost use Rattle.move_messages.specs.inner.Loops.{with_front};
+ghost use Rattle.move_messages.specs.declared.field.Field.TheVariants as field;
 ghost use Rattle.move_messages.specs.Classes.{max_classes};
 ghost use Rattle.move_messages.specs.Commands as meaning;
 
 use crate::classes::Classes;
 use crate::limits::MAX_CLASSES;
-use json_fields::{Field, FieldFault, LineFault, class_from, in_field, list_within, member};
+use crate::{Field, FieldFault, LineFault, class_from, in_field, list_within, member};
 use rail_codes::ClassCode;
 use serde_json::Value;
 
 /// The classes, in the field of that name.
-#[tactic(auto, unfolding(json_fields::specs::Fields::field_of))]
+#[tactic(auto, unfolding(crate::specs::Fields::field_of))]
 pub(crate) fn classes_at(object: &Value) -> Result<Classes, LineFault>
     ensures { result ≡ field_of meaning.classes_from field.Classes (view object.now) }
 {
@@ -28,7 +28,7 @@ pub(crate) fn classes_at(object: &Value) -> Result<Classes, LineFault>
 
 /// 1 to 8 classes. What is no list is `WrongKind` (19), a list of another count `OutOfRange` (20),
 /// and the first item that is refused has its own fault.
-#[tactic(auto, unfolding(crate::specs::Commands::classes_from, json_fields::specs::Values::list_within, json_fields::specs::Values::each))]
+#[tactic(auto, unfolding(crate::specs::Commands::classes_from, crate::specs::Values::list_within, crate::specs::Values::each))]
 fn classes_from(value: &Value) -> Result<Classes, FieldFault>
     ensures { result ≡ meaning.classes_from (view value.now) }
 {

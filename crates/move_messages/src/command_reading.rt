@@ -2,7 +2,7 @@
 
 ghost use Rattle.std.specs.Prelude.{◌≡◌};
 ghost use Rattle.serde_json.specs.View.{view};
-ghost use Rattle.json_fields.specs.Fields.{Gives};
+ghost use Rattle.move_messages.specs.Fields.{Gives};
 ghost use Rattle.move_messages.specs.Commands as meaning;
 
 use crate::class_reading::classes_at;
@@ -13,7 +13,7 @@ use crate::line_type::LineType;
 use crate::message::{Message, MessageKind};
 use crate::order_text::OrderText;
 use crate::plain_message::plain_message;
-use json_fields::{
+use crate::{
     Field, LineFault, boolean_at, company_at, count_at, moment_at, number_at, numbers_at,
     object_of, optional_count_at, order_id_at, pairs_at, place_at, text_at, wagon_number_at,
 };

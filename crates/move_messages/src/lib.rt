@@ -8,17 +8,39 @@ mod classes;
 mod command;
 mod command_reading;
 mod commit_text;
+mod fault;
+mod field;
+mod kind;
 mod limits;
+mod line;
 mod line_type;
+mod lists;
+mod members;
 mod message;
 mod order_text;
 mod plain_message;
+mod plain_text;
+mod values;
+mod written;
 
 pub use classes::Classes;
 pub use command::Command;
 pub use command_reading::read_line;
 pub use commit_text::{CommitText, Pairs, PriceList};
-pub use json_fields::LineFault;
+pub use fault::{FieldFault, LineFault};
+pub use field::Field;
+pub use kind::{CountKind, ItemKind};
 pub use limits::{MAX_CLASSES, MAX_LOAD, MAX_ORDER_WAGONS, MAX_PENALTY, MAX_REVISION, MAX_VERSION};
+pub use line::object_of;
+pub use lists::{
+    list_of_each, numbers_at, optional_list_at, order_ids_at, pairs_at, wagon_numbers_at,
+};
+pub use members::{
+    boolean_at, company_at, count_at, in_field, member, moment_at, number_at, optional_count_at,
+    order_id_at, place_at, text_at, wagon_number_at,
+};
 pub use message::{Message, MessageKind};
 pub use order_text::OrderText;
+pub use plain_text::{number_after, quoted_after};
+pub use values::{class_from, list_of, list_within, number_within};
+pub use written::{WrittenItem, list_value};

@@ -3,7 +3,7 @@
 ghost use Rattle.std.specs.Prelude.{◌≡◌, IfOk};
 ghost use Rattle.move_messages.specs.LineType.{line_type_of, type_name};
 
-use json_fields::LineFault;
+use crate::LineFault;
 
 /// What a command line is for, as its member `type` says.
 #[derive(Clone, Copy, Debug, PartialEq, Eq)]

@@ -2,14 +2,14 @@
 //! in one pass and without memory.
 
 ghost use Rattle.std.specs.Prelude.{◌≡◌, ℕ, List, Ok, IfSome, codes, true};
-ghost use Rattle.json_fields.specs.Line.{object_of};
+ghost use Rattle.move_messages.specs.Line.{object_of};
 ghost use Rattle.move_messages.specs.Commands.{command_of};
 ghost use Rattle.move_messages.specs.declared.command.Command.TheVariants as command;
 ghost use Rattle.move_messages.specs.inner.PlainMessage.{IsKindOf, IsTypeOf, plain_object};
 
 use crate::line_type::LineType;
 use crate::message::{Message, MessageKind};
-use json_fields::{number_after, quoted_after};
+use crate::{number_after, quoted_after};
 use rail_codes::{Company, MessageId, Moment, Place, WagonNumber};
 
 /// The fields of a message, as they stand in its line.

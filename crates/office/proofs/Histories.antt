@@ -1,7 +1,7 @@
 -- What a run has done to a book: calls, one after the other.
 use Rattle.std.proofs.Common.{◌≡◌, ◌+◌, ℕ, Bool, true, false, List, [], ◌∷◌, ◌++◌, Result, Ok, Err, refl, sym, ◌∙◌, subst, inl, inr}
 use Rattle.std.specs.Prelude.{IfOk, IfErr}
-use Rattle.json_fields.specs.declared.fault.LineFault.{LineFault}
+use Rattle.move_messages.specs.declared.fault.LineFault.{LineFault}
 use Rattle.line_engine.specs.Lines.{is_blank}
 use Rattle.line_engine.specs.Replies.{AnswersLine, Replies, Responds}
 use Rattle.line_engine.specs.Runs.{Ends, Failures, Run, Stops}

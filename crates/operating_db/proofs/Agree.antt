@@ -1,10 +1,10 @@
 -- The promises of wagons and of orders agree after each change.
 use Rattle.std.proofs.Common.{◌≡◌, ◌∙◌, ℕ, Bool, true, false, cond, not, ◌||◌, ◌&&◌, List, [], ◌∷◌, ◌++◌, map, refl, ap, sym}
 use Rattle.std.specs.Prelude.{Option, Some, None, option_map}
-use Rattle.wagon_state.specs.declared.wagon_row.WagonRow.{WagonRow}
-use Rattle.load_orders.specs.Numbers.{with_number, without_number}
-use Rattle.load_orders.specs.OrderRow.{OrderRowValue}
-use Rattle.database_rows.specs.Rows.{wagon_in, order_in, at_wagon, at_order, promised_to, taken_back}
+use Rattle.wagons_and_orders.specs.declared.wagon_row.WagonRow.{WagonRow}
+use Rattle.wagons_and_orders.specs.Numbers.{with_number, without_number}
+use Rattle.wagons_and_orders.specs.OrderRow.{OrderRowValue}
+use Rattle.fleet_rows.specs.Rows.{wagon_in, order_in, at_wagon, at_order, promised_to, taken_back}
 use Rattle.operating_db.specs.After.{unpromised}
 use Rattle.operating_db.specs.Commits.{given_to, promise_pair}
 use Rattle.operating_db.specs.Office.{Office}

@@ -6,11 +6,11 @@ use Rattle.std.proofs.lemmas.List.{take_more}
 use Rattle.std.proofs.lemmas.List.Elements.{All-head, All-tail}
 use Rattle.std.proofs.lemmas.List.Folds.{list_any-append}
 use Rattle.std.proofs.lemmas.Option.{slice_get-get_or}
-use Rattle.wagon_state.specs.declared.wagon_row.WagonRow.{WagonRow}
-use Rattle.load_orders.specs.OrderRow.{OrderRowValue}
-use Rattle.database_rows.specs.Kept.{IsWagonRows}
-use Rattle.database_rows.specs.Rows.{wagon_in, order_in, at_wagon, with_promise}
-use Rattle.database_rows.proofs.Wagons.{wagon_in-there}
+use Rattle.wagons_and_orders.specs.declared.wagon_row.WagonRow.{WagonRow}
+use Rattle.wagons_and_orders.specs.OrderRow.{OrderRowValue}
+use Rattle.fleet_rows.specs.Kept.{IsWagonRows}
+use Rattle.fleet_rows.specs.Rows.{wagon_in, order_in, at_wagon, with_promise}
+use Rattle.fleet_rows.proofs.Wagons.{wagon_in-there}
 use Rattle.operating_db.specs.After.{unpromised}
 use Rattle.operating_db.specs.inner.EventParts.{unpromised_among}
 use Rattle.operating_db.specs.Office.{Office}

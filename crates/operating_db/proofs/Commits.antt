@@ -6,15 +6,15 @@ use Rattle.std.proofs.lemmas.List.Elements.{All-head, All-tail, All-weaker}
 use Rattle.std.proofs.lemmas.Bool.Decides.{nat_tests}
 use Rattle.std.proofs.lemmas.List.{drop_more, take_more}
 use Rattle.std.proofs.lemmas.List.Sums.{AllPass-from_list_all, list_all-from_AllPass, sum_by-cons}
-use Rattle.wagon_state.specs.declared.status.Status.{Status}
-use Rattle.wagon_state.specs.declared.status.Status.TheVariants.{Empty, Loading, Ready, Journey, Yard, Arrived, Unloading}
-use Rattle.wagon_state.specs.declared.wagon_row.WagonRow.{WagonRow}
-use Rattle.wagon_state.specs.Free.{free_of, free_by}
-use Rattle.load_orders.specs.Lack.{lack_of}
-use Rattle.load_orders.specs.Numbers.{with_number}
-use Rattle.load_orders.specs.OrderRow.{OrderRowValue}
-use Rattle.load_orders.proofs.Rows.{length-with}
-use Rattle.database_rows.specs.Rows.{wagon_in, order_in, promised_to}
+use Rattle.wagons_and_orders.specs.declared.status.Status.{Status}
+use Rattle.wagons_and_orders.specs.declared.status.Status.TheVariants.{Empty, Loading, Ready, Journey, Yard, Arrived, Unloading}
+use Rattle.wagons_and_orders.specs.declared.wagon_row.WagonRow.{WagonRow}
+use Rattle.wagons_and_orders.specs.Free.{free_of, free_by}
+use Rattle.wagons_and_orders.specs.Lack.{lack_of}
+use Rattle.wagons_and_orders.specs.Numbers.{with_number}
+use Rattle.wagons_and_orders.specs.OrderRow.{OrderRowValue}
+use Rattle.wagons_and_orders.proofs.Rows.{length-with}
+use Rattle.fleet_rows.specs.Rows.{wagon_in, order_in, promised_to}
 use Rattle.operating_db.specs.Commits.{Pair, times_of_wagon, times_of_order, is_free_row, lack_in, IsPromisable, CanPromise, given_to, promise_pair, promise_all}
 use Rattle.operating_db.specs.inner.EventParts.{IsNext, is_promisable}
 use Rattle.operating_db.specs.Office.{Office}

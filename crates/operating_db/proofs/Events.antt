@@ -4,18 +4,18 @@ use Rattle.std.specs.Prelude.{◌==◌, nat_lt, Option, Some, None, is_some, Res
 use Rattle.std.proofs.lemmas.List.Elements.{All-head, All-tail}
 use Rattle.move_messages.specs.Order.{Order}
 use Rattle.move_messages.specs.declared.message.Message as message
-use Rattle.wagon_state.specs.declared.change.Change.{Change}
-use Rattle.wagon_state.specs.declared.change.Effect.{Effect}
-use Rattle.wagon_state.specs.declared.change.Effect.TheVariants as effect
+use Rattle.wagons_and_orders.specs.declared.change.Change.{Change}
+use Rattle.wagons_and_orders.specs.declared.change.Effect.{Effect}
+use Rattle.wagons_and_orders.specs.declared.change.Effect.TheVariants as effect
 use Rattle.faults.specs.declared.faults.StepFault.{StepFault}
 use Rattle.faults.specs.declared.faults.StepFault.TheVariants.{Earlier, WrongPlace}
-use Rattle.wagon_state.specs.declared.wagon_row.WagonRow.{WagonRow}
-use Rattle.wagon_state.specs.StatusTable.{step_of, fitted, change_by, promise_after, effect_on, table_line, is_at}
-use Rattle.wagon_roster.specs.Roster.{IsRosterRow}
-use Rattle.load_orders.specs.Lack.{is_open}
-use Rattle.load_orders.specs.OrderRow.{OrderRowValue, placed_row}
-use Rattle.database_rows.proofs.Wagons.{number-wagon_in}
-use Rattle.database_rows.specs.Rows.{wagon_in, order_in, at_wagon, at_order, max_open_wagons, open_wagons, filled_by, freed_of, taken_back, promised_to}
+use Rattle.wagons_and_orders.specs.declared.wagon_row.WagonRow.{WagonRow}
+use Rattle.wagons_and_orders.specs.StatusTable.{step_of, fitted, change_by, promise_after, effect_on, table_line, is_at}
+use Rattle.fleet_rows.specs.Roster.{IsRosterRow}
+use Rattle.wagons_and_orders.specs.Lack.{is_open}
+use Rattle.wagons_and_orders.specs.OrderRow.{OrderRowValue, placed_row}
+use Rattle.fleet_rows.proofs.Wagons.{number-wagon_in}
+use Rattle.fleet_rows.specs.Rows.{wagon_in, order_in, at_wagon, at_order, max_open_wagons, open_wagons, filled_by, freed_of, taken_back, promised_to}
 use Rattle.faults.specs.declared.faults.ApplyFault.TheVariants.{OrderKnown, TooManyOpen, OrderClosed, UnknownNetwork, SameNetwork}
 use Rattle.operating_db.specs.declared.event.Event.{Event}
 use Rattle.operating_db.specs.declared.event.Event.TheVariants.{Message, Place, Withdraw, Commit, Revise}

@@ -3,12 +3,12 @@ use Rattle.std.proofs.Common.{◌≡◌, ◌∙◌, ℕ, ◌+◌, Bool, true, fa
 use Rattle.std.specs.Prelude.{Option, Some, None, is_some}
 use Rattle.std.specs.List.{cons_option}
 use Rattle.std.proofs.lemmas.List.Sums.{sum_by-cons}
-use Rattle.wagon_state.specs.declared.status.Status.{Status}
-use Rattle.wagon_state.specs.declared.status.Status.TheVariants.{Empty, Loading, Ready, Journey, Yard, Arrived, Unloading}
-use Rattle.wagon_state.specs.declared.free_wagon.FreeWagon.{FreeWagon}
-use Rattle.wagon_state.specs.declared.wagon_row.WagonRow.{WagonRow}
-use Rattle.wagon_state.specs.Free.{free_by, free_of}
-use Rattle.database_rows.specs.EmptyWagons.{is_free_at, is_stand, stand_by, stand_of}
+use Rattle.wagons_and_orders.specs.declared.status.Status.{Status}
+use Rattle.wagons_and_orders.specs.declared.status.Status.TheVariants.{Empty, Loading, Ready, Journey, Yard, Arrived, Unloading}
+use Rattle.wagons_and_orders.specs.declared.free_wagon.FreeWagon.{FreeWagon}
+use Rattle.wagons_and_orders.specs.declared.wagon_row.WagonRow.{WagonRow}
+use Rattle.wagons_and_orders.specs.Free.{free_by, free_of}
+use Rattle.fleet_rows.specs.EmptyWagons.{is_free_at, is_stand, stand_by, stand_of}
 use Rattle.operating_db.specs.FreeCount.{free_count, is_of_class_at}
 use Rattle.operating_db.specs.Problem.{free_wagons}
 

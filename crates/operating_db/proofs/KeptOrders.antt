@@ -7,15 +7,15 @@ use Rattle.std.proofs.lemmas.List.Elements.{All-append, All-cons, All-map, All-n
 use Rattle.std.proofs.lemmas.Map.Keys.{IsDistinct-push}
 use Rattle.std.proofs.lemmas.Option.{slice_get-get_or}
 use Rattle.move_messages.specs.Order.{Order}
-use Rattle.load_orders.specs.Lack.{lack_of}
-use Rattle.load_orders.specs.OrderRow.{IsOrderRow, OrderRowValue, placed_row}
-use Rattle.load_orders.proofs.Rows.{row_filled, row_placed, row_with, row_without, row_withdrawn}
-use Rattle.wagon_state.specs.declared.change.Effect.{Effect}
-use Rattle.wagon_state.specs.declared.change.Effect.TheVariants as effect
-use Rattle.database_rows.specs.Rows.{names_of, at_order, filled_by, freed_of, order_in, promised_to, taken_back}
-use Rattle.database_rows.proofs.Named.{nothing_named, same_name}
-use Rattle.database_rows.proofs.Orders.{names-at_order, order_in-there}
-use Rattle.database_rows.proofs.Wagons.{ascending_distinct}
+use Rattle.wagons_and_orders.specs.Lack.{lack_of}
+use Rattle.wagons_and_orders.specs.OrderRow.{IsOrderRow, OrderRowValue, placed_row}
+use Rattle.wagons_and_orders.proofs.Rows.{row_filled, row_placed, row_with, row_without, row_withdrawn}
+use Rattle.wagons_and_orders.specs.declared.change.Effect.{Effect}
+use Rattle.wagons_and_orders.specs.declared.change.Effect.TheVariants as effect
+use Rattle.fleet_rows.specs.Rows.{names_of, at_order, filled_by, freed_of, order_in, promised_to, taken_back}
+use Rattle.fleet_rows.proofs.Named.{nothing_named, same_name}
+use Rattle.fleet_rows.proofs.Orders.{names-at_order, order_in-there}
+use Rattle.fleet_rows.proofs.Wagons.{ascending_distinct}
 use Rattle.operating_db.specs.After.{orders_after}
 use Rattle.operating_db.specs.Commits.{Pair, promise_all, promise_pair}
 use Rattle.operating_db.specs.inner.EventParts.{IsNext}

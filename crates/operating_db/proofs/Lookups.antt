@@ -2,11 +2,11 @@
 use Rattle.std.proofs.Common.{◌≡◌, ◌∙◌, ℕ, Bool, true, false, cond, List, [], ◌∷◌, ◌++◌, map, refl, ap, sym}
 use Rattle.std.specs.Prelude.{Option, Some, None, option_map}
 use Rattle.std.specs.List.{find}
-use Rattle.wagon_state.specs.declared.wagon_row.WagonRow.{WagonRow}
-use Rattle.load_orders.specs.OrderRow.{OrderRowValue}
-use Rattle.database_rows.specs.Rows.{wagon_in, order_in, at_wagon, at_order}
-use Rattle.database_rows.proofs.Orders.{order_in-at_order}
-use Rattle.database_rows.proofs.Wagons.{wagon_in-at_wagon}
+use Rattle.wagons_and_orders.specs.declared.wagon_row.WagonRow.{WagonRow}
+use Rattle.wagons_and_orders.specs.OrderRow.{OrderRowValue}
+use Rattle.fleet_rows.specs.Rows.{wagon_in, order_in, at_wagon, at_order}
+use Rattle.fleet_rows.proofs.Orders.{order_in-at_order}
+use Rattle.fleet_rows.proofs.Wagons.{wagon_in-at_wagon}
 use Rattle.operating_db.specs.Promises.{promise_of, promised_of}
 use Rattle.operating_db.proofs.Names.{same, same_is, same_sym}
 

@@ -4,7 +4,7 @@ use Rattle.std.specs.List.{filter, list_any, Contains}
 use Rattle.std.specs.Cmp.Lexicographic.{pointwise, bytes_decides, nat_list_eq_equiv}
 use Rattle.std.proofs.lemmas.List.{take-append-drop}
 use Rattle.std.proofs.lemmas.Map.Views.{list_any-from_Contains, Contains-from_any}
-use Rattle.load_orders.specs.Numbers.{is_below, is_number, with_number, without_number}
+use Rattle.wagons_and_orders.specs.Numbers.{is_below, is_number, with_number, without_number}
 use Rattle.operating_db.specs.Promises.{is_among}
 
 abbrev pub same : List ℕ → List ℕ → Bool

@@ -6,23 +6,23 @@ use Rattle.std.proofs.lemmas.Bool.Decides.{nat_tests}
 use Rattle.std.proofs.lemmas.List.Folds.{list_any-append}
 use Rattle.std.proofs.lemmas.List.Sums.{sum_by-cons}
 use Rattle.std.proofs.lemmas.Map.Keys.{IsDistinct-cons, IsDistinct-head, IsDistinct-tail}
-use Rattle.wagon_state.specs.declared.status.Status.{Status}
-use Rattle.wagon_state.specs.declared.status.Status.TheVariants.{Empty, Loading, Ready, Journey, Yard, Arrived, Unloading}
-use Rattle.wagon_state.specs.declared.free_wagon.FreeWagon.{FreeWagon}
-use Rattle.wagon_state.specs.declared.wagon_row.WagonRow.{WagonRow}
-use Rattle.wagon_state.specs.Free.{free_of, free_by}
-use Rattle.load_orders.specs.Lack.{lack_of, is_waiting}
-use Rattle.load_orders.specs.OrderRow.{OrderRowValue}
-use Rattle.load_orders.specs.Wanted.{WantedOrder}
-use Rattle.load_orders.specs.WantedLimits.{wanted_of}
+use Rattle.wagons_and_orders.specs.declared.status.Status.{Status}
+use Rattle.wagons_and_orders.specs.declared.status.Status.TheVariants.{Empty, Loading, Ready, Journey, Yard, Arrived, Unloading}
+use Rattle.wagons_and_orders.specs.declared.free_wagon.FreeWagon.{FreeWagon}
+use Rattle.wagons_and_orders.specs.declared.wagon_row.WagonRow.{WagonRow}
+use Rattle.wagons_and_orders.specs.Free.{free_of, free_by}
+use Rattle.wagons_and_orders.specs.Lack.{lack_of, is_waiting}
+use Rattle.wagons_and_orders.specs.OrderRow.{OrderRowValue}
+use Rattle.wagons_and_orders.specs.Wanted.{WantedOrder}
+use Rattle.wagons_and_orders.specs.WantedLimits.{wanted_of}
 use Rattle.cost_table.specs.DistinctNames.{first_repeated, repeated_after}
 use Rattle.cost_table.specs.Names.{is_name}
 use Rattle.cost_table.specs.DistinctNames as names
 use Rattle.cost_table.specs.ProblemLimits.{IsProblem}
 use Rattle.cost_table.specs.Problem.{wagon_names, order_names, lacks_of}
-use Rattle.database_rows.specs.Kept.{IsOrderRows, IsWagonRows}
-use Rattle.database_rows.specs.Rows.{open_wagons, wanted_open}
-use Rattle.database_rows.proofs.Wagons.{numbers_distinct}
+use Rattle.fleet_rows.specs.Kept.{IsOrderRows, IsWagonRows}
+use Rattle.fleet_rows.specs.Rows.{open_wagons, wanted_open}
+use Rattle.fleet_rows.proofs.Wagons.{numbers_distinct}
 use Rattle.operating_db.specs.Problem.{free_wagons, wanted_in, waiting_orders}
 use Rattle.operating_db.proofs.Names.{same}
 

@@ -4,15 +4,15 @@ use Rattle.std.proofs.Common.{◌≡◌, ◌∙◌, ℕ, ◌≤◌, arith, List,
 use Rattle.std.specs.Prelude.{◌↔◌, ◌+◌, nat_lt, Bool, true, false, cond, Option, Some, None, is_some, IsOk, IsSome, IfSome, Result, Ok, Err, OnOk, OnErr, option_map}
 use Rattle.move_messages.specs.Order.{Order}
 use Rattle.move_messages.specs.declared.message.Message as message
-use Rattle.wagon_state.specs.declared.change.Change.{Change}
-use Rattle.wagon_state.specs.declared.wagon_row.WagonRow.{WagonRow}
-use Rattle.wagon_roster.specs.Roster.{IsRoster}
-use Rattle.load_orders.specs.Lack.{is_open}
-use Rattle.load_orders.specs.OrderRow.{OrderRowValue, placed_row}
-use Rattle.database_rows.specs.Kept.{IsWagonRows}
-use Rattle.database_rows.proofs.Wagons.{number-wagon_in, wagon_in-at_wagon}
-use Rattle.database_rows.specs.EmptyWagons.{IsNewStand, stand_in, stand_of}
-use Rattle.database_rows.specs.Rows.{wagon_in, order_in, at_wagon, at_order, max_open_wagons, open_wagons, promised_to, taken_back, with_promise}
+use Rattle.wagons_and_orders.specs.declared.change.Change.{Change}
+use Rattle.wagons_and_orders.specs.declared.wagon_row.WagonRow.{WagonRow}
+use Rattle.fleet_rows.specs.Roster.{IsRoster}
+use Rattle.wagons_and_orders.specs.Lack.{is_open}
+use Rattle.wagons_and_orders.specs.OrderRow.{OrderRowValue, placed_row}
+use Rattle.fleet_rows.specs.Kept.{IsWagonRows}
+use Rattle.fleet_rows.proofs.Wagons.{number-wagon_in, wagon_in-at_wagon}
+use Rattle.fleet_rows.specs.EmptyWagons.{IsNewStand, stand_in, stand_of}
+use Rattle.fleet_rows.specs.Rows.{wagon_in, order_in, at_wagon, at_order, max_open_wagons, open_wagons, promised_to, taken_back, with_promise}
 use Rattle.operating_db.specs.inner.EventParts.{IsChange, IsNext, unpromised_among}
 use Rattle.faults.specs.declared.faults.ApplyFault.{ApplyFault}
 use Rattle.faults.specs.declared.faults.ApplyFault.TheVariants.{OrderClosed, OrderKnown, TooManyOpen}
@@ -22,7 +22,7 @@ use Rattle.operating_db.specs.Commits.{Pair}
 use Rattle.operating_db.specs.Office.{Office, first_office}
 use Rattle.operating_db.specs.State.{StateValue, IsState}
 use Rattle.operating_db.specs.Promises.{is_among, promised_of, PromisesAgree}
-use Rattle.distance_tables.specs.NetworkCount.{max_networks}
+use Rattle.line_network.specs.NetworkCount.{max_networks}
 use Rattle.operating_db.proofs.Changes.{among_known, order_known, withdrawn_wagons}
 use Rattle.operating_db.proofs.Events.{change_kept, not_there, placed_kept, rosters_agree, step_keeps, withdrawn_kept}
 use Rattle.operating_db.proofs.KeptOrders.{next_keeps}

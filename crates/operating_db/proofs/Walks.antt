@@ -3,10 +3,10 @@ use Rattle.std.proofs.Common.{◌≡◌, ◌∙◌, ℕ, ◌+◌, suc, Bool, tru
 use Rattle.std.specs.Prelude.{Option, Some, None, slice_get}
 use Rattle.std.specs.List.{cons_option, filter_map}
 use Rattle.std.specs.Option.{option_and_then}
-use Rattle.load_orders.specs.Lack.{is_waiting, lack_of}
-use Rattle.load_orders.specs.OrderRow.{OrderRowValue}
-use Rattle.load_orders.specs.Wanted.{WantedOrder}
-use Rattle.database_rows.specs.WaitingOrders.{waiting_from}
+use Rattle.wagons_and_orders.specs.Lack.{is_waiting, lack_of}
+use Rattle.wagons_and_orders.specs.OrderRow.{OrderRowValue}
+use Rattle.wagons_and_orders.specs.Wanted.{WantedOrder}
+use Rattle.fleet_rows.specs.WaitingOrders.{waiting_from}
 use Rattle.operating_db.specs.Problem.{wanted_in, waiting_orders}
 use Rattle.operating_db.specs.inner.Walks.{wanted_at}
 

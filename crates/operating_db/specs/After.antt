@@ -2,15 +2,15 @@
 use Rattle.std.specs.Prelude.{◌+◌, ◌==◌, nat_lt, ℕ, if◌then◌else◌, ◌||◌, List, [], ◌∷◌, ◌++◌, map, Option, Some, None, is_some, option_map, Result, Ok, Err}
 use Rattle.move_messages.specs.Order.{Order}
 use Rattle.move_messages.specs.declared.message.Message as message
-use Rattle.wagon_state.specs.declared.change.Effect.{Effect}
-use Rattle.wagon_state.specs.declared.change.Effect.TheVariants as effect
-use Rattle.wagon_state.specs.declared.change.Change.{Change}
+use Rattle.wagons_and_orders.specs.declared.change.Effect.{Effect}
+use Rattle.wagons_and_orders.specs.declared.change.Effect.TheVariants as effect
+use Rattle.wagons_and_orders.specs.declared.change.Change.{Change}
 use Rattle.faults.specs.declared.faults.StepFault.{StepFault}
-use Rattle.wagon_state.specs.declared.wagon_row.WagonRow.{WagonRow}
-use Rattle.wagon_state.specs.StatusTable.{step_of}
-use Rattle.load_orders.specs.Lack.{is_open}
-use Rattle.load_orders.specs.OrderRow.{OrderRowValue, placed_row}
-use Rattle.database_rows.specs.Rows.{wagon_in, order_in, at_wagon, at_order, max_open_wagons, open_wagons, filled_by, freed_of, taken_back}
+use Rattle.wagons_and_orders.specs.declared.wagon_row.WagonRow.{WagonRow}
+use Rattle.wagons_and_orders.specs.StatusTable.{step_of}
+use Rattle.wagons_and_orders.specs.Lack.{is_open}
+use Rattle.wagons_and_orders.specs.OrderRow.{OrderRowValue, placed_row}
+use Rattle.fleet_rows.specs.Rows.{wagon_in, order_in, at_wagon, at_order, max_open_wagons, open_wagons, filled_by, freed_of, taken_back}
 use Rattle.faults.specs.declared.faults.ApplyFault.{ApplyFault}
 use Rattle.faults.specs.declared.faults.ApplyFault.TheVariants.{UnknownWagon, Step, OrderKnown, TooManyOpen, UnknownOrder, OrderClosed, UnknownNetwork, SameNetwork}
 use Rattle.operating_db.specs.declared.event.Event.{Event}

@@ -1,6 +1,6 @@
 -- The faults of an event: when each comes.
 use Rattle.std.specs.Prelude.{◌≡◌, ◌⊎◌, ℕ, List, Result, Ok, Err, IsOk}
-use Rattle.database_rows.specs.EmptyWagons.{IsNewStand, stand_in}
+use Rattle.fleet_rows.specs.EmptyWagons.{IsNewStand, stand_in}
 use Rattle.faults.specs.declared.faults.ApplyFault.{ApplyFault}
 use Rattle.faults.specs.declared.faults.ApplyFault.TheVariants.{OutOfMemory, UnknownWagon, Step, OrderKnown, TooManyOpen, UnknownOrder, OrderClosed, UnknownNetwork, SameNetwork}
 use Rattle.operating_db.specs.declared.event.Event.{Event}

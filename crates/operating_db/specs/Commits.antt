@@ -1,11 +1,11 @@
 -- Commits: which pairs of a wagon and an order can be promised, and the office after that.
 use Rattle.std.specs.Prelude.{◌≡◌, ◌≤◌, ℕ, Bool, true, false, nat_eq, List, [], ◌∷◌, Option, Some, None, is_some, count_by, All}
 use Rattle.std.specs.Cmp.Lexicographic.{pointwise}
-use Rattle.wagon_state.specs.declared.wagon_row.WagonRow.{WagonRow}
-use Rattle.wagon_state.specs.Free.{free_of}
-use Rattle.load_orders.specs.Lack.{lack_of}
-use Rattle.load_orders.specs.OrderRow.{OrderRowValue}
-use Rattle.database_rows.specs.Rows.{wagon_in, order_in, at_wagon, at_order, promised_to, with_promise}
+use Rattle.wagons_and_orders.specs.declared.wagon_row.WagonRow.{WagonRow}
+use Rattle.wagons_and_orders.specs.Free.{free_of}
+use Rattle.wagons_and_orders.specs.Lack.{lack_of}
+use Rattle.wagons_and_orders.specs.OrderRow.{OrderRowValue}
+use Rattle.fleet_rows.specs.Rows.{wagon_in, order_in, at_wagon, at_order, promised_to, with_promise}
 use Rattle.operating_db.specs.Office.{Office}
 
 abbrev pub Pair : Type 0

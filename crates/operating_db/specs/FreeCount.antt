@@ -1,8 +1,8 @@
 -- How many free wagons of a class stand at a place.
 use Rattle.std.specs.Prelude.{ℕ, Bool, nat_eq, ◌&&◌, List, count_by}
 use Rattle.std.specs.Cmp.Lexicographic.{pointwise}
-use Rattle.wagon_state.specs.declared.wagon_row.WagonRow.{WagonRow}
-use Rattle.wagon_state.specs.declared.free_wagon.FreeWagon.{FreeWagon}
+use Rattle.wagons_and_orders.specs.declared.wagon_row.WagonRow.{WagonRow}
+use Rattle.wagons_and_orders.specs.declared.free_wagon.FreeWagon.{FreeWagon}
 use Rattle.operating_db.specs.Problem.{free_wagons}
 
 -- whether a wagon is of this class, at this place

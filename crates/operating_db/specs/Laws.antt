@@ -1,8 +1,8 @@
 -- What holds of every office that a roster and events lead to.
 use Rattle.std.specs.Prelude.{◌≡◌, ℕ, List, ◌++◌, [], map, ◌∷◌, Ok}
 use Rattle.move_messages.specs.Order.{Order}
-use Rattle.wagon_state.specs.declared.wagon_row.WagonRow.{WagonRow}
-use Rattle.wagon_roster.specs.Roster.{IsRoster}
+use Rattle.wagons_and_orders.specs.declared.wagon_row.WagonRow.{WagonRow}
+use Rattle.fleet_rows.specs.Roster.{IsRoster}
 use Rattle.operating_db.specs.declared.event.Event.{Event}
 use Rattle.operating_db.specs.Office.{Office, first_office}
 use Rattle.operating_db.specs.Promises.{PromisesAgree}

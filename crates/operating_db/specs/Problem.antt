@@ -1,12 +1,12 @@
 -- The problem of an office at a moment: what is to be distributed.
 use Rattle.std.specs.Prelude.{ℕ, if◌then◌else◌, List, Option, Some, None}
 use Rattle.std.specs.List.{filter_map}
-use Rattle.wagon_state.specs.declared.wagon_row.WagonRow.{WagonRow}
-use Rattle.wagon_state.specs.declared.free_wagon.FreeWagon.{FreeWagon}
-use Rattle.wagon_state.specs.Free.{free_of}
-use Rattle.load_orders.specs.Lack.{is_waiting, lack_of}
-use Rattle.load_orders.specs.OrderRow.{OrderRowValue}
-use Rattle.load_orders.specs.Wanted.{WantedOrder}
+use Rattle.wagons_and_orders.specs.declared.wagon_row.WagonRow.{WagonRow}
+use Rattle.wagons_and_orders.specs.declared.free_wagon.FreeWagon.{FreeWagon}
+use Rattle.wagons_and_orders.specs.Free.{free_of}
+use Rattle.wagons_and_orders.specs.Lack.{is_waiting, lack_of}
+use Rattle.wagons_and_orders.specs.OrderRow.{OrderRowValue}
+use Rattle.wagons_and_orders.specs.Wanted.{WantedOrder}
 use Rattle.cost_table.specs.Problem.{ProblemValue}
 use Rattle.operating_db.specs.Office.{Office}
 

@@ -2,9 +2,9 @@
 use Rattle.std.specs.Prelude.{◌≡◌, ℕ, Bool, false, nat_eq, List, [], Option, Some, None, All}
 use Rattle.std.specs.List.{IsDistinct, list_any}
 use Rattle.std.specs.Cmp.Lexicographic.{pointwise}
-use Rattle.wagon_state.specs.declared.wagon_row.WagonRow.{WagonRow}
-use Rattle.load_orders.specs.OrderRow.{OrderRowValue, IsOrderRow}
-use Rattle.database_rows.specs.Rows.{names_of, wagon_in, order_in}
+use Rattle.wagons_and_orders.specs.declared.wagon_row.WagonRow.{WagonRow}
+use Rattle.wagons_and_orders.specs.OrderRow.{OrderRowValue, IsOrderRow}
+use Rattle.fleet_rows.specs.Rows.{names_of, wagon_in, order_in}
 use Rattle.operating_db.specs.Office.{Office}
 
 -- whether a promise is one to this order

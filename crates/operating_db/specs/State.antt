@@ -1,7 +1,7 @@
 -- The state of an office, and what it keeps.
 use Rattle.std.specs.Prelude.{◌≤◌, ℕ}
 use Rattle.operating_db.specs.Promises.{PromisesAgree}
-use Rattle.distance_tables.specs.NetworkCount.{max_networks}
+use Rattle.line_network.specs.NetworkCount.{max_networks}
 use Rattle.operating_db.specs.Office.{Office}
 
 -- an office, and how many networks there are

@@ -13,4 +13,4 @@ pub use faults::ApplyFault;
 pub use laws::events_keep_offices;
 pub use office_state::OfficeState;
 pub use pair_counts::times_of_order;
-pub use wagon_roster::{Roster, RosterFault};
+pub use fleet_rows::{Roster, RosterFault};

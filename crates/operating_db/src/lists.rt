@@ -4,10 +4,9 @@ ghost use Rattle.std.specs.List.{filter_map};
 ghost use Rattle.operating_db.specs.Problem.{free_wagons, waiting_orders, wanted_in};
 ghost use Rattle.operating_db.specs.inner.Walks.{wanted_at};
 
-use database_rows::OrderRows;
-use load_orders::{OrderRow, Wanted};
+use fleet_rows::OrderRows;
+use wagons_and_orders::{FreeWagon, OrderRow, WagonRow, Wanted, free};
 use std::alloc::{AllocError, Global};
-use wagon_state::{FreeWagon, WagonRow, free};
 
 /// The free wagons, in order.
 pub(crate) fn free_wagons(alloc: Global, rows: &[WagonRow]) -> Result<Vec<FreeWagon>, AllocError>

@@ -1,8 +1,8 @@
 //! The state of an office.
 ghost use Rattle.std.specs.Prelude.{◌≡◌, ◌≤◌, ◌↔◌, IsTrue, Ok, Err, IfOk, IfErr, IsOk, OnErr, OnOk, MatchResult, Some, option_copied, option_map, slice_get};
 ghost use Rattle.std.specs.List.{list_all};
-ghost use Rattle.database_rows.specs.Kept.{IsOrderRows, IsWagonRows};
-ghost use Rattle.database_rows.specs.Rows.{order_in, wagon_in};
+ghost use Rattle.fleet_rows.specs.Kept.{IsOrderRows, IsWagonRows};
+ghost use Rattle.fleet_rows.specs.Rows.{order_in, wagon_in};
 ghost use Rattle.operating_db.specs.After.{after_call, after_order, after_revision, message_to, order_place, withdrawn_from};
 ghost use Rattle.operating_db.specs.inner.EventParts.{IsChange, IsNext, is_promisable};
 ghost use Rattle.operating_db.specs.ApplyFault.{EmptiesWagon, IsRefusal, IsRefusalOf, MayWantMemory};
@@ -11,24 +11,22 @@ ghost use Rattle.operating_db.specs.Office.{first_office};
 ghost use Rattle.operating_db.specs.FreeCount.{free_count};
 ghost use Rattle.operating_db.specs.Problem.{problem_of};
 ghost use Rattle.operating_db.specs.Promises.{PromisesAgree};
-ghost use Rattle.distance_tables.specs.NetworkCount.{max_networks};
+ghost use Rattle.line_network.specs.NetworkCount.{max_networks};
 ghost use Rattle.operating_db.specs.State.{IsState};
 ghost use Rattle.operating_db.specs.Steps.{IsPromised};
-ghost use Rattle.wagon_state.specs.declared.wagon_row.WagonRow.{WagonRow};
+ghost use Rattle.wagons_and_orders.specs.declared.wagon_row.WagonRow.{WagonRow};
 
 use crate::lists::{free_wagons, waiting_orders};
 use crate::pair_counts::{times_of_order, times_of_wagon};
 use crate::promises::{end_promises, settle};
 use crate::{ApplyFault, Event};
 use cost_table::Problem;
-use database_rows::{MAX_OPEN_WAGONS, OrderRows, WagonRows};
-use load_orders::OrderRow;
+use fleet_rows::{MAX_OPEN_WAGONS, OrderRows, Roster, WagonRows};
+use wagons_and_orders::{Change, OrderRow, WagonRow, free, step};
 use move_messages::{Message, OrderText};
 use rail_codes::{ClassCode, Moment, OrderId, Place, WagonNumber};
 use std::alloc::{AllocError, Global};
 use std::marker::Model;
-use wagon_roster::Roster;
-use wagon_state::{Change, WagonRow, free, step};
 
 /// The rows of the wagons and of the orders, and the network in force. A wagon is promised to an order exactly where
 /// the order has it among its promised wagons; no two orders have one name; and each order has every promised wagon

@@ -1,13 +1,13 @@
 //! Promises, on the side of the wagons and on that of the orders.
 ghost use Rattle.std.specs.Prelude.{◌≡◌, true, IfSome};
-ghost use Rattle.database_rows.specs.Rows.{order_in};
+ghost use Rattle.fleet_rows.specs.Rows.{order_in};
 ghost use Rattle.operating_db.specs.After.{orders_after};
 ghost use Rattle.operating_db.specs.inner.EventParts.{unpromised_among};
 ghost use Rattle.operating_db.specs.Promises.{is_among, promised_of};
 
-use database_rows::{OrderRows, WagonRows};
+use fleet_rows::{OrderRows, WagonRows};
 use rail_codes::{OrderId, WagonNumber};
-use wagon_state::Effect;
+use wagons_and_orders::Effect;
 
 /// Ends the promises of these wagons. Takes no memory.
 pub(crate) fn end_promises(wagons: &mut WagonRows, numbers: &[WagonNumber])

@@ -7,11 +7,11 @@ use Rattle.std.specs.Cmp.Lexicographic.{pointwise, bytes_decides}
 use Rattle.std.proofs.lemmas.Bool.{cases_Bool}
 use Rattle.std.proofs.lemmas.List.Quantifiers.{position-Some}
 use Rattle.move_messages.specs.Order.{Order}
-use Rattle.wagon_state.specs.declared.free_wagon.FreeWagon.{FreeWagon}
-use Rattle.load_orders.specs.Listed.{is_listed}
-use Rattle.load_orders.specs.Wanted.{WantedOrder}
+use Rattle.wagons_and_orders.specs.declared.free_wagon.FreeWagon.{FreeWagon}
+use Rattle.wagons_and_orders.specs.Listed.{is_listed}
+use Rattle.wagons_and_orders.specs.Wanted.{WantedOrder}
 use Rattle.line_network.specs.Network.{NetworkValue, place_index, are_one_place}
-use Rattle.distance_tables.specs.Distance.{IsDistance}
+use Rattle.line_network.specs.Distance.{IsDistance}
 use Rattle.problem_table.specs.declared.goals.Goal.{Goal}
 use Rattle.problem_table.specs.inner.Goals.{goal_at, goal_of, goals_from, goals_of}
 use Rattle.std.proofs.lemmas.List.{get_or_push, take_more}

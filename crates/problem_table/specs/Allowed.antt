@@ -1,11 +1,11 @@
 -- The table of a problem over a network: which cells it has.
 use Rattle.std.specs.Prelude.{◌≡◌, ◌+◌, ◌*◌, ◌≤◌, ◌↔◌, max, ℕ, length, Some, slice_get}
 use Rattle.move_messages.specs.Order.{Order}
-use Rattle.wagon_state.specs.declared.free_wagon.FreeWagon.{FreeWagon}
-use Rattle.load_orders.specs.Suits.{Suits}
-use Rattle.load_orders.specs.Wanted.{WantedOrder}
+use Rattle.wagons_and_orders.specs.declared.free_wagon.FreeWagon.{FreeWagon}
+use Rattle.wagons_and_orders.specs.Suits.{Suits}
+use Rattle.wagons_and_orders.specs.Wanted.{WantedOrder}
 use Rattle.line_network.specs.Network.{NetworkValue}
-use Rattle.distance_tables.specs.Distance.{IsDistance}
+use Rattle.line_network.specs.Distance.{IsDistance}
 use Rattle.cost_table.specs.Problem.{ProblemValue, penalties_of, lacks_of}
 use Rattle.cost_table.specs.Table.{Table, cost_at, wagon_count}
 

@@ -1,7 +1,7 @@
 -- The table of a problem, and up to which moment each wagon's cells stay as they are.
 use Rattle.std.specs.Prelude.{◌≡◌, ◌≤◌, ◌↔◌, ℕ, All, List, length, Some, slice_get, slice_index}
-use Rattle.wagon_state.specs.declared.free_wagon.FreeWagon.{FreeWagon}
-use Rattle.load_orders.specs.Wanted.{WantedOrder}
+use Rattle.wagons_and_orders.specs.declared.free_wagon.FreeWagon.{FreeWagon}
+use Rattle.wagons_and_orders.specs.Wanted.{WantedOrder}
 use Rattle.line_network.specs.Network.{NetworkValue}
 use Rattle.cost_table.specs.Problem.{ProblemValue, penalties_of, lacks_of}
 use Rattle.cost_table.specs.Table.{Table, cost_at, wagon_count}

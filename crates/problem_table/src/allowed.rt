@@ -5,17 +5,16 @@ ghost use Rattle.problem_table.specs.Allowed.{IsTableOf, Reaches};
 ghost use Rattle.problem_table.specs.Lasting.{IsLastingTable};
 ghost use Rattle.problem_table.specs.inner.AllowedRows.{AddsRow, AreLastingRows};
 ghost use Rattle.problem_table.specs.inner.Goals.{goal_of, goals_of};
-ghost use Rattle.load_orders.specs.Wanted.{WantedOrder};
+ghost use Rattle.wagons_and_orders.specs.Wanted.{WantedOrder};
 ghost use Rattle.cost_table.specs.TableLimits.{max_cost};
 
 use crate::goals::{Goal, class_position};
 use crate::lasting::{TimedCells, timed};
 use cost_table::{Cells, Problem, RowBlock, TableRows};
-use distance_tables::Tables;
-use load_orders::carries;
+use line_network::Tables;
+use wagons_and_orders::{FreeWagon, carries};
 use rail_codes::Moment;
 use std::alloc::{AllocError, Global};
-use wagon_state::FreeWagon;
 
 /// The table of a problem over the network of these tables: a cell exactly where the wagon suits the order and,
 /// starting at the problem's moment or when it is ready, reaches its place by the latest moment, with the

@@ -6,7 +6,7 @@ ghost use Rattle.problem_table.specs.declared.goals.ClassGoals.{ClassGoals};
 ghost use Rattle.problem_table.specs.inner.Goals.{AreGoalsOf, goal_of, goals_of};
 
 use line_network::Network;
-use load_orders::{Wanted, accepts};
+use wagons_and_orders::{Wanted, accepts};
 use rail_codes::{ClassCode, Moment};
 use std::alloc::{AllocError, Global};
 

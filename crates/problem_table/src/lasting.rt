@@ -3,10 +3,10 @@ ghost use Rattle.std.specs.Prelude.{◌≡◌, ◌<◌, ◌≤◌, ◌^◌, ℕ,
 ghost use Rattle.cost_table.specs.Problem.{penalties_of, lacks_of};
 ghost use Rattle.cost_table.specs.TableLimits.{IsRow, max_cost};
 ghost use Rattle.cost_table.specs.SharedRows.{ArePlaced, rows_in};
-ghost use Rattle.load_orders.specs.WantedLimits.{IsLack};
+ghost use Rattle.wagons_and_orders.specs.WantedLimits.{IsLack};
 
 use cost_table::{Cells, Problem, TableRows};
-use load_orders::Wanted;
+use wagons_and_orders::Wanted;
 use std::alloc::{AllocError, Global};
 
 /// The table of a problem, and up to which moment it is the table of the same wagons and orders. Moments are in seconds

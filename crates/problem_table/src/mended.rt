@@ -10,10 +10,10 @@ use crate::allowed::{push_row, timed_cells};
 use crate::goals::{ClassGoals, class_position};
 use crate::lasting::{TimedCells, timed};
 use cost_table::{Problem, TableRows};
-use distance_tables::Tables;
+use line_network::Tables;
 use rail_codes::{Moment, WagonNumber};
 use std::alloc::{AllocError, Global};
-use wagon_state::FreeWagon;
+use wagons_and_orders::FreeWagon;
 
 /// What `timed_cells` answers, made out of the table of an earlier problem with the same orders: the cells of a wagon that
 /// is as it was then, and whose last moment isn't past, are taken over, and those of the others are found.

@@ -4,9 +4,8 @@ use book_feed::FeedFault;
 use commit_book::Refusal;
 use cost_table::TableFault;
 use csv_records::RecordFault;
-use distance_tables::{NetworksFault, WorkFault};
-use json_fields::{Field, FieldFault, LineFault};
-use line_network::NetworkFault;
+use line_network::{NetworkFault, NetworksFault, WorkFault};
+use move_messages::{Field, FieldFault, LineFault};
 use office::RunFault;
 use operating_db::ApplyFault;
 use price_checker::{CheckFault, NamedFault};
@@ -14,8 +13,8 @@ use rail_codes::CodeFault;
 use std::test::Fail;
 use table_lines::TableRefusal;
 use test_samples::{FAR, misnamed, order_id, wagon};
-use wagon_roster::RosterFault;
-use wagon_state::StepFault;
+use fleet_rows::RosterFault;
+use wagons_and_orders::StepFault;
 
 /// Fails where one of these variants of an enum prints another text than its name.
 macro_rules! assert_named {

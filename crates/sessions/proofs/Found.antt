@@ -3,14 +3,14 @@ use Rattle.std.proofs.Common.{◌≡◌, ◌∙◌, ℕ, zero, suc, Bool, true, 
 use Rattle.std.specs.Prelude.{◌==◌, ◌&&◌, Option, Some, None, option_and_then, slice_get}
 use Rattle.std.specs.List.{IsDistinct, cons_option, filter_map, find}
 use Rattle.std.proofs.lemmas.Bool.Decides.{nat_tests}
-use Rattle.wagon_state.specs.declared.free_wagon.FreeWagon.{FreeWagon}
-use Rattle.wagon_state.specs.declared.wagon_row.WagonRow.{WagonRow}
-use Rattle.wagon_state.specs.Free.{free_of}
-use Rattle.load_orders.specs.Lack.{is_waiting, lack_of}
-use Rattle.load_orders.specs.OrderRow.{OrderRowValue}
-use Rattle.load_orders.specs.Wanted.{WantedOrder}
-use Rattle.database_rows.specs.Rows.{order_in, wagon_in}
-use Rattle.database_rows.proofs.Named.{found_by_name}
+use Rattle.wagons_and_orders.specs.declared.free_wagon.FreeWagon.{FreeWagon}
+use Rattle.wagons_and_orders.specs.declared.wagon_row.WagonRow.{WagonRow}
+use Rattle.wagons_and_orders.specs.Free.{free_of}
+use Rattle.wagons_and_orders.specs.Lack.{is_waiting, lack_of}
+use Rattle.wagons_and_orders.specs.OrderRow.{OrderRowValue}
+use Rattle.wagons_and_orders.specs.Wanted.{WantedOrder}
+use Rattle.fleet_rows.specs.Rows.{order_in, wagon_in}
+use Rattle.fleet_rows.proofs.Named.{found_by_name}
 use Rattle.operating_db.specs.Commits.{lack_in}
 use Rattle.operating_db.specs.Office.{Office}
 use Rattle.operating_db.specs.Problem.{free_wagons, problem_of, waiting_orders, wanted_in}

@@ -4,8 +4,8 @@ use Rattle.std.specs.Prelude.{nat_eq, Bool, Option, Some, None, option_to_list, 
 use Rattle.std.specs.Cmp.Lexicographic.{pointwise}
 use Rattle.std.specs.List.{IsDistinct}
 use Rattle.std.specs.Result.{result_unwrap_or}
-use Rattle.wagon_roster.specs.Roster.{IsRoster}
-use Rattle.database_rows.proofs.Wagons.{numbers_distinct}
+use Rattle.fleet_rows.specs.Roster.{IsRoster}
+use Rattle.fleet_rows.proofs.Wagons.{numbers_distinct}
 use Rattle.operating_db.specs.After.{after_call}
 use Rattle.operating_db.specs.Office.{Office, first_office}
 use Rattle.operating_db.specs.Laws.{numbers_of}

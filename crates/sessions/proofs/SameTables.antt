@@ -4,7 +4,7 @@ use Rattle.std.specs.Prelude.{Option, None, Some, slice_index, sum, unwrap_or}
 use Rattle.std.specs.List.{sum_by}
 use Rattle.std.proofs.lemmas.List.{length-map}
 use Rattle.std.proofs.lemmas.List.Sums.{sum_by-cons}
-use Rattle.load_orders.specs.Wanted.{WantedOrder}
+use Rattle.wagons_and_orders.specs.Wanted.{WantedOrder}
 use Rattle.line_network.specs.Network.{NetworkValue}
 use Rattle.problem_table.specs.Allowed.{IsTableOf}
 use Rattle.cost_table.specs.Plan.{AllAllowed, pair_cost, serves, sum_below}

@@ -1,7 +1,7 @@
 -- A planner's commit: a begin, and then, with no call between, a commit of what was planned for it.
 use Rattle.std.specs.Prelude.{◌≡◌, ◌+◌, ◌⊎◌, ℕ, List, length, map, Ok}
 use Rattle.move_messages.specs.declared.commit_text.CommitText.{CommitText}
-use Rattle.wagon_roster.specs.Roster.{IsRoster}
+use Rattle.fleet_rows.specs.Roster.{IsRoster}
 use Rattle.cost_table.specs.Problem.{names_of_problem}
 use Rattle.cost_table.specs.Table.{Table}
 use Rattle.price_checker.specs.Certificate.{IsCertificate}

@@ -1,7 +1,7 @@
 -- What a planner makes of a snapshot.
 use Rattle.std.specs.Prelude.{◌≡◌, ◌<◌, ◌⊎◌, ℕ, List, length, Some}
 use Rattle.line_network.specs.Network.{NetworkValue}
-use Rattle.distance_tables.specs.Networks.{network_at}
+use Rattle.line_network.specs.Networks.{network_at}
 use Rattle.problem_table.specs.Allowed.{IsTableOf}
 use Rattle.cost_table.specs.Plan.{IsOptimal}
 use Rattle.cost_table.specs.Table.{Table}

@@ -7,7 +7,7 @@ use crate::PlanFault;
 use assignment::plan;
 use commit_book::Snap;
 use cost_table::Plan;
-use distance_tables::Networks;
+use line_network::Networks;
 use price_checker::Prices;
 use problem_table::cells;
 use std::alloc::Global;

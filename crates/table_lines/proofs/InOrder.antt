@@ -8,12 +8,12 @@ use Rattle.json.specs.Json.{parse_map, read_key, members, value}
 use Rattle.json.proofs.Grammar.{value-begin_object}
 use Rattle.serde_json.specs.Data.{Data, array, object, Items, Members, no_members, put}
 use Rattle.serde_json.specs.Read.{of_json, of_members, converted}
-use Rattle.json_fields.specs.declared.field.Field.TheVariants.{Wagons, Orders, Penalties, Pairs, WagonPrices, OrderPrices}
-use Rattle.json_fields.specs.Field.{field_name}
-use Rattle.json_fields.specs.Values.{number_within, wagon_number_from, order_id_from, wagon_and_order, list_of_each}
-use Rattle.json_fields.specs.Fields.{field_of, optional_field_of, member, list_at}
-use Rattle.json_fields.proofs.Lines.{object_of-ok}
-use Rattle.json_fields.proofs.Bounds.{numbers_within}
+use Rattle.move_messages.specs.declared.field.Field.TheVariants.{Wagons, Orders, Penalties, Pairs, WagonPrices, OrderPrices}
+use Rattle.move_messages.specs.Field.{field_name}
+use Rattle.move_messages.specs.Values.{number_within, wagon_number_from, order_id_from, wagon_and_order, list_of_each}
+use Rattle.move_messages.specs.Fields.{field_of, optional_field_of, member, list_at}
+use Rattle.move_messages.proofs.Lines.{object_of-ok}
+use Rattle.move_messages.proofs.Bounds.{numbers_within}
 use Rattle.cost_table.specs.TableLimits.{max_cost}
 use Rattle.cost_table.specs.Rows.{IsNumber}
 use Rattle.table_lines.specs.declared.table_line.TableLine.{TableLine}

@@ -2,12 +2,11 @@
 
 ghost use Rattle.std.specs.Prelude.{All, IfOk, IfSome, option_map};
 ghost use Rattle.serde_json.specs.View.{view};
-ghost use Rattle.json_fields.specs.Fields.{Gives};
+ghost use Rattle.move_messages.specs.Fields.{Gives};
 ghost use Rattle.table_lines.specs.TableLine as meaning;
-ghost use Rattle.load_orders.specs.WantedLimits.{IsLack};
+ghost use Rattle.wagons_and_orders.specs.WantedLimits.{IsLack};
 
-use json_fields::{CountKind, Field, LineFault, optional_list_at};
-use move_messages::MAX_ORDER_WAGONS;
+use move_messages::{CountKind, Field, LineFault, MAX_ORDER_WAGONS, optional_list_at};
 use serde_json::Value;
 use std::alloc::Global;
 

@@ -4,7 +4,7 @@ ghost use Rattle.std.specs.Prelude.{◌≡◌, ◌≤◌, All, IfSome, length, s
 ghost use Rattle.cost_table.specs.DistinctNames.{names_or_fault as read_names};
 ghost use Rattle.cost_table.specs.Rows.{IsNumber};
 ghost use Rattle.cost_table.specs.TableLimits.{max_cost, max_table_lack, max_table_orders, max_table_wagons};
-ghost use Rattle.load_orders.specs.WantedLimits.{IsLack};
+ghost use Rattle.wagons_and_orders.specs.WantedLimits.{IsLack};
 ghost use Rattle.table_lines.specs.TableLine.{table_text};
 ghost use Rattle.table_lines.specs.TableCost.{Yields, even_table, lacks_in, with_table_fault};
 ghost use Rattle.table_lines.specs.StatedTable.{CostsOfPlans, stated_in};

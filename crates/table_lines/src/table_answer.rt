@@ -3,7 +3,7 @@ ghost use Rattle.std.specs.Prelude.{◌≡◌, ◌<◌, ◌≤◌, ℕ, All, IfO
 ghost use Rattle.cost_table.specs.Rows.{IsNumber};
 ghost use Rattle.cost_table.specs.Table.{wagon_count, order_count};
 ghost use Rattle.cost_table.specs.TableLimits.{max_cost, max_table_lack, max_table_orders, max_table_wagons};
-ghost use Rattle.load_orders.specs.WantedLimits.{IsLack};
+ghost use Rattle.wagons_and_orders.specs.WantedLimits.{IsLack};
 ghost use Rattle.price_checker.specs.NamedPairs.{checked};
 ghost use Rattle.price_checker.specs.CertifiedPairs.{CertifiesPairs};
 ghost use Rattle.table_lines.specs.TableLine.{table_text};

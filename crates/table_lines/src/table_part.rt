@@ -2,18 +2,18 @@
 
 ghost use Rattle.std.specs.Prelude.{◌≡◌, ◌≤◌, All, IfOk, IfSome};
 ghost use Rattle.serde_json.specs.View.{view};
-ghost use Rattle.json_fields.specs.Fields.{Gives};
+ghost use Rattle.move_messages.specs.Fields.{Gives};
 ghost use Rattle.table_lines.specs.TableLine.{table_line_of, table_of, table_text};
 ghost use Rattle.table_lines.specs.TablePart.{table_of_line, table_then_plan};
 ghost use Rattle.cost_table.specs.Rows.{IsNumber};
 ghost use Rattle.cost_table.specs.TableLimits.{max_cost};
-ghost use Rattle.load_orders.specs.WantedLimits.{IsLack};
+ghost use Rattle.wagons_and_orders.specs.WantedLimits.{IsLack};
 
 use crate::cells::cells_at;
 use crate::lacks::lacks_at;
 use crate::table_line::TableLine;
 use cost_table::MAX_COST;
-use json_fields::{Field, LineFault, numbers_at, object_of, order_ids_at, wagon_numbers_at};
+use move_messages::{Field, LineFault, numbers_at, object_of, order_ids_at, wagon_numbers_at};
 use serde_json::Value;
 use std::alloc::Global;
 

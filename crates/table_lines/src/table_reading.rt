@@ -2,16 +2,16 @@
 
 ghost use Rattle.std.specs.Prelude.{◌≤◌, All, IfOk, IfSome};
 ghost use Rattle.serde_json.specs.View.{view};
-ghost use Rattle.json_fields.specs.Fields.{Gives};
+ghost use Rattle.move_messages.specs.Fields.{Gives};
 ghost use Rattle.table_lines.specs.TableLine.{table_text, table_text_of, table_line_of};
 ghost use Rattle.cost_table.specs.Rows.{IsNumber};
 ghost use Rattle.cost_table.specs.TableLimits.{max_cost};
-ghost use Rattle.load_orders.specs.WantedLimits.{IsLack};
+ghost use Rattle.wagons_and_orders.specs.WantedLimits.{IsLack};
 
 use crate::table_in_order::table_in_order;
 use crate::table_line::TableLine;
 use crate::table_part::table_part;
-use json_fields::{Field, LineFault, numbers_at, object_of, pairs_at};
+use move_messages::{Field, LineFault, numbers_at, object_of, pairs_at};
 use serde_json::Value;
 use std::alloc::Global;
 

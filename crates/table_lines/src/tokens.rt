@@ -4,7 +4,7 @@ ghost use Rattle.std.specs.Prelude.{◌≡◌, ◌∷◌, ◌<◌, ℕ, suc, Ok,
 ghost use Rattle.json.specs.Token as token;
 ghost use Rattle.serde_json.specs.Data.{Data, unsigned};
 ghost use Rattle.serde_json.specs.Read.{number_of};
-ghost use Rattle.json_fields.specs.Values as values;
+ghost use Rattle.move_messages.specs.Values as values;
 ghost use Rattle.table_lines.specs.TableLine as meaning;
 ghost use Rattle.table_lines.specs.inner.Tokens.{IsListOf, Spells, SpellsItems};
 

@@ -2,7 +2,7 @@
 use Rattle.std.proofs.Common.{ℕ, zero, suc, ◌*◌, ◌^◌, ◌<◌, ◌≤◌, List, arith, mul-le-mul_left}
 use Rattle.std.specs.Prelude.{slice_index}
 use Rattle.std.proofs.lemmas.List.Elements.{All-get_or}
-use Rattle.load_orders.specs.WantedLimits.{IsLack}
+use Rattle.wagons_and_orders.specs.WantedLimits.{IsLack}
 use Rattle.cost_table.specs.Table.{Table, lack_at, penalty_at, order_count}
 use Rattle.cost_table.specs.TableLimits.{IsTable, max_cost}
 use Rattle.cost_table.specs.Plan.{cost_of, sum_below}

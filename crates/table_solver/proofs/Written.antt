@@ -8,16 +8,16 @@ use Rattle.serde_json.specs.Data.{Data, Members, object, string, array, depth, i
 use Rattle.serde_json.specs.Read.{read, max_depth}
 use Rattle.serde_json.specs.View.{items_of}
 use Rattle.serde_json.specs.Written.{has_float, members_have_float}
-use Rattle.json_fields.specs.Field.{field_name}
-use Rattle.json_fields.specs.Fields.{member, field_of, optional_field_of}
-use Rattle.json_fields.specs.Values.{list_of_each, number_within, order_id_from, wagon_and_order, wagon_number_from}
-use Rattle.json_fields.specs.Written.{list_data, number_data, number_or_null, pair_data}
-use Rattle.json_fields.proofs.Lines.{object_of-ok}
-use Rattle.json_fields.proofs.Writing.{list-reads, number_reads}
+use Rattle.move_messages.specs.Field.{field_name}
+use Rattle.move_messages.specs.Fields.{member, field_of, optional_field_of}
+use Rattle.move_messages.specs.Values.{list_of_each, number_within, order_id_from, wagon_and_order, wagon_number_from}
+use Rattle.move_messages.specs.Written.{list_data, number_data, number_or_null, pair_data}
+use Rattle.move_messages.proofs.Lines.{object_of-ok}
+use Rattle.move_messages.proofs.Writing.{list-reads, number_reads}
 use Rattle.move_messages.specs.OrderLimits.{max_order_wagons}
 use Rattle.cost_table.specs.Rows.{IsNumber, Rows}
 use Rattle.cost_table.specs.TableLimits.{max_cost}
-use Rattle.load_orders.specs.WantedLimits.{IsLack}
+use Rattle.wagons_and_orders.specs.WantedLimits.{IsLack}
 use Rattle.table_lines.specs.TableLine.{TableText, cell_of, row_of, table_line_of, table_of, table_text, table_text_of, with_plan, with_plan_of}
 use Rattle.table_lines.specs.declared.table_line.TableLine.{TableLine}
 use Rattle.table_solver.specs.SolvedText.{last_members, solved_data, with_lacks}

@@ -3,7 +3,7 @@ ghost use Rattle.std.specs.Prelude.{◌≡◌, ◌≢◌, ◌<◌, ◌≤◌, �
 ghost use Rattle.cost_table.specs.Plan.{cost_of};
 ghost use Rattle.cost_table.specs.Rows.{IsNumber};
 ghost use Rattle.cost_table.specs.TableLimits.{max_cost};
-ghost use Rattle.load_orders.specs.WantedLimits.{IsLack};
+ghost use Rattle.wagons_and_orders.specs.WantedLimits.{IsLack};
 ghost use Rattle.price_checker.specs.Certificate.{IsCertificate};
 ghost use Rattle.table_lines.specs.StatedTable.{stated_in, stated_line};
 ghost use Rattle.table_lines.specs.TableLine.{TableText, table_text};

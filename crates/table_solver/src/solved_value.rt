@@ -2,16 +2,16 @@
 ghost use Rattle.std.specs.Prelude.{◌≡◌, ◌≤◌, ◌-◌, ◌^◌, All, IfOk, IfSome, OnOk, option_map, string_bytes};
 ghost use Rattle.serde_json.specs.Data.{object, string};
 ghost use Rattle.serde_json.specs.View.{members_view, view};
-ghost use Rattle.json_fields.specs.Values.{number_within, order_id_from, wagon_and_order, wagon_number_from};
-ghost use Rattle.json_fields.specs.Written.{list_data, number_data, number_or_null, pair_data};
+ghost use Rattle.move_messages.specs.Values.{number_within, order_id_from, wagon_and_order, wagon_number_from};
+ghost use Rattle.move_messages.specs.Written.{list_data, number_data, number_or_null, pair_data};
 ghost use Rattle.cost_table.specs.Rows.{IsNumber};
 ghost use Rattle.cost_table.specs.TableLimits.{max_cost};
-ghost use Rattle.load_orders.specs.WantedLimits.{IsLack};
+ghost use Rattle.wagons_and_orders.specs.WantedLimits.{IsLack};
 ghost use Rattle.table_lines.specs.TableLine.{table_line_of, table_text, with_plan};
 ghost use Rattle.table_solver.specs.SolvedText.{solved_text};
 ghost use Rattle.table_solver.specs.inner.Members.{plain_members, put_lacks};
 
-use json_fields::list_value;
+use move_messages::list_value;
 use price_checker::Prices;
 use rail_codes::{OrderId, WagonNumber};
 use serde_json::{Map, Value, put};

@@ -2,7 +2,7 @@
 
 use crate::codes::{class, moment, place, wagon};
 use std::test::Fail;
-use wagon_state::FreeWagon;
+use wagons_and_orders::FreeWagon;
 
 /// A wagon of 60,000 kg that is free at a place since midnight.
 pub fn free_wagon(number: &str, class_code: &str, at: &str) -> Result<FreeWagon, Fail> {

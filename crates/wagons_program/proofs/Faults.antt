@@ -3,16 +3,16 @@ use Rattle.std.proofs.Common.{ℕ, zero, suc, List, [], ◌∷◌, map, codes, r
 use Rattle.std.specs.Prelude.{IsTrue}
 use Rattle.sessions.specs.Seat.{SeatValue}
 use Rattle.rail_codes.specs.declared.code_fault.CodeFault.{CodeFault}
-use Rattle.json_fields.specs.declared.fault.LineFault.{LineFault}
+use Rattle.move_messages.specs.declared.fault.LineFault.{LineFault}
 use Rattle.faults.specs.declared.faults.StepFault.{StepFault}
 use Rattle.faults.specs.declared.faults.TableFault.{TableFault}
 use Rattle.faults.specs.declared.faults.NamedFault.{NamedFault}
 use Rattle.refusal_manual.specs.Numbers.{is_refusal_number}
-use Rattle.json_fields.specs.declared.field.Field.TheVariants.{Wagon}
-use Rattle.distance_tables.specs.declared.networks_fault.NetworksFault.TheVariants.{BadNetworkCount}
+use Rattle.move_messages.specs.declared.field.Field.TheVariants.{Wagon}
+use Rattle.line_network.specs.declared.networks_fault.NetworksFault.TheVariants.{BadNetworkCount}
 use Rattle.rail_codes.specs.declared.code_fault.CodeFault.TheVariants as code
-use Rattle.json_fields.specs.declared.fault.FieldFault.TheVariants as field
-use Rattle.json_fields.specs.declared.fault.LineFault.TheVariants as line
+use Rattle.move_messages.specs.declared.fault.FieldFault.TheVariants as field
+use Rattle.move_messages.specs.declared.fault.LineFault.TheVariants as line
 use Rattle.faults.specs.declared.faults.StepFault.TheVariants as step
 use Rattle.faults.specs.declared.faults.RecordFault.TheVariants as records
 use Rattle.faults.specs.declared.faults.RosterFault.TheVariants as roster

@@ -1,7 +1,7 @@
 //! An office that is opened, and the command lines of an input brought to it.
 ghost use Rattle.std.specs.Prelude.{IfErr, IfOk, List};
 ghost use Rattle.commit_book.specs.Books.{BookValue};
-ghost use Rattle.wagon_state.specs.declared.wagon_row.WagonRow.{WagonRow};
+ghost use Rattle.wagons_and_orders.specs.declared.wagon_row.WagonRow.{WagonRow};
 ghost use Rattle.wagons_program.specs.Brought.{AreAnswered, AreStopped, ToCommands};
 ghost use Rattle.wagons_program.specs.FirstBook.{IsFirstBook};
 

@@ -2,7 +2,7 @@
 ghost use Rattle.std.specs.Prelude.{◌≡◌, IfOk, List};
 ghost use Rattle.commit_book.specs.Books.{BookValue};
 ghost use Rattle.line_network.specs.Network.{NetworkValue};
-ghost use Rattle.wagon_state.specs.declared.wagon_row.WagonRow.{WagonRow};
+ghost use Rattle.wagons_and_orders.specs.declared.wagon_row.WagonRow.{WagonRow};
 ghost use Rattle.wagons_program.specs.Brought.{AreAnswered, Lines, ToCommands};
 ghost use Rattle.wagons_program.specs.FirstBook.{IsFirstBook};
 

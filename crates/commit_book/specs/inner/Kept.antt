@@ -1,7 +1,7 @@
 -- What a book keeps beside its history.
 use Rattle.std.specs.Prelude.{◌≡◌, ◌≤◌, ◌==◌, ◌&&◌, nat_le, nat_lt, ℕ, Bool, if◌then◌else◌, List, [], ◌∷◌, ◌++◌, Some, length, drop, map, All}
 use Rattle.line_network.specs.Network.{NetworkValue}
-use Rattle.distance_tables.specs.Networks.{network_at}
+use Rattle.line_network.specs.Networks.{network_at}
 use Rattle.problem_table.specs.Allowed.{IsTableOf}
 use Rattle.problem_table.specs.Lasting.{IsLastingTable}
 use Rattle.cost_table.specs.Problem.{ProblemValue}

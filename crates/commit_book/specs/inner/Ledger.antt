@@ -6,7 +6,7 @@ use Rattle.std.specs.declared.cmp.Ordering.{Ordering}
 use Rattle.std.specs.declared.alloc.AllocError.{AllocError}
 use Rattle.rail_codes.specs.declared.message_id.MessageId.{MessageId}
 use Rattle.move_messages.specs.declared.message.Message as movement
-use Rattle.wagon_state.specs.declared.wagon_row.WagonRow.{WagonRow}
+use Rattle.wagons_and_orders.specs.declared.wagon_row.WagonRow.{WagonRow}
 use Rattle.operating_db.specs.After.{after_call}
 use Rattle.operating_db.specs.ApplyFault.{IsRefusal}
 use Rattle.operating_db.specs.Office.{Office, first_office}

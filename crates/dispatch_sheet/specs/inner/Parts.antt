@@ -1,10 +1,10 @@
 -- The parts of the lines of a sheet, before and behind the text of their moment.
 use Rattle.std.specs.Prelude.{◌≡◌, ℕ, List, ◌∷◌, [], ◌++◌, codes, decimal}
 use Rattle.rail_codes.specs.Moment.{IsMomentText}
-use Rattle.wagon_state.specs.StatusTable.{place_of}
-use Rattle.wagon_state.specs.declared.wagon_row.WagonRow.{WagonRow}
-use Rattle.load_orders.specs.States.{state_of}
-use Rattle.load_orders.specs.OrderRow.{OrderRowValue}
+use Rattle.wagons_and_orders.specs.StatusTable.{place_of}
+use Rattle.wagons_and_orders.specs.declared.wagon_row.WagonRow.{WagonRow}
+use Rattle.wagons_and_orders.specs.States.{state_of}
+use Rattle.wagons_and_orders.specs.OrderRow.{OrderRowValue}
 use Rattle.dispatch_sheet.specs.Sheet.{hold_word, list_word, listed_wagons, promise_word, state_word, status_word}
 use Rattle.dispatch_sheet.specs.Words.{next_word}
 

@@ -1,7 +1,7 @@
 -- What makes the line of a commit read as that commit.
 use Rattle.std.specs.Prelude.{◌≡◌, ◌<◌, ◌≤◌, ◌^◌, ℕ, List, All, Ok}
-use Rattle.json_fields.specs.Values.{wagon_and_order}
-use Rattle.json_fields.specs.Written.{pair_data}
+use Rattle.move_messages.specs.Values.{wagon_and_order}
+use Rattle.move_messages.specs.Written.{pair_data}
 use Rattle.move_messages.specs.Commands.{max_version}
 use Rattle.move_messages.specs.declared.commit_text.CommitText.{CommitText}
 

@@ -1,9 +1,9 @@
 -- The words of statuses, as a roster reads them.
 use Rattle.std.specs.Prelude.{◌≡◌, ℕ, List, Some}
-use Rattle.wagon_state.specs.declared.status.Status.{Status}
-use Rattle.wagon_state.specs.declared.status.Status.TheVariants.{Empty, Loading, Ready, Journey, Yard, Arrived, Unloading}
-use Rattle.wagon_state.specs.StatusTable.{place_of}
-use Rattle.wagon_roster.specs.Records.{status_in}
+use Rattle.wagons_and_orders.specs.declared.status.Status.{Status}
+use Rattle.wagons_and_orders.specs.declared.status.Status.TheVariants.{Empty, Loading, Ready, Journey, Yard, Arrived, Unloading}
+use Rattle.wagons_and_orders.specs.StatusTable.{place_of}
+use Rattle.fleet_rows.specs.Records.{status_in}
 
 -- the status, where an empty wagon has been ready since this moment
 abbrev pub ready_since : ℕ → Status → Status

@@ -2,7 +2,7 @@
 use Rattle.std.specs.Prelude.{◌≡◌, ℕ, List, codes, decimal, Ok}
 use Rattle.json.specs.Json as json
 use Rattle.serde_json.specs.Data.{Data, unsigned, number, string, object, no_members, member}
-use Rattle.json_fields.specs.Values.{◌>>=◌}
+use Rattle.move_messages.specs.Values.{◌>>=◌}
 use Rattle.move_messages.specs.Commands.{command_of_type, message_of}
 use Rattle.move_messages.specs.LineType.{line_type_of}
 use Rattle.move_messages.specs.declared.command.Command.TheVariants.{Message}

@@ -1,10 +1,10 @@
 -- What the parts of an event ask for and make, as the private functions of an office do them.
 use Rattle.std.specs.Prelude.{◌≡◌, ◌<◌, ℕ, Bool, true, nat_le, ◌&&◌, if◌then◌else◌, List, map, Option, Some, None, Ok}
 use Rattle.move_messages.specs.declared.message.Message as message
-use Rattle.wagon_state.specs.StatusTable.{step_of}
-use Rattle.wagon_state.specs.declared.change.Change.{Change}
-use Rattle.wagon_state.specs.declared.wagon_row.WagonRow.{WagonRow}
-use Rattle.database_rows.specs.Rows.{wagon_in, order_in, with_promise}
+use Rattle.wagons_and_orders.specs.StatusTable.{step_of}
+use Rattle.wagons_and_orders.specs.declared.change.Change.{Change}
+use Rattle.wagons_and_orders.specs.declared.wagon_row.WagonRow.{WagonRow}
+use Rattle.fleet_rows.specs.Rows.{wagon_in, order_in, with_promise}
 use Rattle.operating_db.specs.After.{order_place}
 use Rattle.operating_db.specs.Commits.{Pair, is_free_row, lack_in, times_of_order, times_of_wagon}
 use Rattle.operating_db.specs.Office.{Office}

@@ -1,8 +1,8 @@
 -- What a walk over the places of the waiting orders meets.
 use Rattle.std.specs.Prelude.{ℕ, List, Option, slice_get}
 use Rattle.std.specs.Option.{option_and_then}
-use Rattle.load_orders.specs.OrderRow.{OrderRowValue}
-use Rattle.load_orders.specs.Wanted.{WantedOrder}
+use Rattle.wagons_and_orders.specs.OrderRow.{OrderRowValue}
+use Rattle.wagons_and_orders.specs.Wanted.{WantedOrder}
 use Rattle.operating_db.specs.Problem.{wanted_in}
 
 -- the order at a place, where one stands there and lacks a wagon

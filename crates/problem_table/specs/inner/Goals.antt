@@ -2,8 +2,8 @@
 use Rattle.std.specs.Prelude.{◌≡◌, ◌+◌, ℕ, if◌then◌else◌, List, [], ◌∷◌, ◌++◌, Option, None}
 use Rattle.std.specs.Option.{option_map, option_to_list}
 use Rattle.move_messages.specs.Order.{Order}
-use Rattle.load_orders.specs.Listed.{is_listed}
-use Rattle.load_orders.specs.Wanted.{WantedOrder}
+use Rattle.wagons_and_orders.specs.Listed.{is_listed}
+use Rattle.wagons_and_orders.specs.Wanted.{WantedOrder}
 use Rattle.line_network.specs.Network.{NetworkValue, place_index}
 use Rattle.problem_table.specs.declared.goals.Goal.{Goal}
 use Rattle.problem_table.specs.declared.goals.ClassGoals.{ClassGoals}

@@ -10,7 +10,7 @@ use std::sync::{Arc, Wait};
 use std::test::Fail;
 use std::thread::Threads;
 use test_samples::{MemorySource, ROSTER, SAMPLE, networks_of};
-use wagon_roster::Roster;
+use fleet_rows::Roster;
 
 /// The sample's book, without an entry.
 fn sample_book(alloc: Global) -> Result<Book, Fail>

@@ -4,7 +4,7 @@ use super::desks::{Desk, text_of};
 use super::scenes::{Action, played};
 use commit_book::Snap;
 use cost_table::Plan;
-use distance_tables::Networks;
+use line_network::Networks;
 use move_messages::CommitText;
 use price_checker::{Prices, check};
 use problem_table::cells;

@@ -1,9 +1,9 @@
 -- The object of a table line that is read in one pass.
 use Rattle.std.specs.Prelude.{◌≡◌, map, None, Ok}
 use Rattle.serde_json.specs.Data.{Data}
-use Rattle.json_fields.specs.declared.field.Field.TheVariants.{Penalties}
-use Rattle.json_fields.specs.Values.{number_within}
-use Rattle.json_fields.specs.Fields.{list_at}
+use Rattle.move_messages.specs.declared.field.Field.TheVariants.{Penalties}
+use Rattle.move_messages.specs.Values.{number_within}
+use Rattle.move_messages.specs.Fields.{list_at}
 use Rattle.cost_table.specs.TableLimits.{max_cost}
 use Rattle.table_lines.specs.declared.table_line.TableLine.{TableLine}
 use Rattle.table_lines.specs.TableLine.{cells_of, table_text, table_text_of}

@@ -1,7 +1,7 @@
 -- The members of a solved table while they are put together.
 use Rattle.std.specs.Prelude.{ℕ, List, Option, Some, None, codes}
 use Rattle.serde_json.specs.Data.{Members, member, put}
-use Rattle.json_fields.specs.Written.{list_data, number_data, number_or_null}
+use Rattle.move_messages.specs.Written.{list_data, number_data, number_or_null}
 use Rattle.table_lines.specs.TableLine.{TableText}
 use Rattle.table_solver.specs.SolvedText.{last_members}
 

@@ -1,5 +1,5 @@
 use Rattle.std.proofs.Common.{rules, sym, ◌∙◌, arith}
-use Rattle.load_orders.specs.Wanted.{WantedOrder}
+use Rattle.wagons_and_orders.specs.Wanted.{WantedOrder}
 use Rattle.cost_table.proofs.ProblemLemmas.{named_before, named_later}
 use Rattle.cost_table.proofs.problem.repeated_order.Goals as goal
 

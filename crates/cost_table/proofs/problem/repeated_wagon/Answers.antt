@@ -1,5 +1,5 @@
 use Rattle.std.proofs.Common.{refl, sym, ◌∙◌, arith}
-use Rattle.wagon_state.specs.declared.free_wagon.FreeWagon.{FreeWagon}
+use Rattle.wagons_and_orders.specs.declared.free_wagon.FreeWagon.{FreeWagon}
 use Rattle.cost_table.proofs.ProblemLemmas.{named_before, named_later}
 use Rattle.cost_table.proofs.problem.repeated_wagon.Goals as goal
 

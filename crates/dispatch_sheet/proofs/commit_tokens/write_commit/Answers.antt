@@ -2,7 +2,7 @@ use Rattle.std.proofs.Common.{◌++◌, ◌∷◌, [], codes, map, subst, ap, ap
 use Rattle.std.specs.Prelude.{All}
 use Rattle.std.proofs.lemmas.Result.{on_ok_weaker}
 use Rattle.json.specs.Token.{end_object}
-use Rattle.json_fields.specs.Written.{list_data, number_data, pair_data}
+use Rattle.move_messages.specs.Written.{list_data, number_data, pair_data}
 use Rattle.commit_book.specs.Snap.{named_pair}
 use Rattle.dispatch_sheet.specs.Certificate.{commit_of}
 use Rattle.dispatch_sheet.specs.inner.Readable.{AreReadablePrices, IsReadablePair}

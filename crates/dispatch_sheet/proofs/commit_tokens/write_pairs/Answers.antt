@@ -2,8 +2,8 @@ use Rattle.std.proofs.Common.{◌≡◌, ℕ, List, ◌∷◌, [], ◌++◌, get
 use Rattle.std.proofs.lemmas.List.Elements.{All-map, All-more}
 use Rattle.std.proofs.lemmas.Result.{on_ok_weaker}
 use Rattle.json.specs.Token.{begin_array, key}
-use Rattle.json_fields.specs.Written.{list_data, pair_data}
-use Rattle.json_fields.proofs.Writing.{holds-whole}
+use Rattle.move_messages.specs.Written.{list_data, pair_data}
+use Rattle.move_messages.proofs.Writing.{holds-whole}
 use Rattle.commit_book.specs.Snap.{named_pair}
 use Rattle.dispatch_sheet.specs.inner.Readable.{IsReadablePair}
 use Rattle.dispatch_sheet.specs.inner.Tokens.{data_tokens}

@@ -1,7 +1,7 @@
 use Rattle.std.proofs.Common.{◌≡◌, ◌++◌, take}
 use Rattle.std.specs.Prelude.{All}
 use Rattle.std.specs.List.{flat_map}
-use Rattle.json_fields.specs.Written.{pair_data}
+use Rattle.move_messages.specs.Written.{pair_data}
 use Rattle.commit_book.specs.Snap.{named_pair}
 use Rattle.dispatch_sheet.specs.inner.Readable.{IsReadablePair}
 use Rattle.dispatch_sheet.specs.inner.Tokens.{data_tokens}

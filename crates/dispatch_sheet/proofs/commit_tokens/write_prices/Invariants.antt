@@ -1,6 +1,6 @@
 use Rattle.std.proofs.Common.{◌≡◌, ◌++◌, take}
 use Rattle.std.specs.List.{flat_map}
-use Rattle.json_fields.specs.Written.{number_data}
+use Rattle.move_messages.specs.Written.{number_data}
 use Rattle.dispatch_sheet.specs.inner.Tokens.{data_tokens}
 use Rattle.dispatch_sheet.proofs.commit_tokens.write_prices.Given as goal
 

@@ -1,9 +1,9 @@
 use Rattle.std.proofs.Common.{[], ◌∷◌, sym, ◌∙◌, arith, length-append}
 use Rattle.std.proofs.lemmas.Result.{err_from_is_err_and}
 use Rattle.serde_json.specs.View.{items_view}
-use Rattle.json_fields.specs.Values.{each, class_from}
-use Rattle.json_fields.specs.inner.Loops.{with_front}
-use Rattle.json_fields.proofs.Items.{goes_on, stops, is_done}
+use Rattle.move_messages.specs.Values.{each, class_from}
+use Rattle.move_messages.specs.inner.Loops.{with_front}
+use Rattle.move_messages.proofs.Items.{goes_on, stops, is_done}
 use Rattle.move_messages.proofs.class_reading.with_more_classes.Goals as goal
 
 pub returns-in_err-class : goal.returns-in_err-class

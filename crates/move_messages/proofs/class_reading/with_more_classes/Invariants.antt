@@ -1,7 +1,7 @@
 use Rattle.std.proofs.Common.{◌≡◌, ◌+◌, [], ◌∷◌, length, drop}
 use Rattle.serde_json.specs.View.{items_view}
-use Rattle.json_fields.specs.Values.{each, class_from}
-use Rattle.json_fields.specs.inner.Loops.{with_front}
+use Rattle.move_messages.specs.Values.{each, class_from}
+use Rattle.move_messages.specs.inner.Loops.{with_front}
 use Rattle.move_messages.proofs.class_reading.with_more_classes.Given as goal
 
 abbrev pub invariant-loop-item : goal.invariant-loop-item

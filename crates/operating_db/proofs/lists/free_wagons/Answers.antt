@@ -1,5 +1,5 @@
 use Rattle.std.proofs.Common.{◌∙◌, ◌++◌, ◌∷◌, [], ap, sym, arith}
-use Rattle.wagon_state.specs.Free.{free_of}
+use Rattle.wagons_and_orders.specs.Free.{free_of}
 use Rattle.operating_db.proofs.Picked.{passed, picked}
 use Rattle.operating_db.proofs.lists.free_wagons.Goals as goal
 use Rattle.operating_db.proofs.lists.free_wagons.Goals.{in-Some, in_default}

@@ -1,6 +1,6 @@
 use Rattle.std.proofs.Common.{◌∙◌, ap}
 use Rattle.std.proofs.lemmas.Result.{IfOk-weaker}
-use Rattle.json_fields.specs.Written.{list_data, number_or_null}
+use Rattle.move_messages.specs.Written.{list_data, number_or_null}
 use Rattle.table_solver.proofs.Written.{rows_data}
 use Rattle.table_solver.proofs.solved_value.cells_value.Goals as goal
 

@@ -1,5 +1,5 @@
 use Rattle.std.proofs.Common.{ℕ, ◌∙◌, ap, subst}
-use Rattle.database_rows.specs.Kept.{IsWagonRows}
+use Rattle.fleet_rows.specs.Kept.{IsWagonRows}
 use Rattle.operating_db.specs.State.{StateValue}
 use Rattle.commit_book.specs.History.{replay}
 use Rattle.commit_book.specs.inner.Kept.{IsMadeOf}

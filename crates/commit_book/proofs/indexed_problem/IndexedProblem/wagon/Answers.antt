@@ -1,7 +1,7 @@
 use Rattle.std.proofs.Common.{◌∙◌, sym}
-use Rattle.wagon_state.specs.declared.free_wagon.FreeWagon.{FreeWagon}
+use Rattle.wagons_and_orders.specs.declared.free_wagon.FreeWagon.{FreeWagon}
 use Rattle.cost_table.specs.Names.{is_name}
-use Rattle.database_rows.proofs.Named.{found_at_place, not_found, read_at}
+use Rattle.fleet_rows.proofs.Named.{found_at_place, not_found, read_at}
 use Rattle.commit_book.proofs.Searches.{place_in}
 use Rattle.commit_book.proofs.indexed_problem.IndexedProblem.wagon.Goals as goal
 

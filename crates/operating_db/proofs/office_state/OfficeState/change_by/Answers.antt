@@ -1,5 +1,5 @@
 use Rattle.std.proofs.Common.{sym}
-use Rattle.database_rows.proofs.Wagons.{number-wagon_in}
+use Rattle.fleet_rows.proofs.Wagons.{number-wagon_in}
 use Rattle.operating_db.specs.Office.{Office}
 use Rattle.operating_db.proofs.States.{place_there}
 use Rattle.operating_db.proofs.office_state.OfficeState.change_by.Goals as goal

@@ -1,7 +1,7 @@
 use Rattle.std.proofs.Common.{◌≡◌, ◌∙◌, ap, sym, true, map, rules}
-use Rattle.load_orders.specs.Lack.{is_open}
-use Rattle.database_rows.specs.Rows.{at_order, taken_back}
-use Rattle.database_rows.proofs.Orders.{id-order_in}
+use Rattle.wagons_and_orders.specs.Lack.{is_open}
+use Rattle.fleet_rows.specs.Rows.{at_order, taken_back}
+use Rattle.fleet_rows.proofs.Orders.{id-order_in}
 use Rattle.operating_db.specs.After.{unpromised}
 use Rattle.operating_db.specs.Office.{Office}
 use Rattle.operating_db.proofs.States.{withdrawn_done, withdrawn_is, withdrawn_state}

@@ -1,6 +1,0 @@
-pub mod FreeCounts
-pub mod Named
-pub mod Orders
-pub mod Standings
-pub mod Waiting
-pub mod Wagons

@@ -1,5 +1,0 @@
-pub mod EmptyWagons
-pub mod Kept
-pub mod Rows
-pub mod WaitingOrders
-pub mod inner

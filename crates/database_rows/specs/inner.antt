@@ -1,3 +1,0 @@
--- What only the proofs and the private functions of this crate need.
-pub mod Indexed
-pub mod Standings

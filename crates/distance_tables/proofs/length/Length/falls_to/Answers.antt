@@ -1,5 +1,0 @@
-use Rattle.distance_tables.proofs.Numbering.{falls_match}
-use Rattle.distance_tables.proofs.length.Length.falls_to.Goals as goal
-
-pub returns : goal.returns
-returns c = falls_match c.args.self c.args.way c.requires

@@ -1,6 +1,0 @@
-use Rattle.std.proofs.Common.{◌≡◌, vec_len}
-use Rattle.distance_tables.specs.inner.Starts.{AreStarts}
-use Rattle.distance_tables.proofs.lines_by_origin.starts_of.Given as goal
-
-abbrev pub invariant-loop-place : goal.invariant-loop-place
-invariant-loop-place l = record { count : vec_len l.starts ≡ l.place-counter; starts : AreStarts l.lines l.starts.items }

@@ -1,7 +1,0 @@
-pub mod Lengths
-pub mod Rows
-pub mod Search
-pub mod Shares
-pub mod Starts
-pub mod Steps
-pub mod Turns

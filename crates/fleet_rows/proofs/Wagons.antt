@@ -1,0 +1,162 @@
+-- The rows of the wagons.
+use Rattle.std.proofs.Common.{◌≡◌, ◌∙◌, ℕ, Bool, true, false, cond, if◌then◌else◌, List, [], ◌∷◌, length, map, get_or, Option, Some, None, Result, Ok, Err, IfSome, IfNone, option_map, refl, ap, sym, subst, inl, inr, arith}
+use Rattle.std.specs.Cmp.Lexicographic.{bytes_decides, slice_cmp, texts_ties}
+use Rattle.std.specs.List.{AllByRecursion, IsDistinct, slice_get, slice_set}
+use Rattle.std.specs.List.Sorted.{IsBinarySearchResult, IsSearchInRange, IsStrictlySortedBy}
+use Rattle.std.specs.Ordering.{eq_by_cmp, is_eq, nat_cmp}
+use Rattle.std.specs.Result.{result_ok}
+use Rattle.std.specs.declared.cmp.Ordering.TheVariants.{Less, Equal}
+use Rattle.std.proofs.lemmas.Bool.{cases_Bool}
+use Rattle.std.proofs.lemmas.List.{length-set}
+use Rattle.std.proofs.lemmas.Map.Keys.{IsDistinct-from_sorted}
+use Rattle.std.proofs.lemmas.Option.{get_or_from_slice_get, slice_get-get_or}
+use Rattle.std.proofs.Math.Seq.{map-set_same}
+use Rattle.fleet_rows.specs.Roster.{by_number, compare_numbers}
+use Rattle.fleet_rows.specs.SameWagons.{has_wagon}
+use Rattle.fleet_rows.proofs.RosterLemmas.{none_at_gap, searched}
+use Rattle.wagons_and_orders.specs.declared.wagon_row.WagonRow.{WagonRow}
+use Rattle.fleet_rows.specs.Kept.{IsWagonRows}
+use Rattle.fleet_rows.specs.Rows.{at_wagon, is_wagon, wagon_in}
+use Rattle.fleet_rows.proofs.Named.{changed_at, find-changed, found_by_name, has_name, is_same, length_map, names-changed}
+
+-- the numbers of the wagons
+abbrev pub numbers_of : List WagonRow → List (List ℕ)
+numbers_of rows = map (λ row. row.number) rows
+
+-- ---- ascending rows are ascending numbers
+
+all_numbers : (number : List ℕ) (rows : List WagonRow) → AllByRecursion (λ (row : WagonRow). compare_numbers number row.number ≡ Less) rows → AllByRecursion (λ other. compare_numbers number other ≡ Less) (numbers_of rows)
+all_numbers number [] all = tt
+all_numbers number (row ∷ rows) all = (all.0, all_numbers number rows all.1)
+
+all_rows : (number : List ℕ) (rows : List WagonRow) → AllByRecursion (λ other. compare_numbers number other ≡ Less) (numbers_of rows) → AllByRecursion (λ (row : WagonRow). compare_numbers number row.number ≡ Less) rows
+all_rows number [] all = tt
+all_rows number (row ∷ rows) all = (all.0, all_rows number rows all.1)
+
+numbers_ascend : (rows : List WagonRow) → IsStrictlySortedBy by_number rows → IsStrictlySortedBy (slice_cmp nat_cmp) (numbers_of rows)
+unfolding IsStrictlySortedBy
+numbers_ascend [] h = tt
+numbers_ascend (row ∷ rows) h = (all_numbers row.number rows h.0, numbers_ascend rows h.1)
+
+rows_ascend : (rows : List WagonRow) → IsStrictlySortedBy (slice_cmp nat_cmp) (numbers_of rows) → IsStrictlySortedBy by_number rows
+unfolding IsStrictlySortedBy
+rows_ascend [] h = tt
+rows_ascend (row ∷ rows) h = (all_rows row.number rows h.0, rows_ascend rows h.1)
+
+-- ---- no two of them are one
+
+all_other : (number : List ℕ) (others : List (List ℕ)) → AllByRecursion (λ other. eq_by_cmp (slice_cmp nat_cmp) number other ≡ false) others → AllByRecursion (λ other. is_same number other ≡ false) others
+all_other number [] all = tt
+all_other number (other ∷ others) all = (texts_ties number other ∙ all.0, all_other number others all.1)
+
+distinct : (numbers : List (List ℕ)) → IsDistinct (eq_by_cmp (slice_cmp nat_cmp)) numbers → IsDistinct is_same numbers
+unfolding IsDistinct
+distinct [] h = tt
+distinct (number ∷ numbers) h = (all_other number numbers h.0, distinct numbers h.1)
+
+-- numbers that ascend are each there once
+pub ascending_distinct : (numbers : List (List ℕ)) → IsStrictlySortedBy (slice_cmp nat_cmp) numbers → IsDistinct is_same numbers
+ascending_distinct numbers h = distinct numbers (IsDistinct-from_sorted (slice_cmp nat_cmp) numbers h)
+
+-- no two rows that ascend are of one wagon
+pub numbers_distinct : (rows : List WagonRow) → IsStrictlySortedBy by_number rows → IsDistinct is_same (numbers_of rows)
+numbers_distinct rows h = ascending_distinct (numbers_of rows) (numbers_ascend rows h)
+
+-- the row that stands in ascending rows is that of its wagon
+pub wagon_in-there : (rows : List WagonRow) (k : ℕ) (row : WagonRow) → IsStrictlySortedBy by_number rows → slice_get rows k ≡ Some row → wagon_in rows row.number ≡ Some row
+wagon_in-there rows k row h e = found_by_name (λ (row : WagonRow). row.number) rows k row (numbers_distinct rows h) e
+
+-- the row of a wagon has its number
+pub number-wagon_in : (rows : List WagonRow) (number : List ℕ) (row : WagonRow) → wagon_in rows number ≡ Some row → row.number ≡ number
+number-wagon_in rows number row e = has_name (λ (row : WagonRow). row.number) number rows row e
+
+-- ---- a change at one wagon
+
+pub wagon_in-at_wagon : (number : List ℕ) (change : WagonRow → WagonRow) → ((row : WagonRow) → row.number ≡ number → (change row).number ≡ number)
+    → (rows : List WagonRow) (other : List ℕ) → wagon_in (at_wagon number change rows) other ≡ (if is_same other number then option_map change (wagon_in rows other) else wagon_in rows other)
+wagon_in-at_wagon number change keeps rows other = find-changed (λ (row : WagonRow). row.number) change number keeps rows other
+
+pub numbers-at_wagon : (number : List ℕ) (change : WagonRow → WagonRow) → ((row : WagonRow) → row.number ≡ number → (change row).number ≡ number)
+    → (rows : List WagonRow) → numbers_of (at_wagon number change rows) ≡ numbers_of rows
+numbers-at_wagon number change keeps rows = names-changed (λ (row : WagonRow). row.number) change number keeps rows
+
+pub length-at_wagon : (number : List ℕ) (change : WagonRow → WagonRow) (rows : List WagonRow) → length (at_wagon number change rows) ≡ length rows
+length-at_wagon number change rows = length_map (λ (row : WagonRow). if is_wagon number row then change row else row) rows
+
+pub ascending-at_wagon : (number : List ℕ) (change : WagonRow → WagonRow) → ((row : WagonRow) → row.number ≡ number → (change row).number ≡ number)
+    → (rows : List WagonRow) → IsStrictlySortedBy by_number rows → IsStrictlySortedBy by_number (at_wagon number change rows)
+ascending-at_wagon number change keeps rows h =
+    rows_ascend (at_wagon number change rows) (subst (IsStrictlySortedBy (slice_cmp nat_cmp)) (sym (numbers-at_wagon number change keeps rows)) (numbers_ascend rows h))
+
+-- ---- what a search finds
+
+pub record Placed (rows : List WagonRow) (number : List ℕ) (r : Option ℕ) : Type 0 where
+  pub found : IfSome r (λ place. (row : WagonRow) × (slice_get rows place ≡ Some row) × (row.number ≡ number))
+  pub absent : IfNone r (wagon_in rows number ≡ None)
+
+find_none : (number : List ℕ) (rows : List WagonRow) → has_wagon rows number ≡ false → wagon_in rows number ≡ None
+find_none number [] h = refl
+find_none number (row ∷ rows) h = elim (cases_Bool (is_wagon number row)) [
+  | inl here ↦ cc (rw here at h)
+  | inr other ↦ rw other (find_none number rows (rw other at h))
+]
+
+equal_numbers : (a b : List ℕ) → compare_numbers a b ≡ Equal → a ≡ b
+equal_numbers a b h = (bytes_decides a b).0 (texts_ties a b ∙ ap is_eq h)
+
+pub placed : (rows : List WagonRow) (number : List ℕ) (r : Result ℕ ℕ) → IsStrictlySortedBy by_number rows → IsSearchInRange r (length rows)
+    → IsBinarySearchResult (λ row. compare_numbers row.number number) rows r → Placed rows number (result_ok r)
+placed [] number (Ok at) sorted within equal = absurd (omega arith)
+placed (row ∷ rows) number (Ok at) sorted within equal = record {
+  found = (get_or (row ∷ rows) at row, slice_get-get_or (row ∷ rows) at row within, equal_numbers (get_or (row ∷ rows) at row).number number (equal row));
+  absent = tt;
+}
+placed rows number (Err at) sorted within parted = record {
+  found = tt;
+  absent = find_none number rows (none_at_gap rows number at (searched rows number (Err at) sorted within parted).absent);
+}
+
+-- ---- a row put in the place of another of its wagon
+
+pub put_is : (rows : List WagonRow) (k : ℕ) (old new : WagonRow) → IsStrictlySortedBy by_number rows → slice_get rows k ≡ Some old → old.number ≡ new.number
+    → slice_set rows k new ≡ at_wagon new.number (λ _. new) rows
+put_is rows k old new h e same =
+    changed_at (λ (row : WagonRow). row.number) (λ _. new) rows k old (numbers_distinct rows h) e ∙ ap (λ number. at_wagon number (λ _. new) rows) same
+
+pub rows_with : (rows : List WagonRow) (k : ℕ) (old new : WagonRow) → IsWagonRows rows → slice_get rows k ≡ Some old → old.number ≡ new.number → IsWagonRows (slice_set rows k new)
+rows_with rows k old new h e same =
+    let at : get_or rows k new ≡ old = get_or_from_slice_get rows k old new e in
+    let numbers : numbers_of (slice_set rows k new) ≡ numbers_of rows =
+    map-set_same (λ (row : WagonRow). row.number) rows k new new (sym same ∙ sym (ap (λ (row : WagonRow). row.number) at)) in
+    record {
+      few = omega (arith, length-set rows k new, h.few);
+      ascending = rows_ascend (slice_set rows k new) (subst (IsStrictlySortedBy (slice_cmp nat_cmp)) (sym numbers) (numbers_ascend rows h.ascending));
+    }
+
+-- what is read at the place of a row
+pub found_in : (rows : List WagonRow) (place : ℕ) (row : WagonRow) (number : List ℕ) (r : Option WagonRow) → IsStrictlySortedBy by_number rows → slice_get rows place ≡ Some row → row.number ≡ number
+    → r ≡ slice_get rows place → r ≡ wagon_in rows number
+found_in rows place row number r h there named e = e ∙ there ∙ sym (wagon_in-there rows place row h there) ∙ ap (wagon_in rows) named
+
+-- where no row is that of the wagon, nothing changes
+missing_step : (number : List ℕ) (change : WagonRow → WagonRow) (row : WagonRow) (rows : List WagonRow) (b : Bool) → cond b (Some row) (wagon_in rows number) ≡ None → (wagon_in rows number ≡ None → at_wagon number change rows ≡ rows)
+    → cond b (change row) row ∷ at_wagon number change rows ≡ row ∷ rows
+missing_step number change row rows true h rest = cc h
+missing_step number change row rows false h rest = ap (λ (rs : List WagonRow). row ∷ rs) (rest h)
+
+pub missing_stays : (number : List ℕ) (change : WagonRow → WagonRow) (rows : List WagonRow) → wagon_in rows number ≡ None → at_wagon number change rows ≡ rows
+missing_stays number change [] h = refl
+missing_stays number change (row ∷ rows) h = missing_step number change row rows (is_wagon number row) h (missing_stays number change rows)
+
+-- a row changed at its place
+pub change_is : (rows : List WagonRow) (k : ℕ) (row : WagonRow) (number : List ℕ) (change : WagonRow → WagonRow) → IsStrictlySortedBy by_number rows → slice_get rows k ≡ Some row → row.number ≡ number
+    → slice_set rows k (change row) ≡ at_wagon number change rows
+change_is rows k row number change h there named =
+    changed_at (λ (row : WagonRow). row.number) change rows k row (numbers_distinct rows h) there ∙ ap (λ n. at_wagon n change rows) named
+
+-- what is read at the place of a wagon's row is that row
+pub read_row : (rows : List WagonRow) (k : ℕ) (number : List ℕ) (read : WagonRow) → ((row : WagonRow) × (slice_get rows k ≡ Some row) × (row.number ≡ number)) → read ≡ get_or rows k read → (slice_get rows k ≡ Some read) × (read.number ≡ number)
+read_row rows k number read found value =
+    let (row, there, named) = found in
+    let same : read ≡ row = value ∙ get_or_from_slice_get rows k row read there in
+    (there ∙ ap Some (sym same), ap (λ (row : WagonRow). row.number) same ∙ named)

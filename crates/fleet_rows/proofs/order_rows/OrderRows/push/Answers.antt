@@ -1,0 +1,21 @@
+use Rattle.std.proofs.Common.{rules, ◌≡◌, ◌∙◌, ◌++◌, ◌∷◌, [], ap, length, arith}
+use Rattle.std.specs.BTreeMap.{get}
+use Rattle.std.specs.Cmp.Lexicographic.{slice_cmp}
+use Rattle.std.specs.Ordering.{nat_cmp}
+use Rattle.wagons_and_orders.specs.Lack.{is_waiting}
+use Rattle.wagons_and_orders.specs.OrderRow.{placed_row}
+use Rattle.fleet_rows.specs.inner.Indexed.{noted}
+use Rattle.fleet_rows.proofs.Orders.{indexed_push}
+use Rattle.fleet_rows.proofs.Waiting.{stored_push}
+use Rattle.fleet_rows.proofs.order_rows.OrderRows.push.Goals as goal
+
+pub invariant_of-self-2 : goal.invariant_of-self-2
+invariant_of-self-2 c =
+    let pushed : c.push.new.self.items ≡ c.self.inside.rows.items ++ placed_row c.args.text ∷ [] = search rules in
+    let new = rw (← c.self.view_is) at c.requires.new in
+    let place : c.len-place.result ≡ length c.self.inside.rows.items = search rules in
+    let indexed =
+    indexed_push c.self.inside.rows.items (get (slice_cmp nat_cmp) c.self.inside.places) (get (slice_cmp nat_cmp) c.insert.new.self) c.self.inside.open_wagons c.args.text c.self.invariant.rows_kept new (rw (← c.self.view_is, ← c.self.invariant.rows_kept.counted) at c.requires.few_open)
+    (λ q. rw (c.id.ensures, place) at (c.in_ok-insert.ensures.updates.0 q)) in
+    rw (pushed, c.wagons.ensures.value) (stored_push c.self.inside.rows.items (get (slice_cmp nat_cmp) c.self.inside.places) c.self.inside.open_wagons _ c.self.inside.waiting.items _ _ _ c.len-place.result (placed_row c.args.text) c.is_waiting.result c.self.invariant (get (slice_cmp nat_cmp) c.insert.new.self) indexed
+    (c.is_waiting.ensures.value ∙ ap is_waiting c.in_ok-row.ensures) place (c.note.ensures.items ∙ ap (noted c.len-place.result c.is_waiting.result) c.reserve-2.ensures.items) (omega (arith, c.note.ensures.room, c.in_ok-reserve-2.ensures.ok)))

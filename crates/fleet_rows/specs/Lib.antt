@@ -1,0 +1,10 @@
+pub mod Reading
+pub mod Records
+pub mod Roster
+pub mod SameWagons
+pub mod RosterOf
+pub mod EmptyWagons
+pub mod Kept
+pub mod Rows
+pub mod WaitingOrders
+pub mod inner

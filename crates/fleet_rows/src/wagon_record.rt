@@ -1,0 +1,120 @@
+//! One record of a roster: the wagon that it says.
+ghost use Rattle.std.specs.Prelude.{◌≡◌, ◌≢◌, ◌≤◌, [], ◌∷◌, length, option_map, IfSome, IfNone};
+ghost use Rattle.csv.specs.Records.{fields_of};
+ghost use Rattle.fleet_rows.specs.Records.{is_header, load_in, status_in, wagon_record};
+ghost use Rattle.move_messages.specs.Order.{max_load};
+ghost use Rattle.fleet_rows.specs.Roster.{IsRosterRow};
+
+use csv::ByteRecord;
+use csv_records::{is_text, place_of, text_of, whole_number};
+use move_messages::MAX_LOAD;
+use rail_codes::{ClassCode, Moment, Place, WagonNumber};
+use wagons_and_orders::{Load, Status, WagonRow};
+
+/// The six fields of a record, in the header's order.
+#[derive(Clone, Copy)]
+struct Fields<'a> {
+    wagon: &'a [u8],
+    class: &'a [u8],
+    load: &'a [u8],
+    status: &'a [u8],
+    place: &'a [u8],
+    moment: &'a [u8],
+}
+
+/// The row of the wagon that a record of six fields says, if each field is as its rule asks.
+#[tactic(auto, using(crate::proofs::RecordLemmas::of_other))]
+pub fn read_wagon(row: &ByteRecord) -> Option<WagonRow>
+    ensures meaning { result ≡ wagon_record (fields_of row.now) }
+    ensures row { IfSome result IsRosterRow }
+{
+    let fields = six_fields(row)?;
+    let place = place_of(fields.place)?;
+    let last = Moment::read(text_of(fields.moment)?).ok()?;
+    Some(WagonRow {
+        number: WagonNumber::read(text_of(fields.wagon)?).ok()?,
+        class: ClassCode::read(text_of(fields.class)?).ok()?,
+        load_limit: read_load(fields.load)?,
+        status: read_status(fields.status, place, last)?,
+        held: false,
+        last,
+        promise: None,
+    })
+}
+
+/// Whether a record is the header of a roster.
+#[tactic(auto, using(crate::proofs::RecordLemmas::of_other))]
+pub fn is_header(row: &ByteRecord) -> bool
+    ensures { result ≡ is_header (fields_of row.now) }
+{
+    let Some(fields) = six_fields(row) else {
+        return false;
+    };
+    is_text("wagon", fields.wagon)
+        && is_text("class", fields.class)
+        && is_text("load", fields.load)
+        && is_text("status", fields.status)
+        && is_text("place", fields.place)
+        && is_text("moment", fields.moment)
+}
+
+/// The fields of a record that has six.
+#[tactic(auto, using(crate::proofs::RecordLemmas::of_six))]
+fn six_fields(row: &ByteRecord) -> Option<Fields<'_>>
+    ensures six { IfSome result (λ f. fields_of row.now ≡ f.wagon.now ∷ f.class.now ∷ f.load.now ∷ f.status.now ∷ f.place.now ∷ f.moment.now ∷ []) }
+    ensures other { IfNone result (length (fields_of row.now) ≢ 6) }
+{
+    if row.len() != 6 {
+        return None;
+    }
+    Some(Fields {
+        wagon: row.get(0)?,
+        class: row.get(1)?,
+        load: row.get(2)?,
+        status: row.get(3)?,
+        place: row.get(4)?,
+        moment: row.get(5)?,
+    })
+}
+
+/// The kg that a field says, in 1 to 7 digits, at most 200,000.
+fn read_load(field: &[u8]) -> Option<u32>
+    ensures meaning { result ≡ load_in field.now }
+    ensures within { IfSome result (λ n. n ≤ max_load) }
+{
+    let number = whole_number(field)?;
+    if number > MAX_LOAD {
+        return None;
+    }
+    Some(number)
+}
+
+/// The status that a word says of a wagon at this place. An empty one has been ready since the moment.
+fn read_status(word: &[u8], place: Place, moment: Moment) -> Option<Status>
+    ensures { result ≡ status_in word.now place moment }
+{
+    let status = if is_text("empty", word) {
+        Status::Empty(place, moment)
+    } else if is_text("loading", word) {
+        Status::Loading(place)
+    } else if is_text("ready", word) {
+        Status::Ready(place)
+    } else if is_text("journey_loaded", word) {
+        Status::Journey(Load::Loaded, place)
+    } else if is_text("journey_empty", word) {
+        Status::Journey(Load::Unladen, place)
+    } else if is_text("yard_loaded", word) {
+        Status::Yard(Load::Loaded, place)
+    } else if is_text("yard_empty", word) {
+        Status::Yard(Load::Unladen, place)
+    } else if is_text("arrived_loaded", word) {
+        Status::Arrived(Load::Loaded, place)
+    } else if is_text("arrived_empty", word) {
+        Status::Arrived(Load::Unladen, place)
+    } else if is_text("unloading", word) {
+        Status::Unloading(place)
+    } else {
+        return None;
+    };
+    Some(status)
+}

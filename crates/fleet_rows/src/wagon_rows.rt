@@ -1,0 +1,142 @@
+//! The rows of the wagons.
+ghost use Rattle.std.specs.Prelude.{◌≡◌, IfNone, IfOk, IfSome, None, OnErr, OnOk, Some, count_by, option_copied, option_map, slice_get};
+ghost use Rattle.std.specs.List.Sorted.{IsStrictlySortedBy};
+ghost use Rattle.fleet_rows.specs.EmptyWagons.{IsNewStand, is_free_at, stand_in, stand_of};
+ghost use Rattle.fleet_rows.specs.Rows.{at_wagon, wagon_in, with_promise};
+ghost use Rattle.fleet_rows.specs.inner.Standings.{is_unpromised};
+ghost use Rattle.fleet_rows.specs.Roster.{by_number};
+ghost use Rattle.wagons_and_orders.specs.declared.wagon_row.WagonRow.{WagonRow};
+
+use crate::standing::{Standing, replace, standing_of, standings_of};
+use rail_codes::{ClassCode, OrderId, Place, WagonNumber};
+use std::alloc::{AllocError, Global};
+use std::collections::BTreeSet;
+use std::marker::Model;
+use crate::Roster;
+use wagons_and_orders::WagonRow;
+
+/// What an office knows of its wagons: at most 1,000 rows, ascending by number. No wagon comes or
+/// goes. A contract sees the rows.
+#[derive(Debug, Drop)]
+pub struct WagonRows {
+    rows: Vec<WagonRow>,
+    // Where the empty wagons stand that aren't held, by place, then by class, then by number. Whether one of them is
+    // promised is asked of its row, so that the end of a promise wants no memory.
+    empty: BTreeSet<Standing>,
+}
+
+impl Model for WagonRows {
+    ghost use Rattle.std.specs.Prelude.{List};
+    ghost use Rattle.std.specs.BTreeSet.{contains};
+    ghost use Rattle.fleet_rows.specs.inner.Standings.{AreStored, compare_standings};
+    ghost use Rattle.wagons_and_orders.specs.declared.wagon_row.WagonRow.{WagonRow};
+
+    ghost Value = { List WagonRow };
+
+    ghost view = { λ wagons. wagons.rows.items };
+
+    ghost invariant = { λ wagons. AreStored wagons.rows.items (contains compare_standings wagons.empty) };
+}
+
+impl WagonRows {
+    ghost use Rattle.fleet_rows.specs.Kept.{IsWagonRows};
+
+    /// The rows of a roster.
+    pub fn from_roster(alloc: Global, roster: &Roster) -> Result<WagonRows, AllocError>
+        ensures { IfOk result (λ wagons. wagons ≡ roster.now) }
+    {
+        let rows = Vec::from_slice(alloc, roster.rows())?;
+        let empty = standings_of(alloc, &rows)?;
+        Ok(WagonRows { rows, empty })
+    }
+
+    /// The rows, ascending by number.
+    pub fn as_slice(&self) -> &[WagonRow]
+        ensures rows { result.now ≡ self.now }
+        ensures valid { IsWagonRows self.now }
+    {
+        &self.rows
+    }
+
+    /// The row of a wagon, where the office has it.
+    pub fn get(&self, number: WagonNumber) -> Option<&WagonRow>
+        ensures { option_copied result ≡ wagon_in self.now number }
+    {
+        match self.find(number) {
+            Some((_, row)) => Some(row),
+            None => None,
+        }
+    }
+
+    /// The row of a wagon and its place, where the office has it.
+    pub fn find(&self, number: WagonNumber) -> Option<(usize, &WagonRow)>
+        ensures row { option_map (λ found. found.1.now) result ≡ wagon_in self.now number }
+        ensures place { IfSome result (λ found. slice_get self.now found.0 ≡ Some found.1.now) }
+    {
+        let place = place_of(&self.rows, number)?;
+        let row = self.rows.get(place)?;
+        Some((place, row))
+    }
+
+    /// How many wagons of a class stand at a place empty, not held and not promised. Only those that stand there
+    /// empty and not held are looked at.
+    pub fn free_count(&self, class: ClassCode, place: Place) -> usize
+        ensures { result ≡ count_by (is_free_at class place) self.now }
+    {
+        let first = Standing {
+            place,
+            class,
+            row: 0,
+        };
+        let end = Standing {
+            row: self.rows.len(),
+            ..first
+        };
+        self.empty
+            .range(first..end)
+            .filter(|standing| is_unpromised(&self.rows, standing.row))
+            .count()
+    }
+
+    /// Puts a row in place of the one that its wagon has, which stands at this place. Memory is wanted only where the
+    /// wagon is then empty and not held at a place where it wasn't so before; where memory is out, nothing changes.
+    pub fn put(&mut self, place: usize, row: WagonRow) -> Result<(), AllocError>
+        requires { (old : WagonRow) × (slice_get self.old place ≡ Some old) × (old.number ≡ row.number) }
+        ensures put { OnOk result (self.new ≡ at_wagon row.number (λ _. row) self.old) }
+        ensures refused { OnErr result (self.new ≡ self.old) }
+        ensures memory { OnErr result (IsNewStand (stand_in self.old row.number) (stand_of row)) }
+    {
+        let before = standing_of(&self.rows[place], place);
+        replace(&mut self.empty, before, standing_of(&row, place))?;
+        self.rows[place] = row;
+        Ok(())
+    }
+
+    /// Sets the promise of a wagon, where the office has it. Takes no memory.
+    pub fn set_promise(&mut self, number: WagonNumber, promise: Option<OrderId>)
+        ensures { self.new ≡ at_wagon number (with_promise promise) self.old }
+    {
+        if let Some(place) = place_of(&self.rows, number) {
+            self.rows[place].promise = promise;
+        }
+    }
+}
+
+/// Whether there is a row at a place, and its wagon isn't promised.
+fn is_unpromised(rows: &[WagonRow], at: usize) -> bool
+    ensures { result ≡ is_unpromised (slice_get rows.now at) }
+{
+    match rows.get(at) {
+        Some(row) => row.promise.is_none(),
+        None => false,
+    }
+}
+
+/// Where the row of a wagon stands among ascending rows.
+fn place_of(rows: &[WagonRow], number: WagonNumber) -> Option<usize>
+    requires { IsStrictlySortedBy by_number rows.now }
+    ensures found { IfSome result (λ place. (row : WagonRow) × (slice_get rows.now place ≡ Some row) × (row.number ≡ number)) }
+    ensures absent { IfNone result (wagon_in rows.now number ≡ None) }
+{
+    rows.binary_search_by_key(&number, |row| row.number).ok()
+}

@@ -1,5 +1,0 @@
-pub mod Bounds
-pub mod Items
-pub mod Lines
-pub mod PlainTexts
-pub mod Writing

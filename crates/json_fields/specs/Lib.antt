@@ -1,7 +1,0 @@
-pub mod Field
-pub mod Faults
-pub mod Values
-pub mod Fields
-pub mod Line
-pub mod Written
-pub mod inner

@@ -1,0 +1,63 @@
+//! The distances of a network.
+ghost use Rattle.std.specs.Prelude.{◌≡◌, ◌<◌, ◌≤◌, ℕ, List, Some, IfSome, IfNone, length};
+ghost use Rattle.line_network.specs.Network.{place_index};
+ghost use Rattle.line_network.specs.Distance.{IsDistance};
+ghost use Rattle.line_network.specs.DistanceAnswers.{HasNoWalk, IsAnswered, max_distance};
+
+use crate::length::Length;
+use crate::Network;
+use rail_codes::Place;
+use std::marker::Model;
+
+/// The distances between the places of a network, which is kept with them. A contract sees the network.
+#[derive(Drop)]
+pub struct Tables {
+    pub(crate) network: Network,
+    // by the number of the place where a walk begins, then by that of the place where it ends
+    pub(crate) rows: Vec<Vec<Length>>,
+}
+
+impl Model for Tables {
+    ghost use Rattle.std.specs.Prelude.{◌≤◌, length};
+    ghost use Rattle.line_network.specs.Network.{NetworkValue};
+    ghost use Rattle.line_network.specs.NetworkLimits.{max_places};
+    ghost use Rattle.line_network.specs.inner.Rows.{AreRows};
+
+    ghost Value = { NetworkValue };
+
+    ghost view = { λ tables. tables.network };
+
+    ghost invariant = { λ tables. (length tables.network.places ≤ max_places) × AreRows tables.network.lines (length tables.network.places) tables.rows.items };
+}
+
+impl Tables {
+    /// The network whose distances these are.
+    pub fn network(&self) -> &Network
+        ensures { result.now ≡ self.now }
+    {
+        &self.network
+    }
+
+    /// The distance from a place to a place: the kilometres and minutes of the walk with the fewest
+    /// kilometres, and with the fewest minutes among those. `None` where no walk leads from `a` to `b`, so
+    /// wherever one of them is no place of the network; a place of the network is at (0, 0) from itself.
+    pub fn between(&self, a: Place, b: Place) -> Option<(u32, u32)>
+        ensures distance { IfSome result (IsDistance self.now a b) }
+        ensures none { IfNone result (HasNoWalk self.now a b) }
+        ensures limit { IfSome result (λ d. (d.0 ≤ max_distance) × (d.1 ≤ max_distance)) }
+    {
+        let from = self.network.index_of(a)?;
+        let to = self.network.index_of(b)?;
+        self.between_numbers(from, to)
+    }
+
+    /// The same for the places of these numbers of the network.
+    pub fn between_numbers(&self, from: usize, to: usize) -> Option<(u32, u32)>
+        requires from { from < length self.now.places }
+        requires to { to < length self.now.places }
+        ensures meaning { (a b : List ℕ) → place_index self.now.places a ≡ Some from → place_index self.now.places b ≡ Some to → IsAnswered self.now a b result }
+        ensures limit { IfSome result (λ d. (d.0 ≤ max_distance) × (d.1 ≤ max_distance)) }
+    {
+        self.rows[from][to].pair()
+    }
+}

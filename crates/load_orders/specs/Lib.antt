@@ -1,9 +1,0 @@
-pub mod Lack
-pub mod States
-pub mod Numbers
-pub mod NumberChanges
-pub mod OrderRow
-pub mod Suits
-pub mod Listed
-pub mod Wanted
-pub mod WantedLimits

@@ -1,0 +1,109 @@
+//! The kinds of items that a list may have.
+
+ghost use Rattle.std.specs.Prelude.{◌≡◌, Result};
+ghost use Rattle.serde_json.specs.Data.{Data};
+ghost use Rattle.serde_json.specs.View.{view};
+ghost use Rattle.move_messages.specs.declared.fault.FieldFault.{FieldFault};
+ghost use Rattle.move_messages.specs.Values as values;
+
+use crate::fault::FieldFault;
+use crate::values::{count_within, list_of, number_within, order_id_from, wagon_number_from};
+use rail_codes::{OrderId, WagonNumber};
+use serde_json::Value;
+
+/// How an item of a list is read.
+pub trait ItemKind {
+    /// What an item is read as.
+    type Item: Drop;
+
+    /// What a value is read as, or its fault.
+    ghost meaning: { Self → Data → Result Self.Item FieldFault };
+
+    /// The item that a value is read as, or its fault.
+    fn read(&self, value: &Value) -> Result<Self::Item, FieldFault>
+        ensures { result ≡ meaning self.now (view value.now) };
+}
+
+/// Wagon numbers.
+#[derive(Clone, Copy, Debug)]
+pub(crate) struct WagonNumberKind;
+
+impl ItemKind for WagonNumberKind {
+    type Item = WagonNumber;
+
+    ghost meaning = { λ _. values.wagon_number_from };
+
+    fn read(&self, value: &Value) -> Result<WagonNumber, FieldFault> {
+        wagon_number_from(value)
+    }
+}
+
+/// Names of orders.
+#[derive(Clone, Copy, Debug)]
+pub(crate) struct OrderIdKind;
+
+impl ItemKind for OrderIdKind {
+    type Item = OrderId;
+
+    ghost meaning = { λ _. values.order_id_from };
+
+    fn read(&self, value: &Value) -> Result<OrderId, FieldFault> {
+        order_id_from(value)
+    }
+}
+
+/// Whole numbers from `low` to `high`.
+#[derive(Clone, Copy, Debug)]
+pub(crate) struct NumberKind {
+    pub low: u64,
+    pub high: u64,
+}
+
+impl ItemKind for NumberKind {
+    type Item = u64;
+
+    ghost meaning = { λ k. values.number_within k.low k.high };
+
+    fn read(&self, value: &Value) -> Result<u64, FieldFault> {
+        number_within(value, self.low, self.high)
+    }
+}
+
+/// Whole numbers of 32 bits from `low` to `high`.
+#[derive(Clone, Copy, Debug)]
+pub struct CountKind {
+    /// The least of the numbers.
+    pub low: u32,
+    /// The greatest of the numbers.
+    pub high: u32,
+}
+
+impl ItemKind for CountKind {
+    type Item = u32;
+
+    ghost meaning = { λ k. values.number_within k.low k.high };
+
+    fn read(&self, value: &Value) -> Result<u32, FieldFault> {
+        count_within(value, self.low, self.high)
+    }
+}
+
+/// Pairs of a wagon number and the name of an order, each a list of two texts.
+#[derive(Clone, Copy, Debug)]
+pub(crate) struct PairKind;
+
+impl ItemKind for PairKind {
+    type Item = (WagonNumber, OrderId);
+
+    ghost meaning = { λ _. values.wagon_and_order };
+
+    #[tactic(auto, unfolding(crate::specs::Values::wagon_and_order))]
+    fn read(&self, value: &Value) -> Result<(WagonNumber, OrderId), FieldFault> {
+        let [wagon, order] = list_of(value)? else {
+            return Err(FieldFault::OutOfRange);
+        };
+        let wagon = wagon_number_from(wagon)?;
+        let order = order_id_from(order)?;
+        Ok((wagon, order))
+    }
+}

@@ -1,4 +1,0 @@
-pub mod ReadingLemmas
-pub mod RecordLemmas
-pub mod RosterLemmas
-pub mod RosterOfLemmas

@@ -1,3 +1,0 @@
-pub mod Free
-pub mod Laws
-pub mod StatusTable

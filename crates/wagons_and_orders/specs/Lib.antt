@@ -1,0 +1,12 @@
+pub mod Free
+pub mod Laws
+pub mod StatusTable
+pub mod Lack
+pub mod States
+pub mod Numbers
+pub mod NumberChanges
+pub mod OrderRow
+pub mod Suits
+pub mod Listed
+pub mod Wanted
+pub mod WantedLimits

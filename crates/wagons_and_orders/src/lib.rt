@@ -1,0 +1,28 @@
+//! The state of each wagon of a fleet, and what a movement message makes of it.
+//!
+//! Nothing is allocated here.
+#![tactic(auto)]
+
+mod change;
+mod free_wagon;
+mod load;
+mod numbers;
+mod order_row;
+mod order_state;
+mod status;
+mod status_table;
+mod suitability;
+mod wagon_row;
+mod wanted;
+
+pub use change::{Change, Effect};
+pub use faults::StepFault;
+pub use free_wagon::{FreeWagon, free};
+pub use load::Load;
+pub use order_row::OrderRow;
+pub use order_state::OrderState;
+pub use status::Status;
+pub use status_table::step;
+pub use suitability::{accepts, carries, suits};
+pub use wagon_row::WagonRow;
+pub use wanted::Wanted;
