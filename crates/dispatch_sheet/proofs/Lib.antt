@@ -6,3 +6,7 @@ pub mod Certificates
 pub mod CommitTokens
 pub mod Moments
 pub mod InRange
+pub mod Arrows
+pub mod MapLineParts
+pub mod MapLoops
+pub mod MapNames

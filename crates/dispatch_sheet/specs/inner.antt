@@ -5,3 +5,4 @@ pub mod Pushed
 pub mod Readable
 pub mod RosterWords
 pub mod Tokens
+pub mod PartsOf

@@ -22,6 +22,8 @@ mod problems;
 #[cfg(test)]
 mod rosters;
 #[cfg(test)]
+mod sessions;
+#[cfg(test)]
 mod small_tables;
 #[cfg(test)]
 mod tables;

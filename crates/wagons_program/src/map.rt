@@ -5,7 +5,7 @@ use crate::printing::print_whole;
 use crate::stop::Stop;
 use command_line::OfficeOptions;
 use commit_book::Book;
-use fleet_map::map_text;
+use dispatch_sheet::map_text;
 use line_network::Network;
 use std::alloc::Global;
 use std::io;

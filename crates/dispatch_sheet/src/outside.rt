@@ -1,0 +1,88 @@
+//! Places that the network in force doesn't have.
+ghost use Rattle.std.specs.Prelude.{◌≡◌, ℕ, List, IfOk, OnOk};
+ghost use Rattle.std.specs.List.{fold};
+ghost use Rattle.line_network.specs.Network.{NetworkValue};
+ghost use Rattle.dispatch_sheet.specs.MapOutside.{is_drawn, outside_places, with_order_place, with_outside, with_wagon_place};
+
+use line_network::Network;
+use wagons_and_orders::{OrderRow, WagonRow};
+use operating_db::OfficeState;
+use rail_codes::Place;
+use std::alloc::{AllocError, Global};
+
+/// The places at which wagons are or that orders on the map name, but that the network doesn't have, each once: those of
+/// the wagons first.
+pub(crate) fn outside_places(
+    alloc: Global,
+    state: &OfficeState,
+    network: &Network,
+) -> Result<Vec<Place>, AllocError>
+    ensures { IfOk result (λ places. places.items ≡ outside_places network.now state.now.office) }
+{
+    let mut places = Vec::new(alloc);
+    note_rows(&mut places, network, state.wagon_rows())?;
+    note_rows(&mut places, network, state.order_rows())?;
+    Ok(places)
+}
+
+/// A row whose place may be on the map.
+trait Placed {
+    // the places with that of this row, where it is on the map but not in the network
+    ghost with_place: { NetworkValue → List (List ℕ) → Self → List (List ℕ) };
+
+    /// Notes the row's place. `Err` only when out of memory.
+    fn note(&self, places: &mut Vec<Place>, network: &Network) -> Result<(), AllocError>
+        ensures { OnOk result (places.new.items ≡ with_place network.now places.old.items self.now) };
+}
+
+impl Placed for WagonRow {
+    ghost with_place = { with_wagon_place };
+
+    fn note(&self, places: &mut Vec<Place>, network: &Network) -> Result<(), AllocError> {
+        note_outside(places, network, self.status.place())
+    }
+}
+
+impl Placed for OrderRow {
+    ghost with_place = { with_order_place };
+
+    fn note(&self, places: &mut Vec<Place>, network: &Network) -> Result<(), AllocError> {
+        if is_drawn(self) {
+            note_outside(places, network, self.text().place())
+        } else {
+            Ok(())
+        }
+    }
+}
+
+/// Notes the places of rows.
+fn note_rows<T: Placed>(
+    places: &mut Vec<Place>,
+    network: &Network,
+    rows: &[T],
+) -> Result<(), AllocError>
+    ensures { OnOk result (places.new.items ≡ fold (T.with_place network.now) places.old.items rows.now) }
+{
+    for row in rows {
+        row.note(places, network)?;
+    }
+    Ok(())
+}
+
+/// Notes a place that the network doesn't have.
+fn note_outside(places: &mut Vec<Place>, network: &Network, place: Place) -> Result<(), AllocError>
+    ensures { OnOk result (places.new.items ≡ with_outside network.now places.old.items place) }
+{
+    if network.index_of(place).is_some() || places.contains(&place) {
+        return Ok(());
+    }
+    places.push(place)?;
+    Ok(())
+}
+
+/// Whether an order is on the map: it waits, or wagons are promised to it.
+fn is_drawn(row: &OrderRow) -> bool
+    ensures { result ≡ is_drawn row.now }
+{
+    row.is_waiting() || !row.promised().is_empty()
+}

@@ -1,4 +1,0 @@
-pub mod Arrows
-pub mod LineParts
-pub mod Loops
-pub mod Names

@@ -1,5 +1,0 @@
-use Rattle.fleet_map.proofs.Names.{names}
-use Rattle.fleet_map.proofs.laws.names_stay_in_quotes.Goals as goal
-
-pub returns : goal.returns
-returns c = names

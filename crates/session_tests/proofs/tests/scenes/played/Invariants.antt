@@ -1,4 +1,0 @@
-use Rattle.session_tests.proofs.tests.scenes.played.Given as goal
-
-abbrev pub ghosts-book_after : goal.ghosts-book_after
-ghosts-book_after g a = record { name = a.blank.name; parts = a.blank.parts }
