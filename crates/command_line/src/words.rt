@@ -8,7 +8,7 @@ use crate::office_options::{
 use clap::builder::ValueParser;
 use clap::error::ErrorKind;
 use clap::{Arg, ArgMatches, Command, Error};
-use refusal_manual::entry_text;
+use faults::entry_text;
 use std::alloc::{AllocError, Global};
 use std::convert::AsStr;
 

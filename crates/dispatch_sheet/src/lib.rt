@@ -1,5 +1,5 @@
-//! What a dispatcher reads: the lines of a plan, the line of its certificate, the sheet of an office, and the report on
-//! files that were fed to a book.
+//! What a dispatcher reads: the lines of a plan, the line of its certificate, the sheet and the map of an office, and the
+//! report on files that were fed to a book. The map is a graph in Graphviz's language DOT.
 //!
 //! Each text is made of what is handed in, and nothing is changed. `Err` only when out of memory.
 #![tactic(auto)]

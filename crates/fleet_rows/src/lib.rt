@@ -1,4 +1,5 @@
-//! The wagons of a fleet and where each of them stands, read from a table in CSV.
+//! The wagons of a fleet, read from a table in CSV, and the rows that an office keeps of each wagon and of each order, found
+//! by number and by name.
 #![tactic(auto)]
 
 mod limits;

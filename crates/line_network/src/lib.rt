@@ -1,4 +1,4 @@
-//! The lines between places: their kilometres and minutes, read from a table in CSV.
+//! The lines between places, their kilometres and minutes, read from a table in CSV; and the distance between each two places.
 #![tactic(auto)]
 
 mod distances;

@@ -1,6 +1,9 @@
-//! Command lines: movement messages, orders, plans and the other commands, one JSON object a line.
+//! Command lines: movement messages, orders, plans and the other commands, one JSON object a line; and the fields of such a
+//! line: what each is read as, or why the line is refused.
 //!
-//! The fields are read in the order in which they are tried, and the first fault is the answer.
+//! The fields are read in the order in which they are tried, and the first fault is the answer. A reader of a field gives its
+//! value or the fault of that field, so that readers chained with `?` give the first fault. Only the object and what a `Vec`
+//! holds are allocated.
 #![tactic(auto)]
 
 mod class_reading;

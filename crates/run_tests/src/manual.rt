@@ -1,6 +1,6 @@
 //! The manual of refusals.
 
-use refusal_manual::manual_text;
+use faults::manual_text;
 use std::test::Fail;
 
 #[test]

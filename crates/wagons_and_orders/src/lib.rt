@@ -1,6 +1,5 @@
-//! The state of each wagon of a fleet, and what a movement message makes of it.
-//!
-//! Nothing is allocated here.
+//! What an office knows of a wagon and of an order: a wagon's row, and what a movement message makes of it; an order's row,
+//! how many wagons it lacks, and which wagon suits it.
 #![tactic(auto)]
 
 mod change;

@@ -7,7 +7,7 @@ use Rattle.move_messages.specs.declared.fault.LineFault.{LineFault}
 use Rattle.faults.specs.declared.faults.StepFault.{StepFault}
 use Rattle.faults.specs.declared.faults.TableFault.{TableFault}
 use Rattle.faults.specs.declared.faults.NamedFault.{NamedFault}
-use Rattle.refusal_manual.specs.Numbers.{is_refusal_number}
+use Rattle.faults.specs.RefusalNumbers.{is_refusal_number}
 use Rattle.move_messages.specs.declared.field.Field.TheVariants.{Wagon}
 use Rattle.line_network.specs.declared.networks_fault.NetworksFault.TheVariants.{BadNetworkCount}
 use Rattle.rail_codes.specs.declared.code_fault.CodeFault.TheVariants as code

@@ -28,7 +28,7 @@ use Rattle.sessions.specs.declared.close_fault.CloseFault.{CloseFault}
 use Rattle.sessions.specs.CloseFault as close
 use Rattle.sessions.specs.Seat.{SeatValue}
 use Rattle.faults.specs.declared.faults.FeedFault.{FeedFault}
-use Rattle.refusal_manual.specs.Numbers.{is_refusal_number, refusal_numbers}
+use Rattle.faults.specs.RefusalNumbers.{is_refusal_number, refusal_numbers}
 
 -- a fault of any of the libraries' types, in the order of the libraries; L is the ledger of a shared office
 pub data AnyFault (L : Type 0) : Type 0 where

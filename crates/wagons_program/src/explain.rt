@@ -3,7 +3,7 @@
 use crate::printing::print_whole;
 use crate::status::DONE;
 use crate::stop::Stop;
-use refusal_manual::manual_text;
+use faults::manual_text;
 
 /// Prints an entry of the manual of refusals, or the whole manual: status 0.
 pub(crate) fn explain<R: Print + AllocGlobal>(

@@ -1,7 +1,7 @@
 //! The whole manual.
 ghost use Rattle.std.specs.Prelude.{◌≡◌, ◌++◌, ◌∷◌, List, ℕ, true, IfOk, OnOk, string_bytes};
-ghost use Rattle.refusal_manual.specs.Manual.{IsEntryOf, IsManual};
-ghost use Rattle.refusal_manual.specs.Numbers.{is_refusal_number};
+ghost use Rattle.faults.specs.Manual.{IsEntryOf, IsManual};
+ghost use Rattle.faults.specs.RefusalNumbers.{is_refusal_number};
 
 use crate::entry_text;
 use std::alloc::{AllocError, Global};

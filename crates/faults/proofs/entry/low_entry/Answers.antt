@@ -1,7 +1,7 @@
 -- Each entry begins with its own number.
 use Rattle.std.proofs.Common.{refl}
 use Rattle.std.specs.Fmt.{digits}
-use Rattle.refusal_manual.proofs.entry.low_entry.Goals as goal
+use Rattle.faults.proofs.entry.low_entry.Goals as goal
 
 pub returns-in-1-clause-numbered : goal.returns-in-1-clause-numbered
 unfolding digits

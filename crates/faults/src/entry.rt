@@ -1,8 +1,8 @@
 //! Entries of the manual, by their numbers.
 ghost use Rattle.std.specs.Prelude.{◌≡◌, IfSome, is_some};
-ghost use Rattle.refusal_manual.specs.Manual.{IsEntryOf};
-ghost use Rattle.refusal_manual.specs.Numbers.{is_refusal_number};
-ghost use Rattle.refusal_manual.specs.inner.Halves.{is_high_number, is_low_number};
+ghost use Rattle.faults.specs.Manual.{IsEntryOf};
+ghost use Rattle.faults.specs.RefusalNumbers.{is_refusal_number};
+ghost use Rattle.faults.specs.inner.Halves.{is_high_number, is_low_number};
 
 use crate::{codes, events, lines, movements, networks, runs, tables};
 

@@ -4,8 +4,8 @@ use Rattle.std.specs.List.{AllZip, flat_map}
 use Rattle.std.proofs.lemmas.List.{take_more}
 use Rattle.std.proofs.lemmas.List.Concat.{flat_map-append}
 use Rattle.std.proofs.lemmas.List.Sums.{AllPass-from_list_all}
-use Rattle.refusal_manual.specs.Manual.{HasEntries, IsEntryOf, IsManual, preface}
-use Rattle.refusal_manual.specs.Numbers.{is_refusal_number, refusal_numbers}
+use Rattle.faults.specs.Manual.{HasEntries, IsEntryOf, IsManual, preface}
+use Rattle.faults.specs.RefusalNumbers.{is_refusal_number, refusal_numbers}
 
 each_more : (numbers : List ℕ) (entries : List (List ℕ)) (number : ℕ) (entry : List ℕ) → AllZip IsEntryOf numbers entries → IsEntryOf number entry
     → AllZip IsEntryOf (numbers ++ number ∷ []) (entries ++ entry ∷ [])

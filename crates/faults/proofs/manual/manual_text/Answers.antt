@@ -1,6 +1,6 @@
 use Rattle.std.proofs.Common.{string_bytes, arith}
-use Rattle.refusal_manual.proofs.Entries.{HasEntries-end, HasEntries-more, HasEntries-start, listed-at}
-use Rattle.refusal_manual.proofs.manual.manual_text.Goals as goal
+use Rattle.faults.proofs.Entries.{HasEntries-end, HasEntries-more, HasEntries-start, listed-at}
+use Rattle.faults.proofs.manual.manual_text.Goals as goal
 
 pub loop-number-init : goal.loop-number-init
 loop-number-init c = HasEntries-start (string_bytes c.in_ok-text.text) c.in_ok-text.ensures.ok

@@ -2,7 +2,7 @@
 use Rattle.std.specs.Prelude.{◌≡◌, ℕ, List, ◌∷◌, ◌++◌, codes, decimal}
 use Rattle.std.specs.Io.{StartsWith}
 use Rattle.std.specs.List.{AllZip, flat_map}
-use Rattle.refusal_manual.specs.Numbers.{refusal_numbers}
+use Rattle.faults.specs.RefusalNumbers.{refusal_numbers}
 
 -- how the heading of a refusal number begins
 abbrev pub heading : ℕ → List ℕ

@@ -1,7 +1,7 @@
 -- Each entry begins with its own number.
 use Rattle.std.proofs.Common.{refl}
 use Rattle.std.specs.Fmt.{digits}
-use Rattle.refusal_manual.proofs.entry.high_entry.Goals as goal
+use Rattle.faults.proofs.entry.high_entry.Goals as goal
 
 pub returns-in-51-clause-numbered : goal.returns-in-51-clause-numbered
 unfolding digits
