@@ -2,13 +2,13 @@
 
 use anyhow::{Context, Result};
 use commit_book::{Book, Limits, MAX_ENTRIES, Refusal, Reply};
+use fleet_rows::Roster;
 use line_network::{Networks, Tables, read_lines, tables};
 use move_messages::{Classes, Message, MessageKind, OrderText};
 use rail_codes::{ClassCode, Company, MessageId, Moment, OrderId, Place, WagonNumber};
 use std::alloc::Global;
 use std::sync::Arc;
 use test_samples::{NETWORK, roster_of};
-use fleet_rows::Roster;
 
 /// The class of all wagons, and one that none has.
 pub(crate) const SUITED: &str = "Eanos";

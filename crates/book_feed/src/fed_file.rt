@@ -4,8 +4,8 @@ ghost use Rattle.sessions.specs.Seat.{count_of};
 ghost use Rattle.book_feed.specs.inner.Fed.{IsFedFile, stop_number};
 
 use crate::feed_lines::{FeedLines, FileSeat, NoReplies};
-use line_network::Networks;
 use line_engine::{RunCount, RunFault, Source, run_lines};
+use line_network::Networks;
 use sessions::{Office, Seat};
 use std::alloc::Global;
 use std::snapshot::Snapshot;

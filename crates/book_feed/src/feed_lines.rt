@@ -4,8 +4,8 @@ ghost use Rattle.book_feed.specs.FedLines.{IsLineTaken, IsPlannedIn, IsPlansComm
 ghost use Rattle.book_feed.specs.inner.FeedLines.{Adds, IsLineFed};
 
 use commit_book::{Refusal, Reply, Request, Snap};
-use line_network::Networks;
 use line_engine::{DeviceFailed, Handler, Outcome, ReplyText, Sink};
+use line_network::Networks;
 use move_messages::{CommitText, read_line};
 use operating_db::Event;
 use rail_codes::Moment;

@@ -11,8 +11,8 @@ ghost use Rattle.book_feed.specs.inner.Fed.{AreFed, IsFedFile, handed_to, given_
 use crate::fed_file::{FedFile, FileOf, fed_file};
 use crate::{FeedFault, FeedReport, FileCount};
 use commit_book::Book;
-use line_network::Networks;
 use line_engine::Source;
+use line_network::Networks;
 use sessions::{CloseFault, Office, Seat, close, open};
 use std::alloc::{AllocError, Global};
 use std::marker::Brand;

@@ -5,8 +5,8 @@ use crate::help;
 use clap::builder::ValueParser;
 use clap::{Arg, ArgAction, ArgMatches, Command};
 use commit_book::{Limits, MAX_ENTRIES, MAX_KEPT_PROBLEMS};
-use line_network::MAX_WORKERS;
 use line_engine::MAX_FILES;
+use line_network::MAX_WORKERS;
 use std::alloc::{AllocError, Global};
 
 /// What an office is opened with.

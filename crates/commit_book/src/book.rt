@@ -23,6 +23,7 @@ use crate::made_problem::MadeProblem;
 use crate::same_messages::is_same_message;
 use crate::{Limits, Refusal, Reply, Snap};
 use cost_table::{Cells, Problem};
+use fleet_rows::Roster;
 use line_network::{Networks, Tables};
 use move_messages::{CommitText, Message, OrderText};
 use operating_db::{Event, OfficeState};
@@ -30,7 +31,6 @@ use rail_codes::{Moment, OrderId};
 use std::alloc::{AllocError, Global};
 use std::marker::Model;
 use std::sync::Arc;
-use fleet_rows::Roster;
 
 /// A history of events from a roster on, which is legal whatever is called; the office after it; and the problems that
 /// commits may name. Each `Book` method is one step of such a run, so any `Book` value has a history for which the

@@ -10,12 +10,12 @@ ghost use Rattle.commit_book.specs.Commits.{wagon_of};
 ghost use Rattle.commit_book.specs.inner.Indexed.{Ascend, IsOrderIndex};
 
 use cost_table::{PairNames, Problem};
-use wagons_and_orders::{FreeWagon, Wanted};
 use rail_codes::{Moment, OrderId, WagonNumber};
 use std::alloc::{AllocError, Global};
 use std::collections::BTreeMap;
 use std::marker::Model;
 use std::sync::Arc;
+use wagons_and_orders::{FreeWagon, Wanted};
 
 /// A problem whose wagons ascend by number, so that one is found by halves, with an index of the orders' names. A
 /// contract sees the problem.

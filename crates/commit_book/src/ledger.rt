@@ -11,13 +11,13 @@ ghost use Rattle.std.specs.BTreeMap.{get};
 ghost use Rattle.std.specs.Ordering.{is_eq};
 ghost use Rattle.rail_codes.specs.declared.message_id.MessageId.{MessageId};
 
+use fleet_rows::Roster;
 use move_messages::Message;
 use operating_db::{ApplyFault, Event, OfficeState};
 use rail_codes::MessageId;
 use std::alloc::{AllocError, Global};
 use std::collections::BTreeMap;
 use std::marker::Model;
-use fleet_rows::Roster;
 
 /// What came of a message that was to be entered.
 #[derive(Clone, Copy, Debug, PartialEq, Eq)]

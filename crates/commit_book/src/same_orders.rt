@@ -1,8 +1,8 @@
 //! Orders compared.
 ghost use Rattle.std.specs.Prelude.{◌≡◌, ◌↔◌, IsTrue};
 
-use wagons_and_orders::Wanted;
 use move_messages::{Classes, OrderText};
+use wagons_and_orders::Wanted;
 
 /// Whether two orders are one, field by field.
 pub fn is_same_order(one: &OrderText, other: &OrderText) -> bool

@@ -10,10 +10,10 @@ ghost use Rattle.cost_table.specs.Problem.{wagon_names, order_names, lacks_of, n
 use crate::limits::{MAX_TABLE_LACK, MAX_TABLE_ORDERS, MAX_TABLE_WAGONS};
 use crate::pair_names::PairNames;
 use faults::TableFault;
-use wagons_and_orders::{FreeWagon, Wanted};
 use rail_codes::{Moment, OrderId, WagonNumber};
 use std::alloc::{AllocError, Global};
 use std::marker::Model;
+use wagons_and_orders::{FreeWagon, Wanted};
 
 /// Free wagons and waiting orders at a moment: at most 1,000 wagons, 500 orders, and 500 lacking wagons in all;
 /// no wagon and no order is listed twice. A contract sees the moment and the two lists.

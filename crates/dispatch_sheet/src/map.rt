@@ -8,15 +8,15 @@ ghost use Rattle.dispatch_sheet.specs.inner.PartsOf.{part_of};
 
 use crate::frame::{HEAD, LEGEND, LINES, OUTSIDE, PROMISES};
 use crate::line_edges::push_lines;
+use crate::map_words::push_number;
 use crate::outside::outside_places;
 use crate::place_node::push_place;
 use crate::promise_edges::push_promises;
-use crate::map_words::push_number;
 use line_network::Network;
-use wagons_and_orders::{OrderRow, WagonRow, Wanted};
 use operating_db::OfficeState;
 use rail_codes::Place;
 use std::alloc::{AllocError, Global};
+use wagons_and_orders::{OrderRow, WagonRow, Wanted};
 
 /// The map of an office as a graph in Graphviz's language DOT, for `neato`. The network is to be the one in force.
 ///

@@ -5,10 +5,10 @@ ghost use Rattle.line_network.specs.Network.{NetworkValue};
 ghost use Rattle.dispatch_sheet.specs.MapOutside.{is_drawn, outside_places, with_order_place, with_outside, with_wagon_place};
 
 use line_network::Network;
-use wagons_and_orders::{OrderRow, WagonRow};
 use operating_db::OfficeState;
 use rail_codes::Place;
 use std::alloc::{AllocError, Global};
+use wagons_and_orders::{OrderRow, WagonRow};
 
 /// The places at which wagons are or that orders on the map name, but that the network doesn't have, each once: those of
 /// the wagons first.

@@ -2,11 +2,11 @@
 ghost use Rattle.std.specs.Prelude.{◌≡◌, ◌++◌, IfOk, OnOk, filter, string_bytes};
 ghost use Rattle.dispatch_sheet.specs.MapPlaces.{back_of, front_of, has_free, stands_at, lack_line, place_node, style_words, waiting_lines, waits_at};
 
-use crate::wagon_groups::push_wagon_lines;
 use crate::map_words::{push_number, push_quoted};
-use wagons_and_orders::{WagonRow, Wanted, free};
+use crate::wagon_groups::push_wagon_lines;
 use rail_codes::{Place, push_ascii};
 use std::alloc::{AllocError, Global};
+use wagons_and_orders::{WagonRow, Wanted, free};
 
 /// Adds a place, with the wagons among these that are there, and the waiting orders among these that want some there.
 pub(crate) fn push_place(

@@ -5,11 +5,11 @@ ghost use Rattle.std.specs.List.{filter_map, flat_map, list_any, range_with_len}
 ghost use Rattle.dispatch_sheet.specs.MapPromises.{arrow_words, place_in, promise_at, promise_edge, promise_name, promise_node, promise_parts};
 
 use crate::map_words::{push_number, push_quoted};
-use wagons_and_orders::OrderRow;
 use move_messages::OrderText;
 use operating_db::OfficeState;
 use rail_codes::{Place, WagonNumber, push_ascii};
 use std::alloc::{AllocError, Global};
+use wagons_and_orders::OrderRow;
 
 /// Adds the promises of these orders.
 pub(crate) fn push_promises(

@@ -5,9 +5,9 @@ ghost use Rattle.dispatch_sheet.specs.Words.{next_word};
 ghost use Rattle.dispatch_sheet.specs.inner.Pushed.{listed};
 
 use crate::words::push_word;
-use wagons_and_orders::OrderRow;
 use rail_codes::{WagonNumber, push_ascii};
 use std::alloc::AllocError;
+use wagons_and_orders::OrderRow;
 
 /// Adds the list of an order's wagons: the promised ones, then those that filled the order, each of these marked.
 pub(crate) fn push_wagon_list(text: &mut String, row: &OrderRow) -> Result<(), AllocError>

@@ -8,12 +8,12 @@ ghost use Rattle.fleet_rows.specs.WaitingOrders.{waiting_from};
 ghost use Rattle.fleet_rows.specs.inner.Indexed.{noted, without_place};
 
 use crate::limits::MAX_OPEN_WAGONS;
-use wagons_and_orders::OrderRow;
 use move_messages::OrderText;
 use rail_codes::{OrderId, WagonNumber};
 use std::alloc::{AllocError, Global};
 use std::collections::BTreeMap;
 use std::marker::Model;
+use wagons_and_orders::OrderRow;
 
 /// What an office knows of its orders, in the order in which they were placed. No two have one
 /// name, and the open ones want at most 500 wagons in all. A contract sees the rows.

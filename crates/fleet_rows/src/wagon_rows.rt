@@ -7,12 +7,12 @@ ghost use Rattle.fleet_rows.specs.inner.Standings.{is_unpromised};
 ghost use Rattle.fleet_rows.specs.Roster.{by_number};
 ghost use Rattle.wagons_and_orders.specs.declared.wagon_row.WagonRow.{WagonRow};
 
+use crate::Roster;
 use crate::standing::{Standing, replace, standing_of, standings_of};
 use rail_codes::{ClassCode, OrderId, Place, WagonNumber};
 use std::alloc::{AllocError, Global};
 use std::collections::BTreeSet;
 use std::marker::Model;
-use crate::Roster;
 use wagons_and_orders::WagonRow;
 
 /// What an office knows of its wagons: at most 1,000 rows, ascending by number. No wagon comes or

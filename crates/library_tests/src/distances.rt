@@ -1,6 +1,8 @@
 //! Distances by several workers, and beside another way to find them.
 
-use line_network::{Gate, Network, NetworkFault, OpenGate, Tables, WorkFault, read_lines, tables, tables_by_workers};
+use line_network::{
+    Gate, Network, NetworkFault, OpenGate, Tables, WorkFault, read_lines, tables, tables_by_workers,
+};
 use std::alloc::{AllocError, Global};
 use std::sync::Wait;
 use std::sync::atomic::{AtomicU64, Ordering};

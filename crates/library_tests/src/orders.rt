@@ -1,8 +1,8 @@
 //! Orders and how many wagons they lack.
 
-use wagons_and_orders::Wanted;
 use std::test::Fail;
 use test_samples::order_text;
+use wagons_and_orders::Wanted;
 
 /// The lack of a wanted order, `None` where none lacks so many wagons.
 fn lack_of(lack: u32) -> Result<Option<u32>, Fail> {

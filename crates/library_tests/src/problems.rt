@@ -1,10 +1,10 @@
 //! Problems of wagons and orders, on 1 March 2026.
 
 use cost_table::{Problem, TableFault};
-use wagons_and_orders::{FreeWagon, Wanted};
 use std::alloc::Global;
 use std::test::Fail;
 use test_samples::{FAR, NEAR, UNKNOWN, free_wagon, moment, order_id, order_text, time, wagon};
+use wagons_and_orders::{FreeWagon, Wanted};
 
 /// The sample order, for one wagon, of another name and latest moment.
 fn wanted(name: &str, latest: &str) -> Result<Wanted, Fail> {

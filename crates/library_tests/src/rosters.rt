@@ -1,9 +1,9 @@
 //! Rosters that are copied, and readers that fail.
 
+use fleet_rows::{Roster, RosterFault};
 use std::alloc::Global;
 use std::test::Fail;
 use test_samples::{FAR, MemoryReader, NEAR, ROSTER, class, moment, place, wagon};
-use fleet_rows::{Roster, RosterFault};
 use wagons_and_orders::{Status, WagonRow};
 
 /// One of the sample's wagons.

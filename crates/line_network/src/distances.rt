@@ -4,8 +4,8 @@ ghost use Rattle.line_network.specs.Network.{place_index};
 ghost use Rattle.line_network.specs.Distance.{IsDistance};
 ghost use Rattle.line_network.specs.DistanceAnswers.{HasNoWalk, IsAnswered, max_distance};
 
-use crate::length::Length;
 use crate::Network;
+use crate::length::Length;
 use rail_codes::Place;
 use std::marker::Model;
 

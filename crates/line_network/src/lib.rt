@@ -22,8 +22,7 @@ mod step;
 mod turn;
 
 pub use distances::Tables;
-pub use faults::NetworkFault;
-pub use faults::WorkFault;
+pub use faults::{NetworkFault, WorkFault};
 pub use gate::{Gate, OpenGate};
 pub use laws::{distance_is_unique, place_is_at_itself, triangle_holds};
 pub use limits::{MAX_LINE_KM, MAX_LINE_MINUTES, MAX_LINE_RECORDS, MAX_PLACES};

@@ -4,8 +4,8 @@ ghost use Rattle.std.specs.List.Sorted.{IsPermutation, IsNonDecreasingBy};
 ghost use Rattle.line_network.specs.inner.Starts.{AreStarts};
 ghost use Rattle.line_network.specs.inner.Steps.{step_along, IsStepFrom};
 
-use crate::step::Step;
 use crate::Line;
+use crate::step::Step;
 use std::alloc::{AllocError, Global};
 
 /// The lines of a network in one list, those from each place side by side.

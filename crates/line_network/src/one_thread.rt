@@ -3,10 +3,10 @@ ghost use Rattle.std.specs.Prelude.{◌≡◌, ◌+◌, ◌≤◌, All, IfOk, ve
 ghost use Rattle.line_network.specs.NetworkLimits.{IsLine, max_places};
 ghost use Rattle.line_network.specs.inner.Rows.{AreRows};
 
-use crate::{Network, Tables};
 use crate::length::Length;
 use crate::lines_by_origin::LinesByOrigin;
 use crate::search::row_of_origin;
+use crate::{Network, Tables};
 use std::alloc::{AllocError, Global};
 
 /// The distances between the places of a network.

@@ -2,8 +2,8 @@
 ghost use Rattle.std.specs.Prelude.{◌≡◌};
 ghost use Rattle.line_network.specs.inner.Steps.{step_along};
 
-use crate::length::Length;
 use crate::Line;
+use crate::length::Length;
 
 /// A line without the place where it begins. The search reads these, since more of them fit a cache.
 #[derive(Clone, Copy, Debug)]

@@ -19,8 +19,8 @@ use assignment::plan;
 use commit_book::{Book, Refusal, Reply, Request, Snap};
 use cost_table::{Cells, Plan, cost};
 use dispatch_sheet::{certificate_line, plan_text, sheet_text};
-use move_messages::{LineFault, read_line};
 use line_engine::{Handler, Outcome, ReplyText, RunCount, RunFault, Sink, Source, run_lines};
+use move_messages::{LineFault, read_line};
 use price_checker::Prices;
 use rail_codes::Moment;
 use reply_texts::{

@@ -10,7 +10,7 @@ mod promises;
 
 pub use event::Event;
 pub use faults::ApplyFault;
+pub use fleet_rows::{Roster, RosterFault};
 pub use laws::events_keep_offices;
 pub use office_state::OfficeState;
 pub use pair_counts::times_of_order;
-pub use fleet_rows::{Roster, RosterFault};

@@ -5,8 +5,8 @@ ghost use Rattle.operating_db.specs.Problem.{free_wagons, waiting_orders, wanted
 ghost use Rattle.operating_db.specs.inner.Walks.{wanted_at};
 
 use fleet_rows::OrderRows;
-use wagons_and_orders::{FreeWagon, OrderRow, WagonRow, Wanted, free};
 use std::alloc::{AllocError, Global};
+use wagons_and_orders::{FreeWagon, OrderRow, WagonRow, Wanted, free};
 
 /// The free wagons, in order.
 pub(crate) fn free_wagons(alloc: Global, rows: &[WagonRow]) -> Result<Vec<FreeWagon>, AllocError>

@@ -22,11 +22,11 @@ use crate::promises::{end_promises, settle};
 use crate::{ApplyFault, Event};
 use cost_table::Problem;
 use fleet_rows::{MAX_OPEN_WAGONS, OrderRows, Roster, WagonRows};
-use wagons_and_orders::{Change, OrderRow, WagonRow, free, step};
 use move_messages::{Message, OrderText};
 use rail_codes::{ClassCode, Moment, OrderId, Place, WagonNumber};
 use std::alloc::{AllocError, Global};
 use std::marker::Model;
+use wagons_and_orders::{Change, OrderRow, WagonRow, free, step};
 
 /// The rows of the wagons and of the orders, and the network in force. A wagon is promised to an order exactly where
 /// the order has it among its promised wagons; no two orders have one name; and each order has every promised wagon

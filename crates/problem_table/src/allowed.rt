@@ -12,9 +12,9 @@ use crate::goals::{Goal, class_position};
 use crate::lasting::{TimedCells, timed};
 use cost_table::{Cells, Problem, RowBlock, TableRows};
 use line_network::Tables;
-use wagons_and_orders::{FreeWagon, carries};
 use rail_codes::Moment;
 use std::alloc::{AllocError, Global};
+use wagons_and_orders::{FreeWagon, carries};
 
 /// The table of a problem over the network of these tables: a cell exactly where the wagon suits the order and,
 /// starting at the problem's moment or when it is ready, reaches its place by the latest moment, with the

@@ -6,9 +6,9 @@ ghost use Rattle.problem_table.specs.declared.goals.ClassGoals.{ClassGoals};
 ghost use Rattle.problem_table.specs.inner.Goals.{AreGoalsOf, goal_of, goals_of};
 
 use line_network::Network;
-use wagons_and_orders::{Wanted, accepts};
 use rail_codes::{ClassCode, Moment};
 use std::alloc::{AllocError, Global};
+use wagons_and_orders::{Wanted, accepts};
 
 /// An order that wants wagons of a class: where, how much each loads, and by when.
 #[derive(Clone, Copy, Debug)]

@@ -6,8 +6,8 @@ ghost use Rattle.cost_table.specs.SharedRows.{ArePlaced, rows_in};
 ghost use Rattle.wagons_and_orders.specs.WantedLimits.{IsLack};
 
 use cost_table::{Cells, Problem, TableRows};
-use wagons_and_orders::Wanted;
 use std::alloc::{AllocError, Global};
+use wagons_and_orders::Wanted;
 
 /// The table of a problem, and up to which moment it is the table of the same wagons and orders. Moments are in seconds
 /// since 1970-01-01T00:00:00Z.

@@ -4,8 +4,8 @@ ghost use Rattle.reply_texts.specs.Details.{book_details, check_details, line_de
 
 use crate::words::{push_number, push_numbers, push_pair, push_word};
 use faults::{NamedFault, Refusal, TableFault};
-use move_messages::LineFault;
 use line_engine::ReplyText;
+use move_messages::LineFault;
 use std::alloc::AllocError;
 use table_lines::TableRefusal;
 

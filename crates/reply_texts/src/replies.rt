@@ -7,8 +7,8 @@ ghost use Rattle.reply_texts.specs.ReplyTexts.{accepted_text, book_refused_text,
 use crate::details::Detailed;
 use crate::words::{push_number, push_numbers};
 use faults::Refusal;
-use move_messages::LineFault;
 use line_engine::ReplyText;
+use move_messages::LineFault;
 use std::alloc::AllocError;
 use table_lines::TableRefusal;
 

@@ -4,6 +4,7 @@ use book_feed::FeedFault;
 use commit_book::Refusal;
 use cost_table::TableFault;
 use csv_records::RecordFault;
+use fleet_rows::RosterFault;
 use line_network::{NetworkFault, NetworksFault, WorkFault};
 use move_messages::{Field, FieldFault, LineFault};
 use office::RunFault;
@@ -13,7 +14,6 @@ use rail_codes::CodeFault;
 use std::test::Fail;
 use table_lines::TableRefusal;
 use test_samples::{FAR, misnamed, order_id, wagon};
-use fleet_rows::RosterFault;
 use wagons_and_orders::StepFault;
 
 /// Fails where one of these variants of an enum prints another text than its name.

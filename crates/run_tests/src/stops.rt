@@ -2,11 +2,11 @@
 //! threads, devices that fail, and files that are too large for a script.
 
 use book_feed::FeedFault;
+use fleet_rows::RosterFault;
 use line_network::{NetworkFault, WorkFault};
 use office::RunFault;
 use std::test::Fail;
 use test_samples::misnamed;
-use fleet_rows::RosterFault;
 use wagons_program::Stop;
 
 #[test]

@@ -5,11 +5,11 @@ ghost use Rattle.commit_book.specs.Snap.{IsInRange};
 use crate::{NETWORK, ROSTER};
 use commit_book::{Book, Limits};
 use cost_table::{Plan, Problem};
+use fleet_rows::Roster;
 use line_network::{Networks, read_lines, tables};
 use std::alloc::Global;
 use std::sync::Arc;
 use std::test::Fail;
-use fleet_rows::Roster;
 
 /// A book's roster and networks, and how many entries and problems it may have.
 #[derive(Clone, Copy)]

@@ -4,9 +4,9 @@ ghost use Rattle.std.specs.List.{Contains};
 ghost use Rattle.wagons_and_orders.specs.Suits.{Suits};
 ghost use Rattle.wagons_and_orders.specs.Listed.{is_listed};
 
+use crate::FreeWagon;
 use move_messages::OrderText;
 use rail_codes::ClassCode;
-use crate::FreeWagon;
 
 /// Whether a wagon suits an order: the order lists the wagon's class, whole and with case, and its
 /// load is at most the wagon's load limit. Takes no memory.

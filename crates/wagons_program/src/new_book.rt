@@ -5,12 +5,14 @@ ghost use Rattle.wagons_program.specs.FirstBook.{IsFirstBook};
 use crate::stop::Stop;
 use command_line::OfficeOptions;
 use commit_book::Book;
-use line_network::{MAX_NETWORKS, Network, Networks, NetworksFault, OpenGate, Tables, read_lines, tables_by_workers};
+use fleet_rows::Roster;
+use line_network::{
+    MAX_NETWORKS, Network, Networks, NetworksFault, OpenGate, Tables, read_lines, tables_by_workers,
+};
 use std::fs;
 use std::rt::Files;
 use std::sync::{Arc, Wait};
 use std::thread::Threads;
-use fleet_rows::Roster;
 
 /// A roster and networks, as files say them.
 #[derive(Drop)]

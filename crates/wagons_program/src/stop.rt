@@ -4,12 +4,12 @@ ghost use Rattle.std.specs.Str.{IsAscii};
 ghost use Rattle.wagons_program.specs.Stop.{stop_number};
 
 use book_feed::FeedFault;
+use fleet_rows::RosterFault;
 use line_network::{NetworkFault, NetworksFault, WorkFault};
 use office::RunFault;
 use std::alloc::{AllocError, AllocFailed};
 use std::fmt;
 use std::fmt::{Display, Formatter};
-use fleet_rows::RosterFault;
 
 /// Why the program could not run or stopped. It prints as `wagons: CODE` and what the code's details are: the number of
 /// the line at which the run stopped, of a file's record, a wagon, or a seat and an entry.

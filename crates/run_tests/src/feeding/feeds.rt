@@ -4,13 +4,13 @@ ghost use Rattle.line_engine.specs.Lines.{max_files};
 
 use book_feed::{FeedReport, feed};
 use commit_book::{Book, Limits};
+use fleet_rows::Roster;
 use line_engine::Source;
 use std::alloc::{AllocError, Global};
 use std::sync::{Arc, Wait};
 use std::test::Fail;
 use std::thread::Threads;
 use test_samples::{MemorySource, ROSTER, SAMPLE, networks_of};
-use fleet_rows::Roster;
 
 /// The sample's book, without an entry.
 fn sample_book(alloc: Global) -> Result<Book, Fail>
