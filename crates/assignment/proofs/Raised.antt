@@ -188,7 +188,7 @@ tight_new s f path u v order_of i k x keeps h r p label is =
 some_inner : (a b : ℕ) (o : Option ℕ) → o ≡ Some a → o ≡ Some b → a ≡ b
 some_inner a b o p q = cc
 
-pub held_raised : (s : Kept) (f : Search) (path : Path) (u v : List ℕ) (order_of : List (Option ℕ)) → IsKept s → IsShortestPath s f path → AreRaised s f path.distance u v → length order_of ≡ length s.order_of → AreHandedOn s f path.end order_of → AreHeld (raised s u v order_of)
+pub held_raised : (s : Kept) (f : Search) (path : Path) (u v : List ℕ) (order_of : List (Option ℕ)) → IsKept s → IsShortestPath s f path → AreRaised s f path.distance u v → length order_of ≡ length s.order_of → AreHandedOn s f (IsOnPath f path.end) order_of → AreHeld (raised s u v order_of)
 held_raised s f path u v order_of k h r len handed = record {
   wagons = len ∙ k.held.wagons;
   tight = λ i q is. elim (handed i) [

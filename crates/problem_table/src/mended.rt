@@ -2,7 +2,7 @@
 ghost use Rattle.std.specs.Prelude.{◌≡◌, ◌<◌, ◌≤◌, ◌↔◌, ◌++◌, ◌∷◌, [], ℕ, All, IfOk, IfSome, IsTrue, OnOk, Some, length, slice_get, slice_index_or};
 ghost use Rattle.problem_table.specs.Allowed.{IsTableOf};
 ghost use Rattle.problem_table.specs.Lasting.{IsLastingTable};
-ghost use Rattle.problem_table.specs.inner.AllowedRows.{AddsLastingRow, AreLastingRows};
+ghost use Rattle.problem_table.specs.inner.AllowedRows.{AddsWagon, AreLastingRows};
 ghost use Rattle.cost_table.specs.SharedRows.{ArePlaced, HasRowMore, rows_in};
 ghost use Rattle.problem_table.specs.inner.Goals.{AreGoalsOf};
 
@@ -164,7 +164,7 @@ fn find(
     requires classes { All (AreGoalsOf tables.now problem.now.orders) mending.old.classes.items }
     ensures shared { OnOk result (mending.new.rows.shared.value ≡ mending.old.rows.shared.value) }
     ensures placed { OnOk result (ArePlaced mending.new.rows) }
-    ensures row { OnOk result (AddsLastingRow tables.now problem.now.at wagon.now problem.now.orders (rows_in mending.old.rows) (rows_in mending.new.rows) mending.old.lasts.items mending.new.lasts.items) }
+    ensures row { OnOk result (AddsWagon tables.now problem.now wagon.now mending.old mending.new) }
     ensures classes { OnOk result (All (AreGoalsOf tables.now problem.now.orders) mending.new.classes.items) }
 {
     let orders = problem.orders();
