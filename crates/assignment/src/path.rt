@@ -19,15 +19,15 @@ pub(crate) fn walk_back(state: &mut State, search: &Search, path: Path)
 {
     match path.end {
         End::Wagon(wagon) => hand_on(state, search, wagon, search.orders.len()),
-        End::Refusal(place) => {
-            if place > 0 {
-                hand_on(state, search, search.via[place], place);
+        End::Refusal(index) => {
+            if index > 0 {
+                hand_on(state, search, search.via[index], index);
             }
         }
     }
 }
 
-/// Gives the wagon to the order before place `end` that it was reached from, that order's wagon to the one before, and
+/// Gives the wagon to the order before index `end` that it was reached from, that order's wagon to the one before, and
 /// so on to the first order.
 fn hand_on(state: &mut State, search: &Search, wagon: usize, end: usize)
     requires state { IsState state.old }
@@ -42,11 +42,11 @@ fn hand_on(state: &mut State, search: &Search, wagon: usize, end: usize)
     ensures same { state.new ≡ record state.old { order_of = state.new.order_of } }
 {
     let mut wagon = wagon;
-    let mut place = search.place_of(state, wagon, end);
-    while place > 0 {
-        state.order_of[wagon] = search.orders[place];
-        wagon = search.via[place];
-        place = search.place_of(state, wagon, place);
+    let mut index = search.index_of(state, wagon, end);
+    while index > 0 {
+        state.order_of[wagon] = search.orders[index];
+        wagon = search.via[index];
+        index = search.index_of(state, wagon, index);
     }
     state.order_of[wagon] = search.orders[0];
 }
@@ -61,7 +61,7 @@ pub(crate) fn count_unit(served: &mut [u32], search: &Search, end: End)
     ensures { (k : ℕ) → k < length served.old → IsHandedOn (slice_index served.old) (slice_index served.new) search.now (given_up search.now end) k }
 {
     served[search.orders[0] as usize] += 1;
-    if let End::Refusal(place) = end {
-        served[search.orders[place] as usize] -= 1;
+    if let End::Refusal(index) = end {
+        served[search.orders[index] as usize] -= 1;
     }
 }

@@ -25,10 +25,10 @@ pub record IsFound (label : ℕ → ℕ) (orders : List ℕ) (is_idle : Bool) (l
 
 -- among the first n wagons, one without an order, or one with an order, has this label
 pub record HasLabel (label : ℕ → ℕ) (orders : List ℕ) (is_idle : Bool) (least n : ℕ) : Type 0 where
-  pub place : ℕ
-  pub within : place < n
-  pub is : label place ≡ least
-  pub among : IsAmong orders is_idle place
+  pub index : ℕ
+  pub within : index < n
+  pub is : label index ≡ least
+  pub among : IsAmong orders is_idle index
 
 -- the least label of such wagons, FAR where there is none
 pub record IsLeastLabel (label : ℕ → ℕ) (orders : List ℕ) (is_idle : Bool) (least n : ℕ) : Type 0 where

@@ -24,11 +24,11 @@ abbrev pub IsOnPath : Search → End → ℕ → Type 0
 IsOnPath f (Wagon end) i = IsOnWay f end i
 IsOnPath f (Refusal end) i = (x : ℕ) × (0 < x) × (x < length f.orders.items) × (slice_index f.via.items x ≡ i)
 
--- the wagon has the order at a place from which it was reached
+-- the wagon has the order at an index from which it was reached
 pub record IsGiven (s : Kept) (f : Search) (order_of : List (Option ℕ)) (i : ℕ) : Type 0 where
-  pub place : ℕ
-  pub from : IsReachedFrom s f i place
-  pub order : order_at order_of i ≡ Some (slice_index f.orders.items place)
+  pub index : ℕ
+  pub from : IsReachedFrom s f i index
+  pub order : order_at order_of i ≡ Some (slice_index f.orders.items index)
 
 -- each wagon has its order still, or it is one of those on the way and has the order that it was reached from
 abbrev pub AreHandedOn : Kept → Search → (IsOn : ℕ → Type 0) → List (Option ℕ) → Type 0

@@ -1,7 +1,7 @@
 use Rattle.std.proofs.Common.{rules}
 use Rattle.std.proofs.lemmas.List.Sorted.{answers_always}
 use Rattle.fleet_rows.proofs.Wagons.{placed, Placed}
-use Rattle.fleet_rows.proofs.wagon_rows.place_of.Goals as goal
+use Rattle.fleet_rows.proofs.wagon_rows.index_of.Goals as goal
 
 -- the closure gives a row's number
 there : (c : goal.After-ok) → Placed c.args.rows.now c.args.number c.ok.result
