@@ -7,7 +7,7 @@ use Rattle.problem_table.specs.Allowed.{Reaches}
 use Rattle.cost_table.specs.TableLimits.{IsRow}
 use Rattle.cost_table.specs.Problem.{ProblemValue, penalties_of, lacks_of}
 use Rattle.cost_table.specs.SharedRows.{rows_in}
-use Rattle.problem_table.specs.declared.mended.Mending.{Mending}
+use Rattle.problem_table.specs.declared.changed.Changing.{Changing}
 use Rattle.cost_table.specs.Table.{Table, cost_in}
 
 -- A row of cells: the orders of which R holds at a cost, ascending, each with that cost.
@@ -50,6 +50,6 @@ pub record AddsLastingRow (net : NetworkValue) (at : ℕ) (wagon : FreeWagon) (o
   pub is : IsLastingRow net at wagon orders row last
 
 -- the same of a table that is being changed
-abbrev pub AddsWagon : NetworkValue → ProblemValue → FreeWagon → (old new : Mending) → Type 0
+abbrev pub AddsWagon : NetworkValue → ProblemValue → FreeWagon → (old new : Changing) → Type 0
 AddsWagon net problem wagon old new =
     AddsLastingRow net problem.at wagon problem.orders (rows_in old.rows) (rows_in new.rows) old.lasts.items new.lasts.items

@@ -1,10 +1,10 @@
 use Rattle.std.proofs.Common.{◌≡◌, ◌∙◌, rules, sym, subst}
 use Rattle.problem_table.proofs.AllowedLemmas.{lasting_ascend, lasting_rows}
 use Rattle.problem_table.proofs.Made.{timed_lasting, timed_lasts, timed_now}
-use Rattle.problem_table.proofs.mended.mended_cells.Goals as goal
+use Rattle.problem_table.proofs.changed.changed_cells.Goals as goal
 
-pub mended_rows-requires-clause-rows : goal.mended_rows-requires-clause-rows
-mended_rows-requires-clause-rows c =
+pub changed_rows-requires-clause-rows : goal.changed_rows-requires-clause-rows
+changed_rows-requires-clause-rows c =
     rw (c.deref.ensures.value, c.rows-rows.ensures.rows, ← c.requires.orders) (lasting_rows c.args.tables.now c.args.earlier.now c.args.made.now.cells c.args.made.now.lasts.items c.rows-rows.ensures.table c.requires.made)
 
 pub timed-requires-clause-ascend : goal.timed-requires-clause-ascend

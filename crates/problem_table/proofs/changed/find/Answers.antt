@@ -1,6 +1,6 @@
 use Rattle.std.proofs.Common.{◌≡◌, ◌∙◌, [], ap, rules, sym}
 use Rattle.problem_table.proofs.AllowedLemmas.{added_first}
-use Rattle.problem_table.proofs.mended.find.Goals as goal
+use Rattle.problem_table.proofs.changed.find.Goals as goal
 
 pub returns-clause-row : goal.returns-clause-row
 returns-clause-row c =

@@ -1,4 +1,4 @@
-//! The table of a problem, mended from that of an earlier one.
+//! The table of a problem, changed from that of an earlier one.
 ghost use Rattle.std.specs.Prelude.{◌≡◌, ◌<◌, ◌≤◌, ◌↔◌, ◌++◌, ◌∷◌, [], ℕ, All, IfOk, IfSome, IsTrue, OnOk, Some, length, slice_get, slice_index_or};
 ghost use Rattle.problem_table.specs.Allowed.{IsTableOf};
 ghost use Rattle.problem_table.specs.Lasting.{IsLastingTable};
@@ -17,7 +17,7 @@ use wagons_and_orders::FreeWagon;
 
 /// What `timed_cells` answers, made out of the table of an earlier problem with the same orders: the cells of a wagon that
 /// is as it was then, and whose last moment isn't past, are taken over, and those of the others are found.
-pub fn mended_cells(
+pub fn changed_cells(
     alloc: Global,
     problem: &Problem,
     tables: &Tables,
@@ -36,13 +36,13 @@ pub fn mended_cells(
     if rows.are_scattered() {
         return timed_cells(alloc, problem, tables);
     }
-    let (rows, lasts) = mended_rows(alloc, problem, tables, earlier, rows, &made.lasts)?;
+    let (rows, lasts) = changed_rows(alloc, problem, tables, earlier, rows, &made.lasts)?;
     timed(alloc, problem, rows, lasts)
 }
 
 /// The rows so far, and what is kept to find more of them.
 #[derive(Drop)]
-struct Mending {
+struct Changing {
     rows: TableRows,
     lasts: Vec<u64>,
     /// The goals of the classes of the wagons whose rows were found.
@@ -52,7 +52,7 @@ struct Mending {
 }
 
 /// The rows of all wagons, and up to which moment each is that row.
-fn mended_rows(
+fn changed_rows(
     alloc: Global,
     problem: &Problem,
     tables: &Tables,
@@ -67,7 +67,7 @@ fn mended_rows(
     ensures rows { IfOk result (λ r. AreLastingRows tables.now problem.now.at problem.now.wagons problem.now.orders (rows_in r.0) r.1.items) }
 {
     let wagons = problem.wagons();
-    let mut mending = Mending {
+    let mut changing = Changing {
         rows: TableRows::sharing(alloc, rows, wagons.len())?,
         lasts: Vec::with_capacity(alloc, wagons.len())?,
         classes: Vec::new(alloc),
@@ -75,18 +75,18 @@ fn mended_rows(
     };
     let mut k = 0;
     for wagon in wagons {
-        k = place_from(earlier.wagons(), k, wagon.number);
+        k = index_from(earlier.wagons(), k, wagon.number);
         match lasting_row(earlier.wagons(), lasts, k, wagon, problem.at()) {
-            Some(last) => take_over(&mut mending, rows, k, last)?,
-            None => find(alloc, &mut mending, problem, tables, wagon)?,
+            Some(last) => take_over(&mut changing, rows, k, last)?,
+            None => find(alloc, &mut changing, problem, tables, wagon)?,
         }
     }
-    Ok((mending.rows, mending.lasts))
+    Ok((changing.rows, changing.lasts))
 }
 
-/// From a place on, the first place of a wagon whose number isn't below this one. Where wagons ascend by number, that is
+/// From an index on, the first index of a wagon whose number isn't below this one. Where wagons ascend by number, that is
 /// where the wagon stands, if it is there.
-fn place_from(wagons: &[FreeWagon], from: usize, number: WagonNumber) -> usize {
+fn index_from(wagons: &[FreeWagon], from: usize, number: WagonNumber) -> usize {
     for k in from..wagons.len() {
         if number <= wagons[k].number {
             return k;
@@ -95,7 +95,7 @@ fn place_from(wagons: &[FreeWagon], from: usize, number: WagonNumber) -> usize {
     wagons.len()
 }
 
-/// Up to which moment the row at a place is the row of this wagon, where it still is at a moment.
+/// Up to which moment the row at an index is the row of this wagon, where it still is at a moment.
 fn lasting_row(
     wagons: &[FreeWagon],
     lasts: &[u64],
@@ -116,14 +116,14 @@ fn lasting_row(
     }
 }
 
-/// The wagon at a place, `None` past the end.
+/// The wagon at an index, `None` past the end.
 fn wagon_at(wagons: &[FreeWagon], k: usize) -> Option<FreeWagon>
     ensures { result ≡ slice_get wagons.now k }
 {
     wagons.get(k).copied()
 }
 
-/// The last moment at a place, `None` past the end.
+/// The last moment at an index, `None` past the end.
 fn last_at(lasts: &[u64], k: usize) -> Option<u64>
     ensures { result ≡ slice_get lasts.now k }
 {
@@ -137,48 +137,53 @@ fn is_same_wagon(one: &FreeWagon, other: &FreeWagon) -> bool
     *one == *other
 }
 
-/// Takes over the row at a place of the earlier table, which lasts up to this moment.
-fn take_over(mending: &mut Mending, rows: &TableRows, k: usize, last: u64) -> Result<(), AllocError>
-    requires placed { ArePlaced mending.old.rows }
-    requires shared { mending.old.rows.shared.value ≡ rows.now.shared.value }
+/// Takes over the row at an index of the earlier table, which lasts up to this moment.
+fn take_over(
+    changing: &mut Changing,
+    rows: &TableRows,
+    k: usize,
+    last: u64,
+) -> Result<(), AllocError>
+    requires placed { ArePlaced changing.old.rows }
+    requires shared { changing.old.rows.shared.value ≡ rows.now.shared.value }
     requires rows { ArePlaced rows.now }
     requires wagon { k < length (rows_in rows.now) }
-    ensures row { OnOk result (HasRowMore mending.old.rows mending.new.rows (slice_index_or (rows_in rows.now) k [])) }
-    ensures moment { OnOk result (mending.new.lasts.items ≡ mending.old.lasts.items ++ last ∷ []) }
-    ensures classes { OnOk result (mending.new.classes ≡ mending.old.classes) }
+    ensures row { OnOk result (HasRowMore changing.old.rows changing.new.rows (slice_index_or (rows_in rows.now) k [])) }
+    ensures moment { OnOk result (changing.new.lasts.items ≡ changing.old.lasts.items ++ last ∷ []) }
+    ensures classes { OnOk result (changing.new.classes ≡ changing.old.classes) }
 {
-    mending.rows.take_over(rows, k)?;
-    mending.lasts.push(last)?;
+    changing.rows.take_over(rows, k)?;
+    changing.lasts.push(last)?;
     Ok(())
 }
 
 /// Finds the row of a wagon.
 fn find(
     alloc: Global,
-    mending: &mut Mending,
+    changing: &mut Changing,
     problem: &Problem,
     tables: &Tables,
     wagon: &FreeWagon,
 ) -> Result<(), AllocError>
-    requires placed { ArePlaced mending.old.rows }
-    requires classes { All (AreGoalsOf tables.now problem.now.orders) mending.old.classes.items }
-    ensures shared { OnOk result (mending.new.rows.shared.value ≡ mending.old.rows.shared.value) }
-    ensures placed { OnOk result (ArePlaced mending.new.rows) }
-    ensures row { OnOk result (AddsWagon tables.now problem.now wagon.now mending.old mending.new) }
-    ensures classes { OnOk result (All (AreGoalsOf tables.now problem.now.orders) mending.new.classes.items) }
+    requires placed { ArePlaced changing.old.rows }
+    requires classes { All (AreGoalsOf tables.now problem.now.orders) changing.old.classes.items }
+    ensures shared { OnOk result (changing.new.rows.shared.value ≡ changing.old.rows.shared.value) }
+    ensures placed { OnOk result (ArePlaced changing.new.rows) }
+    ensures row { OnOk result (AddsWagon tables.now problem.now wagon.now changing.old changing.new) }
+    ensures classes { OnOk result (All (AreGoalsOf tables.now problem.now.orders) changing.new.classes.items) }
 {
     let orders = problem.orders();
     let k = class_position(
         alloc,
-        &mut mending.classes,
+        &mut changing.classes,
         wagon.class,
         tables.network(),
         orders,
     )?;
-    mending.found.clear();
-    let goals = &mending.classes[k].goals;
-    let last = push_row(&mut mending.found, problem, wagon, goals, tables)?;
-    mending.rows.push(&mending.found)?;
-    mending.lasts.push(last)?;
+    changing.found.clear();
+    let goals = &changing.classes[k].goals;
+    let last = push_row(&mut changing.found, problem, wagon, goals, tables)?;
+    changing.rows.push(&changing.found)?;
+    changing.lasts.push(last)?;
     Ok(())
 }
