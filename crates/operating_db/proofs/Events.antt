@@ -10,7 +10,7 @@ use Rattle.wagons_and_orders.specs.declared.change.Effect.TheVariants as effect
 use Rattle.faults.specs.declared.faults.StepFault.{StepFault}
 use Rattle.faults.specs.declared.faults.StepFault.TheVariants.{Earlier, WrongPlace}
 use Rattle.wagons_and_orders.specs.declared.wagon_row.WagonRow.{WagonRow}
-use Rattle.wagons_and_orders.specs.StatusTable.{step_of, fitted, change_by, promise_after, effect_on, table_line, is_at}
+use Rattle.wagons_and_orders.specs.StatusTable.{step_of, fitted, change_by, promise_after, effect_on, transition_of, is_at}
 use Rattle.fleet_rows.specs.Roster.{IsRosterRow}
 use Rattle.wagons_and_orders.specs.Lack.{is_open}
 use Rattle.wagons_and_orders.specs.OrderRow.{OrderRowValue, placed_row}
@@ -63,7 +63,7 @@ later false r change h = h
 pub step_keeps : (row : WagonRow) (m : message.Message) (place : Option (List ℕ)) (change : Change) → step_of row m place ≡ Ok change → KeepsRow row change
 unfolding step_of
 step_keeps row m place change h =
-    fitted_keeps row m (table_line m.kind row.status (is_at place m.place) m.place m.moment) change (later (nat_lt m.moment row.last) _ change h)
+    fitted_keeps row m (transition_of m.kind row.status (is_at place m.place) m.place m.moment) change (later (nat_lt m.moment row.last) _ change h)
 
 -- ---- numbers of wagons, texts of orders
 
