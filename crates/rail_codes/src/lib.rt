@@ -4,9 +4,10 @@
 //! again. A contract sees a code as the bytes of its text.
 #![tactic(auto)]
 
-mod ascii_array;
+mod ascii_order;
 mod ascii_text;
 mod characters;
+mod code;
 mod code_fault;
 mod codes;
 mod message_id;
