@@ -1,5 +1,6 @@
 //! Codes: short ASCII texts, each of one shape.
 ghost use Rattle.std.specs.Prelude.{◌≡◌, ◌↔◌, ℕ, List, length, Result, Ok, IsOk, IfOk, string_bytes};
+ghost use Rattle.std.specs.Str.{IsAscii};
 ghost use Rattle.rail_codes.specs.declared.code_fault.CodeFault.{CodeFault};
 
 use crate::CodeFault;
@@ -34,6 +35,7 @@ pub trait Shape<const ROOM: usize> {
 #[derive_where(Clone, Copy, Debug, PartialEq, Eq, PartialOrd, Ord, Hash)]
 pub struct Code<S: Shape<ROOM>, const ROOM: usize> {
     text: ShortText<ROOM>,
+    #[derive_where(skip)]
     shape: PhantomData<S>,
 }
 
@@ -67,6 +69,7 @@ impl<S: Shape<ROOM>, const ROOM: usize> Code<S, ROOM> {
     pub fn as_bytes(&self) -> &[u8]
         ensures value { result.now ≡ self.now }
         ensures valid { S.HasShape result.now }
+        ensures ascii { IsAscii result.now }
     {
         self.text.as_bytes()
     }
@@ -81,9 +84,9 @@ impl<S: Shape<ROOM>, const ROOM: usize> Code<S, ROOM> {
     }
 
     /// The code as text.
-    pub fn text(self, alloc: Global) -> Result<String, AllocError>
-        ensures printed { IfOk result (λ s. string_bytes s ≡ self) }
-        ensures reads_back { S.code_of self ≡ Ok self }
+    pub fn text(&self, alloc: Global) -> Result<String, AllocError>
+        ensures printed { IfOk result (λ s. string_bytes s ≡ self.now) }
+        ensures reads_back { S.code_of self.now ≡ Ok self.now }
     {
         ascii_text(alloc, self.as_bytes())
     }
