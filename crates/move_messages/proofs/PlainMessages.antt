@@ -10,7 +10,7 @@ use Rattle.serde_json.specs.Read.{read}
 use Rattle.move_messages.specs.Line.{object_of}
 use Rattle.move_messages.specs.Fields.{field_of, member}
 use Rattle.move_messages.specs.Field.{field_name}
-use Rattle.move_messages.specs.Values.{text_of, number_within, company_from, wagon_number_from, place_from, moment_from}
+use Rattle.move_messages.specs.Values.{text_of, number_within, code_from}
 use Rattle.move_messages.proofs.PlainTexts.{read-print}
 use Rattle.move_messages.proofs.Lines.{object_of-ok}
 use Rattle.rail_codes.specs.Company.{company_of}
@@ -46,7 +46,7 @@ object_of-plain m line small utf8 is = object_of-ok line (plain_object m) utf8 (
 message_of-plain : (m : PlainMessage) (kind : MessageKind) (company wagon place : List ℕ) (moment : ℕ) → m.number < 2 ^ 32
     → company_of m.company.now ≡ Ok company → wagon_number_of m.wagon.now ≡ Ok wagon → place_read m.place.now ≡ Ok place → moment_of m.moment.now ≡ Ok moment
     → message_of kind (plain_object m) ≡ Ok (record { id = record { company = company; number = m.number }; kind = kind; wagon = wagon; place = place; moment = moment })
-unfolding message_of field_of member field_name text_of number_within company_from wagon_number_from place_from moment_from
+unfolding message_of field_of member field_name text_of number_within code_from
 message_of-plain m kind company wagon place moment small is_company is_wagon is_place is_moment =
     let least : nat_le 0 m.number ≡ true = grind (arith, nat_tests) in
     let most : nat_le m.number (2 ^ 32 - 1) ≡ true = grind (arith, nat_tests) in

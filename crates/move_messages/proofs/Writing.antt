@@ -12,7 +12,7 @@ use Rattle.serde_json.proofs.Views.{view-Array}
 use Rattle.rail_codes.specs.WagonNumber.{wagon_number_of}
 use Rattle.rail_codes.specs.OrderId.{order_id_of}
 use Rattle.move_messages.specs.declared.fault.FieldFault.{FieldFault}
-use Rattle.move_messages.specs.Values.{each, list_of, list_of_each, number_within, text_of, wagon_number_from, order_id_from, wagon_and_order}
+use Rattle.move_messages.specs.Values.{each, list_of, list_of_each, number_within, text_of, code_from, wagon_and_order}
 use Rattle.move_messages.specs.Written.{list_data, number_data, pair_data}
 
 -- ---- numbers and pairs
@@ -22,7 +22,7 @@ unfolding number_within
 number_reads low high n above below = rw (le-leb low n above, le-leb n high below) refl
 
 pub pair_reads : (wagon order : List ℕ) → wagon_number_of wagon ≡ Ok wagon → order_id_of order ≡ Ok order → wagon_and_order (pair_data (wagon, order)) ≡ Ok (wagon, order)
-unfolding wagon_and_order list_of wagon_number_from order_id_from text_of
+unfolding wagon_and_order list_of code_from text_of
 pair_reads wagon order wagon_reads order_reads = rw (wagon_reads, order_reads) refl
 
 -- ---- lists

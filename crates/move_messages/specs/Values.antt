@@ -44,23 +44,27 @@ abbrev pub with_code : {A : Type 0} → Result A CodeFault → Result A FieldFau
 with_code (Ok x) = Ok x
 with_code (Err e) = Err (Code e)
 
-unfoldable pub wagon_number_from : Data → Result (List ℕ) FieldFault
-wagon_number_from d = text_of d >>= λ text. with_code (wagon_number_of text)
+-- what a text is read as, by the reading of its kind
+unfoldable pub code_from : {A : Type 0} → (List ℕ → Result A CodeFault) → Data → Result A FieldFault
+code_from read d = text_of d >>= λ text. with_code (read text)
 
-unfoldable pub order_id_from : Data → Result (List ℕ) FieldFault
-order_id_from d = text_of d >>= λ text. with_code (order_id_of text)
+abbrev pub wagon_number_from : Data → Result (List ℕ) FieldFault
+wagon_number_from = code_from wagon_number_of
 
-unfoldable pub company_from : Data → Result (List ℕ) FieldFault
-company_from d = text_of d >>= λ text. with_code (company_of text)
+abbrev pub order_id_from : Data → Result (List ℕ) FieldFault
+order_id_from = code_from order_id_of
 
-unfoldable pub place_from : Data → Result (List ℕ) FieldFault
-place_from d = text_of d >>= λ text. with_code (place_read text)
+abbrev pub company_from : Data → Result (List ℕ) FieldFault
+company_from = code_from company_of
 
-unfoldable pub class_from : Data → Result (List ℕ) FieldFault
-class_from d = text_of d >>= λ text. with_code (class_code_of text)
+abbrev pub place_from : Data → Result (List ℕ) FieldFault
+place_from = code_from place_read
 
-unfoldable pub moment_from : Data → Result ℕ FieldFault
-moment_from d = text_of d >>= λ text. with_code (moment_of text)
+abbrev pub class_from : Data → Result (List ℕ) FieldFault
+class_from = code_from class_code_of
+
+abbrev pub moment_from : Data → Result ℕ FieldFault
+moment_from = code_from moment_of
 
 -- ---- lists
 

@@ -11,7 +11,7 @@ ghost use Rattle.move_messages.specs.Commands as meaning;
 
 use crate::classes::Classes;
 use crate::limits::MAX_CLASSES;
-use crate::{Field, FieldFault, LineFault, class_from, in_field, list_within, member};
+use crate::{Field, FieldFault, LineFault, code_from, in_field, list_within, member};
 use rail_codes::ClassCode;
 use serde_json::Value;
 
@@ -36,7 +36,7 @@ fn classes_from(value: &Value) -> Result<Classes, FieldFault>
     let [first, rest @ ..] = items else {
         return Err(FieldFault::OutOfRange);
     };
-    let first = class_from(first)?;
+    let first: ClassCode = code_from(first)?;
     with_more_classes(first, rest)
 }
 
@@ -47,7 +47,7 @@ fn with_more_classes(first: ClassCode, rest: &[Value]) -> Result<Classes, FieldF
 {
     let mut classes = Classes::one(first);
     for item in rest {
-        let class = class_from(item)?;
+        let class: ClassCode = code_from(item)?;
         classes.push(class);
     }
     Ok(classes)

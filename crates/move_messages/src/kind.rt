@@ -7,9 +7,10 @@ ghost use Rattle.move_messages.specs.declared.fault.FieldFault.{FieldFault};
 ghost use Rattle.move_messages.specs.Values as values;
 
 use crate::fault::FieldFault;
-use crate::values::{count_within, list_of, number_within, order_id_from, wagon_number_from};
-use rail_codes::{OrderId, WagonNumber};
+use crate::values::{code_from, count_within, list_of, number_within};
+use rail_codes::{FromText, OrderId, WagonNumber};
 use serde_json::Value;
+use std::marker::PhantomData;
 
 /// How an item of a list is read.
 pub trait ItemKind {
@@ -24,31 +25,18 @@ pub trait ItemKind {
         ensures { result ≡ meaning self.now (view value.now) };
 }
 
-/// Wagon numbers.
-#[derive(Clone, Copy, Debug)]
-pub(crate) struct WagonNumberKind;
-
-impl ItemKind for WagonNumberKind {
-    type Item = WagonNumber;
-
-    ghost meaning = { λ _. values.wagon_number_from };
-
-    fn read(&self, value: &Value) -> Result<WagonNumber, FieldFault> {
-        wagon_number_from(value)
-    }
+/// Codes of one type.
+pub(crate) struct CodeKind<C> {
+    pub code: PhantomData<C>,
 }
 
-/// Names of orders.
-#[derive(Clone, Copy, Debug)]
-pub(crate) struct OrderIdKind;
+impl<C: FromText> ItemKind for CodeKind<C> {
+    type Item = C;
 
-impl ItemKind for OrderIdKind {
-    type Item = OrderId;
+    ghost meaning = { λ _. values.code_from C.meaning };
 
-    ghost meaning = { λ _. values.order_id_from };
-
-    fn read(&self, value: &Value) -> Result<OrderId, FieldFault> {
-        order_id_from(value)
+    fn read(&self, value: &Value) -> Result<C, FieldFault> {
+        code_from(value)
     }
 }
 
@@ -102,8 +90,8 @@ impl ItemKind for PairKind {
         let [wagon, order] = list_of(value)? else {
             return Err(FieldFault::OutOfRange);
         };
-        let wagon = wagon_number_from(wagon)?;
-        let order = order_id_from(order)?;
+        let wagon = code_from(wagon)?;
+        let order = code_from(order)?;
         Ok((wagon, order))
     }
 }

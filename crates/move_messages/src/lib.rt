@@ -36,14 +36,16 @@ pub use kind::{CountKind, ItemKind};
 pub use limits::{MAX_CLASSES, MAX_LOAD, MAX_ORDER_WAGONS, MAX_PENALTY, MAX_REVISION, MAX_VERSION};
 pub use line::object_of;
 pub use lists::{
-    list_of_each, numbers_at, optional_list_at, order_ids_at, pairs_at, wagon_numbers_at,
+    codes_at, codes_at as order_ids_at, codes_at as wagon_numbers_at, list_of_each, numbers_at,
+    optional_list_at, pairs_at,
 };
 pub use members::{
-    boolean_at, company_at, count_at, in_field, member, moment_at, number_at, optional_count_at,
-    order_id_at, place_at, text_at, wagon_number_at,
+    boolean_at, code_at, code_at as company_at, code_at as moment_at, code_at as order_id_at,
+    code_at as place_at, code_at as wagon_number_at, count_at, in_field, member, number_at,
+    optional_count_at, text_at,
 };
 pub use message::{Message, MessageKind};
 pub use order_text::OrderText;
 pub use plain_text::{number_after, quoted_after};
-pub use values::{class_from, list_of, list_within, number_within};
+pub use values::{code_from, list_of, list_within, number_within};
 pub use written::{WrittenItem, list_value};

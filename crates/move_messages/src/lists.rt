@@ -10,12 +10,13 @@ ghost use Rattle.move_messages.specs.Values as values;
 
 use crate::fault::LineFault;
 use crate::field::Field;
-use crate::kind::{ItemKind, NumberKind, OrderIdKind, PairKind, WagonNumberKind};
+use crate::kind::{CodeKind, ItemKind, NumberKind, PairKind};
 use crate::members::{in_field, member, optional_member};
 use crate::values::list_of;
-use rail_codes::{OrderId, WagonNumber};
+use rail_codes::{FromText, OrderId, WagonNumber};
 use serde_json::Value;
 use std::alloc::Global;
+use std::marker::PhantomData;
 
 /// Each of the items, up to the first that is refused: `BadField` (25).
 pub(crate) fn each<K: ItemKind>(
@@ -88,24 +89,16 @@ pub fn optional_list_at<K: ItemKind>(
     }
 }
 
-/// A field that is a list of wagon numbers.
-pub fn wagon_numbers_at(
+/// A field that is a list of codes of one type.
+pub fn codes_at<C: FromText>(
     alloc: Global,
     object: &Value,
     field: Field,
-) -> Result<Vec<WagonNumber>, LineFault>
+) -> Result<Vec<C>, LineFault>
     ensures { Gives (λ v. v.items) result
-        (meaning.list_at values.wagon_number_from field (view object.now)) }
+        (meaning.list_at (values.code_from C.meaning) field (view object.now)) }
 {
-    list_at(alloc, object, field, &WagonNumberKind)
-}
-
-/// A field that is a list of names of orders.
-pub fn order_ids_at(alloc: Global, object: &Value, field: Field) -> Result<Vec<OrderId>, LineFault>
-    ensures { Gives (λ v. v.items) result
-        (meaning.list_at values.order_id_from field (view object.now)) }
-{
-    list_at(alloc, object, field, &OrderIdKind)
+    list_at(alloc, object, field, &CodeKind { code: PhantomData })
 }
 
 /// A field that is a list of whole numbers from `low` to `high`.

@@ -10,11 +10,8 @@ ghost use Rattle.move_messages.specs.Values as values;
 
 use crate::fault::{FieldFault, LineFault};
 use crate::field::Field;
-use crate::values::{
-    boolean_of, company_from, count_within, moment_from, number_within, order_id_from, place_from,
-    text_of, wagon_number_from,
-};
-use rail_codes::{Company, Moment, OrderId, Place, WagonNumber};
+use crate::values::{boolean_of, code_from, count_within, number_within, text_of};
+use rail_codes::FromText;
 use serde_json::Value;
 
 /// The member of an object; `None` where it is missing.
@@ -101,42 +98,10 @@ pub fn optional_count_at(
     }
 }
 
-/// A field that is a wagon number.
+/// A field that is a code or a moment.
 #[tactic(auto, unfolding(crate::specs::Fields::field_of))]
-pub fn wagon_number_at(object: &Value, field: Field) -> Result<WagonNumber, LineFault>
-    ensures { result ≡ meaning.field_of values.wagon_number_from field (view object.now) }
+pub fn code_at<C: FromText>(object: &Value, field: Field) -> Result<C, LineFault>
+    ensures { result ≡ meaning.field_of (values.code_from C.meaning) field (view object.now) }
 {
-    in_field(field, wagon_number_from(member(object, field)?))
-}
-
-/// A field that is an order's name.
-#[tactic(auto, unfolding(crate::specs::Fields::field_of))]
-pub fn order_id_at(object: &Value, field: Field) -> Result<OrderId, LineFault>
-    ensures { result ≡ meaning.field_of values.order_id_from field (view object.now) }
-{
-    in_field(field, order_id_from(member(object, field)?))
-}
-
-/// A field that is a company.
-#[tactic(auto, unfolding(crate::specs::Fields::field_of))]
-pub fn company_at(object: &Value, field: Field) -> Result<Company, LineFault>
-    ensures { result ≡ meaning.field_of values.company_from field (view object.now) }
-{
-    in_field(field, company_from(member(object, field)?))
-}
-
-/// A field that is a place.
-#[tactic(auto, unfolding(crate::specs::Fields::field_of))]
-pub fn place_at(object: &Value, field: Field) -> Result<Place, LineFault>
-    ensures { result ≡ meaning.field_of values.place_from field (view object.now) }
-{
-    in_field(field, place_from(member(object, field)?))
-}
-
-/// A field that is a moment.
-#[tactic(auto, unfolding(crate::specs::Fields::field_of))]
-pub fn moment_at(object: &Value, field: Field) -> Result<Moment, LineFault>
-    ensures { result ≡ meaning.field_of values.moment_from field (view object.now) }
-{
-    in_field(field, moment_from(member(object, field)?))
+    in_field(field, code_from(member(object, field)?))
 }

@@ -6,7 +6,7 @@ ghost use Rattle.move_messages.specs.Fields.{seen_by};
 ghost use Rattle.move_messages.specs.Values as meaning;
 
 use crate::fault::FieldFault;
-use rail_codes::{ClassCode, Company, Moment, OrderId, Place, WagonNumber};
+use rail_codes::FromText;
 use serde_json::Value;
 
 /// A text. Any other value, null among them, is `WrongKind` (19).
@@ -40,15 +40,6 @@ pub fn number_within(value: &Value, low: u64, high: u64) -> Result<u64, FieldFau
     }
 }
 
-/// A wagon number. What is no text is `WrongKind` (19), and another text has its own fault (11, 12).
-#[tactic(auto, unfolding(crate::specs::Values::wagon_number_from))]
-pub(crate) fn wagon_number_from(value: &Value) -> Result<WagonNumber, FieldFault>
-    ensures { result ≡ meaning.wagon_number_from (view value.now) }
-{
-    let text = text_of(value)?;
-    WagonNumber::read(text).map_err(FieldFault::Code)
-}
-
 /// A whole number from `low` to `high`, as `number_within` reads it.
 #[tactic(auto, unfolding(crate::specs::Values::number_within))]
 pub(crate) fn count_within(value: &Value, low: u32, high: u32) -> Result<u32, FieldFault>
@@ -59,49 +50,13 @@ pub(crate) fn count_within(value: &Value, low: u32, high: u32) -> Result<u32, Fi
     u32::try_from(number).map_err(|_| FieldFault::OutOfRange)
 }
 
-/// An order's name. What is no text is `WrongKind` (19), and another text has its own fault (16).
-#[tactic(auto, unfolding(crate::specs::Values::order_id_from))]
-pub(crate) fn order_id_from(value: &Value) -> Result<OrderId, FieldFault>
-    ensures { result ≡ meaning.order_id_from (view value.now) }
+/// A code or a moment. What is no text is `WrongKind` (19), and another text has its own fault (11 to 18).
+#[tactic(auto, unfolding(crate::specs::Values::code_from))]
+pub fn code_from<C: FromText>(value: &Value) -> Result<C, FieldFault>
+    ensures { result ≡ meaning.code_from C.meaning (view value.now) }
 {
     let text = text_of(value)?;
-    OrderId::read(text).map_err(FieldFault::Code)
-}
-
-/// A company. What is no text is `WrongKind` (19), and another text has its own fault (15).
-#[tactic(auto, unfolding(crate::specs::Values::company_from))]
-pub(crate) fn company_from(value: &Value) -> Result<Company, FieldFault>
-    ensures { result ≡ meaning.company_from (view value.now) }
-{
-    let text = text_of(value)?;
-    Company::read(text).map_err(FieldFault::Code)
-}
-
-/// A place. What is no text is `WrongKind` (19), and another text has its own fault (13).
-#[tactic(auto, unfolding(crate::specs::Values::place_from))]
-pub(crate) fn place_from(value: &Value) -> Result<Place, FieldFault>
-    ensures { result ≡ meaning.place_from (view value.now) }
-{
-    let text = text_of(value)?;
-    Place::read(text).map_err(FieldFault::Code)
-}
-
-/// A class. What is no text is `WrongKind` (19), and another text has its own fault (14).
-#[tactic(auto, unfolding(crate::specs::Values::class_from))]
-pub fn class_from(value: &Value) -> Result<ClassCode, FieldFault>
-    ensures { result ≡ meaning.class_from (view value.now) }
-{
-    let text = text_of(value)?;
-    ClassCode::read(text).map_err(FieldFault::Code)
-}
-
-/// A moment. What is no text is `WrongKind` (19), and another text has its own fault (17, 18).
-#[tactic(auto, unfolding(crate::specs::Values::moment_from))]
-pub(crate) fn moment_from(value: &Value) -> Result<Moment, FieldFault>
-    ensures { result ≡ meaning.moment_from (view value.now) }
-{
-    let text = text_of(value)?;
-    Moment::read(text).map_err(FieldFault::Code)
+    C::from_text(text).map_err(FieldFault::Code)
 }
 
 /// The items of a list. Any other value is `WrongKind` (19).

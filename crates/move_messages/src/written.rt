@@ -6,7 +6,7 @@ ghost use Rattle.serde_json.specs.View.{view};
 ghost use Rattle.move_messages.specs.Values as values;
 ghost use Rattle.move_messages.specs.Written as written;
 
-use rail_codes::{OrderId, WagonNumber};
+use rail_codes::{Code, OrderId, Shape, WagonNumber};
 use serde_json::Value;
 use std::alloc::{AllocError, Global};
 
@@ -24,24 +24,12 @@ pub trait WrittenItem {
         ensures holds { OnOk result (holds self.now) };
 }
 
-impl WrittenItem for WagonNumber {
+impl<S: Shape<ROOM>, const ROOM: usize> WrittenItem for Code<S, ROOM> {
     ghost json = { string };
 
-    ghost holds = { λ number. values.wagon_number_from (string number) ≡ Ok number };
+    ghost holds = { λ code. values.code_from S.code_of (string code) ≡ Ok code };
 
-    #[tactic(auto, unfolding(crate::specs::Values::wagon_number_from, crate::specs::Values::text_of))]
-    fn value(&self, alloc: Global) -> Result<Value, AllocError> {
-        let text = self.text(alloc)?;
-        Ok(Value::String(text))
-    }
-}
-
-impl WrittenItem for OrderId {
-    ghost json = { string };
-
-    ghost holds = { λ id. values.order_id_from (string id) ≡ Ok id };
-
-    #[tactic(auto, unfolding(crate::specs::Values::order_id_from, crate::specs::Values::text_of))]
+    #[tactic(auto, unfolding(crate::specs::Values::code_from, crate::specs::Values::text_of))]
     fn value(&self, alloc: Global) -> Result<Value, AllocError> {
         let text = self.text(alloc)?;
         Ok(Value::String(text))

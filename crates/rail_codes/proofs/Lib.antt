@@ -1,3 +1,4 @@
 pub mod WagonNumbers
 pub mod Moments
 pub mod Words
+pub mod ShortTexts

@@ -1,5 +1,5 @@
 -- Wagon numbers: what is kept of a text, and the weighted digit sum.
-use Rattle.std.proofs.Common.{◌≡◌, ℕ, zero, suc, ◌+◌, ◌-◌, ◌*◌, ◌%◌, ◌<◌, ◌≤◌, ◌↔◌, ◌++◌, ◌⊎◌, inl, inr, true, false, ◌==◌, List, [], ◌∷◌, length, get_or, take, drop, Ok, arith, ap, refl, sym, ◌∙◌, add-one, drop-cons, length-append, get_or-take, eqb-true, eq-eqb, append-nil, append_assoc, set}
+use Rattle.std.proofs.Common.{◌≡◌, ℕ, zero, suc, ◌+◌, ◌-◌, ◌*◌, ◌%◌, ◌<◌, ◌≤◌, ◌↔◌, ◌++◌, ◌⊎◌, inl, inr, true, false, ◌==◌, List, [], ◌∷◌, length, get_or, take, drop, arith, ap, refl, sym, ◌∙◌, add-one, drop-cons, length-append, get_or-take, eqb-true, eq-eqb, append-nil, append_assoc, set}
 use Rattle.std.proofs.Math.Nat.{mul-le-mul_left}
 use Rattle.std.proofs.lemmas.Bool.Decides.{nat_tests}
 use Rattle.std.proofs.lemmas.List.{drop_all, take_all, take_more_set}
@@ -7,23 +7,12 @@ use Rattle.std.proofs.lemmas.List.Folds.{list_all-append}
 use Rattle.std.proofs.lemmas.List.Sums.{AllPass-from_list_all}
 use Rattle.std.specs.List.{list_all}
 use Rattle.std.specs.Char.{is_ascii_digit}
-use Rattle.rail_codes.specs.WagonNumber.{is_no_separator, kept_characters, are_twelve_digits, digit_sum, weighted_from, weighted_digit_sum, wagon_number_of, IsWagonNumber}
+use Rattle.rail_codes.specs.WagonNumber.{is_no_separator, kept_characters, are_twelve_digits, digit_sum, weighted_from, weighted_digit_sum}
+use Rattle.rail_codes.specs.inner.WagonTexts.{are_twelve_digits-cases}
 
 -- what is kept of the rest of a text, whose next character is kept
 pub kept_characters-kept : (text : List ℕ) (i : ℕ) → i < length text → is_no_separator (get_or text i 0) ≡ true → kept_characters (drop i text) ≡ get_or text i 0 ∷ kept_characters (drop (i + 1) text)
 kept_characters-kept text i within kept = rw (add-one, drop-cons text i 0 within, kept) refl
-
--- a digit is kept
-pub is_kept-digit : (c : ℕ) → is_ascii_digit c ≡ true → is_no_separator c ≡ true
-is_kept-digit c digit = grind (arith, nat_tests)
-
--- digits are kept as they are
-pub kept_characters-digits : (text : List ℕ) → list_all is_ascii_digit text ≡ true → kept_characters text ≡ text
-kept_characters-digits [] all = refl
-kept_characters-digits (c ∷ cs) all =
-    let first : is_ascii_digit c ≡ true = grind (arith, nat_tests) in
-    let others : list_all is_ascii_digit cs ≡ true = grind (arith, nat_tests) in
-    rw (is_kept-digit c first) (ap (λ t. c ∷ t) (kept_characters-digits cs others))
 
 -- a thirteenth character is one too many
 pub are_twelve_digits-more : (front rest : List ℕ) (c : ℕ) → length front ≡ 12 → are_twelve_digits (front ++ c ∷ rest) ≡ false
@@ -39,19 +28,8 @@ list_all-digit xs i all within =
     let digit : is_ascii_digit (get_or xs i 0) ≡ true = AllPass-from_list_all is_ascii_digit xs all i 0 within in
     (grind (arith, nat_tests), grind (arith, nat_tests))
 
--- twelve digits have that length, and each is a digit
-pub are_twelve_digits-cases : (xs : List ℕ) → are_twelve_digits xs ≡ true → (length xs ≡ 12) × (list_all is_ascii_digit xs ≡ true)
-are_twelve_digits-cases xs twelve = (grind (arith, nat_tests), grind (arith, nat_tests))
-
 pub are_twelve_digits-digits : (xs : List ℕ) → length xs ≡ 12 → list_all is_ascii_digit xs ≡ true → are_twelve_digits xs ≡ true
 are_twelve_digits-digits xs twelve all = grind (arith, nat_tests)
-
--- a wagon number's text is read as itself
-pub wagon_number_of-IsWagonNumber : (number : List ℕ) → IsWagonNumber number → wagon_number_of number ≡ Ok number
-wagon_number_of-IsWagonNumber number valid =
-    let kept : kept_characters number ≡ number = kept_characters-digits number (are_twelve_digits-cases number valid.0).1 in
-    let sum : (weighted_digit_sum number % 10 == 0) ≡ true = grind (arith, nat_tests) in
-    rw (kept, valid.0, sum) refl
 
 -- one more digit is written behind those so far
 pub take-digit : (text digits : List ℕ) (i count : ℕ) → i < length text → is_no_separator (get_or text i 0) ≡ true → count < length digits → take count digits ++ kept_characters (drop i text) ≡ kept_characters text → take (count + 1) (set digits count (get_or text i 0)) ++ kept_characters (drop (i + 1) text) ≡ kept_characters text

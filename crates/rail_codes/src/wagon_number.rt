@@ -2,67 +2,51 @@
 ghost use Rattle.std.specs.Prelude.{◌≡◌, ◌≤◌, ◌*◌, ℕ, ◌%◌, ◌↔◌, IsTrue, if◌then◌else◌, Some, None, Ok, IsOk, IfOk, IfSome, List, take, string_bytes};
 ghost use Rattle.rail_codes.specs.inner.CheckDigit.{missing_to_ten};
 ghost use Rattle.rail_codes.specs.WagonNumber.{kept_characters, are_twelve_digits, digit_sum, weighted_digit_sum, wagon_number_of, IsWagonNumber};
+ghost use Rattle.rail_codes.specs.inner.WagonTexts.{wagon_number_of-IsWagonNumber};
 
 use crate::CodeFault;
-use crate::ascii_array::AsciiArray;
-use crate::ascii_text::ascii_text;
 use crate::characters::are_digits;
-use std::alloc::{AllocError, Global};
-use std::marker::Model;
+use crate::code::{Code, Shape};
+use crate::short_text::ShortText;
 
 /// A wagon's twelve-digit number: two digits of interoperability code, two of country, four of
 /// technical characteristics, three of serial number and a check digit. Only the length and the
-/// check digit are judged. A contract sees the twelve ASCII digits.
-#[derive(Clone, Copy, Debug, PartialEq, Eq, PartialOrd, Ord, Hash)]
-pub struct WagonNumber {
-    digits: AsciiArray<12>,
-}
+/// check digit are judged. Where one is read, spaces and hyphens are ignored wherever they stand.
+///
+/// A text is refused with `NotTwelveDigits` (11) where its other characters are not twelve ASCII
+/// digits, else with `CheckDigit` (12) where the check digit is wrong.
+pub type WagonNumber = Code<WagonShape, 12>;
 
-impl Model for WagonNumber {
-    ghost Value = { List ℕ };
+/// The shape of a wagon's number.
+pub struct WagonShape;
 
-    ghost view = { λ n. n.digits };
+impl Shape<12> for WagonShape {
+    ghost HasShape = { IsWagonNumber };
 
-    ghost invariant = { λ n. IsWagonNumber n.digits };
+    ghost kept = { kept_characters };
 
-    ghost inverse = { λ text. record { digits = text } };
-}
+    ghost code_of = { wagon_number_of };
 
-impl WagonNumber {
-    /// Reads a number. Spaces and hyphens are ignored wherever they stand.
-    ///
-    /// Refused with `NotTwelveDigits` (11) where the other characters are not twelve ASCII digits,
-    /// else with `CheckDigit` (12) where the check digit is wrong.
-    pub fn read(text: &str) -> Result<WagonNumber, CodeFault>
-        ensures meaning { result ≡ wagon_number_of text.now }
-        ensures accepts { IsOk result ↔ IsWagonNumber (kept_characters text.now) }
-        ensures kept { IfOk result (λ number. number ≡ kept_characters text.now) }
-    {
-        let Some(digits) = twelve_digits(text.as_bytes()) else {
+    fn read(text: &[u8]) -> Result<ShortText<12>, CodeFault> {
+        let Some(digits) = twelve_digits(text) else {
             return Err(CodeFault::NotTwelveDigits);
         };
         if !ends_in_check_digit(&digits) {
             return Err(CodeFault::CheckDigit);
         }
-        Ok(WagonNumber {
-            digits: AsciiArray::new(&digits),
-        })
+        Ok(ShortText::new(&digits))
     }
 
+    ghost reads_back = { wagon_number_of-IsWagonNumber };
+}
+
+impl Code<WagonShape, 12> {
     /// The twelve ASCII digits.
     pub fn digits(&self) -> &[u8; 12]
         ensures value { result.now ≡ self.now }
         ensures valid { IsWagonNumber result.now }
     {
-        self.digits.as_array()
-    }
-
-    /// The number as text: its twelve digits.
-    pub fn text(self, alloc: Global) -> Result<String, AllocError>
-        ensures printed { IfOk result (λ s. string_bytes s ≡ self) }
-        ensures reads_back { wagon_number_of self ≡ Ok self }
-    {
-        ascii_text(alloc, self.digits())
+        self.as_array()
     }
 }
 

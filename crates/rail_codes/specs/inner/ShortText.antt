@@ -1,15 +1,22 @@
 -- A short text in a field of fixed size.
-use Rattle.std.specs.Prelude.{◌≡◌, ℕ, ◌-◌, ◌≤◌, ◌++◌, List, length, replicate, take}
-use Rattle.std.proofs.Common.{arith, length-take-le}
+use Rattle.std.specs.Prelude.{◌≡◌, ℕ, ◌-◌, ◌<◌, Bool, ◌==◌, ◌++◌, List, length, replicate, slice_index}
+use Rattle.std.specs.List.{before_first}
+use Rattle.std.specs.Str.{IsAscii}
+
+abbrev pub is_nul : ℕ → Bool
+is_nul c = c == 0
+
+abbrev pub HasNoNul : List ℕ → Type 0
+HasNoNul text = (i : ℕ) → i < length text → 0 < slice_index text i
 
 -- a text in a field of so many bytes, with 0 behind it
 abbrev pub padded : ℕ → List ℕ → List ℕ
 padded room text = text ++ replicate (room - length text) 0
 
--- only the bytes in use may differ from 0
-abbrev pub IsPadded : ℕ → List ℕ → ℕ → Type 0
-IsPadded room bytes used = (length bytes ≡ room) × (used ≤ room) × (padded room (take used bytes) ≡ bytes)
+-- the text in a field
+abbrev pub text_in : List ℕ → List ℕ
+text_in bytes = before_first is_nul bytes
 
--- as many bytes are in use as the text has
-pub length-take-used : (room : ℕ) (bytes : List ℕ) (used : ℕ) → IsPadded room bytes used → length (take used bytes) ≡ used
-length-take-used room bytes used h = length-take-le used bytes (omega arith)
+-- behind the text stands nothing but 0
+abbrev pub IsPadded : ℕ → List ℕ → Type 0
+IsPadded room bytes = (length bytes ≡ room) × IsAscii bytes × (padded room (text_in bytes) ≡ bytes)

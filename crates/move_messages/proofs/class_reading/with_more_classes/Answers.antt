@@ -10,13 +10,13 @@ pub returns-in_err-class : goal.returns-in_err-class
 returns-in_err-class c =
     let total = with_front (c.args.first ∷ []) (each class_from (items_view c.args.rest.now)) in
     let p = err_from_is_err_and c.from_residual.result c.from_residual.ensures.1 in
-    rw (p.1, p.2) (sym (stops class_from c.args.rest.now c.loop-item.item-index c.item-item.result c.loop-item.classes c.in_err-class.field-0.0 total c.loop-item-test.true c.item-item.is (sym c.class_from.ensures ∙ c.in_err-class.was) c.loop-item.invariant.0))
+    rw (p.1, p.2) (sym (stops class_from c.args.rest.now c.loop-item.item-index c.item-item.result c.loop-item.classes c.in_err-class.field-0.0 total c.loop-item-test.true c.item-item.is (sym c.code_from.ensures ∙ c.in_err-class.was) c.loop-item.invariant.0))
 
 pub loop-item-preserved : goal.loop-item-preserved
 loop-item-preserved c =
     let total = with_front (c.args.first ∷ []) (each class_from (items_view c.args.rest.now)) in
     let count = length-append c.loop-item.classes (c.in_ok-class.class ∷ []) in (
-      rw c.push.ensures (goes_on class_from c.args.rest.now c.loop-item.item-index c.item-item.result c.loop-item.classes c.in_ok-class.class total c.loop-item-test.true c.item-item.is (sym c.class_from.ensures ∙ c.in_ok-class.was) c.loop-item.invariant.0),
+      rw c.push.ensures (goes_on class_from c.args.rest.now c.loop-item.item-index c.item-item.result c.loop-item.classes c.in_ok-class.class total c.loop-item-test.true c.item-item.is (sym c.code_from.ensures ∙ c.in_ok-class.was) c.loop-item.invariant.0),
       rw c.push.ensures (omega (arith, count, c.loop-item.invariant.1)),
     )
 

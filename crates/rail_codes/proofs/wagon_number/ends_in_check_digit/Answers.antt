@@ -1,6 +1,7 @@
 use Rattle.std.proofs.Common.{arith, get_or, take}
 use Rattle.rail_codes.specs.WagonNumber.{weighted_digit_sum}
-use Rattle.rail_codes.proofs.WagonNumbers.{are_twelve_digits-cases, list_all-digit, weighted_digit_sum-twelve, completes}
+use Rattle.rail_codes.specs.inner.WagonTexts.{are_twelve_digits-cases}
+use Rattle.rail_codes.proofs.WagonNumbers.{list_all-digit, weighted_digit_sum-twelve, completes}
 use Rattle.rail_codes.proofs.wagon_number.ends_in_check_digit.Goals as goal
 
 pub returns : goal.returns

@@ -1,5 +1,5 @@
 use Rattle.std.proofs.Common.{refl}
-use Rattle.rail_codes.proofs.WagonNumbers.{are_twelve_digits-cases, kept_characters-digits}
+use Rattle.rail_codes.specs.inner.WagonTexts.{are_twelve_digits-cases, kept_characters-digits}
 use Rattle.rail_codes.proofs.wagon_number.twelve_digits.Goals as goal
 
 pub returns-in-Some-clause-meaning : goal.returns-in-Some-clause-meaning

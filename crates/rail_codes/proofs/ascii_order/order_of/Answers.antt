@@ -2,7 +2,7 @@ use Rattle.std.proofs.Common.{ap, arith, sym, ◌∙◌}
 use Rattle.std.specs.Cmp.Lexicographic.{slice_cmp}
 use Rattle.std.specs.Ordering.{nat_cmp, ordering_then}
 use Rattle.rail_codes.proofs.Words.{by_eight, rest_ascii, settled}
-use Rattle.rail_codes.proofs.ascii_array.order_of.Goals as goal
+use Rattle.rail_codes.proofs.ascii_order.order_of.Goals as goal
 
 pub returns-in-Equal : goal.returns-in-Equal
 returns-in-Equal c =
