@@ -8,6 +8,7 @@ ghost use Rattle.move_messages.specs.Commands as meaning;
 use crate::class_reading::classes_at;
 use crate::command::Command;
 use crate::commit_text::{CommitText, Pairs, PriceList};
+use crate::event::Event;
 use crate::limits::{MAX_LOAD, MAX_ORDER_WAGONS, MAX_PENALTY, MAX_REVISION, MAX_VERSION};
 use crate::line_type::LineType;
 use crate::message::{Message, MessageKind};
@@ -32,7 +33,7 @@ pub fn read_line(alloc: Global, bytes: &[u8]) -> Result<Command, LineFault>
     ensures { Gives (λ command. command) result (meaning.command_of bytes.now) }
 {
     if let Some(message) = plain_message(bytes) {
-        return Ok(Command::Message(message));
+        return Ok(Command::Event(Event::Message(message)));
     }
     let object = object_of(alloc, bytes)?;
     let line_type = LineType::named(text_at(&object, Field::TypeName)?)?;
@@ -45,27 +46,23 @@ fn command_at(alloc: Global, line_type: LineType, object: &Value) -> Result<Comm
     ensures { Gives (λ command. command) result
         (meaning.command_of_type line_type (view object.now)) }
 {
-    let command = match line_type {
-        LineType::Release => Command::Message(message_at(object, MessageKind::Release)?),
-        LineType::Departure => Command::Message(message_at(object, MessageKind::Departure)?),
-        LineType::YardArrival => Command::Message(message_at(object, MessageKind::YardArrival)?),
-        LineType::YardDeparture => {
-            Command::Message(message_at(object, MessageKind::YardDeparture)?)
-        }
-        LineType::Exception => Command::Message(exception_at(object)?),
-        LineType::Arrival => Command::Message(message_at(object, MessageKind::Arrival)?),
-        LineType::Delivery => Command::Message(message_at(object, MessageKind::Delivery)?),
-        LineType::Order => Command::Place(order_at(object)?),
-        LineType::Withdraw => Command::Withdraw(order_id_at(object, Field::Order)?),
-        LineType::Begin => Command::Begin(moment_at(object, Field::At)?),
-        LineType::Plan => Command::Plan(moment_at(object, Field::At)?),
-        LineType::Commit => Command::Commit(commit_at(alloc, object)?),
-        LineType::Sheet => Command::Sheet,
-        LineType::Network => {
-            Command::Revise(count_at(object, Field::Revision, 1, MAX_REVISION)?)
-        }
+    let event = match line_type {
+        LineType::Release => Event::Message(message_at(object, MessageKind::Release)?),
+        LineType::Departure => Event::Message(message_at(object, MessageKind::Departure)?),
+        LineType::YardArrival => Event::Message(message_at(object, MessageKind::YardArrival)?),
+        LineType::YardDeparture => Event::Message(message_at(object, MessageKind::YardDeparture)?),
+        LineType::Exception => Event::Message(exception_at(object)?),
+        LineType::Arrival => Event::Message(message_at(object, MessageKind::Arrival)?),
+        LineType::Delivery => Event::Message(message_at(object, MessageKind::Delivery)?),
+        LineType::Order => Event::Place(order_at(object)?),
+        LineType::Withdraw => Event::Withdraw(order_id_at(object, Field::Order)?),
+        LineType::Commit => Event::Commit(commit_at(alloc, object)?),
+        LineType::Network => Event::Revise(count_at(object, Field::Revision, 1, MAX_REVISION)?),
+        LineType::Begin => return Ok(Command::Begin(moment_at(object, Field::At)?)),
+        LineType::Plan => return Ok(Command::Plan(moment_at(object, Field::At)?)),
+        LineType::Sheet => return Ok(Command::Sheet),
     };
-    Ok(command)
+    Ok(Command::Event(event))
 }
 
 /// A message of this kind.

@@ -17,8 +17,8 @@ use Rattle.wagons_and_orders.specs.OrderRow.{OrderRowValue, placed_row}
 use Rattle.fleet_rows.proofs.Wagons.{number-wagon_in}
 use Rattle.fleet_rows.specs.Rows.{wagon_in, order_in, at_wagon, at_order, max_open_wagons, open_wagons, filled_by, freed_of, taken_back, promised_to}
 use Rattle.faults.specs.declared.faults.ApplyFault.TheVariants.{OrderKnown, TooManyOpen, OrderClosed, UnknownNetwork, SameNetwork}
-use Rattle.operating_db.specs.declared.event.Event.{Event}
-use Rattle.operating_db.specs.declared.event.Event.TheVariants.{Message, Place, Withdraw, Commit, Revise}
+use Rattle.move_messages.specs.declared.event.Event.{Event}
+use Rattle.move_messages.specs.declared.event.Event.TheVariants.{Message, Place, Withdraw, Commit, Revise}
 use Rattle.operating_db.specs.After.{orders_after, order_place, moved, message_to, unpromised, withdrawn_from, after_call}
 use Rattle.operating_db.specs.Commits.{Pair, given_to, promise_pair, promise_all}
 use Rattle.operating_db.specs.Laws.{IsKept, EventsKeepOffices, RostersAgree, numbers_of, texts_of, Steps}

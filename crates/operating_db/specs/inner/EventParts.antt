@@ -1,5 +1,5 @@
 -- What the parts of an event ask for and make, as the private functions of an office do them.
-use Rattle.std.specs.Prelude.{◌≡◌, ◌<◌, ℕ, Bool, true, nat_le, ◌&&◌, if◌then◌else◌, List, map, Option, Some, None, Ok}
+use Rattle.std.specs.Prelude.{◌≡◌, ◌<◌, ℕ, Bool, true, nat_le, ◌&&◌, if◌then◌else◌, List, map, Option, Some, None, Ok, slice_get}
 use Rattle.move_messages.specs.declared.message.Message as message
 use Rattle.wagons_and_orders.specs.StatusTable.{step_of}
 use Rattle.wagons_and_orders.specs.declared.change.Change.{Change}
@@ -30,3 +30,7 @@ is_promisable office pairs pair =
 pub record IsNext (office : Office) (pair : Pair) : Type 0 where
   pub free : is_free_row (wagon_in office.wagons pair.0) ≡ true
   pub lacking : 0 < lack_in (order_in office.orders pair.1)
+
+-- the row at an index is that of the wagon of this number
+abbrev pub IsRowAt : List WagonRow → ℕ → List ℕ → Type 0
+IsRowAt rows index number = (row : WagonRow) × (slice_get rows index ≡ Some row) × (row.number ≡ number)

@@ -1,6 +1,6 @@
 use Rattle.std.proofs.Common.{sym}
 use Rattle.commit_book.proofs.BookParts.{parts_pushed}
-use Rattle.commit_book.proofs.book.Book.message.Goals as goal
+use Rattle.commit_book.proofs.book.Book.enter_message.Goals as goal
 
 pub invariant_of-self-in-Entered : goal.invariant_of-self-in-Entered
 invariant_of-self-in-Entered c =
