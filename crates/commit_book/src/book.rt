@@ -79,8 +79,7 @@ impl Book {
         ensures value { result ≡ length self.now.state.history }
         ensures limit { IsVersionNumber result }
     {
-        // For the prover alone: there are at most 1,000,000 entries.
-        let _most = self.limits.entries();
+        self.limits.for_the_prover();
         self.ledger.len() as u64
     }
 
@@ -99,11 +98,18 @@ impl Book {
         ensures proved { IsProved self.now.setting self.now.state.history }
         ensures setting { IsSetting self.now.setting }
     {
-        // For the prover alone: what every roster, all networks and all limits keep.
+        self.for_the_prover();
+        self.ledger.state()
+    }
+
+    /// Does nothing: for the prover alone, it says what holds of every book.
+    pub fn for_the_prover(&self)
+        ensures proved { IsProved self.now.setting self.now.state.history }
+        ensures setting { IsSetting self.now.setting }
+    {
         let _rows = self.ledger.roster().rows();
         let _count = self.networks.count();
-        let _most = self.limits.entries();
-        self.ledger.state()
+        self.limits.for_the_prover();
     }
 
     /// Takes an event in: its answer and its refusals, with nothing changed, are those of the call of its kind, `message`,
@@ -454,8 +460,7 @@ impl Book {
         ensures made { IfOk result (λ made. IsMade self.now.setting self.now.state.history (length self.now.state.history) made.value) }
         ensures span { IfOk result (λ made. IsInSpan made.value problem.now.at) }
     {
-        // For the prover alone: wagons ascend by number.
-        let _rows = self.state().wagon_rows();
+        self.state().for_the_prover();
         let made = match self.mendable(problem) {
             Some(earlier) => earlier.mended(alloc, problem, self.tables())?,
             None => MadeProblem::of(alloc, problem, self.state().network(), self.tables())?,

@@ -24,7 +24,8 @@ use Rattle.move_messages.specs.Fields.{member, field_of}
 use Rattle.move_messages.proofs.Lines.{object_of-ok}
 use Rattle.move_messages.proofs.Writing.{list-reads, number_reads, pair_reads}
 use Rattle.move_messages.specs.declared.commit_text.CommitText.{CommitText}
-use Rattle.move_messages.specs.declared.command.Command.TheVariants.{Commit}
+use Rattle.move_messages.specs.declared.command.Command.TheVariants.{Event}
+use Rattle.move_messages.specs.declared.event.Event.TheVariants.{Commit}
 use Rattle.move_messages.specs.LineType.{line_type_of, type_name}
 use Rattle.move_messages.specs.Commands.{command_of, command_of_type, commit_text_of, max_version}
 use Rattle.dispatch_sheet.specs.Certificate.{commit_data}
@@ -91,11 +92,11 @@ commit-reads commit at readable moment =
     let version = number_reads 0 max_version commit.version (omega arith) readable.version in
     rw (version, moment-reads at commit.at moment, list-reads wagon_and_order pair_data commit.pairs readable.pairs, prices-read commit.u readable.u, prices-read commit.v readable.v) refl
 
-command-reads : (bytes : List ℕ) (commit : CommitText) (at : List ℕ) → IsUtf8 bytes → read bytes ≡ Some (commit_data commit at) → commit_text_of (commit_data commit at) ≡ Ok commit → command_of bytes ≡ Ok (Commit commit)
+command-reads : (bytes : List ℕ) (commit : CommitText) (at : List ℕ) → IsUtf8 bytes → read bytes ≡ Some (commit_data commit at) → commit_text_of (commit_data commit at) ≡ Ok commit → command_of bytes ≡ Ok (Event (Commit commit))
 unfolding command_of command_of_type field_of member field_name text_of line_type_of type_name
 command-reads bytes commit at utf8 is reads = rw (object_of-ok bytes (commit_data commit at) utf8 is refl, reads) refl
 
 -- a text of the commit's tokens
-pub line-reads : (bytes : List ℕ) (commit : CommitText) (at : List ℕ) → IsUtf8 bytes → tokens bytes ≡ data_tokens (commit_data commit at) → IsReadable commit → moment_of at ≡ Ok commit.at → command_of bytes ≡ Ok (Commit commit)
+pub line-reads : (bytes : List ℕ) (commit : CommitText) (at : List ℕ) → IsUtf8 bytes → tokens bytes ≡ data_tokens (commit_data commit at) → IsReadable commit → moment_of at ≡ Ok commit.at → command_of bytes ≡ Ok (Event (Commit commit))
 line-reads bytes commit at utf8 same readable moment =
     command-reads bytes commit at utf8 (read-tokens (outline (commit_data commit at)) (commit_data commit at) bytes same (commit_nests commit at) (commit_spells commit at readable)) (commit-reads commit at readable moment)

@@ -4,8 +4,8 @@ ghost use Rattle.std.specs.List.{list_all};
 ghost use Rattle.fleet_rows.specs.Kept.{IsOrderRows, IsWagonRows};
 ghost use Rattle.fleet_rows.specs.Rows.{order_in, wagon_in};
 ghost use Rattle.operating_db.specs.After.{after_call, after_message, after_order, after_revision, order_place, withdrawn_from};
-ghost use Rattle.operating_db.specs.inner.EventParts.{IsChange, IsNext, IsRowAt, is_promisable};
-ghost use Rattle.operating_db.specs.ApplyFault.{EmptiesWagon, IsRefusal, IsRefusalOf, MayRunOutOfMemory};
+ghost use Rattle.operating_db.specs.inner.EventParts.{EmptiesItsWagon, IsChange, IsNext, IsRowAt, is_promisable};
+ghost use Rattle.operating_db.specs.ApplyFault.{IsRefusal, IsRefusalOf, MayRunOutOfMemory};
 ghost use Rattle.operating_db.specs.Commits.{CanPromise, is_free_row, lack_in, promise_all, promise_pair};
 ghost use Rattle.operating_db.specs.Office.{first_office};
 ghost use Rattle.operating_db.specs.FreeCount.{free_count};
@@ -29,8 +29,8 @@ use wagons_and_orders::{Change, OrderRow, WagonRow, free, step};
 
 /// The rows of the wagons and of the orders, and the network in force. A wagon is promised to an order exactly where
 /// the order has it among its promised wagons; no two orders have one name; and each order has every promised wagon
-/// once, together with those that filled it at most as many as it wants. A contract sees the office of the definitions, and how many networks
-/// there are.
+/// once, together with those that filled it at most as many as it wants. A contract sees the office of the definitions,
+/// and how many networks there are.
 #[derive(Debug, Drop)]
 pub struct OfficeState {
     wagons: WagonRows,
@@ -103,6 +103,17 @@ impl OfficeState {
         ensures valid { IsState self.now }
     {
         self.network
+    }
+
+    /// Does nothing: for the prover alone, it says what every office keeps.
+    pub fn for_the_prover(&self)
+        ensures wagons { IsWagonRows self.now.office.wagons }
+        ensures orders { IsOrderRows self.now.office.orders }
+        ensures valid { IsState self.now }
+    {
+        let _wagons = self.wagon_rows();
+        let _orders = self.order_rows();
+        let _network = self.network();
     }
 
     /// How many networks there are, 1 to 8. Takes no memory.
@@ -254,7 +265,7 @@ impl OfficeState {
     fn accept(&mut self, message: &Message) -> Result<(), ApplyFault>
         ensures done { OnOk result (after_message self.old.office message.now ≡ Ok self.new.office) }
         ensures refused { IfErr result (λ fault. IsRefusal (after_message self.old.office message.now) fault) }
-        ensures memory { IfErr result (λ fault. fault ≡ ApplyFault.OutOfMemory → EmptiesWagon self.old.office message.now.wagon (after_message self.old.office message.now)) }
+        ensures memory { IfErr result (λ fault. fault ≡ ApplyFault.OutOfMemory → EmptiesItsWagon self.old.office message.now) }
         ensures unchanged { OnErr result (self.new ≡ self.old) }
         ensures networks { self.new.networks ≡ self.old.networks }
     {
