@@ -1,5 +1,5 @@
 //! The names of a table's wagons and orders.
-ghost use Rattle.std.specs.Prelude.{◌≡◌, ℕ, [], Some, IfSome, position, slice_get};
+ghost use Rattle.std.specs.Prelude.{◌≡◌, [], Some, IfSome, position, slice_get};
 ghost use Rattle.cost_table.specs.Names.{IsFoundWhere, StandAt, is_name, pair_of};
 ghost use Rattle.cost_table.specs.DistinctNames.{names_or_fault, repeated_from};
 

@@ -1,5 +1,5 @@
 //! What is to be distributed.
-ghost use Rattle.std.specs.Prelude.{◌≡◌, ◌≤◌, ℕ, Some, IfOk, IfSome, length, position, slice_get, sum};
+ghost use Rattle.std.specs.Prelude.{◌≡◌, ◌≤◌, Some, IfOk, IfSome, length, position, slice_get, sum};
 ghost use Rattle.std.specs.List.{list_any};
 ghost use Rattle.cost_table.specs.Names.{IsFoundWhere, StandAt, both, is_name, pair_of};
 ghost use Rattle.cost_table.specs.DistinctNames.{first_repeated};
