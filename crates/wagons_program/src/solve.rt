@@ -1,13 +1,14 @@
 //! The word `solve`.
 ghost use Rattle.std.specs.Prelude.{◌≡◌, IfOk};
-ghost use Rattle.wagons_program.specs.Brought.{AreAnswered, Lines, ToTables};
+ghost use Rattle.table_lines.specs.Solving.{ToTables};
+ghost use Rattle.wagons_program.specs.Brought.{AreAnswered, Lines};
 
 use crate::status::status_of_run;
 use crate::stop::Stop;
-use office::{FromRead, ToWrite};
+use line_engine::{FromRead, ToWrite};
 use std::io;
 use std::io::Read;
-use table_solver::solve_run;
+use table_lines::solve_run;
 
 /// Plans the table lines of an input: status 0, or 1 where one was refused.
 pub(crate) fn solve<R: Print + AllocGlobal, I: Read + Drop>(rt: &R, input: I) -> Result<u8, Stop>

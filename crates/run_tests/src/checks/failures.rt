@@ -1,8 +1,9 @@
 //! Readers and writers that fail, each time or once: no read and no write is tried again.
 
 use super::runs::{INPUT, OUTPUT};
-use office::{FromRead, RunFault, Source, ToWrite, check_run};
+use line_engine::{FromRead, RunFault, Source, ToWrite};
 use std::alloc::Global;
+use table_lines::check_run;
 use test_samples::{MemoryReader, MemorySink, MemorySource, MemoryWriter};
 
 /// The first bytes of the output.

@@ -1,5 +1,5 @@
 use Rattle.std.proofs.Common.{refl}
-use Rattle.wagons_program.specs.Brought.{ToPlans}
+use Rattle.table_lines.specs.Checking.{ToPlans}
 use Rattle.wagons_program.proofs.Outcomes.{are_answered, status_of_ended}
 use Rattle.wagons_program.proofs.check.check.Goals as goal
 

@@ -1,5 +1,5 @@
 use Rattle.std.proofs.Common.{refl}
-use Rattle.wagons_program.specs.Brought.{ToTables}
+use Rattle.table_lines.specs.Solving.{ToTables}
 use Rattle.wagons_program.proofs.Outcomes.{are_answered, status_of_ended}
 use Rattle.wagons_program.proofs.solve.solve.Goals as goal
 
