@@ -182,7 +182,8 @@ pub fn run<R: Source, W: Sink>(
 ) -> Result<RunCount, RunFault>
     requires reader { R.has_failed reader.old ≡ false }
     requires writer { W.has_failed writer.old ≡ false }
-    ensures replies { Runs (Numbered RepliesToLine LineRunsOutOfMemory) (run_over R.remaining W.contents (reader.old, writer.old, book.old) (reader.new, writer.new, book.new))
+    ensures replies { Runs (Numbered RepliesToLine LineRunsOutOfMemory)
+        (run_over R.remaining W.contents (reader.old, writer.old, book.old) (reader.new, writer.new, book.new))
         (record { reader = R.has_failed reader.new; writer = W.has_failed writer.new }) result }
     ensures calls { IsLedTo book.old book.new }
     ensures proved { IsProved book.new.setting book.new.state.history }

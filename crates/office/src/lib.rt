@@ -5,6 +5,5 @@ mod command_lines;
 
 pub use command_lines::{CommandLines, run};
 pub use line_engine::{
-    DeviceFailed, FromRead, MAX_INPUT_LINES, MAX_LINE_BYTES, RunCount, RunFault, Sink, Source,
-    ToWrite,
+    DeviceFailed, MAX_INPUT_LINES, MAX_LINE_BYTES, RunCount, RunFault, Sink, Source,
 };
