@@ -1,13 +1,7 @@
 -- Faults and the list of refusal numbers.
 use Rattle.std.proofs.Common.{ℕ, zero, suc, List, [], ◌∷◌, map, codes, refl, arith, Vec, Global}
-use Rattle.std.specs.Prelude.{IsTrue}
 use Rattle.sessions.specs.Seat.{SeatValue}
-use Rattle.rail_codes.specs.declared.code_fault.CodeFault.{CodeFault}
-use Rattle.move_messages.specs.declared.fault.LineFault.{LineFault}
-use Rattle.faults.specs.declared.faults.StepFault.{StepFault}
-use Rattle.faults.specs.declared.faults.TableFault.{TableFault}
-use Rattle.faults.specs.declared.faults.NamedFault.{NamedFault}
-use Rattle.faults.specs.RefusalNumbers.{is_refusal_number, refusals}
+use Rattle.faults.specs.RefusalNumbers.{refusals}
 use Rattle.move_messages.specs.declared.field.Field.TheVariants.{Wagon}
 use Rattle.line_network.specs.declared.networks_fault.NetworksFault.TheVariants.{BadNetworkCount}
 use Rattle.rail_codes.specs.declared.code_fault.CodeFault.TheVariants as code
@@ -28,61 +22,29 @@ use Rattle.faults.specs.declared.faults.Refusal.TheVariants as call
 use Rattle.faults.specs.declared.faults.PlanFault.TheVariants as plan
 use Rattle.sessions.specs.declared.close_fault.CloseFault.TheVariants as close
 use Rattle.faults.specs.declared.faults.FeedFault.TheVariants as feed
-use Rattle.wagons_program.specs.Laws.{AnyFault, of_code, of_field, of_line, of_step, of_record, of_roster, of_run, of_network, of_networks, of_work, of_table, of_check, of_named, of_table_line, of_event, of_call, of_plan, of_opening, of_closing, of_feed, EachFaultIsListed, EachNumberIsAFaults, AreFaults, number_of}
+use Rattle.wagons_program.specs.Laws.{AnyFault, of_code, of_field, of_line, of_step, of_record, of_roster, of_run, of_network, of_networks, of_work, of_table, of_check, of_named, of_table_line, of_event, of_call, of_plan, of_closing, of_feed, EachFaultIsListed, EachNumberIsAFaults, AreFaults, number_of}
 
-abbrev IsListed : (L : Type 0) → AnyFault L → Type 0
-IsListed L fault = IsTrue (is_refusal_number (number_of fault))
-
--- ---- faults that others hold: a last case stands for all others, each of which computes
-
-code_listed : (L : Type 0) (fault : CodeFault) → IsListed L (of_code fault)
-unfolding refusals
-code_listed L code.NotTwelveDigits = refl
-code_listed L fault = refl
-
-line_listed : (L : Type 0) (fault : LineFault) → IsListed L (of_line fault)
-unfolding refusals
-line_listed L line.OutOfMemory = refl
-line_listed L fault = refl
-
-step_listed : (L : Type 0) (fault : StepFault) → IsListed L (of_step fault)
-unfolding refusals
-step_listed L step.Earlier = refl
-step_listed L fault = refl
-
-table_listed : (L : Type 0) (fault : TableFault) → IsListed L (of_table fault)
-unfolding refusals
-table_listed L table.OutOfMemory = refl
-table_listed L fault = refl
-
-named_listed : (L : Type 0) (fault : NamedFault) → IsListed L (of_named fault)
-unfolding refusals
-named_listed L named.OutOfMemory = refl
-named_listed L fault = refl
-
--- ---- all faults
-
+-- each computes: a case of each type, and at the end one that stands for all others
 pub listed : (L : Type 0) → EachFaultIsListed L
 unfolding refusals
-listed L (of_code fault) = code_listed L fault
-listed L (of_field (field.Code fault)) = code_listed L fault
-listed L (of_line fault) = line_listed L fault
-listed L (of_step fault) = step_listed L fault
+listed L (of_code code.NotTwelveDigits) = refl
+listed L (of_field (field.Code code.NotTwelveDigits)) = refl
+listed L (of_line line.OutOfMemory) = refl
+listed L (of_step step.Earlier) = refl
 listed L (of_record records.OutOfMemory) = refl
 listed L (of_roster roster.OutOfMemory) = refl
 listed L (of_run run.OutOfMemory) = refl
 listed L (of_network network.OutOfMemory) = refl
 listed L (of_work work.OutOfMemory) = refl
-listed L (of_table fault) = table_listed L fault
+listed L (of_table table.OutOfMemory) = refl
 listed L (of_check check.WrongLengths) = refl
-listed L (of_named fault) = named_listed L fault
-listed L (of_table_line table_line.OutOfMemory) = refl
-listed L (of_table_line (table_line.Line fault)) = line_listed L fault
-listed L (of_table_line (table_line.Table fault)) = table_listed L fault
-listed L (of_table_line (table_line.Check fault)) = named_listed L fault
-listed L (of_event (event.Step fault)) = step_listed L fault
-listed L (of_call (call.Step fault)) = step_listed L fault
-listed L (of_call (call.Check fault)) = named_listed L fault
+listed L (of_named named.OutOfMemory) = refl
+listed L (of_table_line (table_line.Line line.OutOfMemory)) = refl
+listed L (of_table_line (table_line.Table table.OutOfMemory)) = refl
+listed L (of_table_line (table_line.Check named.OutOfMemory)) = refl
+listed L (of_event (event.Step step.Earlier)) = refl
+listed L (of_call (call.Step step.Earlier)) = refl
+listed L (of_call (call.Check named.OutOfMemory)) = refl
 listed L (of_plan plan.OutOfMemory) = refl
 listed L (of_closing (close.SeatsMissing a b)) = refl
 listed L (of_feed feed.OutOfMemory) = refl
