@@ -13,7 +13,7 @@ use Rattle.faults.specs.declared.faults.ApplyFault.{ApplyFault}
 use Rattle.move_messages.specs.declared.event.Event.{Event}
 use Rattle.move_messages.specs.declared.event.Event.TheVariants as event
 use Rattle.commit_book.specs.BookStep.{BookState, IsAnswer, IsCall, IsEventAnswer, IsCommitAnswer, IsMessageAnswer, IsRun, accepted_unless, book_after, entered, entered_as, event_answer, is_full, is_kept, is_this, refusal_in}
-use Rattle.fleet_rows.specs.Roster.{IsRoster}
+use Rattle.operating_db.specs.FirstOffice.{IsFirstOffice}
 use Rattle.commit_book.specs.Headline.{Headline, IsProved}
 use Rattle.commit_book.specs.History.{IsEntry, IsLegal, IsTableAt, Owes, problem_at, replay}
 use Rattle.faults.specs.Conversions.{refusal_of}
@@ -161,16 +161,16 @@ run_book setting book (c ∷ calls) (answer ∷ answers) new h run = run_book se
 run_book setting book [] (answer ∷ answers) new h run = absurd run
 run_book setting book (c ∷ calls) [] new h run = absurd run
 
--- a legal history of a roster is as the headline says
-pub proved_by : (setting : Setting) → IsRoster setting.roster → (history : List Event) → IsLegal setting history → IsProved setting history
-proved_by setting roster history legal = record {
+-- a legal history from an office with which a book may begin is as the headline says
+pub proved_by : (setting : Setting) → IsFirstOffice (length setting.networks) setting.first → (history : List Event) → IsLegal setting history → IsProved setting history
+proved_by setting first history legal = record {
   legal = legal;
   commits = λ n commit is. sound setting (take n history) commit (legal.entries n (event.Commit commit) is).owed;
-  promises = versions_agree setting roster history legal;
+  promises = versions_agree setting first history legal;
 }
 
 pub headline : Headline
-headline setting roster calls answers book run =
-    let first : IsLegalBook setting (record { history = []; kept = [] }) = record { legal = empty_legal setting; had = All-nil (IsHad 0) } in
-    let last = run_book setting (record { history = []; kept = [] }) calls answers book first run in
-    proved_by setting roster book.history last.legal
+headline setting first calls answers book run =
+    let empty : IsLegalBook setting (record { history = []; kept = [] }) = record { legal = empty_legal setting; had = All-nil (IsHad 0) } in
+    let last = run_book setting (record { history = []; kept = [] }) calls answers book empty run in
+    proved_by setting first book.history last.legal

@@ -3,19 +3,19 @@ use Rattle.std.proofs.Common.{◌≡◌, ℕ, zero, suc, List, [], ◌∷◌, �
 use Rattle.std.specs.Prelude.{Option, Some, None, option_to_list, Result, Ok, Err, slice_get}
 use Rattle.std.specs.Result.{result_unwrap_or}
 use Rattle.std.proofs.lemmas.List.Sums.{fold-append}
-use Rattle.fleet_rows.specs.Roster.{IsRoster}
 use Rattle.operating_db.specs.After.{after_call}
-use Rattle.operating_db.specs.Office.{Office, first_office}
+use Rattle.operating_db.specs.Office.{Office}
+use Rattle.operating_db.specs.FirstOffice.{IsFirstOffice}
 use Rattle.operating_db.specs.Promises.{PromisesAgree}
 use Rattle.operating_db.specs.Steps.{IsPromised}
 use Rattle.faults.specs.declared.faults.ApplyFault.{ApplyFault}
 use Rattle.move_messages.specs.declared.event.Event.{Event}
-use Rattle.operating_db.proofs.Events.{rosters_agree, step_kept}
+use Rattle.operating_db.proofs.Events.{step_kept}
 use Rattle.commit_book.specs.History.{IsLegal, after, replay, version}
 use Rattle.commit_book.specs.Setting.{Setting}
 
 replay-push : (setting : Setting) (entries : List Event) (event : Event) → replay setting (entries ++ event ∷ []) ≡ after (length setting.networks) (replay setting entries) event
-replay-push setting entries event = fold-append (after (length setting.networks)) (first_office setting.roster) entries (event ∷ [])
+replay-push setting entries event = fold-append (after (length setting.networks)) setting.first entries (event ∷ [])
 
 after_agrees : (networks : ℕ) (office : Office) (event : Event) (r : Result Office ApplyFault) → after_call networks office event ≡ r → IsPromised office event → PromisesAgree office → PromisesAgree (result_unwrap_or r office)
 after_agrees networks office event (Ok new) is promised agree = (step_kept networks office event new (promised, is) agree).promises
@@ -35,8 +35,8 @@ next_agrees setting history legal n (Some event) is agree =
     subst PromisesAgree (sym (replay-push setting (take n history) event))
     (after_agrees (length setting.networks) now event (after_call (length setting.networks) now event) refl (legal.entries n event is).promised agree)
 
-pub versions_agree : (setting : Setting) → IsRoster setting.roster → (history : List Event) → IsLegal setting history → (n : ℕ) → PromisesAgree (version setting history n)
-versions_agree setting roster history legal zero = rosters_agree setting.roster roster
-versions_agree setting roster history legal (suc n) =
+pub versions_agree : (setting : Setting) → IsFirstOffice (length setting.networks) setting.first → (history : List Event) → IsLegal setting history → (n : ℕ) → PromisesAgree (version setting history n)
+versions_agree setting first history legal zero = first.promises
+versions_agree setting first history legal (suc n) =
     subst (λ (entries : List Event). PromisesAgree (replay setting entries)) (sym (take_next history n (slice_get history n) refl))
-    (next_agrees setting history legal n (slice_get history n) refl (versions_agree setting roster history legal n))
+    (next_agrees setting history legal n (slice_get history n) refl (versions_agree setting first history legal n))

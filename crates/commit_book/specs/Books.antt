@@ -11,10 +11,10 @@ use Rattle.commit_book.specs.Snap.{SnapValue}
 use Rattle.commit_book.specs.declared.reply.Reply.{Reply}
 use Rattle.commit_book.specs.declared.reply.Reply.TheVariants.{Accepted, Repeated}
 use Rattle.commit_book.specs.BookStep.{BookState}
-use Rattle.fleet_rows.specs.Roster.{IsRoster}
+use Rattle.operating_db.specs.FirstOffice.{IsFirstOffice}
+use Rattle.operating_db.specs.Office.{Office}
 use Rattle.line_network.specs.NetworkCount.{IsNetworkCount}
 use Rattle.line_network.specs.Network.{NetworkValue}
-use Rattle.wagons_and_orders.specs.declared.wagon_row.WagonRow.{WagonRow}
 use Rattle.commit_book.specs.Limits.{AreLimits, LimitNumbers}
 
 -- what a contract sees of a book: what it was given, its history, and which problems it keeps
@@ -46,12 +46,12 @@ abbrev pub entry_at : List Event → ℕ → Option Event
 entry_at history zero = None
 entry_at history (suc index) = slice_get history index
 
--- what a book was given: a roster, networks, and limits
-abbrev pub setting_with : List WagonRow → List NetworkValue → LimitNumbers → Setting
-setting_with roster networks limits = record { roster = roster; networks = networks; entries = limits.entries; kept = limits.kept }
+-- what a book was given: an office, networks, and limits
+abbrev pub setting_with : Office → List NetworkValue → LimitNumbers → Setting
+setting_with first networks limits = record { first = first; networks = networks; entries = limits.entries; kept = limits.kept }
 
--- What every book is given: a roster, 1 to 8 networks, and limits within their own.
+-- What every book is given: an office with which a book may begin, 1 to 8 networks, and limits within their own.
 pub record IsSetting (setting : Setting) : Type 0 where
-  pub roster : IsRoster setting.roster
+  pub first : IsFirstOffice (length setting.networks) setting.first
   pub networks : IsNetworkCount (length setting.networks)
   pub limits : AreLimits setting.entries setting.kept

@@ -1,13 +1,13 @@
 -- The headline: what holds of every book, whatever was called.
-use Rattle.std.specs.Prelude.{◌≡◌, ◌≤◌, ℕ, List, [], take, Some, All, slice_get}
+use Rattle.std.specs.Prelude.{◌≡◌, ◌≤◌, ℕ, List, [], length, take, Some, All, slice_get}
 use Rattle.move_messages.specs.declared.commit_text.CommitText.{CommitText}
-use Rattle.fleet_rows.specs.Roster.{IsRoster}
 use Rattle.wagons_and_orders.specs.declared.free_wagon.FreeWagon.{FreeWagon}
 use Rattle.wagons_and_orders.specs.Wanted.{WantedOrder}
 use Rattle.line_network.specs.Network.{NetworkValue}
 use Rattle.problem_table.specs.Allowed.{Reaches}
 use Rattle.cost_table.specs.Problem.{ProblemValue}
 use Rattle.operating_db.specs.Commits.{Pair, times_of_wagon, times_of_order}
+use Rattle.operating_db.specs.FirstOffice.{IsFirstOffice}
 use Rattle.operating_db.specs.Promises.{PromisesAgree}
 use Rattle.move_messages.specs.declared.event.Event.{Event}
 use Rattle.move_messages.specs.declared.event.Event.TheVariants.{Commit}
@@ -46,8 +46,8 @@ pub record IsProved (setting : Setting) (history : List Event) : Type 0 where
   pub commits : (n : ℕ) (commit : CommitText) → slice_get history n ≡ Some (Commit commit) → IsSound setting (take n history) commit
   pub promises : (n : ℕ) → PromisesAgree (version setting history n)
 
--- Over every roster, all networks, all limits and every list of calls, whatever memory was refused on the way.
+-- Over every office with which a book may begin, all networks, all limits and every list of calls, whatever memory was refused on the way.
 abbrev pub Headline : Type 0
 Headline =
-    (setting : Setting) → IsRoster setting.roster → (calls : List Call) (answers : List Answer) (book : BookState)
+    (setting : Setting) → IsFirstOffice (length setting.networks) setting.first → (calls : List Call) (answers : List Answer) (book : BookState)
     → IsRun setting (record { history = []; kept = [] }) calls answers book → IsProved setting book.history

@@ -1,5 +1,5 @@
 -- Histories: the office after the entries of one, and when it is legal. Version n is the office after the first n
--- entries; version 0 is the roster.
+-- entries; version 0 is the office that the book began with.
 use Rattle.std.specs.Prelude.{◌≡◌, ◌≢◌, ◌≤◌, ℕ, List, length, take, Some, Ok, All, IsOk, slice_get}
 use Rattle.std.specs.List.{fold}
 use Rattle.std.specs.Result.{result_unwrap_or}
@@ -17,7 +17,7 @@ use Rattle.price_checker.specs.Certificate.{IsCertificate}
 use Rattle.price_checker.specs.NamedPairs.{positions_of}
 use Rattle.operating_db.specs.After.{after_call}
 use Rattle.operating_db.specs.Commits.{Pair}
-use Rattle.operating_db.specs.Office.{Office, first_office}
+use Rattle.operating_db.specs.Office.{Office}
 use Rattle.operating_db.specs.Problem.{problem_of}
 use Rattle.operating_db.specs.Steps.{IsPromised}
 use Rattle.move_messages.specs.declared.event.Event.{Event}
@@ -37,7 +37,7 @@ after_all networks office events = fold (after networks) office events
 
 -- the office after these entries
 abbrev pub replay : Setting → List Event → Office
-replay setting entries = after_all (length setting.networks) (first_office setting.roster) entries
+replay setting entries = after_all (length setting.networks) setting.first entries
 
 abbrev pub version : Setting → List Event → ℕ → Office
 version setting history n = replay setting (take n history)

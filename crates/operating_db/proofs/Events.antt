@@ -1,5 +1,5 @@
 -- What each event keeps.
-use Rattle.std.proofs.Common.{◌≡◌, ◌∙◌, ℕ, ◌+◌, Bool, true, false, cond, ◌||◌, List, [], ◌∷◌, ◌++◌, map, refl, ap, sym, subst, append-nil, append_assoc}
+use Rattle.std.proofs.Common.{◌≡◌, ◌∙◌, ℕ, ◌+◌, Bool, true, false, cond, ◌||◌, List, [], ◌∷◌, ◌++◌, map, refl, ap, sym, subst, append-nil, append_assoc, arith}
 use Rattle.std.specs.Prelude.{◌==◌, nat_lt, Option, Some, None, is_some, Result, Ok, Err, All}
 use Rattle.std.proofs.lemmas.List.Elements.{All-head, All-tail}
 use Rattle.move_messages.specs.Order.{Order}
@@ -11,7 +11,7 @@ use Rattle.faults.specs.declared.faults.StepFault.{StepFault}
 use Rattle.faults.specs.declared.faults.StepFault.TheVariants.{Earlier, WrongPlace}
 use Rattle.wagons_and_orders.specs.declared.wagon_row.WagonRow.{WagonRow}
 use Rattle.wagons_and_orders.specs.StatusTable.{step_of, fitted, change_by, promise_after, effect_on, transition_of, is_at}
-use Rattle.fleet_rows.specs.Roster.{IsRosterRow}
+use Rattle.fleet_rows.specs.Roster.{IsRoster, IsRosterRow}
 use Rattle.wagons_and_orders.specs.Lack.{is_open}
 use Rattle.wagons_and_orders.specs.OrderRow.{OrderRowValue, placed_row}
 use Rattle.fleet_rows.proofs.Wagons.{number-wagon_in}
@@ -21,7 +21,7 @@ use Rattle.move_messages.specs.declared.event.Event.{Event}
 use Rattle.move_messages.specs.declared.event.Event.TheVariants.{Message, Place, Withdraw, Commit, Revise}
 use Rattle.operating_db.specs.After.{orders_after, order_place, moved, message_to, unpromised, withdrawn_from, after_call}
 use Rattle.operating_db.specs.Commits.{Pair, given_to, promise_pair, promise_all}
-use Rattle.operating_db.specs.Laws.{IsKept, EventsKeepOffices, RostersAgree, numbers_of, texts_of, Steps}
+use Rattle.operating_db.specs.Laws.{IsKept, EventsKeepOffices, RostersBegin, numbers_of, texts_of, Steps}
 use Rattle.operating_db.specs.Office.{Office, first_office}
 use Rattle.operating_db.specs.Promises.{is_promise_to, promise_of, PromisesAgree, SidesAgree}
 use Rattle.operating_db.proofs.Agree.{kept_agree, released_agree, withdrawn_agree, ordered_agree, number-unpromised}
@@ -221,5 +221,14 @@ no_promises : (rows : List WagonRow) → All IsRosterRow rows → (n : List ℕ)
 no_promises [] all n = refl
 no_promises (row ∷ rows) all n = no_promise (same n row.number) row (wagon_in rows n) (All-head IsRosterRow row rows all).not_promised (no_promises rows (All-tail IsRosterRow row rows all) n)
 
-pub rosters_agree : RostersAgree
+pub rosters_agree : (roster : List WagonRow) → IsRoster roster → PromisesAgree (first_office roster)
 rosters_agree roster h = both_agree (first_office roster) (λ n id. ap (λ (p : Option (List ℕ)). is_promise_to p id) (no_promises roster h.each n)) none_kept
+
+pub rosters_begin : RostersBegin
+rosters_begin roster h networks some = record {
+  wagons = record { few = h.few; ascending = h.ascending };
+  promises = rosters_agree roster h;
+  few_open = omega arith;
+  from_one = omega arith;
+  in_force = some;
+}

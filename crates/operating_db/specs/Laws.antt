@@ -1,10 +1,11 @@
 -- What holds of every office that a roster and events lead to.
-use Rattle.std.specs.Prelude.{◌≡◌, ℕ, List, ◌++◌, [], map, ◌∷◌, Ok}
+use Rattle.std.specs.Prelude.{◌≡◌, ◌≤◌, ℕ, List, ◌++◌, [], map, ◌∷◌, Ok}
 use Rattle.move_messages.specs.Order.{Order}
 use Rattle.wagons_and_orders.specs.declared.wagon_row.WagonRow.{WagonRow}
 use Rattle.fleet_rows.specs.Roster.{IsRoster}
 use Rattle.move_messages.specs.declared.event.Event.{Event}
 use Rattle.operating_db.specs.Office.{Office, first_office}
+use Rattle.operating_db.specs.FirstOffice.{IsFirstOffice}
 use Rattle.operating_db.specs.Promises.{PromisesAgree}
 use Rattle.operating_db.specs.After.{after_call}
 use Rattle.operating_db.specs.Steps.{IsPromised}
@@ -36,5 +37,6 @@ abbrev pub EventsKeepOffices : Type 0
 EventsKeepOffices =
     (networks : ℕ) (office : Office) (events : List Event) (after : Office) → PromisesAgree office → Leads networks office events after → IsKept office after
 
-abbrev pub RostersAgree : Type 0
-RostersAgree = (roster : List WagonRow) → IsRoster roster → PromisesAgree (first_office roster)
+-- a book may begin with the office of each roster, where there is a network
+abbrev pub RostersBegin : Type 0
+RostersBegin = (roster : List WagonRow) → IsRoster roster → (networks : ℕ) → 1 ≤ networks → IsFirstOffice networks (first_office roster)

@@ -4,6 +4,7 @@ pub mod Commits
 pub mod Laws
 pub mod Office
 pub mod Problem
+pub mod FirstOffice
 pub mod FreeCount
 pub mod Promises
 pub mod State

@@ -139,7 +139,7 @@ accepted setting book commit named last kept answer new (inl step) =
 -- ---- the laws
 
 pub certificates_are_accepted : CertificatesAreAccepted
-certificates_are_accepted setting roster book at number begun h commit c answer new commits =
+certificates_are_accepted setting first book at number begun h commit c answer new commits =
     let p = present setting book at number begun h.call in
     let legal = subst (IsLegal setting) (sym p.history) h.legal in
     let number_is : number ≡ length begun.history = p.last ∙ ap (λ (es : List Event). length es) (sym p.history) in
@@ -157,14 +157,14 @@ certificates_are_accepted setting roster book at number begun h commit c answer 
     let its : commit.version ≡ length book.history = c.names_version ∙ p.last in
     let kept : is_kept begun.kept (commit.version, commit.at) ≡ true =
     subst (λ (n : ℕ). is_kept begun.kept (n, commit.at) ≡ true) (sym its) (subst (λ (m : ℕ). is_kept begun.kept (length book.history, m) ≡ true) (sym c.names_moment) p.kept) in
-    accepted setting begun commit (named_once setting begun.history roster legal) last kept answer new commits
+    accepted setting begun commit (named_once setting begun.history first legal) last kept answer new commits
 
 pub plans_are_accepted : PlansAreAccepted
-plans_are_accepted setting roster book at number begun h pairs u v planned commit its answer new commits =
+plans_are_accepted setting first book at number begun h pairs u v planned commit its answer new commits =
     let p = present setting book at number begun h.call in
     let now = replay setting book.history in
     let office : version setting begun.history number ≡ now = ap (version setting begun.history) p.last ∙ (ap (λ (es : List Event). version setting es (length book.history)) p.history ∙ last_version setting book.history) in
-    let named = named_once setting book.history roster h.legal in
+    let named = named_once setting book.history first h.legal in
     let problem = problem_of now at in
     let wagons = once (wagon_names problem.wagons) (free_distinct now named) in
     let orders = once (order_names problem.orders) (wanted_distinct now named) in
@@ -183,4 +183,4 @@ plans_are_accepted setting roster book at number begun h pairs u v planned commi
       are_positions = subst (λ (o : Office). positions_of (names_of_problem (problem_of o at)) commit.pairs ≡ Ok pairs) (sym office) there;
       certificate = subst (λ (ps : List ℕ). IsCertificate planned.table pairs ps commit.v) (sym its.wagon_prices) (subst (λ (ps : List ℕ). IsCertificate planned.table pairs u ps) (sym its.order_prices) planned.certificate);
     } in
-    certificates_are_accepted setting roster book at number begun h commit c answer new commits
+    certificates_are_accepted setting first book at number begun h commit c answer new commits

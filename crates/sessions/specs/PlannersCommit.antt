@@ -1,7 +1,7 @@
 -- A planner's commit: a begin, and then, with no call between, a commit of what was planned for it.
 use Rattle.std.specs.Prelude.{◌≡◌, ◌+◌, ◌⊎◌, ℕ, List, length, map, Ok}
 use Rattle.move_messages.specs.declared.commit_text.CommitText.{CommitText}
-use Rattle.fleet_rows.specs.Roster.{IsRoster}
+use Rattle.operating_db.specs.FirstOffice.{IsFirstOffice}
 use Rattle.cost_table.specs.Problem.{names_of_problem}
 use Rattle.cost_table.specs.Table.{Table}
 use Rattle.price_checker.specs.Certificate.{IsCertificate}
@@ -52,12 +52,12 @@ IsAcceptedOrLacksRoom setting book commit =
 -- A commit of a certificate of the version and the moment just begun is refused for no other reason.
 abbrev pub CertificatesAreAccepted : Type 0
 CertificatesAreAccepted =
-    (setting : Setting) → IsRoster setting.roster → (book : BookState) (at version : ℕ) (begun : BookState) → IsBegun setting book at version begun
+    (setting : Setting) → IsFirstOffice (length setting.networks) setting.first → (book : BookState) (at version : ℕ) (begun : BookState) → IsBegun setting book at version begun
     → (commit : CommitText) → IsCertificateAt setting begun.history version at commit → IsAcceptedOrLacksRoom setting begun commit
 
 -- So is a commit of what is planned for the snapshot of that begin, over the book's networks.
 abbrev pub PlansAreAccepted : Type 0
 PlansAreAccepted =
-    (setting : Setting) → IsRoster setting.roster → (book : BookState) (at version : ℕ) (begun : BookState) → IsBegun setting book at version begun
+    (setting : Setting) → IsFirstOffice (length setting.networks) setting.first → (book : BookState) (at version : ℕ) (begun : BookState) → IsBegun setting book at version begun
     → (pairs : List (ℕ × ℕ)) (u v : List ℕ) → IsPlanned setting.networks (snap_of setting book.history at) pairs u v
     → (commit : CommitText) → IsCommitOf (snap_of setting book.history at) pairs u v commit → IsAcceptedOrLacksRoom setting begun commit

@@ -72,7 +72,7 @@ pub record IsBook (setting : Setting) (history : List Event) (kept : List KeptPr
 
 -- what a book was given
 abbrev pub setting_of : LedgerValue → List NetworkValue → LimitNumbers → Setting
-setting_of ledger networks limits = setting_with ledger.roster networks limits
+setting_of ledger networks limits = setting_with ledger.first networks limits
 
 abbrev pub book_of : LedgerValue → List NetworkValue → LimitNumbers → List KeptProblem → BookValue
 book_of ledger networks limits kept = record {
