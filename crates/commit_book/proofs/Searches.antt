@@ -16,7 +16,6 @@ use Rattle.std.proofs.lemmas.Option.{slice_get-get_or}
 use Rattle.wagons_and_orders.specs.declared.free_wagon.FreeWagon.{FreeWagon}
 use Rattle.wagons_and_orders.specs.declared.wagon_row.WagonRow.{WagonRow}
 use Rattle.wagons_and_orders.specs.Free.{free_of}
-use Rattle.fleet_rows.specs.Roster.{by_number, compare_numbers}
 use Rattle.fleet_rows.proofs.RosterLemmas.{other_from_greater, other_from_less, rises}
 use Rattle.fleet_rows.proofs.Named.{is_same, no_place, position-new, position-push, same_name}
 use Rattle.cost_table.specs.DistinctNames.{first_repeated}
@@ -25,7 +24,7 @@ use Rattle.wagons_and_orders.specs.Wanted.{WantedOrder}
 use Rattle.cost_table.specs.Problem.{ProblemValue, order_names, wagon_names}
 use Rattle.cost_table.proofs.NameLemmas.{held_at, not_before}
 use Rattle.cost_table.proofs.ProblemLemmas.{position-map}
-use Rattle.fleet_rows.specs.Kept.{IsWagonRows}
+use Rattle.fleet_rows.specs.Kept.{IsWagonRows, by_number, compare_numbers}
 use Rattle.operating_db.specs.Office.{Office}
 use Rattle.operating_db.specs.Problem.{free_wagons, problem_of}
 use Rattle.operating_db.proofs.Problems.{free_keeps}

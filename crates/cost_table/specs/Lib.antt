@@ -9,4 +9,5 @@ pub mod Names
 pub mod DistinctNames
 pub mod Problem
 pub mod ProblemLimits
+pub mod NamesFound
 pub mod inner

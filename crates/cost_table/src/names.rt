@@ -1,6 +1,7 @@
 //! The names of a table's wagons and orders.
 ghost use Rattle.std.specs.Prelude.{◌≡◌, [], Some, IfSome, position, slice_get};
-ghost use Rattle.cost_table.specs.Names.{IsFoundWhere, StandAt, is_name, pair_of};
+ghost use Rattle.cost_table.specs.Names.{is_name, pair_of};
+ghost use Rattle.cost_table.specs.NamesFound.{IsFoundWhere, StandAt};
 ghost use Rattle.cost_table.specs.DistinctNames.{names_or_fault, repeated_from};
 
 use crate::limits::{MAX_TABLE_ORDERS, MAX_TABLE_WAGONS};

@@ -1,7 +1,8 @@
 //! What is to be distributed.
 ghost use Rattle.std.specs.Prelude.{◌≡◌, ◌≤◌, Some, IfOk, IfSome, length, position, slice_get, sum};
 ghost use Rattle.std.specs.List.{list_any};
-ghost use Rattle.cost_table.specs.Names.{IsFoundWhere, StandAt, both, is_name, pair_of};
+ghost use Rattle.cost_table.specs.Names.{both, is_name, pair_of};
+ghost use Rattle.cost_table.specs.NamesFound.{IsFoundWhere, StandAt};
 ghost use Rattle.cost_table.specs.DistinctNames.{first_repeated};
 ghost use Rattle.cost_table.specs.TableLimits.{max_table_orders};
 ghost use Rattle.cost_table.specs.ProblemLimits.{problem_or_fault, is_too_much, IsProblem};

@@ -14,7 +14,7 @@ use Rattle.std.proofs.Math.Seq.{map-set_same}
 use Rattle.move_messages.specs.Order.{Order}
 use Rattle.wagons_and_orders.specs.OrderRow.{IsOrderRow, OrderRowValue, placed_row}
 use Rattle.wagons_and_orders.proofs.Rows.{row_placed}
-use Rattle.fleet_rows.specs.Kept.{IsOrderRows}
+use Rattle.fleet_rows.specs.KeptOrders.{IsOrderRows}
 use Rattle.fleet_rows.specs.Rows.{names_of, at_order, filled_by, is_order, max_open_wagons, open_wagons, order_in, taken_back, wanted_open}
 use Rattle.fleet_rows.specs.inner.Indexed.{IsIndexed}
 use Rattle.fleet_rows.proofs.Named.{changed_at, find-changed, found_at_place, found_by_name, has_name, is_same, length_map, names-changed, no_place, not_found, nothing_named, position-new, position-push, position-set, same_name}

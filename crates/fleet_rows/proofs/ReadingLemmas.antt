@@ -9,7 +9,8 @@ use Rattle.csv_records.specs.Requests.{IsOutcome}
 use Rattle.wagons_and_orders.specs.declared.wagon_row.WagonRow.{WagonRow}
 use Rattle.fleet_rows.specs.Reading.{Gives, is_failure, roster_rule, rows_of}
 use Rattle.fleet_rows.specs.Records.{wagon_record}
-use Rattle.fleet_rows.specs.Roster.{IsRoster, max_roster_wagons}
+use Rattle.fleet_rows.specs.Roster.{IsRoster}
+use Rattle.fleet_rows.specs.Kept.{max_roster_wagons}
 use Rattle.fleet_rows.specs.SameWagons.{has_wagon, is_same_number}
 use Rattle.fleet_rows.specs.inner.Reading.{IsReadSoFar, RefusesWagon}
 use Rattle.faults.specs.declared.faults.RosterFault.{RosterFault}

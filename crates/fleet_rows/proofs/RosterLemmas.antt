@@ -15,7 +15,8 @@ use Rattle.std.specs.Ordering.{is_eq, ordering_index, ordering_reverse}
 use Rattle.std.specs.declared.cmp.Ordering.{Ordering}
 use Rattle.std.specs.declared.cmp.Ordering.TheVariants.{Less, Equal, Greater}
 use Rattle.wagons_and_orders.specs.declared.wagon_row.WagonRow.{WagonRow}
-use Rattle.fleet_rows.specs.Roster.{IsRoster, IsRosterRow, by_number, compare_numbers, max_roster_wagons}
+use Rattle.fleet_rows.specs.Roster.{IsRoster, IsRosterRow}
+use Rattle.fleet_rows.specs.Kept.{by_number, compare_numbers, max_roster_wagons}
 use Rattle.fleet_rows.specs.SameWagons.{has_wagon, is_same_number}
 use Rattle.fleet_rows.specs.inner.Places.{IsGapFor}
 

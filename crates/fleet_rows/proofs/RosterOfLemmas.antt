@@ -16,7 +16,8 @@ use Rattle.wagons_and_orders.specs.declared.wagon_row.WagonRow.{WagonRow}
 use Rattle.fleet_rows.proofs.RosterLemmas.{by_number_total, same_order}
 use Rattle.fleet_rows.specs.Reading.{Gives, is_failure, roster_rule, rows_of}
 use Rattle.fleet_rows.specs.Records.{is_header, wagon_record}
-use Rattle.fleet_rows.specs.Roster.{IsRoster, max_roster_wagons}
+use Rattle.fleet_rows.specs.Roster.{IsRoster}
+use Rattle.fleet_rows.specs.Kept.{max_roster_wagons}
 use Rattle.fleet_rows.specs.SameWagons.{has_wagon, have_one_number}
 use Rattle.fleet_rows.specs.RosterOf.{IsAnswered, IsReadFrom, IsRosterOf}
 use Rattle.faults.specs.declared.faults.RosterFault.{RosterFault}

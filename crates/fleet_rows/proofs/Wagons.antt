@@ -11,11 +11,10 @@ use Rattle.std.proofs.lemmas.List.{length-set}
 use Rattle.std.proofs.lemmas.Map.Keys.{IsDistinct-from_sorted}
 use Rattle.std.proofs.lemmas.Option.{get_or_from_slice_get, slice_get-get_or}
 use Rattle.std.proofs.Math.Seq.{map-set_same}
-use Rattle.fleet_rows.specs.Roster.{by_number, compare_numbers}
 use Rattle.fleet_rows.specs.SameWagons.{has_wagon}
 use Rattle.fleet_rows.proofs.RosterLemmas.{none_at_gap, searched}
 use Rattle.wagons_and_orders.specs.declared.wagon_row.WagonRow.{WagonRow}
-use Rattle.fleet_rows.specs.Kept.{IsWagonRows}
+use Rattle.fleet_rows.specs.Kept.{IsWagonRows, by_number, compare_numbers}
 use Rattle.fleet_rows.specs.Rows.{at_wagon, is_wagon, wagon_in}
 use Rattle.fleet_rows.proofs.Named.{changed_at, find-changed, found_by_name, has_name, is_same, length_map, names-changed}
 

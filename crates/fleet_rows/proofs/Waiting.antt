@@ -9,7 +9,7 @@ use Rattle.std.proofs.lemmas.Bool.Decides.{nat_tests}
 use Rattle.std.proofs.lemmas.List.Sums.{sum_by-cons}
 use Rattle.wagons_and_orders.specs.Lack.{is_waiting}
 use Rattle.wagons_and_orders.specs.OrderRow.{IsOrderRow, OrderRowValue}
-use Rattle.fleet_rows.specs.Kept.{IsOrderRows}
+use Rattle.fleet_rows.specs.KeptOrders.{IsOrderRows}
 use Rattle.fleet_rows.specs.Rows.{at_order, is_order, max_open_wagons, open_wagons, order_in, wanted_open}
 use Rattle.fleet_rows.specs.WaitingOrders.{waiting_from}
 use Rattle.fleet_rows.specs.inner.Indexed.{IsIndexed, IsStored, IsWaitingList, noted, without_index}

@@ -1,20 +1,23 @@
--- What the rows of an office keep, whatever is done to them.
-use Rattle.std.specs.Prelude.{◌≤◌, nat_eq, List, length, All}
-use Rattle.std.specs.Cmp.Lexicographic.{pointwise}
-use Rattle.std.specs.List.{IsDistinct}
+-- What the rows of an office's wagons keep, whatever is done to them.
+use Rattle.std.specs.Prelude.{◌≤◌, List, length, ℕ}
+use Rattle.std.specs.Cmp.Lexicographic.{slice_cmp}
 use Rattle.std.specs.List.Sorted.{IsStrictlySortedBy}
-use Rattle.fleet_rows.specs.Roster.{by_number, max_roster_wagons}
+use Rattle.std.specs.Ordering.{nat_cmp}
+use Rattle.std.specs.declared.cmp.Ordering.{Ordering}
 use Rattle.wagons_and_orders.specs.declared.wagon_row.WagonRow.{WagonRow}
-use Rattle.wagons_and_orders.specs.OrderRow.{OrderRowValue, IsOrderRow}
-use Rattle.fleet_rows.specs.Rows.{max_open_wagons, names_of, open_wagons}
+
+-- the most wagons of an office
+abbrev pub max_roster_wagons : ℕ
+max_roster_wagons = 1000
+
+-- wagon numbers by their digits, the first digit first
+abbrev pub compare_numbers : List ℕ → List ℕ → Ordering
+compare_numbers a b = slice_cmp nat_cmp a b
+
+abbrev pub by_number : WagonRow → WagonRow → Ordering
+by_number a b = compare_numbers a.number b.number
 
 -- at most 1,000 wagons, each number above the one before
 pub record IsWagonRows (rows : List WagonRow) : Type 0 where
   pub few : length rows ≤ max_roster_wagons
   pub ascending : IsStrictlySortedBy by_number rows
-
--- orders of which no two have one name; each keeps what a row keeps, and the open ones want at most 500 wagons in all
-pub record IsOrderRows (rows : List OrderRowValue) : Type 0 where
-  pub distinct : IsDistinct (pointwise nat_eq) (names_of rows)
-  pub each : All IsOrderRow rows
-  pub few_open : open_wagons rows ≤ max_open_wagons

@@ -7,4 +7,5 @@ pub mod EmptyWagons
 pub mod Kept
 pub mod Rows
 pub mod WaitingOrders
+pub mod KeptOrders
 pub mod inner

@@ -6,7 +6,7 @@ use Rattle.csv_records.specs.Reading.{ReadingRule, Stops, value_of}
 use Rattle.wagons_and_orders.specs.declared.wagon_row.WagonRow.{WagonRow}
 use Rattle.fleet_rows.specs.Records.{is_header, wagon_record}
 use Rattle.fleet_rows.specs.SameWagons.{has_wagon}
-use Rattle.fleet_rows.specs.Roster.{max_roster_wagons}
+use Rattle.fleet_rows.specs.Kept.{max_roster_wagons}
 use Rattle.faults.specs.declared.faults.RosterFault.{RosterFault}
 use Rattle.faults.specs.declared.faults.RosterFault.TheVariants.{OutOfMemory, DuplicateWagon, TooLarge, BadRosterRow, ReadFailed}
 

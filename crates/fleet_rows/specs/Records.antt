@@ -9,7 +9,7 @@ use Rattle.wagons_and_orders.specs.declared.load.Load.TheVariants.{Loaded, Unlad
 use Rattle.wagons_and_orders.specs.declared.status.Status.{Status}
 use Rattle.wagons_and_orders.specs.declared.status.Status.TheVariants.{Empty, Loading, Ready, Journey, Yard, Arrived, Unloading}
 use Rattle.wagons_and_orders.specs.declared.wagon_row.WagonRow.{WagonRow}
-use Rattle.move_messages.specs.Order.{max_load}
+use Rattle.move_messages.specs.OrderLimits.{max_load}
 
 -- whether a record is the header
 abbrev pub is_header : Record → Bool

@@ -1,24 +1,11 @@
 -- What a roster is.
 use Rattle.std.specs.Prelude.{◌≡◌, ℕ, ◌≤◌, false, List, length, None, All}
-use Rattle.std.specs.Cmp.Lexicographic.{slice_cmp}
 use Rattle.std.specs.List.Sorted.{IsStrictlySortedBy}
-use Rattle.std.specs.Ordering.{nat_cmp}
-use Rattle.std.specs.declared.cmp.Ordering.{Ordering}
-use Rattle.move_messages.specs.Order.{max_load}
+use Rattle.move_messages.specs.OrderLimits.{max_load}
 use Rattle.wagons_and_orders.specs.declared.status.Status.{Status}
 use Rattle.wagons_and_orders.specs.declared.status.Status.TheVariants.{Empty}
 use Rattle.wagons_and_orders.specs.declared.wagon_row.WagonRow.{WagonRow}
-
--- the most wagons of a roster
-abbrev pub max_roster_wagons : ℕ
-max_roster_wagons = 1000
-
--- wagon numbers by their digits, the first digit first
-abbrev pub compare_numbers : List ℕ → List ℕ → Ordering
-compare_numbers a b = slice_cmp nat_cmp a b
-
-abbrev pub by_number : WagonRow → WagonRow → Ordering
-by_number a b = compare_numbers a.number b.number
+use Rattle.fleet_rows.specs.Kept.{max_roster_wagons, by_number}
 
 -- an empty wagon has been ready since this moment
 abbrev pub IsReadySince : ℕ → Status → Type 0

@@ -7,7 +7,8 @@ use Rattle.csv_records.specs.Files.{AreBelowHeader, AreRecordsOf}
 use Rattle.wagons_and_orders.specs.declared.wagon_row.WagonRow.{WagonRow}
 use Rattle.fleet_rows.specs.Reading.{Gives, is_failure, rows_of}
 use Rattle.fleet_rows.specs.Records.{is_header, wagon_record}
-use Rattle.fleet_rows.specs.Roster.{IsRoster, max_roster_wagons}
+use Rattle.fleet_rows.specs.Roster.{IsRoster}
+use Rattle.fleet_rows.specs.Kept.{max_roster_wagons}
 use Rattle.fleet_rows.specs.SameWagons.{have_one_number}
 use Rattle.faults.specs.declared.faults.RosterFault.{RosterFault}
 

@@ -47,7 +47,7 @@ impl Model for OrderRows {
 }
 
 impl OrderRows {
-    ghost use Rattle.fleet_rows.specs.Kept.{IsOrderRows};
+    ghost use Rattle.fleet_rows.specs.KeptOrders.{IsOrderRows};
 
     /// No order.
     pub fn new(alloc: Global) -> OrderRows

@@ -4,7 +4,8 @@ ghost use Rattle.csv.specs.Reading.{has_failed};
 ghost use Rattle.csv_records.specs.Fields.{Record};
 ghost use Rattle.csv_records.specs.Requests.{AreLeft, AsksAtMost, IsSetUp};
 ghost use Rattle.fleet_rows.specs.Reading.{Gives, rows_of};
-ghost use Rattle.fleet_rows.specs.Roster.{IsRoster, max_roster_wagons};
+ghost use Rattle.fleet_rows.specs.Roster.{IsRoster};
+ghost use Rattle.fleet_rows.specs.Kept.{max_roster_wagons};
 ghost use Rattle.fleet_rows.specs.RosterOf.{IsReadFrom};
 
 use crate::limits::MAX_ROSTER_WAGONS;

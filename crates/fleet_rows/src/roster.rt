@@ -1,7 +1,8 @@
 //! A roster: the rows of a fleet.
 ghost use Rattle.std.specs.Prelude.{◌≡◌, ◌<◌, ◌∷◌, [], true, false, IfErr, IfOk, OnOk, length};
 ghost use Rattle.std.specs.List.Sorted.{IsPermutation, IsStrictlySortedBy};
-ghost use Rattle.fleet_rows.specs.Roster.{IsRoster, IsRosterRow, by_number, max_roster_wagons};
+ghost use Rattle.fleet_rows.specs.Roster.{IsRoster, IsRosterRow};
+ghost use Rattle.fleet_rows.specs.Kept.{by_number, max_roster_wagons};
 ghost use Rattle.fleet_rows.specs.SameWagons.{has_wagon};
 ghost use Rattle.fleet_rows.specs.inner.Reading.{RefusesWagon};
 ghost use Rattle.fleet_rows.specs.inner.Places.{IsGapFor};

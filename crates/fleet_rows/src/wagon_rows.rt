@@ -4,7 +4,7 @@ ghost use Rattle.std.specs.List.Sorted.{IsStrictlySortedBy};
 ghost use Rattle.fleet_rows.specs.EmptyWagons.{IsNewStand, is_free_at, stand_in, stand_of};
 ghost use Rattle.fleet_rows.specs.Rows.{at_wagon, wagon_in, with_promise};
 ghost use Rattle.fleet_rows.specs.inner.Standings.{is_unpromised};
-ghost use Rattle.fleet_rows.specs.Roster.{by_number};
+ghost use Rattle.fleet_rows.specs.Kept.{by_number};
 ghost use Rattle.wagons_and_orders.specs.declared.wagon_row.WagonRow.{WagonRow};
 
 use crate::Roster;

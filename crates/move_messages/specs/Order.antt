@@ -12,7 +12,3 @@ pub record Order : Type 0 where
   -- of each missing wagon, in km
   pub penalty : ℕ
   pub wagons : ℕ
-
--- the greatest load of a wagon, in kg
-abbrev pub max_load : ℕ
-max_load = 200_000

@@ -22,7 +22,8 @@ use Rattle.move_messages.specs.declared.event.Event.TheVariants.{Message, Place,
 use Rattle.operating_db.specs.After.{orders_after, order_place, moved, message_to, unpromised, withdrawn_from, after_call}
 use Rattle.operating_db.specs.Commits.{Pair, given_to, promise_pair, promise_all}
 use Rattle.operating_db.specs.Laws.{IsKept, EventsKeepOffices, RostersBegin, numbers_of, texts_of, Steps}
-use Rattle.operating_db.specs.Office.{Office, first_office}
+use Rattle.operating_db.specs.Office.{Office}
+use Rattle.operating_db.specs.RosterOffice.{first_office}
 use Rattle.operating_db.specs.Promises.{is_promise_to, promise_of, PromisesAgree, SidesAgree}
 use Rattle.operating_db.proofs.Agree.{kept_agree, released_agree, withdrawn_agree, ordered_agree, number-unpromised}
 use Rattle.operating_db.proofs.Changes.{among_promised, order_known}

@@ -20,7 +20,8 @@ use Rattle.cost_table.specs.Names.{is_name}
 use Rattle.cost_table.specs.DistinctNames as names
 use Rattle.cost_table.specs.ProblemLimits.{IsProblem}
 use Rattle.cost_table.specs.Problem.{wagon_names, order_names, lacks_of}
-use Rattle.fleet_rows.specs.Kept.{IsOrderRows, IsWagonRows}
+use Rattle.fleet_rows.specs.Kept.{IsWagonRows}
+use Rattle.fleet_rows.specs.KeptOrders.{IsOrderRows}
 use Rattle.fleet_rows.specs.Rows.{open_wagons, wanted_open}
 use Rattle.fleet_rows.proofs.Wagons.{numbers_distinct}
 use Rattle.operating_db.specs.Problem.{free_wagons, wanted_in, waiting_orders}

@@ -19,7 +19,8 @@ use Rattle.faults.specs.declared.faults.ApplyFault.TheVariants.{OrderClosed, Ord
 use Rattle.operating_db.specs.After.{after_order, message_to, moved, order_place, orders_after, unpromised, withdrawn_from}
 use Rattle.operating_db.specs.ApplyFault.{EmptiesWagon}
 use Rattle.operating_db.specs.Commits.{Pair}
-use Rattle.operating_db.specs.Office.{Office, first_office}
+use Rattle.operating_db.specs.Office.{Office}
+use Rattle.operating_db.specs.RosterOffice.{first_office}
 use Rattle.operating_db.specs.State.{StateValue, IsState}
 use Rattle.operating_db.specs.Promises.{is_among, promised_of, PromisesAgree}
 use Rattle.line_network.specs.NetworkCount.{max_networks}

@@ -4,7 +4,8 @@ use Rattle.move_messages.specs.Order.{Order}
 use Rattle.wagons_and_orders.specs.declared.wagon_row.WagonRow.{WagonRow}
 use Rattle.fleet_rows.specs.Roster.{IsRoster}
 use Rattle.move_messages.specs.declared.event.Event.{Event}
-use Rattle.operating_db.specs.Office.{Office, first_office}
+use Rattle.operating_db.specs.Office.{Office}
+use Rattle.operating_db.specs.RosterOffice.{first_office}
 use Rattle.operating_db.specs.FirstOffice.{IsFirstOffice}
 use Rattle.operating_db.specs.Promises.{PromisesAgree}
 use Rattle.operating_db.specs.After.{after_call}

@@ -9,4 +9,5 @@ pub mod FreeCount
 pub mod Promises
 pub mod State
 pub mod Steps
+pub mod RosterOffice
 pub mod inner

@@ -1,5 +1,5 @@
 -- What an office knows.
-use Rattle.std.specs.Prelude.{ℕ, List, []}
+use Rattle.std.specs.Prelude.{ℕ, List}
 use Rattle.wagons_and_orders.specs.declared.wagon_row.WagonRow.{WagonRow}
 use Rattle.wagons_and_orders.specs.OrderRow.{OrderRowValue}
 
@@ -8,7 +8,3 @@ pub record Office : Type 0 where
   pub wagons : List WagonRow
   pub orders : List OrderRowValue
   pub network : ℕ
-
--- the office with which a roster begins: no order, the first network
-abbrev pub first_office : List WagonRow → Office
-first_office wagons = record { wagons = wagons; orders = []; network = 1 }

@@ -1,13 +1,14 @@
 //! The state of an office.
 ghost use Rattle.std.specs.Prelude.{◌≡◌, ◌≤◌, ◌↔◌, IsTrue, Ok, Err, IfOk, IfErr, IsOk, OnErr, OnOk, option_copied, option_map};
 ghost use Rattle.std.specs.List.{list_all};
-ghost use Rattle.fleet_rows.specs.Kept.{IsOrderRows, IsWagonRows};
+ghost use Rattle.fleet_rows.specs.Kept.{IsWagonRows};
+ghost use Rattle.fleet_rows.specs.KeptOrders.{IsOrderRows};
 ghost use Rattle.fleet_rows.specs.Rows.{order_in, wagon_in};
 ghost use Rattle.operating_db.specs.After.{after_call, after_message, after_order, after_revision, order_place, withdrawn_from};
 ghost use Rattle.operating_db.specs.inner.EventParts.{EmptiesItsWagon, IsChange, IsNext, IsRowAt, is_promisable};
 ghost use Rattle.operating_db.specs.ApplyFault.{IsRefusal, IsRefusalOf, MayRunOutOfMemory};
 ghost use Rattle.operating_db.specs.Commits.{CanPromise, is_free_row, lack_in, promise_all, promise_pair};
-ghost use Rattle.operating_db.specs.Office.{first_office};
+ghost use Rattle.operating_db.specs.RosterOffice.{first_office};
 ghost use Rattle.operating_db.specs.FreeCount.{free_count};
 ghost use Rattle.operating_db.specs.Problem.{problem_of};
 ghost use Rattle.operating_db.specs.Promises.{PromisesAgree};

@@ -2,7 +2,8 @@
 ghost use Rattle.std.specs.Prelude.{◌≡◌, IfErr, IfOk, Ok, length};
 ghost use Rattle.cost_table.specs.Table.{order_count, wagon_count};
 ghost use Rattle.price_checker.specs.NamedFaults.{named};
-ghost use Rattle.price_checker.specs.NamedPairs.{IsFaultOf, checked};
+ghost use Rattle.price_checker.specs.NamedPairs.{checked};
+ghost use Rattle.price_checker.specs.NamesAt.{IsFaultOf};
 ghost use Rattle.price_checker.specs.CertifiedPairs.{CertifiesPairs};
 ghost use Rattle.price_checker.specs.inner.Naming.{AreNamed};
 

@@ -1,7 +1,8 @@
 //! Positions of a table's wagons and orders, and the names that stand there.
 ghost use Rattle.std.specs.Prelude.{◌≡◌, ◌<◌, All, IfErr, IfOk, Ok, length, map};
-ghost use Rattle.price_checker.specs.NamedFaults.{IsNamed, name_at, named_at};
-ghost use Rattle.price_checker.specs.NamedPairs.{IsFaultOf, positions_of};
+ghost use Rattle.price_checker.specs.NamedFaults.{name_at};
+ghost use Rattle.price_checker.specs.NamesAt.{IsNamed, named_at, IsFaultOf};
+ghost use Rattle.price_checker.specs.NamedPairs.{positions_of};
 
 use cost_table::PairNames;
 use faults::NamedFault;

@@ -12,7 +12,8 @@ use Rattle.cost_table.proofs.NameLemmas.{held_at}
 use Rattle.price_checker.specs.Certificate.{IsCertificate}
 use Rattle.faults.specs.declared.faults.CheckFault.{CheckFault}
 use Rattle.price_checker.proofs.FaultFree.{fault_free}
-use Rattle.price_checker.specs.NamedFaults.{IsNamed, name_at, named_at}
+use Rattle.price_checker.specs.NamedFaults.{name_at}
+use Rattle.price_checker.specs.NamesAt.{IsNamed, named_at}
 use Rattle.price_checker.specs.NamedPairs.{before_rest, checked, checked_at, cost_unless, found_or, positions_of}
 use Rattle.table_lines.specs.StatedTable.{stated_in}
 use Rattle.table_lines.specs.TableCost.{IsCertified, cost_of_text}

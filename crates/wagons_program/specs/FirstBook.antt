@@ -3,7 +3,7 @@ use Rattle.std.specs.Prelude.{◌≡◌, List, []}
 use Rattle.commit_book.specs.Books.{BookValue}
 use Rattle.commit_book.specs.Limits.{LimitNumbers}
 use Rattle.line_network.specs.Network.{NetworkValue}
-use Rattle.operating_db.specs.Office.{first_office}
+use Rattle.operating_db.specs.RosterOffice.{first_office}
 use Rattle.wagons_and_orders.specs.declared.wagon_row.WagonRow.{WagonRow}
 
 -- it has this roster, these networks in this order, and these limits; it has no entry, and keeps no problem

@@ -2,7 +2,7 @@
 use Rattle.std.specs.Prelude.{◌≡◌, ◌<◌, ℕ, Bool, nat_eq, nat_lt, not, if◌then◌else◌, List, length, count_by, Option, position}
 use Rattle.std.specs.List.{filter, insert}
 use Rattle.wagons_and_orders.specs.OrderRow.{OrderRowValue}
-use Rattle.fleet_rows.specs.Kept.{IsOrderRows}
+use Rattle.fleet_rows.specs.KeptOrders.{IsOrderRows}
 use Rattle.fleet_rows.specs.Rows.{is_order, max_open_wagons, open_wagons}
 use Rattle.fleet_rows.specs.WaitingOrders.{waiting_from}
 

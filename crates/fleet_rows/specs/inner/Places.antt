@@ -3,7 +3,7 @@ use Rattle.std.specs.Prelude.{◌≡◌, ℕ, ◌≤◌, List, length}
 use Rattle.std.specs.List.{AllWithin}
 use Rattle.std.specs.declared.cmp.Ordering.TheVariants.{Less, Greater}
 use Rattle.wagons_and_orders.specs.declared.wagon_row.WagonRow.{WagonRow}
-use Rattle.fleet_rows.specs.Roster.{compare_numbers}
+use Rattle.fleet_rows.specs.Kept.{compare_numbers}
 
 -- a place before which the numbers are less than this one, and from which on they are greater
 pub record IsGapFor (rows : List WagonRow) (number : List ℕ) (place : ℕ) : Type 0 where

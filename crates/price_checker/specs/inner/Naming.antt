@@ -1,7 +1,7 @@
 -- Whether the positions in a fault of the price checker have names.
 use Rattle.std.specs.Prelude.{◌<◌, length}
 use Rattle.cost_table.specs.Names.{NameLists}
-use Rattle.price_checker.specs.NamedFaults.{IsNamed}
+use Rattle.price_checker.specs.NamesAt.{IsNamed}
 use Rattle.faults.specs.declared.faults.CheckFault.{CheckFault}
 use Rattle.faults.specs.declared.faults.CheckFault.TheVariants as check
 

@@ -1,5 +1,5 @@
 use Rattle.std.proofs.Common.{◌≡◌, map, take}
-use Rattle.price_checker.specs.NamedFaults.{named_at}
+use Rattle.price_checker.specs.NamesAt.{named_at}
 use Rattle.price_checker.proofs.positions.pairs_by_name.Given as goal
 
 abbrev pub invariant-loop-i : goal.invariant-loop-i

@@ -1,6 +1,6 @@
 use Rattle.std.proofs.Common.{◌≡◌, All, Result, Ok, Err, map, sym, ap, ◌∙◌, subst, string_bytes}
 use Rattle.std.specs.Prelude.{IfOk}
-use Rattle.price_checker.specs.NamedFaults.{IsNamed, named_at}
+use Rattle.price_checker.specs.NamesAt.{IsNamed, named_at}
 use Rattle.table_lines.specs.TableLine.{table_text, with_plan}
 use Rattle.table_lines.proofs.Parts.{cost_of_read}
 use Rattle.table_lines.specs.Solving.{IsSolved}
