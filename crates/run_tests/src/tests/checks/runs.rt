@@ -1,6 +1,6 @@
 //! Whole runs: pieces of any size, a million lines, and stops.
 
-use crate::End;
+use crate::tests::End;
 use office::{RunCount, RunFault, check_run};
 use std::alloc::Global;
 use std::test::Fail;
