@@ -6,7 +6,7 @@ use crate::runs::run_lines_text;
 use crate::samples::{book, networks};
 use crate::trying::{must, prepared, say_refused};
 use book_feed::{FeedFault, FeedReport, feed, report_text};
-use distance_tables::Networks;
+use line_network::Networks;
 use std::alloc::{AllocError, Global};
 use std::sync::Wait;
 use std::thread::Threads;

@@ -8,8 +8,8 @@ use assignment::plan;
 use commit_book::{Book, Limits, Snap};
 use cost_table::{Cells, Plan};
 use dispatch_sheet::{certificate_line, plan_text, sheet_text};
-use distance_tables::{Networks, OpenGate, Tables, tables, tables_by_workers};
-use fleet_map::map_text;
+use line_network::{Networks, OpenGate, Tables, tables, tables_by_workers};
+use dispatch_sheet::map_text;
 use line_network::{Network, read_lines};
 use move_messages::{Command, read_line};
 use operating_db::{Event, OfficeState};
@@ -22,7 +22,7 @@ use std::sync::{Arc, Wait};
 use std::thread::Threads;
 use table_solver::solve_line;
 use test_samples::{NETWORK, ROSTER};
-use wagon_roster::Roster;
+use fleet_rows::Roster;
 
 const TABLE: &[u8] =
     br#"{"wagons":["338447961008","218124712173"],"orders":["O1","O2"],"cells":[[10,20],[15,null]],"penalties":[1000,1000]}"#;

@@ -1,13 +1,13 @@
 //! What the calls start from.
 
 use commit_book::{Book, Limits};
-use distance_tables::{Networks, tables};
+use line_network::{Networks, tables};
 use line_network::read_lines;
 use move_messages::{Command, read_line};
 use std::alloc::Global;
 use std::sync::Arc;
 use test_samples::{NETWORK, ROSTER};
-use wagon_roster::Roster;
+use fleet_rows::Roster;
 
 /// The line from the second place to the third is longer than the sample's, and none leads from the first to the third.
 pub(crate) const LONGER: &str =

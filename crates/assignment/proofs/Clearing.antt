@@ -12,7 +12,7 @@ use Rattle.assignment.proofs.Nearness.{all_far_count}
 
 -- a search that has reached nothing
 abbrev pub cleared : Search → Vec ℕ Global → Vec ℕ Global → Vec ℕ Global → Vec ℕ Global → Vec ℕ Global → Search
-cleared f label target distances orders via = record f { label = label; target = target; order_distance = distances; orders = orders; via = via; front = 0; refusal = record { distance = 4294967295; place = 0 } }
+cleared f label target distances orders via = record f { label = label; target = target; order_distance = distances; orders = orders; via = via; front = 0; refusal = record { distance = 4294967295; index = 0 } }
 
 pub search_cleared : (s : Kept) (numbers : List ℕ) (f : Search) (label target distances orders via : Vec ℕ Global) → IsKept s → s.order_of ≡ orders_of numbers → HasRoom s.table f → label.items ≡ replicate (length f.label.items) 4294967295 → distances.items ≡ replicate (length f.order_distance.items) 4294967295 → target.items ≡ numbers → orders.items ≡ [] → via.items ≡ [] → vec_capacity orders ≡ vec_capacity f.orders → vec_capacity via ≡ vec_capacity f.via → IsSearch s (cleared f label target distances orders via) 0
 search_cleared s numbers f label target distances orders via k hs room le de te oe ve oc vc =

@@ -66,7 +66,7 @@ within_whole t n m i j all = elim (cases_eq i n) [
   ]
 ]
 
--- two places are the same only where wagons and orders are
+-- two indexes are the same only where wagons and orders are
 pub place_order : (w i j i' j' : ℕ) → i < w → i' < w → j * w + i ≡ j' * w + i' → j ≡ j'
 place_order w i j i' j' l l' e = sym (div-mul-add j w i l) ∙ ap (λ x. x / w) e ∙ div-mul-add j' w i' l'
 
@@ -138,9 +138,9 @@ place_read t n m w row costs re we ln is lm count =
 pub place_low : (t : Table) (n m w : ℕ) (row : List (ℕ × ℕ)) (costs : List ℕ) → IsTable t → row ≡ row_at t n → w ≡ wagon_count t → n < wagon_count t → IsRow (order_count t) 0 row → m < length row → length costs ≡ order_count t * wagon_count t
     → (get_or row m (0, 0)).0 * w + n < 500000
 place_low t n m w row costs table re we ln is lm count =
-    let place = place_read t n m w row costs re we ln is lm count in
+    let index = place_read t n m w row costs re we ln is lm count in
     let limit = costs_limit t table in
-    omega (arith, place, limit, count)
+    omega (arith, index, limit, count)
 
 pub more_read : (t : Table) (n m w : ℕ) (row : List (ℕ × ℕ)) (costs costs' : List ℕ) → row ≡ row_at t n → w ≡ wagon_count t → n < wagon_count t → IsRow (order_count t) 0 row → m < length row → AreCostsOf t (cost_within t n m) costs → costs' ≡ set costs ((get_or row m (0, 0)).0 * w + n) (get_or row m (0, 0)).1 → AreCostsOf t (cost_within t n (m + 1)) costs'
 more_read t n m w row costs costs' re we ln is lm h e =

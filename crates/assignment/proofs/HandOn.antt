@@ -20,21 +20,21 @@ served-set k h h' i o l e =
     let d : served k h' ≡ served k (set h i o) = ap (served k) e in
     omega (arith, s, a, b, d)
 
--- The way is walked back to the wagon in hand. It was reached from the order at `place`, and it is none of the wagons
+-- The way is walked back to the wagon in hand. It was reached from the order at `index`, and it is none of the wagons
 -- that led to an order up to there, which have their orders still.
-pub record IsHandingOn (s : Kept) (f : Search) (h : List (Option ℕ)) (first wagon place : ℕ) : Type 0 where
+pub record IsHandingOn (s : Kept) (f : Search) (h : List (Option ℕ)) (first wagon index : ℕ) : Type 0 where
   pub wagons : length h ≡ length s.order_of
   pub in_hand : wagon < length s.order_of
-  pub from : IsReachedFrom s f wagon place
+  pub from : IsReachedFrom s f wagon index
   pub on_way : IsOnWay f first wagon
-  pub apart : (x : ℕ) → 0 < x → x ≤ place → get_or f.via.items x 0 ≢ wagon
-  pub held : (x : ℕ) → 0 < x → x ≤ place → get_or h (get_or f.via.items x 0) None ≡ Some (get_or f.orders.items x 0)
+  pub apart : (x : ℕ) → 0 < x → x ≤ index → get_or f.via.items x 0 ≢ wagon
+  pub held : (x : ℕ) → 0 < x → x ≤ index → get_or h (get_or f.via.items x 0) None ≡ Some (get_or f.orders.items x 0)
   pub handed_on : (i : ℕ) → (order_at h i ≡ order_at s.order_of i) ⊎ (IsOnWay f first i × IsGiven s f h i)
   pub count : (k : ℕ) → served k h + one_if k (order_at s.order_of first) ≡ served k s.order_of + one_if k (order_at h wagon)
 
 -- the way begins at its end
-pub handing_none : (s : Kept) (f : Search) (wagon place end : ℕ) → IsSearch s f (length f.orders.items) → wagon < length s.order_of → ((x : ℕ) → 0 < x → x < end → get_or f.via.items x 0 ≢ wagon) → end ≤ length f.orders.items → place < end → IsReachedFrom s f wagon place → IsHandingOn s f s.order_of wagon wagon place
-handing_none s f wagon place end h inside apart limit before from = record {
+pub handing_none : (s : Kept) (f : Search) (wagon index end : ℕ) → IsSearch s f (length f.orders.items) → wagon < length s.order_of → ((x : ℕ) → 0 < x → x < end → get_or f.via.items x 0 ≢ wagon) → end ≤ length f.orders.items → index < end → IsReachedFrom s f wagon index → IsHandingOn s f s.order_of wagon wagon index
+handing_none s f wagon index end h inside apart limit before from = record {
   wagons = refl;
   in_hand = inside;
   from = from;
@@ -49,57 +49,57 @@ pub some_same : (a b : ℕ) (o : Option ℕ) → o ≡ Some a → o ≡ Some b �
 some_same a b o p q = cc
 
 -- what holds of the wagons' orders once the wagon in hand has the order that it was reached from
-handed_now : (s : Kept) (f : Search) (h h' : List (Option ℕ)) (first wagon place : ℕ) → IsHandingOn s f h first wagon place → h' ≡ set h wagon (Some (get_or f.orders.items place 0)) → (i : ℕ) → (order_at h' i ≡ order_at s.order_of i) ⊎ (IsOnWay f first i × IsGiven s f h' i)
-handed_now s f h h' first wagon place g e i =
+handed_now : (s : Kept) (f : Search) (h h' : List (Option ℕ)) (first wagon index : ℕ) → IsHandingOn s f h first wagon index → h' ≡ set h wagon (Some (get_or f.orders.items index 0)) → (i : ℕ) → (order_at h' i ≡ order_at s.order_of i) ⊎ (IsOnWay f first i × IsGiven s f h' i)
+handed_now s f h h' first wagon index g e i =
     elim (cases_eq i wagon) [
       | inl same ↦
           let len = g.wagons in
           let inside = g.in_hand in
-          let here : order_at h' wagon ≡ Some (get_or f.orders.items place 0) = same_at h h' wagon _ None (omega (arith, len, inside)) e in
-          let given : IsGiven s f h' wagon = record { place = place; from = g.from; order = here } in
+          let here : order_at h' wagon ≡ Some (get_or f.orders.items index 0) = same_at h h' wagon _ None (omega (arith, len, inside)) e in
+          let given : IsGiven s f h' wagon = record { index = index; from = g.from; order = here } in
           inr (subst (λ (x : ℕ). IsOnWay f first x) (sym same) g.on_way, subst (IsGiven s f h') (sym same) given)
       | inr other ↦
           let there : order_at h' i ≡ order_at h i = other_at h h' wagon _ None i e other in
           elim (g.handed_on i) [
             | inl was ↦ inl (there ∙ was)
-            | inr new ↦ inr (new.0, record { place = new.1.place; from = new.1.from; order = there ∙ new.1.order })
+            | inr new ↦ inr (new.0, record { index = new.1.index; from = new.1.from; order = there ∙ new.1.order })
           ]
     ]
 
-count_now : (s : Kept) (f : Search) (h h' : List (Option ℕ)) (first wagon place : ℕ) → IsHandingOn s f h first wagon place → h' ≡ set h wagon (Some (get_or f.orders.items place 0)) → (k : ℕ) → served k h' + one_if k (order_at s.order_of first) ≡ served k s.order_of + one_if k (Some (get_or f.orders.items place 0))
-count_now s f h h' first wagon place g e k =
+count_now : (s : Kept) (f : Search) (h h' : List (Option ℕ)) (first wagon index : ℕ) → IsHandingOn s f h first wagon index → h' ≡ set h wagon (Some (get_or f.orders.items index 0)) → (k : ℕ) → served k h' + one_if k (order_at s.order_of first) ≡ served k s.order_of + one_if k (Some (get_or f.orders.items index 0))
+count_now s f h h' first wagon index g e k =
     let len = g.wagons in
     let inside = g.in_hand in
-    let step = served-set k h h' wagon (Some (get_or f.orders.items place 0)) (omega (arith, len, inside)) e in
+    let step = served-set k h h' wagon (Some (get_or f.orders.items index 0)) (omega (arith, len, inside)) e in
     let was = g.count k in
     omega (arith, step, was)
 
-pub handing_more : (s : Kept) (f : Search) (h h' : List (Option ℕ)) (first wagon place wagon' place' : ℕ) → IsKept s → IsSearch s f (length f.orders.items) → IsHandingOn s f h first wagon place → 0 < place → h' ≡ set h wagon (Some (get_or f.orders.items place 0)) → wagon' ≡ get_or f.via.items place 0 → place' < place → IsReachedFrom s f wagon' place' → IsHandingOn s f h' first wagon' place'
-handing_more s f h h' first wagon place wagon' place' k search g pos e we lower from =
+pub handing_more : (s : Kept) (f : Search) (h h' : List (Option ℕ)) (first wagon index wagon' index' : ℕ) → IsKept s → IsSearch s f (length f.orders.items) → IsHandingOn s f h first wagon index → 0 < index → h' ≡ set h wagon (Some (get_or f.orders.items index 0)) → wagon' ≡ get_or f.via.items index 0 → index' < index → IsReachedFrom s f wagon' index' → IsHandingOn s f h' first wagon' index'
+handing_more s f h h' first wagon index wagon' index' k search g pos e we lower from =
     let len = g.wagons in
     let within = g.from.within in
-    let led = search.settled.led place pos within in
+    let led = search.settled.led index pos within in
     let held = k.held.wagons in
     let inside : wagon' < length s.order_of = (let w = led.wagon in omega (arith, w, we, held)) in
-    let keeps : (x : ℕ) → 0 < x → x ≤ place → get_or h' (get_or f.via.items x 0) None ≡ Some (get_or f.orders.items x 0) = λ x p le. other_at h h' wagon _ None (get_or f.via.items x 0) e (g.apart x p le) ∙ g.held x p le in
-    let here : get_or h' wagon' None ≡ Some (get_or f.orders.items place 0) = ap (λ x. get_or h' x None) we ∙ keeps place pos (omega arith) in
+    let keeps : (x : ℕ) → 0 < x → x ≤ index → get_or h' (get_or f.via.items x 0) None ≡ Some (get_or f.orders.items x 0) = λ x p le. other_at h h' wagon _ None (get_or f.via.items x 0) e (g.apart x p le) ∙ g.held x p le in
+    let here : get_or h' wagon' None ≡ Some (get_or f.orders.items index 0) = ap (λ x. get_or h' x None) we ∙ keeps index pos (omega arith) in
     record {
       wagons = written_length h h' wagon _ e ∙ len;
       in_hand = inside;
       from = from;
-      on_way = inr (place, pos, within, sym we);
-      apart = λ x p le same. search.settled.apart x place (omega (arith, le, lower)) within (some_same (get_or f.orders.items x 0) (get_or f.orders.items place 0) (get_or h' wagon' None) (ap (λ y. get_or h' y None) (sym same) ∙ keeps x p (omega (arith, le, lower))) here);
+      on_way = inr (index, pos, within, sym we);
+      apart = λ x p le same. search.settled.apart x index (omega (arith, le, lower)) within (some_same (get_or f.orders.items x 0) (get_or f.orders.items index 0) (get_or h' wagon' None) (ap (λ y. get_or h' y None) (sym same) ∙ keeps x p (omega (arith, le, lower))) here);
       held = λ x p le. keeps x p (omega (arith, le, lower));
-      handed_on = handed_now s f h h' first wagon place g e;
-      count = λ q. count_now s f h h' first wagon place g e q ∙ ap (λ o. served q s.order_of + one_if q o) (sym here);
+      handed_on = handed_now s f h h' first wagon index g e;
+      count = λ q. count_now s f h h' first wagon index g e q ∙ ap (λ o. served q s.order_of + one_if q o) (sym here);
     }
 
--- an order that is read at a place, and written for a wagon
-pub order_written : (s : Kept) (f : Search) (n : ℕ) (numbers : List ℕ) (wagon place order : ℕ) → IsKept s → IsSearch s f n → place < length f.orders.items → order ≡ get_or f.orders.items place order
-    → orders_of (set numbers wagon order) ≡ set (orders_of numbers) wagon (Some (get_or f.orders.items place 0))
-order_written s f n numbers wagon place order keeps search within read =
-    let is : order ≡ get_or f.orders.items place 0 = get_or_read f.orders.items place order within read 0 in
-    let number = search.settled.order place within in
+-- an order that is read at an index, and written for a wagon
+pub order_written : (s : Kept) (f : Search) (n : ℕ) (numbers : List ℕ) (wagon index order : ℕ) → IsKept s → IsSearch s f n → index < length f.orders.items → order ≡ get_or f.orders.items index order
+    → orders_of (set numbers wagon order) ≡ set (orders_of numbers) wagon (Some (get_or f.orders.items index 0))
+order_written s f n numbers wagon index order keeps search within read =
+    let is : order ≡ get_or f.orders.items index 0 = get_or_read f.orders.items index order within read 0 in
+    let number = search.settled.order index within in
     let few = keeps.table.orders in
     orders_set numbers wagon order (omega (arith, is, number, few)) ∙ ap (λ y. set (orders_of numbers) wagon (Some y)) is
 
@@ -110,17 +110,17 @@ pub record IsHandedOn (s : Kept) (f : Search) (h : List (Option ℕ)) (first : �
   pub count : (k : ℕ) → served k h + one_if k (order_at s.order_of first) ≡ served k s.order_of + one_if k (Some (get_or f.orders.items 0 0))
 
 -- the wagon that is left gets the first order
-pub handing_all : (s : Kept) (f : Search) (n : ℕ) (numbers : List ℕ) (first wagon place order : ℕ) → IsKept s → IsSearch s f n → IsHandingOn s f (orders_of numbers) first wagon place → place ≡ 0
+pub handing_all : (s : Kept) (f : Search) (n : ℕ) (numbers : List ℕ) (first wagon index order : ℕ) → IsKept s → IsSearch s f n → IsHandingOn s f (orders_of numbers) first wagon index → index ≡ 0
     → order ≡ get_or f.orders.items 0 order → IsHandedOn s f (orders_of (set numbers wagon order)) first
-handing_all s f n numbers first wagon place order keeps search g zero_place read =
+handing_all s f n numbers first wagon index order keeps search g zero_index read =
     let h = orders_of numbers in
-    let within : 0 < length f.orders.items = subst (λ (x : ℕ). x < length f.orders.items) zero_place g.from.within in
+    let within : 0 < length f.orders.items = subst (λ (x : ℕ). x < length f.orders.items) zero_index g.from.within in
     let e = order_written s f n numbers wagon 0 order keeps search within read in
-    let e' : orders_of (set numbers wagon order) ≡ set h wagon (Some (get_or f.orders.items place 0)) = e ∙ ap (λ x. set h wagon (Some (get_or f.orders.items x 0))) (sym zero_place) in
+    let e' : orders_of (set numbers wagon order) ≡ set h wagon (Some (get_or f.orders.items index 0)) = e ∙ ap (λ x. set h wagon (Some (get_or f.orders.items x 0))) (sym zero_index) in
     record {
       wagons = written_length h _ wagon _ e ∙ g.wagons;
-      handed_on = handed_now s f h _ first wagon place g e';
-      count = λ k. count_now s f h _ first wagon place g e' k ∙ ap (λ x. served k s.order_of + one_if k (Some (get_or f.orders.items x 0))) zero_place;
+      handed_on = handed_now s f h _ first wagon index g e';
+      count = λ k. count_now s f h _ first wagon index g e' k ∙ ap (λ x. served k s.order_of + one_if k (Some (get_or f.orders.items x 0))) zero_index;
     }
 
 -- another list of the wagons' orders changes nothing of the distances
@@ -131,7 +131,7 @@ pub search_of_state : (state : State) (f : Search) (n : ℕ) → IsState state �
 search_of_state state f n k h = record { table = k.keeps.table; costs = k.costs; wagons = k.keeps.priced.wagons; orders = k.keeps.priced.orders; room = h.room; settled = h.settled.order }
 
 pub reached_then : (state state' : State) (f : Search) (n i : ℕ) → state' ≡ record state { order_of = state'.order_of } → IsWagonReached (kept state) f n i → IsWagonReached (kept state') f n i
-reached_then state state' f n i same r = subst (λ x. IsWagonReached (kept x) f n i) (sym same) (record { place = r.place; before = r.before; from = record { within = r.from.within; exact = r.from.exact } })
+reached_then state state' f n i same r = subst (λ x. IsWagonReached (kept x) f n i) (sym same) (record { index = r.index; before = r.before; from = record { within = r.from.within; exact = r.from.exact } })
 
 pub reached_before : (state state' : State) (f : Search) (i x : ℕ) → state' ≡ record state { order_of = state'.order_of } → IsReachedFrom (kept state') f i x → IsReachedFrom (kept state) f i x
 reached_before state state' f i x same r =

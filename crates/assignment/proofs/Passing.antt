@@ -40,8 +40,8 @@ least_more f orders is_idle least n number chosen next h new is m = record {
     | inr apart ↦ let b = h.below i (omega (arith, l, apart)) a in omega (arith, m, b)
   ];
   attained = λ near. elim (cases_lt chosen least) [
-    | inl less ↦ let c = is.other (omega (arith, m, near, less)) in let e = c.1 in record { place = n; within = omega arith; is = omega (arith, new, m, e, less); among = c.0 }
-    | inr more ↦ let at = h.attained (omega (arith, m, near, more)) in let to = at.within in let e = at.is in record { place = at.place; within = omega (arith, to); is = omega (arith, m, e, more); among = at.among }
+    | inl less ↦ let c = is.other (omega (arith, m, near, less)) in let e = c.1 in record { index = n; within = omega arith; is = omega (arith, new, m, e, less); among = c.0 }
+    | inr more ↦ let at = h.attained (omega (arith, m, near, more)) in let to = at.within in let e = at.is in record { index = at.index; within = omega (arith, to); is = omega (arith, m, e, more); among = at.among }
   ];
 }
 
@@ -50,6 +50,6 @@ pub none_in_block : (label orders : List ℕ) (is_idle : Bool) (w n least i : �
 none_in_block label orders is_idle w n least i none long from to is among =
     let rest = length-drop w label in
     let count = length-take-le ((w + n) - w) (drop w label) (omega (arith, rest, long)) in
-    let place : w + (i - w) ≡ i = omega (arith, from) in
-    let read : (xs : List ℕ) → get_or (take ((w + n) - w) (drop w xs)) (i - w) 0 ≡ get_or xs i 0 = λ xs. get_or-take ((w + n) - w) (drop w xs) (i - w) 0 (omega (arith, from, to)) ∙ get_or-drop w xs (i - w) 0 ∙ ap (λ x. get_or xs x 0) place in
+    let index : w + (i - w) ≡ i = omega (arith, from) in
+    let read : (xs : List ℕ) → get_or (take ((w + n) - w) (drop w xs)) (i - w) 0 ≡ get_or xs i 0 = λ xs. get_or-take ((w + n) - w) (drop w xs) (i - w) 0 (omega (arith, from, to)) ∙ get_or-drop w xs (i - w) 0 ∙ ap (λ x. get_or xs x 0) index in
     none (i - w) (omega (arith, count, from, to)) (read label ∙ is) (subst (λ (x : ℕ). (x == 4294967295) ≡ is_idle) (sym (read orders)) among)

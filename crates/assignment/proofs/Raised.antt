@@ -64,15 +64,15 @@ reach_at s f path k h l =
     elim (cases_lt (distance_at f k) 4294967295) [
       | inl n ↦
           let at = h.search.settled.listed k l n in
-          let below = h.search.settled.near at.place at.within in
+          let below = h.search.settled.near at.index at.within in
           let front = h.front in
-          let least = h.search.refusal.least at.place at.within in
+          let least = h.search.refusal.least at.index at.within in
           let refusal = h.refusal in
           let is = at.is in
-          let e : distance_at f (settled_at f at.place) ≡ distance_at f k = ap (distance_at f) is in
-          let v : get_or s.v (settled_at f at.place) 0 ≡ get_or s.v k 0 = ap (λ y. get_or s.v y 0) is in
-          let p : penalty_at s.table (settled_at f at.place) ≡ penalty_at s.table k = ap (penalty_at s.table) is in
-          near (omega (arith, below, e)) (omega (arith, below, front, e)) (subst (IsRelaxed s f) is (h.search.relaxed at.place at.within)) (omega (arith, least, refusal, e, v, p))
+          let e : distance_at f (settled_at f at.index) ≡ distance_at f k = ap (distance_at f) is in
+          let v : get_or s.v (settled_at f at.index) 0 ≡ get_or s.v k 0 = ap (λ y. get_or s.v y 0) is in
+          let p : penalty_at s.table (settled_at f at.index) ≡ penalty_at s.table k = ap (penalty_at s.table) is in
+          near (omega (arith, below, e)) (omega (arith, below, front, e)) (subst (IsRelaxed s f) is (h.search.relaxed at.index at.within)) (omega (arith, least, refusal, e, v, p))
       | inr n ↦ far n
     ]
 
@@ -188,7 +188,7 @@ tight_new s f path u v order_of i k x keeps h r p label is =
 some_inner : (a b : ℕ) (o : Option ℕ) → o ≡ Some a → o ≡ Some b → a ≡ b
 some_inner a b o p q = cc
 
-pub held_raised : (s : Kept) (f : Search) (path : Path) (u v : List ℕ) (order_of : List (Option ℕ)) → IsKept s → IsShortestPath s f path → AreRaised s f path.distance u v → length order_of ≡ length s.order_of → AreHandedOn s f path.end order_of → AreHeld (raised s u v order_of)
+pub held_raised : (s : Kept) (f : Search) (path : Path) (u v : List ℕ) (order_of : List (Option ℕ)) → IsKept s → IsShortestPath s f path → AreRaised s f path.distance u v → length order_of ≡ length s.order_of → AreHandedOn s f (IsOnPath f path.end) order_of → AreHeld (raised s u v order_of)
 held_raised s f path u v order_of k h r len handed = record {
   wagons = len ∙ k.held.wagons;
   tight = λ i q is. elim (handed i) [
@@ -198,7 +198,7 @@ held_raised s f path u v order_of k h r len handed = record {
         let li = cell_wagon s.table i q tight.cost k.table tight.allowed in
         let lq = cell_order s.table i q tight.cost k.table tight.allowed in
         tight_raised s f path u v order_of i q k h r was tight li lq (reach_at s f path q h lq)
-    | inr moved ↦ tight_new s f path u v order_of i q moved.1.place k h r (path_near s f path path.end i h h.end moved.0) moved.1.from (some_inner _ _ (order_at order_of i) is moved.1.order)
+    | inr moved ↦ tight_new s f path u v order_of i q moved.1.index k h r (path_near s f path path.end i h h.end moved.0) moved.1.from (some_inner _ _ (order_at order_of i) is moved.1.order)
   ];
   idle = λ i none. elim (handed i) [
     | inl same ↦

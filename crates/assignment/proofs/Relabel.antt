@@ -52,12 +52,12 @@ search_relaxed s f scanned costs label k h r =
             let n = new i l in
             let exact = n.exact in
             let is = n.label_is in
-            record { place = scanned; before = omega (arith, last); from = record { within = omega (arith, last); exact = omega (arith, exact, is, far, less) } }
+            record { index = scanned; before = omega (arith, last); from = record { within = omega (arith, last); exact = omega (arith, exact, is, far, less) } }
         | inr more ↦
             let is = (new i l).label_is in
             let was = h.labels i l (omega (arith, is)) in
             let exact = was.from.exact in
-            record { place = was.place; before = was.before; from = record { within = was.from.within; exact = omega (arith, exact, is, more) } }
+            record { index = was.index; before = was.before; from = record { within = was.from.within; exact = omega (arith, exact, is, more) } }
       ];
       relaxed = λ x lx i l.
           let n = new i l in
@@ -82,7 +82,7 @@ search_relaxed s f scanned costs label k h r =
         order = h.settled.order;
         near = h.settled.near;
         last = h.settled.last;
-        listed = λ q l near. let at = h.settled.listed q l near in record { place = at.place; within = at.within; is = at.is };
+        listed = λ q l near. let at = h.settled.listed q l near in record { index = at.index; within = at.within; is = at.is };
         apart = h.settled.apart;
         led = λ x pos l.
             let led = h.settled.led x pos l in
@@ -98,7 +98,7 @@ search_relaxed s f scanned costs label k h r =
               wagon = led.wagon;
               held = led.held;
               as_far = same ∙ as_far;
-              reached = record { place = led.reached.place; before = led.reached.before; from = record { within = led.reached.from.within; exact = omega (arith, exact, same) } };
+              reached = record { index = led.reached.index; before = led.reached.before; from = record { within = led.reached.from.within; exact = omega (arith, exact, same) } };
             };
       };
       refusal = refusal_relabelled s f label h.refusal;

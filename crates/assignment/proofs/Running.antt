@@ -84,7 +84,7 @@ path_to_wagon s numbers f idle wagon k hs h some beyond le l at among =
     }
 
 -- the path ends at the nearest refusal
-pub path_to_refusal : (s : Kept) (f : Search) (idle : ℕ) → IsSearch s f (length f.orders.items) → 0 < length f.orders.items → ((i : ℕ) → i < wagon_count s.table → IsFrom s f (min idle f.refusal.distance) i) → f.refusal.distance ≤ idle → IsShortestPath s f (record { distance = f.refusal.distance; end = Refusal f.refusal.place })
+pub path_to_refusal : (s : Kept) (f : Search) (idle : ℕ) → IsSearch s f (length f.orders.items) → 0 < length f.orders.items → ((i : ℕ) → i < wagon_count s.table → IsFrom s f (min idle f.refusal.distance) i) → f.refusal.distance ≤ idle → IsShortestPath s f (record { distance = f.refusal.distance; end = Refusal f.refusal.index })
 path_to_refusal s f idle h some beyond le =
     let same : min idle f.refusal.distance ≡ f.refusal.distance = omega (arith, le) in
     record {

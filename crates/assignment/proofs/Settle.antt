@@ -22,12 +22,12 @@ next_of order distance wagon = record { order = order; distance = distance; wago
 abbrev pub refusal_with : Kept → Search → ℕ → ℕ → Refusal
 refusal_with s f order distance =
     let new = distance + (penalty_at s.table order - get_or s.v order 0) in
-    cond (ltb new f.refusal.distance) (record { distance = new; place = length f.orders.items }) f.refusal
+    cond (ltb new f.refusal.distance) (record { distance = new; index = length f.orders.items }) f.refusal
 
 -- the same where its parts were read
-pub refusal_read : (s : Kept) (f : Search) (order distance penalty price count : ℕ) (r : Refusal) → penalty ≡ penalty_at s.table order → price ≡ get_or s.v order 0 → count ≡ length f.orders.items → r ≡ cond (ltb (distance + (penalty - price)) f.refusal.distance) (record { distance = distance + (penalty - price); place = count }) f.refusal → r ≡ refusal_with s f order distance
+pub refusal_read : (s : Kept) (f : Search) (order distance penalty price count : ℕ) (r : Refusal) → penalty ≡ penalty_at s.table order → price ≡ get_or s.v order 0 → count ≡ length f.orders.items → r ≡ cond (ltb (distance + (penalty - price)) f.refusal.distance) (record { distance = distance + (penalty - price); index = count }) f.refusal → r ≡ refusal_with s f order distance
 refusal_read s f order distance penalty price count r pe ve ce e =
-    let g : ℕ → ℕ → ℕ → Refusal = λ p v n. cond (ltb (distance + (p - v)) f.refusal.distance) (record { distance = distance + (p - v); place = n }) f.refusal in
+    let g : ℕ → ℕ → ℕ → Refusal = λ p v n. cond (ltb (distance + (p - v)) f.refusal.distance) (record { distance = distance + (p - v); index = n }) f.refusal in
     e ∙ ap (λ x. g x price count) pe ∙ ap (λ x. g (penalty_at s.table order) x count) ve ∙ ap (λ x. g (penalty_at s.table order) (get_or s.v order 0) x) ce
 
 -- an order settled at a distance through a wagon
@@ -111,8 +111,8 @@ beyond_settled s f f' order distance wagon n i k h next l front label here there
             elim (cases_lt (distance_at f q) 4294967295) [
               | inl near ↦
                   let at = h.settled.listed q (held_order s i q k held) near in
-                  let least = h.settled.near at.place at.within in
-                  let e : distance_at f (settled_at f at.place) ≡ distance_at f q = ap (distance_at f) at.is in
+                  let least = h.settled.near at.index at.within in
+                  let e : distance_at f (settled_at f at.index) ≡ distance_at f q = ap (distance_at f) at.is in
                   let was = (h.beyond i l).held q held in
                   omega (arith, d, least, e, was, label)
               | inr far ↦ let m = from.held q held far in omega (arith, m, front, label)
@@ -124,7 +124,7 @@ beyond_settled s f f' order distance wagon n i k h next l front label here there
 -- what was reached from an order settled before still is
 reached_kept : (s : Kept) (f f' : Search) (order distance n n' i i' : ℕ) → IsPushed s f order distance f'.order_distance.items f'.orders.items → f'.label.items ≡ f.label.items → n ≤ n' → i' ≡ i → IsWagonReached s f n i → IsWagonReached s f' n' i'
 reached_kept s f f' order distance n n' i i' p ls more is r =
-    let x = r.place in
+    let x = r.index in
     let before = r.before in
     let within = r.from.within in
     let count = p.count in
@@ -132,7 +132,7 @@ reached_kept s f f' order distance n n' i i' p ls more is r =
     let d : distance_at f' (settled_at f x) ≡ distance_at f (settled_at f x) = p.there (settled_at f x) (p.other x within) in
     let label : label_at f' i ≡ label_at f i = ap (λ y. get_or y i 0) ls in
     subst (IsWagonReached s f' n') (sym is) (record {
-      place = x;
+      index = x;
       before = omega (arith, before, more);
       from = record { within = omega (arith, within, count); exact = rw (q, d, label) r.from.exact };
     })
@@ -170,9 +170,9 @@ led_settled s f f' order distance wagon n x h next p vs ls pos l =
           }
     ]
 
--- a place among those settled is that of one settled before, or the last
-at_place : (P : ℕ → ℕ → Type 0) (s : Kept) (f : Search) (order distance : ℕ) (distances orders : List ℕ) → IsPushed s f order distance distances orders → ((x : ℕ) → x < length f.orders.items → P x (settled_at f x)) → P (length f.orders.items) order → (x : ℕ) → x < length orders → P x (get_or orders x 0)
-at_place P s f order distance distances orders p before last x l =
+-- an index among those settled is that of one settled before, or the last
+at_index : (P : ℕ → ℕ → Type 0) (s : Kept) (f : Search) (order distance : ℕ) (distances orders : List ℕ) → IsPushed s f order distance distances orders → ((x : ℕ) → x < length f.orders.items → P x (settled_at f x)) → P (length f.orders.items) order → (x : ℕ) → x < length orders → P x (get_or orders x 0)
+at_index P s f order distance distances orders p before last x l =
     let count = p.count in
     elim (cases_eq x (length f.orders.items)) [
       | inl same ↦ subst (λ (y : ℕ). P y (get_or orders y 0)) (sym same) (subst (P (length f.orders.items)) (sym p.at_end) last)
@@ -189,20 +189,20 @@ settled_more s f f' order distance wagon n h next p ds vs ls front =
     record {
       vias = ap length vs ∙ length_push f.via.items wagon ∙ ap (λ y. y + 1) vias ∙ sym count;
       count = count ∙ ap (λ y. y + 1) h.settled.count ∙ sym (near_count_more f.order_distance.items f'.order_distance.items order distance (omega arith) ds (omega (arith, limit)) next.far);
-      order = at_place (λ x q. q < order_count s.table) s f order distance _ f'.orders.items p h.settled.order lo;
-      near = at_place (λ x q. distance_at f' q ≤ f'.front) s f order distance _ f'.orders.items p
+      order = at_index (λ x q. q < order_count s.table) s f order distance _ f'.orders.items p h.settled.order lo;
+      near = at_index (λ x q. distance_at f' q ≤ f'.front) s f order distance _ f'.orders.items p
           (λ x lx. let d = p.there (settled_at f x) (p.other x lx) in let was = h.settled.near x lx in let f0 = next.front in omega (arith, d, was, f0, front))
           (let d = p.here in omega (arith, d, front));
       last = λ x lx.
           let same : x ≡ length f.orders.items = omega (arith, lx, count) in
           ap (distance_at f') (ap (settled_at f') same ∙ p.at_end) ∙ p.here ∙ sym front;
       listed = λ q lq near. elim (cases_eq q order) [
-        | inl same ↦ record { place = length f.orders.items; within = omega (arith, count); is = p.at_end ∙ sym same }
+        | inl same ↦ record { index = length f.orders.items; within = omega (arith, count); is = p.at_end ∙ sym same }
         | inr other ↦
             let d = p.there q other in
             let at = h.settled.listed q lq (omega (arith, d, near)) in
             let within = at.within in
-            record { place = at.place; within = omega (arith, within, count); is = p.before at.place within ∙ at.is }
+            record { index = at.index; within = omega (arith, within, count); is = p.before at.index within ∙ at.is }
       ];
       apart = λ x y lt ly same.
           let lx : x < length f.orders.items = omega (arith, lt, ly, count) in
@@ -215,10 +215,10 @@ settled_more s f f' order distance wagon n h next p ds vs ls front =
 
 -- the nearest of the refusals before and that of the order settled last
 data Chosen (s : Kept) (f : Search) (order distance : ℕ) (r : Refusal) : Type 0 where
-  chosen : r.place ≡ length f.orders.items → r.distance + get_or s.v order 0 ≡ distance + penalty_at s.table order → r.distance < f.refusal.distance → Chosen s f order distance r
+  chosen : r.index ≡ length f.orders.items → r.distance + get_or s.v order 0 ≡ distance + penalty_at s.table order → r.distance < f.refusal.distance → Chosen s f order distance r
   stays : r ≡ f.refusal → f.refusal.distance + get_or s.v order 0 ≤ distance + penalty_at s.table order → Chosen s f order distance r
 
-choose_true : (s : Kept) (f : Search) (order distance : ℕ) → distance + (penalty_at s.table order - get_or s.v order 0) < f.refusal.distance → get_or s.v order 0 ≤ penalty_at s.table order → Chosen s f order distance (record { distance = distance + (penalty_at s.table order - get_or s.v order 0); place = length f.orders.items })
+choose_true : (s : Kept) (f : Search) (order distance : ℕ) → distance + (penalty_at s.table order - get_or s.v order 0) < f.refusal.distance → get_or s.v order 0 ≤ penalty_at s.table order → Chosen s f order distance (record { distance = distance + (penalty_at s.table order - get_or s.v order 0); index = length f.orders.items })
 choose_true s f order distance less price = chosen refl (omega arith) less
 
 choose_false : (s : Kept) (f : Search) (order distance : ℕ) → f.refusal.distance ≤ distance + (penalty_at s.table order - get_or s.v order 0) → get_or s.v order 0 ≤ penalty_at s.table order → Chosen s f order distance f.refusal
@@ -243,12 +243,12 @@ chosen_refusal s f order distance k l =
     let new = distance + (penalty_at s.table order - get_or s.v order 0) in
     let price = k.priced.below_penalty order l in
     elim (cases_lt new f.refusal.distance) [
-      | inl less ↦ subst (Chosen s f order distance) (sym (cond_true (ltb new f.refusal.distance) (record { distance = new; place = length f.orders.items }) f.refusal (below_true new f.refusal.distance less))) (choose_true s f order distance less price)
-      | inr more ↦ subst (Chosen s f order distance) (sym (cond_false (ltb new f.refusal.distance) (record { distance = new; place = length f.orders.items }) f.refusal (below_false new f.refusal.distance more))) (choose_false s f order distance more price)
+      | inl less ↦ subst (Chosen s f order distance) (sym (cond_true (ltb new f.refusal.distance) (record { distance = new; index = length f.orders.items }) f.refusal (below_true new f.refusal.distance less))) (choose_true s f order distance less price)
+      | inr more ↦ subst (Chosen s f order distance) (sym (cond_false (ltb new f.refusal.distance) (record { distance = new; index = length f.orders.items }) f.refusal (below_false new f.refusal.distance more))) (choose_false s f order distance more price)
     ]
 
 refusal_settled : (s : Kept) (f f' : Search) (order distance wagon n : ℕ) → IsKept s → IsSearch s f n → IsNext s f (next_of order distance wagon) → IsPushed s f order distance f'.order_distance.items f'.orders.items → f'.front ≡ distance → Chosen s f order distance f'.refusal → IsRefusal s f'
-refusal_settled s f f' order distance wagon n k h next p front (chosen place exact less) =
+refusal_settled s f f' order distance wagon n k h next p front (chosen index exact less) =
     let count = p.count in
     let here = p.here in
     let at_end = p.at_end in
@@ -261,11 +261,11 @@ refusal_settled s f f' order distance wagon n k h next p front (chosen place exa
         | inl none ↦ let z = next.first none in omega (arith, z, exact, penalty)
         | inr other ↦ let below = h.refusal.limit (omega (arith, other)) in omega (arith, less, below)
       ];
-      within = λ some. omega (arith, place, count);
+      within = λ some. omega (arith, index, count);
       exact = λ some.
-          let q : settled_at f' f'.refusal.place ≡ order = ap (settled_at f') place ∙ at_end in
+          let q : settled_at f' f'.refusal.index ≡ order = ap (settled_at f') index ∙ at_end in
           rw (q, here) exact;
-      least = at_place (λ x q. f'.refusal.distance + get_or s.v q 0 ≤ distance_at f' q + penalty_at s.table q) s f order distance _ f'.orders.items p
+      least = at_index (λ x q. f'.refusal.distance + get_or s.v q 0 ≤ distance_at f' q + penalty_at s.table q) s f order distance _ f'.orders.items p
           (λ x lx. let d = p.there (settled_at f x) (p.other x lx) in let was = h.refusal.least x lx in omega (arith, d, was, less))
           (omega (arith, here, exact));
     }
@@ -273,7 +273,7 @@ refusal_settled s f f' order distance wagon n k h next p front (stays same more)
     let count = p.count in
     let here = p.here in
     let far : f'.refusal.distance ≡ f.refusal.distance = ap (λ (r : Refusal). r.distance) same in
-    let at : f'.refusal.place ≡ f.refusal.place = ap (λ (r : Refusal). r.place) same in
+    let at : f'.refusal.index ≡ f.refusal.index = ap (λ (r : Refusal). r.index) same in
     let nearer = next.refusal in
     let penalty = penalty_limit s.table order k.table in
     let price = k.priced.below_penalty order next.within in
@@ -288,10 +288,10 @@ refusal_settled s f f' order distance wagon n k h next p front (stays same more)
       limit = λ _. let below = h.refusal.limit some in omega (arith, far, below);
       within = λ _. omega (arith, at, within, count);
       exact = λ _.
-          let q : settled_at f' f'.refusal.place ≡ settled_at f f.refusal.place = ap (settled_at f') at ∙ p.before f.refusal.place within in
-          let d : distance_at f' (settled_at f f.refusal.place) ≡ distance_at f (settled_at f f.refusal.place) = p.there (settled_at f f.refusal.place) (p.other f.refusal.place within) in
+          let q : settled_at f' f'.refusal.index ≡ settled_at f f.refusal.index = ap (settled_at f') at ∙ p.before f.refusal.index within in
+          let d : distance_at f' (settled_at f f.refusal.index) ≡ distance_at f (settled_at f f.refusal.index) = p.there (settled_at f f.refusal.index) (p.other f.refusal.index within) in
           rw (q, d, far) (h.refusal.exact some);
-      least = at_place (λ x q. f'.refusal.distance + get_or s.v q 0 ≤ distance_at f' q + penalty_at s.table q) s f order distance _ f'.orders.items p
+      least = at_index (λ x q. f'.refusal.distance + get_or s.v q 0 ≤ distance_at f' q + penalty_at s.table q) s f order distance _ f'.orders.items p
           (λ x lx. let d = p.there (settled_at f x) (p.other x lx) in let was = h.refusal.least x lx in omega (arith, d, was, far))
           (omega (arith, here, more, far));
     }

@@ -33,7 +33,7 @@ full_from orders low (suc n) (cell ∷ row) h full l =
     let e : low + suc n ≡ cell.0 + 1 + n = omega (arith, first) in
     cost_later cell.0 (low + suc n) cell.1 (cost_in row (low + suc n)) (omega (arith, first)) ∙ ap (cost_in row) e ∙ full_from orders (cell.0 + 1) n row h.3 (omega (arith, first)) (omega arith)
 
--- the cell of a full row at a place
+-- the cell of a full row at an index
 pub full_at : (t : Table) (i j : ℕ) (row : List (ℕ × ℕ)) → row ≡ row_at t i → IsRow (order_count t) 0 row → length (row_at t i) ≡ order_count t → j < order_count t → cost_at t i j ≡ Some (get_or row j (0, 0)).1
 full_at t i j row e is full l =
     let long : length row ≡ order_count t = ap length e ∙ full in
@@ -66,31 +66,31 @@ two_kept t n m i j other = elim (cases_lt j m) [
 pub two_more : (t : Table) (n m w a b : ℕ) (costs costs' : List ℕ) → w ≡ wagon_count t → n + 1 < wagon_count t → m < order_count t → cost_at t n m ≡ Some a → cost_at t (n + 1) m ≡ Some b → AreCostsOf t (cost_two t n m) costs → costs' ≡ set (set costs (m * w + n) a) (m * w + n + 1) b → AreCostsOf t (cost_two t n (m + 1)) costs'
 two_more t n m w a b costs costs' we ln lm first second h e0 =
     let k = wagon_count t in
-    let place = m * k + n in
-    let inner = set costs place a in
-    let e : costs' ≡ set inner (place + 1) b = e0 ∙ ap (λ x. set (set costs (m * x + n) a) (m * x + n + 1) b) we in
+    let index = m * k + n in
+    let inner = set costs index a in
+    let e : costs' ≡ set inner (index + 1) b = e0 ∙ ap (λ x. set (set costs (m * x + n) a) (m * x + n + 1) b) we in
     let bound = mul-add-lt m k (n + 1) (order_count t) lm ln in
     let swap : order_count t * k ≡ k * order_count t = grind arith in
     let count = h.count in
-    let long : length inner ≡ length costs = written_length costs inner place a refl in
-    let next : m * k + (n + 1) ≡ place + 1 = omega arith in
+    let long : length inner ≡ length costs = written_length costs inner index a refl in
+    let next : m * k + (n + 1) ≡ index + 1 = omega arith in
     record {
-      count = written_length inner costs' (place + 1) b e ∙ long ∙ count;
-      each = λ i j li lj. elim (cases_eq (j * k + i) place) [
+      count = written_length inner costs' (index + 1) b e ∙ long ∙ count;
+      each = λ i j li lj. elim (cases_eq (j * k + i) index) [
         | inl here ↦
-            let at : get_or costs' place 0 ≡ cell_cost (cost_two t n (m + 1) n m) = other_at inner costs' (place + 1) b 0 place e (λ q. omega (arith, q)) ∙ same_at costs inner place a 0 (omega (arith, bound, swap, count, next)) refl ∙ ap cell_cost (sym (two_new t n m n (omega arith) ∙ first)) in
+            let at : get_or costs' index 0 ≡ cell_cost (cost_two t n (m + 1) n m) = other_at inner costs' (index + 1) b 0 index e (λ q. omega (arith, q)) ∙ same_at costs inner index a 0 (omega (arith, bound, swap, count, next)) refl ∙ ap cell_cost (sym (two_new t n m n (omega arith) ∙ first)) in
             let ei = place_wagon k i j n m li (omega (arith, ln)) here in
             let ej = place_order k i j n m li (omega (arith, ln)) here in
             ap (λ x. get_or costs' x 0) here ∙ at ∙ ap (λ x. cell_cost (cost_two t n (m + 1) x m)) (sym ei) ∙ ap (λ y. cell_cost (cost_two t n (m + 1) i y)) (sym ej)
-        | inr not_first ↦ elim (cases_eq (j * k + i) (place + 1)) [
+        | inr not_first ↦ elim (cases_eq (j * k + i) (index + 1)) [
           | inl here ↦
-              let at : get_or costs' (place + 1) 0 ≡ cell_cost (cost_two t n (m + 1) (n + 1) m) = same_at inner costs' (place + 1) b 0 (omega (arith, bound, swap, count, next, long)) e ∙ ap cell_cost (sym (two_new t n m (n + 1) (omega arith) ∙ second)) in
+              let at : get_or costs' (index + 1) 0 ≡ cell_cost (cost_two t n (m + 1) (n + 1) m) = same_at inner costs' (index + 1) b 0 (omega (arith, bound, swap, count, next, long)) e ∙ ap cell_cost (sym (two_new t n m (n + 1) (omega arith) ∙ second)) in
               let ei = place_wagon k i j (n + 1) m li ln (here ∙ sym next) in
               let ej = place_order k i j (n + 1) m li ln (here ∙ sym next) in
               ap (λ x. get_or costs' x 0) here ∙ at ∙ ap (λ x. cell_cost (cost_two t n (m + 1) x m)) (sym ei) ∙ ap (λ y. cell_cost (cost_two t n (m + 1) i y)) (sym ej)
           | inr not_second ↦
               let kept = two_kept t n m i j (λ ej. (λ ei. not_first (ap (λ x. j * k + x) ei ∙ ap (λ y. y * k + n) ej), λ ei. not_second (ap (λ x. j * k + x) ei ∙ ap (λ y. y * k + (n + 1)) ej ∙ next))) in
-              other_at inner costs' (place + 1) b 0 (j * k + i) e not_second ∙ other_at costs inner place a 0 (j * k + i) refl not_first ∙ h.each i j li lj ∙ ap cell_cost (sym kept)
+              other_at inner costs' (index + 1) b 0 (j * k + i) e not_second ∙ other_at costs inner index a 0 (j * k + i) refl not_first ∙ h.each i j li lj ∙ ap cell_cost (sym kept)
         ]
       ];
     }

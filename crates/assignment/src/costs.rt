@@ -69,9 +69,9 @@ fn place_full_rows(costs: &mut [u32], v: &mut [u32], nearest: &mut [usize], cell
     let second = cells.row(i + 1);
     'orders: for j in 0..first.len() {
         let (cost, next_cost) = (first[j].1, second[j].1);
-        let place = j * wagons + i;
-        costs[place] = cost;
-        costs[place + 1] = next_cost;
+        let index = j * wagons + i;
+        costs[index] = cost;
+        costs[index + 1] = next_cost;
         lower(v, nearest, j, cost.min(next_cost), i);
     }
 }

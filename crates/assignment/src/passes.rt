@@ -1,6 +1,6 @@
 //! Passes over all wagons, without a branch in their loops, so that the compiler makes vector code of them.
-ghost use Rattle.std.specs.Prelude.{◌≡◌, ◌<◌, ◌≤◌, ◌+◌, ◌-◌, ◌^◌, ◌==◌, ℕ, true, false, min, if◌then◌else◌, length, slice_index, IfSome, IfNone};
-ghost use Rattle.assignment.specs.inner.Passes.{AreNearest, IsAmong, IsFound, through};
+ghost use Rattle.std.specs.Prelude.{◌≡◌, ◌<◌, ◌≤◌, ◌+◌, ◌-◌, ◌^◌, ◌==◌, ℕ, false, if◌then◌else◌, length, slice_index, IfSome, IfNone};
+ghost use Rattle.assignment.specs.inner.Passes.{AreNearest, AreRelaxed, IsAmong, IsFound};
 
 use crate::state::NO_ORDER;
 
@@ -41,7 +41,7 @@ pub(crate) fn relax(
     requires orders { length order_of.now ≡ length label.old }
     requires no_gap { (i : ℕ) → i < length label.old → price ≤ slice_index costs.now i + slice_index u.now i }
     requires limit { (i : ℕ) → i < length label.old → slice_index costs.now i + slice_index u.now i + distance < 2 ^ 32 }
-    ensures labels { (i : ℕ) → i < length label.old → slice_index label.new i ≡ min (slice_index label.old i) (through distance price (slice_index costs.now i) (slice_index u.now i)) }
+    ensures labels { AreRelaxed distance price costs.now u.now label.old label.new }
     ensures nearest { AreNearest (slice_index label.new) target.now order_of.now result (length label.new) }
 {
     let mut onward = FAR;

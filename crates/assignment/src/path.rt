@@ -1,8 +1,8 @@
 //! The way back along a path.
-ghost use Rattle.std.specs.Prelude.{◌≡◌, ◌≢◌, ◌<◌, ◌≤◌, ◌+◌, ◌^◌, ◌⊎◌, ℕ, None, Some, length, slice_index};
-ghost use Rattle.assignment.specs.inner.State.{IsState, kept, order_at, served};
-ghost use Rattle.assignment.specs.inner.Search.{IsSearch, IsShortestPath, IsWagonReached};
-ghost use Rattle.assignment.specs.inner.Path.{AreHandedOn, IsGiven, IsOnWay, IsSettledEnd, one_if, given_up};
+ghost use Rattle.std.specs.Prelude.{◌≡◌, ◌≢◌, ◌<◌, ◌≤◌, ◌+◌, ◌^◌, ℕ, Some, length, slice_index};
+ghost use Rattle.assignment.specs.inner.State.{IsState, kept, order_at};
+ghost use Rattle.assignment.specs.inner.Search.{IsSearch, IsShortestPath, IsWagonReached, settled_at};
+ghost use Rattle.assignment.specs.inner.Path.{AreHandedOn, IsHandedOn, IsOnPath, IsOnWay, IsSettledEnd, given_up, one_if, wagons_of};
 
 use crate::search::{End, Path, Search};
 use crate::state::State;
@@ -12,22 +12,22 @@ use crate::state::State;
 pub(crate) fn walk_back(state: &mut State, search: &Search, path: Path)
     requires state { IsState state.old }
     requires path { IsShortestPath (kept state.old) search.now path }
-    ensures handed_on { AreHandedOn (kept state.old) search.now path.end (kept state.new).order_of }
-    ensures count { (k : ℕ) → served k (kept state.new).order_of + one_if k (given_up search.now path.end) ≡ served k (kept state.old).order_of + one_if k (Some (slice_index search.now.orders.items 0)) }
+    ensures handed_on { AreHandedOn (kept state.old) search.now (IsOnPath search.now path.end) (kept state.new).order_of }
+    ensures count { (k : ℕ) → IsHandedOn (wagons_of (kept state.old)) (wagons_of (kept state.new)) search.now (given_up search.now path.end) k }
     ensures wagons { length (kept state.new).order_of ≡ length (kept state.old).order_of }
     ensures same { state.new ≡ record state.old { order_of = state.new.order_of } }
 {
     match path.end {
         End::Wagon(wagon) => hand_on(state, search, wagon, search.orders.len()),
-        End::Refusal(place) => {
-            if place > 0 {
-                hand_on(state, search, search.via[place], place);
+        End::Refusal(index) => {
+            if index > 0 {
+                hand_on(state, search, search.via[index], index);
             }
         }
     }
 }
 
-/// Gives the wagon to the order before place `end` that it was reached from, that order's wagon to the one before, and
+/// Gives the wagon to the order before index `end` that it was reached from, that order's wagon to the one before, and
 /// so on to the first order.
 fn hand_on(state: &mut State, search: &Search, wagon: usize, end: usize)
     requires state { IsState state.old }
@@ -36,17 +36,17 @@ fn hand_on(state: &mut State, search: &Search, wagon: usize, end: usize)
     requires end { end ≤ length search.now.orders.items }
     requires reached { IsWagonReached (kept state.old) search.now end wagon }
     requires apart { (x : ℕ) → 0 < x → x < end → slice_index search.now.via.items x ≢ wagon }
-    ensures handed_on { (i : ℕ) → (order_at (kept state.new).order_of i ≡ order_at (kept state.old).order_of i) ⊎ (IsOnWay search.now wagon i × IsGiven (kept state.old) search.now (kept state.new).order_of i) }
-    ensures count { (k : ℕ) → served k (kept state.new).order_of + one_if k (order_at (kept state.old).order_of wagon) ≡ served k (kept state.old).order_of + one_if k (Some (slice_index search.now.orders.items 0)) }
+    ensures handed_on { AreHandedOn (kept state.old) search.now (IsOnWay search.now wagon) (kept state.new).order_of }
+    ensures count { (k : ℕ) → IsHandedOn (wagons_of (kept state.old)) (wagons_of (kept state.new)) search.now (order_at (kept state.old).order_of wagon) k }
     ensures wagons { length (kept state.new).order_of ≡ length (kept state.old).order_of }
     ensures same { state.new ≡ record state.old { order_of = state.new.order_of } }
 {
     let mut wagon = wagon;
-    let mut place = search.place_of(state, wagon, end);
-    while place > 0 {
-        state.order_of[wagon] = search.orders[place];
-        wagon = search.via[place];
-        place = search.place_of(state, wagon, place);
+    let mut index = search.index_of(state, wagon, end);
+    while index > 0 {
+        state.order_of[wagon] = search.orders[index];
+        wagon = search.via[index];
+        index = search.index_of(state, wagon, index);
     }
     state.order_of[wagon] = search.orders[0];
 }
@@ -57,11 +57,11 @@ pub(crate) fn count_unit(served: &mut [u32], search: &Search, end: End)
     requires end { IsSettledEnd search.now end }
     requires orders { (x : ℕ) → x < length search.now.orders.items → slice_index search.now.orders.items x < length served.old }
     requires limit { (k : ℕ) → k < length served.old → slice_index served.old k + 1 < 2 ^ 32 }
-    requires held { (k : ℕ) → k < length served.old → one_if k (given_up search.now end) ≤ slice_index served.old k + one_if k (Some (slice_index search.now.orders.items 0)) }
-    ensures { (k : ℕ) → k < length served.old → slice_index served.new k + one_if k (given_up search.now end) ≡ slice_index served.old k + one_if k (Some (slice_index search.now.orders.items 0)) }
+    requires held { (k : ℕ) → k < length served.old → one_if k (given_up search.now end) ≤ slice_index served.old k + one_if k (Some (settled_at search.now 0)) }
+    ensures { (k : ℕ) → k < length served.old → IsHandedOn (slice_index served.old) (slice_index served.new) search.now (given_up search.now end) k }
 {
     served[search.orders[0] as usize] += 1;
-    if let End::Refusal(place) = end {
-        served[search.orders[place] as usize] -= 1;
+    if let End::Refusal(index) = end {
+        served[search.orders[index] as usize] -= 1;
     }
 }

@@ -14,7 +14,7 @@ use std::alloc::{AllocError, Global};
 pub(crate) enum End {
     /// At a wagon without an order.
     Wagon(usize),
-    /// The order settled at this place refuses a unit.
+    /// The order settled at this index refuses a unit.
     Refusal(usize),
 }
 
@@ -25,11 +25,11 @@ pub(crate) struct Path {
     pub(crate) end: End,
 }
 
-/// The nearest refusal that was found: its distance in kilometres, and the place of the order that refuses.
+/// The nearest refusal that was found: its distance in kilometres, and the index of the order that refuses.
 #[derive(Clone, Copy)]
 pub(crate) struct Refusal {
     pub(crate) distance: u32,
-    pub(crate) place: usize,
+    pub(crate) index: usize,
 }
 
 /// What is settled next: an order, its distance in kilometres, and the wagon that leads to it.
@@ -49,9 +49,9 @@ pub(crate) struct Search {
     pub(crate) target: Vec<u32>,
     /// The distance of each order that is settled.
     pub(crate) order_distance: Vec<u32>,
-    /// The orders settled, by place.
+    /// The orders settled, by index.
     pub(crate) orders: Vec<u32>,
-    /// The wagon that led to the order at a place; at place 0 it means nothing.
+    /// The wagon that led to the order at an index; at index 0 it means nothing.
     pub(crate) via: Vec<usize>,
     /// The distance of the order settled last.
     pub(crate) front: u32,
@@ -73,7 +73,7 @@ impl Search {
             front: 0,
             refusal: Refusal {
                 distance: FAR,
-                place: 0,
+                index: 0,
             },
         })
     }
@@ -94,7 +94,7 @@ impl Search {
         self.front = 0;
         self.refusal = Refusal {
             distance: FAR,
-            place: 0,
+            index: 0,
         };
     }
 
@@ -109,18 +109,18 @@ impl Search {
         ensures others { 0 < length self.old.orders.items → slice_index self.new.orders.items 0 ≡ slice_index self.old.orders.items 0 }
     {
         let order = next.order as usize;
-        let place = self.orders.len();
+        let index = self.orders.len();
         let penalty = state.cells.penalty(order) as u32;
         let refusal = Refusal {
             distance: next.distance + (penalty - state.v[order]),
-            place,
+            index,
         };
         self.refusal = nearer(self.refusal, refusal);
         self.order_distance[order] = next.distance;
         self.orders.push_reserved(next.order);
         self.via.push_reserved(next.wagon);
         self.front = next.distance;
-        close_next(&mut self.target, next, state.served[order], place == 0);
+        close_next(&mut self.target, next, state.served[order], index == 0);
     }
 
     /// Relaxes the cells of the order settled last, and answers what is nearest then.
@@ -176,7 +176,7 @@ impl Search {
         if idle > self.refusal.distance {
             return Path {
                 distance: self.refusal.distance,
-                end: End::Refusal(self.refusal.place),
+                end: End::Refusal(self.refusal.index),
             };
         }
         match find(&self.label, &state.order_of, true, idle, 0) {
@@ -188,8 +188,8 @@ impl Search {
         }
     }
 
-    /// The place of the first order over whose cell the wagon is as far as its label says; it lies before `end`.
-    pub(crate) fn place_of(&self, state: &State, wagon: usize, end: usize) -> usize
+    /// The index of the first order over whose cell the wagon is as far as its label says; it lies before `end`.
+    pub(crate) fn index_of(&self, state: &State, wagon: usize, end: usize) -> usize
         requires search { IsSearchOf state.now self.now }
         requires wagon { wagon < wagon_count state.now.cells.now }
         requires end { end ≤ length self.now.orders.items }
@@ -199,12 +199,12 @@ impl Search {
     {
         let label = u64::from(self.label[wagon]);
         let price = u64::from(state.u[wagon]);
-        'places: for place in 0..end {
-            let order = self.orders[place] as usize;
+        'indexes: for index in 0..end {
+            let order = self.orders[index] as usize;
             let cost = u64::from(state.costs[order * state.cells.wagons() + wagon]);
             let distance = u64::from(self.order_distance[order]) + cost + price;
             if label + u64::from(state.v[order]) == distance {
-                return place;
+                return index;
             }
         }
         unreachable!()

@@ -11,6 +11,21 @@ pub(crate) struct WordHelp {
     pub(crate) long_about: &'static str,
     /// How it is called.
     pub(crate) example: &'static str,
+    /// What it takes.
+    pub(crate) arguments: Arguments,
+}
+
+/// What a word takes.
+#[derive(Clone, Copy, Debug)]
+pub(crate) enum Arguments {
+    /// Nothing.
+    Nothing,
+    /// The code of a refusal, which may be missing.
+    Code,
+    /// The options of an office.
+    Office,
+    /// The options of an office, and files.
+    OfficeAndFiles,
 }
 
 /// What the program is.
@@ -36,6 +51,7 @@ pub(crate) const CHECK: WordHelp = WordHelp {
      `N refused CODE` and details. Exits with 0, with 1 where a line was refused,\n\
      with 2 where it could not run or stopped.",
     example: "Example:\n  wagons check < tables.jsonl",
+    arguments: Arguments::Nothing,
 };
 
 /// The help of `solve`.
@@ -49,6 +65,7 @@ pub(crate) const SOLVE: WordHelp = WordHelp {
      with 0, with 1 where a line was refused, with 2 where it could not run or\n\
      stopped.",
     example: "Example:\n  wagons solve < problems.jsonl | wagons check",
+    arguments: Arguments::Nothing,
 };
 
 /// The help of `run`.
@@ -62,6 +79,7 @@ pub(crate) const RUN: WordHelp = WordHelp {
      with 1 where a line was refused, with 2 where it could not run or stopped.",
     example: "Example:\n  \
      wagons run --roster roster.csv --network network.csv < day.jsonl",
+    arguments: Arguments::Office,
 };
 
 /// The help of `feed`.
@@ -76,6 +94,7 @@ pub(crate) const FEED: WordHelp = WordHelp {
      file failed or it could not run.",
     example: "Example:\n  \
      wagons feed --roster roster.csv --network network.csv north.jsonl south.jsonl",
+    arguments: Arguments::OfficeAndFiles,
 };
 
 /// The help of `map`.
@@ -91,6 +110,7 @@ pub(crate) const MAP: WordHelp = WordHelp {
     example: "Example:\n  \
      wagons map --roster roster.csv --network network.csv < day.jsonl |\n    \
      neato -Tsvg > day.svg",
+    arguments: Arguments::Office,
 };
 
 /// The help of `explain`.
@@ -100,6 +120,7 @@ pub(crate) const EXPLAIN: WordHelp = WordHelp {
     long_about: "Says what the code of a refusal means, in which words it comes, its usual cause\n\
      and what to do about it. Without a code it says this of all refusals.",
     example: "Example:\n  wagons explain 82",
+    arguments: Arguments::Code,
 };
 
 /// What the code of `explain` is.

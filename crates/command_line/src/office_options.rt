@@ -50,12 +50,18 @@ pub struct FeedOptions<'a> {
     pub files: Vec<&'a str>,
 }
 
-/// The files that were given.
-pub(crate) fn files_of<'a>(
-    alloc: Global,
-    matches: &ArgMatches<'a>,
-) -> Result<Vec<&'a str>, AllocError> {
-    Vec::from_slice(alloc, matches.get_strs("file").unwrap_or(&[]))
+impl<'a> FeedOptions<'a> {
+    /// The options and files that were given. `clap` has refused words without a file before.
+    pub(crate) fn read(
+        alloc: Global,
+        matches: &ArgMatches<'a>,
+    ) -> Result<FeedOptions<'a>, AllocError> {
+        let files = matches.get_strs("file").unwrap_or(&[]);
+        Ok(FeedOptions {
+            office: OfficeOptions::read(alloc, matches)?,
+            files: Vec::from_slice(alloc, files)?,
+        })
+    }
 }
 
 /// A word with 1 to 16 files.
@@ -88,15 +94,41 @@ pub(crate) fn with_office_options<'a>(
     alloc: Global,
     word: Command<'a>,
 ) -> Result<Command<'a>, AllocError> {
-    let roster = file_option(alloc, "roster");
-    let word = word.arg(roster.help(help::ROSTER).long_help(help::ROSTER_LONG))?;
-    let word = word.arg(network_option(alloc))?;
-    let entries = number_option(alloc, "entries", MAX_ENTRIES, "100000");
-    let word = word.arg(entries.help(help::ENTRIES).long_help(help::ENTRIES_LONG))?;
-    let kept = number_option(alloc, "kept", MAX_KEPT_PROBLEMS as u64, "8");
-    let word = word.arg(kept.help(help::KEPT).long_help(help::KEPT_LONG))?;
-    let workers = number_option(alloc, "workers", MAX_WORKERS as u64, "4");
-    word.arg(workers.help(help::WORKERS).long_help(help::WORKERS_LONG))
+    word.args(vec![in alloc;
+        roster_option(alloc),
+        network_option(alloc),
+        entries_option(alloc),
+        kept_option(alloc),
+        workers_option(alloc),
+    ]?)
+}
+
+/// The option of the roster's file.
+fn roster_option<'a>(alloc: Global) -> Arg<'a> {
+    file_option(alloc, "roster")
+        .help(help::ROSTER)
+        .long_help(help::ROSTER_LONG)
+}
+
+/// The option of how many entries a book may have.
+fn entries_option<'a>(alloc: Global) -> Arg<'a> {
+    number_option(alloc, "entries", MAX_ENTRIES, "100000")
+        .help(help::ENTRIES)
+        .long_help(help::ENTRIES_LONG)
+}
+
+/// The option of how many problems a book keeps.
+fn kept_option<'a>(alloc: Global) -> Arg<'a> {
+    number_option(alloc, "kept", MAX_KEPT_PROBLEMS as u64, "8")
+        .help(help::KEPT)
+        .long_help(help::KEPT_LONG)
+}
+
+/// The option of how many threads work out the distances.
+fn workers_option<'a>(alloc: Global) -> Arg<'a> {
+    number_option(alloc, "workers", MAX_WORKERS as u64, "4")
+        .help(help::WORKERS)
+        .long_help(help::WORKERS_LONG)
 }
 
 /// The option of a network's file, which may stand several times.

@@ -1,10 +1,8 @@
 //! The command line: its words, and the faults of arguments.
 
 use crate::help;
-use crate::help::WordHelp;
-use crate::office_options::{
-    FeedOptions, OfficeOptions, files_of, with_files, with_office_options,
-};
+use crate::help::{Arguments, WordHelp};
+use crate::office_options::{FeedOptions, OfficeOptions, with_files, with_office_options};
 use clap::builder::ValueParser;
 use clap::error::ErrorKind;
 use clap::{Arg, ArgMatches, Command, Error};
@@ -17,6 +15,16 @@ const CODE: &str = "code";
 
 /// The largest number that an argument of `explain` may be.
 const MAX_CODE: u64 = 999;
+
+/// The words, in the order in which help lists them.
+const WORDS: [WordHelp; 6] = [
+    help::CHECK,
+    help::SOLVE,
+    help::RUN,
+    help::FEED,
+    help::MAP,
+    help::EXPLAIN,
+];
 
 /// The program's version.
 const VERSION: &str = "0.1.0";
@@ -42,24 +50,22 @@ pub enum Word<'a> {
 /// or the version, a fault of the arguments in clap's own text, or out of memory.
 pub fn read_words<'a, S: AsStr>(alloc: Global, words: &'a [S]) -> Result<Word<'a>, Error> {
     let matches = command_line(alloc)?.try_get_matches_from(words)?;
-    if let Some(options) = matches.subcommand_matches("run") {
-        return Ok(Word::Run(OfficeOptions::read(alloc, options)?));
+    let Some((name, options)) = matches.subcommand() else {
+        return Ok(Word::Check);
+    };
+    read_word(alloc, name, options)
+}
+
+/// What a word asks for. `clap` has refused other names.
+fn read_word<'a>(alloc: Global, name: &str, options: &ArgMatches<'a>) -> Result<Word<'a>, Error> {
+    match name {
+        "run" => Ok(Word::Run(OfficeOptions::read(alloc, options)?)),
+        "map" => Ok(Word::Map(OfficeOptions::read(alloc, options)?)),
+        "feed" => Ok(Word::Feed(FeedOptions::read(alloc, options)?)),
+        "explain" => read_code(alloc, options),
+        "solve" => Ok(Word::Solve),
+        _ => Ok(Word::Check),
     }
-    if let Some(options) = matches.subcommand_matches("feed") {
-        let office = OfficeOptions::read(alloc, options)?;
-        let files = files_of(alloc, options)?;
-        return Ok(Word::Feed(FeedOptions { office, files }));
-    }
-    if let Some(options) = matches.subcommand_matches("map") {
-        return Ok(Word::Map(OfficeOptions::read(alloc, options)?));
-    }
-    if let Some(options) = matches.subcommand_matches("explain") {
-        return read_code(alloc, options);
-    }
-    if matches.subcommand_matches("solve").is_some() {
-        return Ok(Word::Solve);
-    }
-    Ok(Word::Check)
 }
 
 /// What `explain` is asked for; a number that stands for no refusal is a fault of the arguments.
@@ -77,7 +83,7 @@ fn read_code<'a>(alloc: Global, matches: &ArgMatches<'a>) -> Result<Word<'a>, Er
             let text = format!(in alloc;
                 "no refusal has the code {code}; `wagons explain` lists those there are"
             )?;
-            let mut command = explain_command(alloc)?.bin_name("wagons explain")?;
+            let mut command = word_command(alloc, help::EXPLAIN)?.bin_name("wagons explain")?;
             Err(command.error(ErrorKind::InvalidValue, text.as_str())?)
         }
     }
@@ -94,16 +100,15 @@ pub fn not_utf8(alloc: Global) -> Result<Error, AllocError> {
 
 /// The words that the program knows. Usage lines name it `wagons`, whatever its file is called.
 fn command_line<'a>(alloc: Global) -> Result<Command<'a>, AllocError> {
-    let program = without_words(alloc)?;
-    let program = with_table_words(alloc, program)?;
-    let program = with_office_word(alloc, program, help::RUN)?;
-    let program = with_feed(alloc, program)?;
-    let program = with_office_word(alloc, program, help::MAP)?;
-    program.subcommand(explain_command(alloc)?)
+    let mut program = program(alloc)?;
+    for help in WORDS {
+        program = program.subcommand(word_command(alloc, help)?)?;
+    }
+    Ok(program)
 }
 
 /// The program, and no word.
-fn without_words<'a>(alloc: Global) -> Result<Command<'a>, AllocError> {
+fn program<'a>(alloc: Global) -> Result<Command<'a>, AllocError> {
     let program = Command::new(alloc, "wagons").bin_name("wagons")?;
     Ok(
         program
@@ -113,45 +118,23 @@ fn without_words<'a>(alloc: Global) -> Result<Command<'a>, AllocError> {
     )
 }
 
-/// With the words for tables.
-fn with_table_words<'a>(alloc: Global, program: Command<'a>) -> Result<Command<'a>, AllocError> {
-    program
-        .subcommand(word_command(alloc, help::CHECK))?
-        .subcommand(word_command(alloc, help::SOLVE))
-}
-
-/// With a word that opens an office.
-fn with_office_word<'a>(
-    alloc: Global,
-    program: Command<'a>,
-    help: WordHelp,
-) -> Result<Command<'a>, AllocError> {
-    let word = office_command(alloc, help)?;
-    program.subcommand(word)
-}
-
-/// With the word `feed`, which wants files.
-fn with_feed<'a>(alloc: Global, program: Command<'a>) -> Result<Command<'a>, AllocError> {
-    let word = office_command(alloc, help::FEED)?;
-    program.subcommand(with_files(alloc, word)?)
-}
-
-/// A word with its help.
-fn word_command<'a>(alloc: Global, help: WordHelp) -> Command<'a> {
-    Command::new(alloc, help.name)
+/// A word with its help and what it takes.
+fn word_command<'a>(alloc: Global, help: WordHelp) -> Result<Command<'a>, AllocError> {
+    let word = Command::new(alloc, help.name)
         .about(help.about)
         .long_about(help.long_about)
-        .after_help(help.example)
+        .after_help(help.example);
+    match help.arguments {
+        Arguments::Nothing => Ok(word),
+        Arguments::Code => with_code(alloc, word),
+        Arguments::Office => with_office_options(alloc, word),
+        Arguments::OfficeAndFiles => with_files(alloc, with_office_options(alloc, word)?),
+    }
 }
 
-/// A word that opens an office.
-fn office_command<'a>(alloc: Global, help: WordHelp) -> Result<Command<'a>, AllocError> {
-    with_office_options(alloc, word_command(alloc, help))
-}
-
-/// The word `explain`, which may have a code.
-fn explain_command<'a>(alloc: Global) -> Result<Command<'a>, AllocError> {
-    word_command(alloc, help::EXPLAIN).arg(
+/// A word that may have the code of a refusal.
+fn with_code<'a>(alloc: Global, word: Command<'a>) -> Result<Command<'a>, AllocError> {
+    word.arg(
         Arg::new(alloc, CODE)
             .value_name("CODE")
             .value_parser(ValueParser::unsigned(1, MAX_CODE))

@@ -5,8 +5,8 @@ use Rattle.std.specs.Prelude.{◌⊎◌, slice_get}
 use Rattle.move_messages.specs.declared.commit_text.CommitText.{CommitText}
 use Rattle.move_messages.specs.declared.message.Message as movement
 use Rattle.operating_db.specs.After.{after_call}
-use Rattle.operating_db.specs.declared.event.Event.{Event}
-use Rattle.operating_db.specs.declared.event.Event.TheVariants as event
+use Rattle.move_messages.specs.declared.event.Event.{Event}
+use Rattle.move_messages.specs.declared.event.Event.TheVariants as event
 use Rattle.commit_book.specs.BookStep.{BookState, IsCall, IsCommitAnswer, IsRun, event_answer, is_full, is_kept}
 use Rattle.commit_book.specs.inner.Entered.{IsEntered}
 use Rattle.commit_book.specs.inner.CommitTests.{IsAccepted, IsRefused}
@@ -31,7 +31,7 @@ pub commit_step : (setting : Setting) (book : BookState) (commit : CommitText) (
     → IsCommitAnswer (is_kept book.kept (commit.version, commit.at)) (is_full setting book.history) setting book.history commit answer
 commit_step setting book commit answer kept full is_k is_f h = rw (is_k, is_f) h
 
-pub commit_call : (setting : Setting) (book : BookState) (commit : CommitText) (answer : Answer) (new : BookState) → IsAccepted setting book commit → IsEntered setting book (event.Commit commit) answer new → IsCall setting book (call.Commit commit) answer new
+pub commit_call : (setting : Setting) (book : BookState) (commit : CommitText) (answer : Answer) (new : BookState) → IsAccepted setting book commit → IsEntered setting book (event.Commit commit) answer new → IsCall setting book (call.Event (event.Commit commit)) answer new
 commit_call setting book commit answer new ok entered = elim entered [
   | inl h ↦
       let says : answer ≡ Done (Accepted (length book.history + 1)) = h.answered ∙ commit_answer setting book.history commit (is_full setting book.history) refl ok.testable.room in
@@ -43,7 +43,7 @@ commit_call setting book commit answer new ok entered = elim entered [
   | inr h ↦ inr (record { may = (ok.testable.kept, ok.testable.room); refused = h.refused; unchanged = h.unchanged })
 ]
 
-pub refused_call : (setting : Setting) (book : BookState) (commit : CommitText) (refusal : Refusal) → IsRefused setting book commit refusal → IsCall setting book (call.Commit commit) (Refused refusal) book
+pub refused_call : (setting : Setting) (book : BookState) (commit : CommitText) (refusal : Refusal) → IsRefused setting book commit refusal → IsCall setting book (call.Event (event.Commit commit)) (Refused refusal) book
 refused_call setting book commit refusal h = elim h [
   | inl answered ↦ inl (record { answered = answered; changed = refl })
   | inr memory ↦ inr (record { may = (memory.1.kept, memory.1.room); refused = ap (λ (r : Refusal). Refused r) memory.0; unchanged = refl })
@@ -69,11 +69,11 @@ memory_or P (OrderChanged order) h = inl (h (λ e. absurd cc))
 
 -- ---- messages
 
-pub repeated_call : (setting : Setting) (book : BookState) (message : movement.Message) (other : movement.Message) (place : ℕ) → slice_get book.history place ≡ Some (event.Message other) → other ≡ message → IsCall setting book (call.Message message) (Done (Repeated (place + 1))) book
+pub repeated_call : (setting : Setting) (book : BookState) (message : movement.Message) (other : movement.Message) (place : ℕ) → slice_get book.history place ≡ Some (event.Message other) → other ≡ message → IsCall setting book (call.Event (event.Message message)) (Done (Repeated (place + 1))) book
 repeated_call setting book message other place there same =
     inl (record { answered = inl (record { before = place; same = there ∙ ap (λ (m : movement.Message). Some (event.Message m)) same; answered = refl }); changed = refl })
 
-pub reused_call : (setting : Setting) (book : BookState) (message : movement.Message) (other : movement.Message) (place : ℕ) → slice_get book.history place ≡ Some (event.Message other) → other.id ≡ message.id → other ≢ message → IsCall setting book (call.Message message) (Refused IdReused) book
+pub reused_call : (setting : Setting) (book : BookState) (message : movement.Message) (other : movement.Message) (place : ℕ) → slice_get book.history place ≡ Some (event.Message other) → other.id ≡ message.id → other ≢ message → IsCall setting book (call.Event (event.Message message)) (Refused IdReused) book
 reused_call setting book message other place there same_id differs =
     inl (record { answered = inr (inl (record { before = place; other = other; there = there; same_id = same_id; differs = differs; answered = refl })); changed = refl })
 

@@ -1,7 +1,11 @@
 -- A book's parts, when an event is entered and when a problem is kept.
-use Rattle.std.proofs.Common.{◌≡◌, ◌∙◌, ◌≤◌, ℕ, false, List, [], ◌∷◌, ◌++◌, length, map, Option, Some, None, is_some, refl, sym, ap, arith, subst}
+use Rattle.std.proofs.Common.{◌≡◌, ◌∙◌, ◌≤◌, ◌<◌, ℕ, true, false, get_or, List, [], ◌∷◌, ◌++◌, length, map, Option, Some, None, is_some, refl, sym, ap, arith, subst}
 use Rattle.std.specs.List.{find}
-use Rattle.std.specs.Prelude.{IsOk, option_map}
+use Rattle.std.specs.Prelude.{IfNone, IfSome, IsOk, option_map, position, slice_get}
+use Rattle.std.proofs.lemmas.List.Elements.{All-get_or}
+use Rattle.std.proofs.lemmas.Option.{slice_get-map, slice_get_read}
+use Rattle.fleet_rows.proofs.Named.{found_at_place, not_found}
+use Rattle.problem_table.proofs.AllowedLemmas.{some_at}
 use Rattle.move_messages.specs.declared.commit_text.CommitText.{CommitText}
 use Rattle.std.proofs.Math.Seq.{take-length}
 use Rattle.line_network.specs.Network.{NetworkValue}
@@ -12,16 +16,16 @@ use Rattle.operating_db.specs.After.{after_call}
 use Rattle.operating_db.specs.Office.{Office, first_office}
 use Rattle.operating_db.specs.Problem.{problem_of}
 use Rattle.operating_db.specs.Steps.{IsPromised}
-use Rattle.operating_db.specs.declared.event.Event.{Event}
-use Rattle.commit_book.specs.BookStep.{is_full, is_kept}
+use Rattle.move_messages.specs.declared.event.Event.{Event}
+use Rattle.commit_book.specs.BookStep.{is_full, is_kept, is_this}
 use Rattle.commit_book.specs.History.{IsEntry, IsTableAt, Owes, after_all, problem_at, replay, version}
-use Rattle.commit_book.specs.inner.Kept.{IsBook, IsBookOf, IsInSpan, IsKeptAt, IsMade, IsMadeOf, is_covering, setting_of, which_of, with_kept}
+use Rattle.commit_book.specs.inner.Kept.{IsBook, IsBookOf, IsInSpan, IsIndexOfKept, IsKeptAt, IsMade, IsMadeOf, is_covering, setting_of, which_of, with_kept}
 use Rattle.commit_book.specs.inner.Ledger.{LedgerValue, office_of}
 use Rattle.commit_book.specs.Limits.{LimitNumbers}
 use Rattle.commit_book.specs.Setting.{Setting}
 use Rattle.commit_book.specs.declared.kept_problems.KeptProblem.{KeptProblem}
 use Rattle.commit_book.specs.declared.made_problem.MadeProblem.{MadeProblem}
-use Rattle.commit_book.proofs.Books.{IsCovering, at_moment, book_keep, book_push, found_covering, kept_as, kept_is_found, named_problem}
+use Rattle.commit_book.proofs.Books.{IsCovering, at_moment, book_keep, book_push, found_covering, kept_as, kept_is_found, kept_which, named_problem}
 use Rattle.commit_book.proofs.Runs.{IsLegalEntry, room_of}
 
 -- the office of a ledger is the replay
@@ -102,3 +106,38 @@ pub kept_table : (setting : Setting) (history : List Event) (kept : List KeptPro
 kept_table setting history kept version at one book found =
     let commit : CommitText = record { version = version; at = at; pairs = []; u = []; v = [] } in
     (named_problem setting history kept commit one book found).is_table
+
+-- ---- kept problems by their index
+
+index_found : (kept : List KeptProblem) (which : ℕ × ℕ) (index : ℕ) (one : KeptProblem) → slice_get kept index ≡ Some one → kept_as kept which ≡ Some one → IsIndexOfKept (map which_of kept) which index
+index_found kept which index one there found = record {
+  is_among = kept_is_found kept which ∙ ap is_some found;
+  there = slice_get-map which_of kept index ∙ ap (option_map which_of) there ∙ ap (λ (w : ℕ × ℕ). Some w) (kept_which kept which one found);
+}
+
+index_kept : (kept : List KeptProblem) (which : ℕ × ℕ) (index : ℕ) → position (λ one. is_this which (which_of one)) kept ≡ Some index → IsIndexOfKept (map which_of kept) which index
+index_kept kept which index h =
+    let (found, within) = found_at_place (λ (one : KeptProblem). is_this which (which_of one)) kept index h in
+    let (one, there) = some_at kept index within in
+    index_found kept which index one there (found ∙ there)
+
+index_absent : (kept : List KeptProblem) (which : ℕ × ℕ) → position (λ one. is_this which (which_of one)) kept ≡ None → is_kept (map which_of kept) which ≡ false
+index_absent kept which h = kept_is_found kept which ∙ ap is_some (not_found (λ (one : KeptProblem). is_this which (which_of one)) kept h)
+
+-- so where one is looked for
+pub index_found_there : (kept : List KeptProblem) (which : ℕ × ℕ) (o : Option ℕ) → o ≡ position (λ one. is_this which (which_of one)) kept → IfSome o (IsIndexOfKept (map which_of kept) which)
+index_found_there kept which None h = tt
+index_found_there kept which (Some index) h = index_kept kept which index (sym h)
+
+pub index_not_found : (kept : List KeptProblem) (which : ℕ × ℕ) (o : Option ℕ) → o ≡ position (λ one. is_this which (which_of one)) kept → IfNone o (is_kept (map which_of kept) which ≡ false)
+index_not_found kept which None h = index_absent kept which (sym h)
+index_not_found kept which (Some index) h = tt
+
+-- the table of the kept problem at an index
+pub table_there : (setting : Setting) (history : List Event) (kept : List KeptProblem) (index : ℕ) (one : KeptProblem) → IsBook setting history kept → index < length kept → one ≡ get_or kept index one
+    → IfSome (slice_get (map which_of kept) index) (λ which. IsTableAt setting history which.0 which.1 one.made.value.timed.cells)
+table_there setting history kept index one book within is =
+    let at : IsKeptAt setting history one = subst (IsKeptAt setting history) (sym is) (All-get_or (IsKeptAt setting history) kept index one within book.problems) in
+    let there : slice_get kept index ≡ Some one = slice_get_read kept (length kept) index one refl within is in
+    let which : slice_get (map which_of kept) index ≡ Some (which_of one) = slice_get-map which_of kept index ∙ ap (option_map which_of) there in
+    subst (λ (o : Option (ℕ × ℕ)). IfSome o (λ which. IsTableAt setting history which.0 which.1 one.made.value.timed.cells)) (sym which) (at.made.is_table one.at at.span)

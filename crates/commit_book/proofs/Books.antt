@@ -12,7 +12,7 @@ use Rattle.price_checker.specs.NamedPairs.{checked}
 use Rattle.faults.specs.declared.faults.NamedFault.{NamedFault}
 use Rattle.operating_db.specs.Commits.{CanPromise, Pair}
 use Rattle.operating_db.specs.Office.{Office}
-use Rattle.operating_db.specs.declared.event.Event.{Event}
+use Rattle.move_messages.specs.declared.event.Event.{Event}
 use Rattle.commit_book.specs.BookStep.{IsJudged, accepted_unless, is_kept, is_this, kept_after, refusal_by, refusal_in}
 use Rattle.commit_book.specs.Commits.{free_in, is_same_free, order_changed, wagon_changed, wagon_of}
 use Rattle.commit_book.specs.History.{IsLeast, IsTableAt, problem_at, replay}
@@ -129,6 +129,15 @@ pub found_kept : (P : KeptProblem → Type 0) (test : KeptProblem → Bool) (kep
 found_kept P test [] one all h = absurd cc
 found_kept P test (first ∷ kept) one all h =
     found_step P test first one (find test kept) (test first) refl (All-head P first kept all) (found_kept P test kept one (All-tail P first kept all)) h
+
+which_step : (which : ℕ × ℕ) (first one : KeptProblem) (rest : Option KeptProblem) (this : Bool) → is_this which (which_of first) ≡ this → (rest ≡ Some one → which_of one ≡ which) → cond this (Some first) rest ≡ Some one → which_of one ≡ which
+which_step which first one rest true is later h = subst (λ (k : KeptProblem). which_of k ≡ which) (same_problem first one h) (same_which which (which_of first) is)
+which_step which first one rest false is later h = later h
+
+-- what is found of a version and a moment is of these
+pub kept_which : (kept : List KeptProblem) (which : ℕ × ℕ) (one : KeptProblem) → kept_as kept which ≡ Some one → which_of one ≡ which
+kept_which [] which one h = absurd cc
+kept_which (first ∷ kept) which one h = which_step which first one (kept_as kept which) (is_this which (which_of first)) refl (kept_which kept which one) h
 
 -- ---- what is shared
 

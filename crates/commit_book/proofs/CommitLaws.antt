@@ -21,7 +21,7 @@ use Rattle.price_checker.proofs.FaultFree.{in_range_certified}
 use Rattle.price_checker.proofs.FirstBelow.{none_first, none_second}
 use Rattle.operating_db.specs.Commits.{CanPromise, IsPromisable, Pair, is_free_row, lack_in, times_of_order, times_of_wagon}
 use Rattle.operating_db.specs.Office.{Office}
-use Rattle.operating_db.specs.declared.event.Event.{Event}
+use Rattle.move_messages.specs.declared.event.Event.{Event}
 use Rattle.operating_db.proofs.Names.{same, same_is}
 use Rattle.commit_book.specs.BookStep.{refusal_by, refusal_in}
 use Rattle.commit_book.specs.Commits.{free_in, is_same_free, is_same_wagon, order_changed, wagon_changed, wagon_of}

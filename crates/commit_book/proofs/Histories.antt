@@ -8,7 +8,7 @@ use Rattle.std.proofs.Math.Seq.{take-append_seam}
 use Rattle.cost_table.specs.Table.{Table}
 use Rattle.operating_db.specs.Office.{Office}
 use Rattle.operating_db.specs.Problem.{problem_of}
-use Rattle.operating_db.specs.declared.event.Event.{Event}
+use Rattle.move_messages.specs.declared.event.Event.{Event}
 use Rattle.commit_book.specs.History.{IsEntry, IsLegal, IsTableAt, problem_at, replay, version}
 use Rattle.commit_book.specs.Setting.{Setting}
 

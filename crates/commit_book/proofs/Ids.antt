@@ -12,8 +12,8 @@ use Rattle.std.proofs.lemmas.Iterator.Adapters.{position_from-zero}
 use Rattle.rail_codes.specs.declared.message_id.MessageId.{MessageId}
 use Rattle.move_messages.specs.declared.message.Message as movement
 use Rattle.fleet_rows.proofs.Named.{position-new, position-push}
-use Rattle.operating_db.specs.declared.event.Event.{Event}
-use Rattle.operating_db.specs.declared.event.Event.TheVariants.{Message, Place, Withdraw, Commit, Revise}
+use Rattle.move_messages.specs.declared.event.Event.{Event}
+use Rattle.move_messages.specs.declared.event.Event.TheVariants.{Message, Place, Withdraw, Commit, Revise}
 use Rattle.commit_book.specs.History.{IsFresh}
 use Rattle.commit_book.specs.inner.Ledger.{HasNoted, IsIndexOf, IsMessageAt, IsNoMessage, compare_ids, is_id, is_message_of}
 

@@ -5,7 +5,7 @@ use Rattle.wagons_and_orders.specs.Wanted.{WantedOrder}
 use Rattle.move_messages.specs.declared.commit_text.CommitText.{CommitText}
 use Rattle.cost_table.specs.Problem.{ProblemValue}
 use Rattle.cost_table.specs.Table.{order_count, wagon_count}
-use Rattle.operating_db.specs.declared.event.Event.{Event}
+use Rattle.move_messages.specs.declared.event.Event.{Event}
 use Rattle.commit_book.specs.BookStep.{BookState, is_full, refusal_in}
 use Rattle.commit_book.specs.inner.CommitTests.{IsAccepted, IsRefused, IsTestable}
 use Rattle.commit_book.specs.History.{replay}

@@ -4,7 +4,7 @@ use Rattle.std.specs.Result.{result_unwrap_or}
 use Rattle.std.proofs.lemmas.List.Sums.{fold-append}
 use Rattle.operating_db.specs.After.{after_call}
 use Rattle.operating_db.specs.Office.{Office}
-use Rattle.operating_db.specs.declared.event.Event.{Event}
+use Rattle.move_messages.specs.declared.event.Event.{Event}
 use Rattle.commit_book.specs.History.{after, after_all}
 
 pub after_push : (networks : ℕ) (office : Office) (events : List Event) (event : Event) → after_all networks office (events ++ event ∷ []) ≡ after networks (after_all networks office events) event

@@ -10,9 +10,9 @@ use Rattle.operating_db.specs.After.{after_call}
 use Rattle.operating_db.specs.Office.{Office}
 use Rattle.operating_db.specs.Steps.{IsPromised}
 use Rattle.faults.specs.declared.faults.ApplyFault.{ApplyFault}
-use Rattle.operating_db.specs.declared.event.Event.{Event}
-use Rattle.operating_db.specs.declared.event.Event.TheVariants as event
-use Rattle.commit_book.specs.BookStep.{BookState, IsAnswer, IsCall, IsCommitAnswer, IsMessageAnswer, IsRun, accepted_unless, book_after, entered, entered_as, event_answer, is_full, is_kept, is_this, refusal_in}
+use Rattle.move_messages.specs.declared.event.Event.{Event}
+use Rattle.move_messages.specs.declared.event.Event.TheVariants as event
+use Rattle.commit_book.specs.BookStep.{BookState, IsAnswer, IsCall, IsEventAnswer, IsCommitAnswer, IsMessageAnswer, IsRun, accepted_unless, book_after, entered, entered_as, event_answer, is_full, is_kept, is_this, refusal_in}
 use Rattle.fleet_rows.specs.Roster.{IsRoster}
 use Rattle.commit_book.specs.Headline.{Headline, IsProved}
 use Rattle.commit_book.specs.History.{IsEntry, IsLegal, IsTableAt, Owes, problem_at, replay}
@@ -134,19 +134,22 @@ entered_book setting book entry (Done (Repeated n)) h is = h
 entered_book setting book entry (Begun n) h is = h
 entered_book setting book entry (Refused refusal) h is = h
 
+-- an event that is accepted is a legal entry
+accepted_legal : (setting : Setting) (book : BookState) (entry : Event) (answer : Answer) → IsLegalBook setting book → IsEventAnswer setting book entry answer → (n : ℕ) → answer ≡ Done (Accepted n) → IsLegalEntry setting book.history entry
+accepted_legal setting book (event.Message message) answer h step n is = message_entered setting book.history message answer n step is
+accepted_legal setting book (event.Place text) answer h step n is = event_entered setting book.history (event.Place text) n tt tt (sym step ∙ is)
+accepted_legal setting book (event.Withdraw id) answer h step n is = event_entered setting book.history (event.Withdraw id) n tt tt (sym step ∙ is)
+accepted_legal setting book (event.Commit commit) answer h step n is =
+    commit_entered setting book.history commit answer n (is_kept book.kept (commit.version, commit.at)) (is_full setting book.history) refl (had_kept (length book.history) book.kept (commit.version, commit.at) h.had) step is
+accepted_legal setting book (event.Revise network) answer h step n is = event_entered setting book.history (event.Revise network) n tt tt (sym step ∙ is)
+
 -- a step leaves a book
 step_book : (setting : Setting) (book : BookState) (c : Call) (answer : Answer) → IsLegalBook setting book → IsAnswer setting book c answer → IsLegalBook setting (book_after setting book c answer)
-step_book setting book (call.Message message) answer h step = entered_book setting book (event.Message message) answer h (λ n is. message_entered setting book.history message answer n step is)
-step_book setting book (call.Place text) answer h step = entered_book setting book (event.Place text) answer h (λ n is. event_entered setting book.history (event.Place text) n tt tt (sym step ∙ is))
-step_book setting book (call.Withdraw id) answer h step = entered_book setting book (event.Withdraw id) answer h (λ n is. event_entered setting book.history (event.Withdraw id) n tt tt (sym step ∙ is))
+step_book setting book (call.Event entry) answer h step = entered_book setting book entry answer h (accepted_legal setting book entry answer h step)
 step_book setting book (call.Begin at) answer h step = record {
   legal = h.legal;
   had = had_chosen (length book.history) at book.kept (is_kept book.kept (length book.history, at)) (nat_lt (length book.kept) setting.kept) h.had;
 }
-step_book setting book (call.Commit commit) answer h step =
-    entered_book setting book (event.Commit commit) answer h
-    (λ n is. commit_entered setting book.history commit answer n (is_kept book.kept (commit.version, commit.at)) (is_full setting book.history) refl (had_kept (length book.history) book.kept (commit.version, commit.at) h.had) step is)
-step_book setting book (call.Revise network) answer h step = entered_book setting book (event.Revise network) answer h (λ n is. event_entered setting book.history (event.Revise network) n tt tt (sym step ∙ is))
 
 call_book : (setting : Setting) (book : BookState) (c : Call) (answer : Answer) (new : BookState) → IsLegalBook setting book → IsCall setting book c answer new → IsLegalBook setting new
 call_book setting book c answer new h (inl step) = subst (IsLegalBook setting) (sym step.changed) (step_book setting book c answer h step.answered)

@@ -10,7 +10,7 @@ use Rattle.cost_table.specs.Plan.{AllAllowed, serves}
 use Rattle.cost_table.specs.Problem.{ProblemValue}
 use Rattle.cost_table.specs.Table.{Table, lack_at, order_count}
 use Rattle.operating_db.specs.Commits.{Pair, times_of_order}
-use Rattle.operating_db.specs.declared.event.Event.{Event}
+use Rattle.move_messages.specs.declared.event.Event.{Event}
 use Rattle.commit_book.specs.Headline.{IsReached, IsSound}
 use Rattle.commit_book.specs.History.{IsLeast, problem_at}
 use Rattle.commit_book.specs.Setting.{Setting}

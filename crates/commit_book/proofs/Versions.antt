@@ -9,7 +9,7 @@ use Rattle.operating_db.specs.Office.{Office, first_office}
 use Rattle.operating_db.specs.Promises.{PromisesAgree}
 use Rattle.operating_db.specs.Steps.{IsPromised}
 use Rattle.faults.specs.declared.faults.ApplyFault.{ApplyFault}
-use Rattle.operating_db.specs.declared.event.Event.{Event}
+use Rattle.move_messages.specs.declared.event.Event.{Event}
 use Rattle.operating_db.proofs.Events.{rosters_agree, step_kept}
 use Rattle.commit_book.specs.History.{IsLegal, after, replay, version}
 use Rattle.commit_book.specs.Setting.{Setting}

@@ -12,8 +12,8 @@ use Rattle.operating_db.specs.After.{after_call}
 use Rattle.operating_db.specs.Commits.{Pair}
 use Rattle.operating_db.specs.Office.{Office}
 use Rattle.faults.specs.declared.faults.ApplyFault.{ApplyFault}
-use Rattle.operating_db.specs.declared.event.Event.{Event}
-use Rattle.operating_db.specs.declared.event.Event.TheVariants as event
+use Rattle.move_messages.specs.declared.event.Event.{Event}
+use Rattle.move_messages.specs.declared.event.Event.TheVariants as event
 use Rattle.commit_book.specs.Commits.{wagon_changed, order_changed}
 use Rattle.commit_book.specs.History.{replay, problem_at, IsTableAt, IsFresh}
 use Rattle.faults.specs.Conversions.{refusal_of, refusal_of_fault}
@@ -21,7 +21,7 @@ use Rattle.commit_book.specs.Setting.{Setting}
 use Rattle.commit_book.specs.declared.answer.Answer.{Answer}
 use Rattle.commit_book.specs.declared.answer.Answer.TheVariants.{Done, Begun, Refused}
 use Rattle.commit_book.specs.declared.call.Call.{Call}
-use Rattle.commit_book.specs.declared.call.Call.TheVariants.{Message, Place, Withdraw, Begin, Commit, Revise}
+use Rattle.commit_book.specs.declared.call.Call.TheVariants as call
 use Rattle.faults.specs.declared.faults.Refusal.{Refusal}
 use Rattle.faults.specs.declared.faults.Refusal.TheVariants.{OutOfMemory, IdReused, BookFull, NotKept}
 use Rattle.commit_book.specs.declared.reply.Reply.TheVariants.{Accepted, Repeated}
@@ -123,37 +123,40 @@ kept_after setting kept which =
     else if nat_lt (length kept) setting.kept then kept ++ which ∷ []
     else drop 1 kept ++ which ∷ []
 
+-- the answer to an event, where there is memory enough
+abbrev pub IsEventAnswer : Setting → BookState → Event → Answer → Type 0
+IsEventAnswer setting book (event.Message message) answer = IsMessageAnswer setting book.history message answer
+IsEventAnswer setting book (event.Place text) answer = answer ≡ event_answer setting book.history (event.Place text)
+IsEventAnswer setting book (event.Withdraw id) answer = answer ≡ event_answer setting book.history (event.Withdraw id)
+IsEventAnswer setting book (event.Commit commit) answer =
+    IsCommitAnswer (is_kept book.kept (commit.version, commit.at)) (is_full setting book.history) setting book.history commit answer
+IsEventAnswer setting book (event.Revise network) answer = answer ≡ event_answer setting book.history (event.Revise network)
+
 -- the answer to a call, where there is memory enough
 abbrev pub IsAnswer : Setting → BookState → Call → Answer → Type 0
-IsAnswer setting book (Message message) answer = IsMessageAnswer setting book.history message answer
-IsAnswer setting book (Place text) answer = answer ≡ event_answer setting book.history (event.Place text)
-IsAnswer setting book (Withdraw id) answer = answer ≡ event_answer setting book.history (event.Withdraw id)
-IsAnswer setting book (Begin at) answer = answer ≡ Begun (length book.history)
-IsAnswer setting book (Commit commit) answer =
-    IsCommitAnswer (is_kept book.kept (commit.version, commit.at)) (is_full setting book.history) setting book.history commit answer
-IsAnswer setting book (Revise network) answer = answer ≡ event_answer setting book.history (event.Revise network)
+IsAnswer setting book (call.Event event) answer = IsEventAnswer setting book event answer
+IsAnswer setting book (call.Begin at) answer = answer ≡ Begun (length book.history)
 
 -- the book after a call that is answered so
 abbrev pub book_after : Setting → BookState → Call → Answer → BookState
-book_after setting book (Message message) answer = entered book (event.Message message) answer
-book_after setting book (Place text) answer = entered book (event.Place text) answer
-book_after setting book (Withdraw id) answer = entered book (event.Withdraw id) answer
-book_after setting book (Begin at) answer = record book { kept = kept_after setting book.kept (length book.history, at) }
-book_after setting book (Commit commit) answer = entered book (event.Commit commit) answer
-book_after setting book (Revise network) answer = entered book (event.Revise network) answer
+book_after setting book (call.Event event) answer = entered book event answer
+book_after setting book (call.Begin at) answer = record book { kept = kept_after setting book.kept (length book.history, at) }
 
 -- a call that is answered where there is memory enough, and the book after it
 pub record IsStep (setting : Setting) (book : BookState) (call : Call) (answer : Answer) (new : BookState) : Type 0 where
   pub answered : IsAnswer setting book call answer
   pub changed : new ≡ book_after setting book call answer
 
--- where a call may be answered that memory is out: a begin; a commit of a kept problem, on a book that isn't full;
--- another event where it would be accepted
+-- where an event may be answered that memory is out: a commit of a kept problem, on a book that isn't full; another event
+-- where it would be accepted
+abbrev pub MayWantMemory : Setting → BookState → Event → Type 0
+MayWantMemory setting book (event.Commit commit) = (is_kept book.kept (commit.version, commit.at) ≡ true) × (is_full setting book.history ≡ false)
+MayWantMemory setting book event = IsEventAnswer setting book event (Done (Accepted (length book.history + 1)))
+
+-- where a call may be answered so: such an event; a begin
 abbrev pub MayRunOutOfMemory : Setting → BookState → Call → Type 0
-MayRunOutOfMemory setting book (Begin at) = Unit {0}
-MayRunOutOfMemory setting book (Commit commit) =
-    (is_kept book.kept (commit.version, commit.at) ≡ true) × (is_full setting book.history ≡ false)
-MayRunOutOfMemory setting book call = IsAnswer setting book call (Done (Accepted (length book.history + 1)))
+MayRunOutOfMemory setting book (call.Event event) = MayWantMemory setting book event
+MayRunOutOfMemory setting book (call.Begin at) = Unit {0}
 
 -- a call is answered that memory is out, and nothing has changed
 pub record RunsOutOfMemory (setting : Setting) (book : BookState) (call : Call) (answer : Answer) (new : BookState) : Type 0 where

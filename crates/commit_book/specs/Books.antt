@@ -1,6 +1,6 @@
 -- Books as contracts see them: what a book is given and keeps, its answers to single calls, and its entries by number.
 use Rattle.std.specs.Prelude.{ℕ, List, length, Option, None, Result, Ok, Err, slice_get, zero, suc}
-use Rattle.operating_db.specs.declared.event.Event.{Event}
+use Rattle.move_messages.specs.declared.event.Event.{Event}
 use Rattle.commit_book.specs.Setting.{Setting}
 use Rattle.commit_book.specs.declared.answer.Answer.{Answer}
 use Rattle.commit_book.specs.declared.answer.Answer.TheVariants.{Done, Begun, Refused}
@@ -13,7 +13,9 @@ use Rattle.commit_book.specs.declared.reply.Reply.TheVariants.{Accepted, Repeate
 use Rattle.commit_book.specs.BookStep.{BookState}
 use Rattle.fleet_rows.specs.Roster.{IsRoster}
 use Rattle.line_network.specs.NetworkCount.{IsNetworkCount}
-use Rattle.commit_book.specs.Limits.{AreLimits}
+use Rattle.line_network.specs.Network.{NetworkValue}
+use Rattle.wagons_and_orders.specs.declared.wagon_row.WagonRow.{WagonRow}
+use Rattle.commit_book.specs.Limits.{AreLimits, LimitNumbers}
 
 -- what a contract sees of a book: what it was given, its history, and which problems it keeps
 pub record BookValue : Type 0 where
@@ -29,6 +31,10 @@ abbrev pub begun_of : Result SnapValue AllocError → Answer
 begun_of (Ok snap) = Begun snap.version
 begun_of (Err error) = Refused OutOfMemory
 
+abbrev pub begun_with : {A : Type 0} → Result (SnapValue × A) AllocError → Answer
+begun_with (Ok begun) = Begun begun.0.version
+begun_with (Err error) = Refused OutOfMemory
+
 -- no entry comes of a call: it is refused, or its message is an entry already
 abbrev pub IsNoEntry : Result Reply Refusal → Type 0
 IsNoEntry (Ok (Accepted n)) = ⊥
@@ -38,7 +44,11 @@ IsNoEntry (Err refusal) = Unit {0}
 -- the entry of a number, counted from 1
 abbrev pub entry_at : List Event → ℕ → Option Event
 entry_at history zero = None
-entry_at history (suc place) = slice_get history place
+entry_at history (suc index) = slice_get history index
+
+-- what a book was given: a roster, networks, and limits
+abbrev pub setting_with : List WagonRow → List NetworkValue → LimitNumbers → Setting
+setting_with roster networks limits = record { roster = roster; networks = networks; entries = limits.entries; kept = limits.kept }
 
 -- What every book is given: a roster, 1 to 8 networks, and limits within their own.
 pub record IsSetting (setting : Setting) : Type 0 where

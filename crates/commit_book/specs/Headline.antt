@@ -9,8 +9,8 @@ use Rattle.problem_table.specs.Allowed.{Reaches}
 use Rattle.cost_table.specs.Problem.{ProblemValue}
 use Rattle.operating_db.specs.Commits.{Pair, times_of_wagon, times_of_order}
 use Rattle.operating_db.specs.Promises.{PromisesAgree}
-use Rattle.operating_db.specs.declared.event.Event.{Event}
-use Rattle.operating_db.specs.declared.event.Event.TheVariants.{Commit}
+use Rattle.move_messages.specs.declared.event.Event.{Event}
+use Rattle.move_messages.specs.declared.event.Event.TheVariants.{Commit}
 use Rattle.commit_book.specs.BookStep.{BookState, IsRun}
 use Rattle.commit_book.specs.History.{IsLeast, IsLegal, problem_at, version}
 use Rattle.commit_book.specs.Setting.{Setting}

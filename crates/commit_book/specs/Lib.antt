@@ -4,7 +4,6 @@ pub mod Commits
 pub mod Headline
 pub mod History
 pub mod Limits
-pub mod Requests
 pub mod Setting
 pub mod Snap
 pub mod inner

@@ -4,7 +4,7 @@ use Rattle.cost_table.specs.Problem.{ProblemValue, wagon_names, order_names}
 use Rattle.price_checker.specs.NamedFaults.{name_at}
 use Rattle.operating_db.specs.Commits.{Pair}
 use Rattle.operating_db.specs.Problem.{problem_of}
-use Rattle.operating_db.specs.declared.event.Event.{Event}
+use Rattle.move_messages.specs.declared.event.Event.{Event}
 use Rattle.commit_book.specs.History.{replay}
 use Rattle.commit_book.specs.Limits.{max_entries}
 use Rattle.commit_book.specs.Setting.{Setting}

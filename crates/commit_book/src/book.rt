@@ -1,32 +1,31 @@
 //! The book: its history, the office after it, and the problems that commits may name.
-ghost use Rattle.std.specs.Prelude.{◌≡◌, [], IfErr, IfOk, IfSome, OnErr, OnOk, Some, is_some, length, option_map, true};
+ghost use Rattle.std.specs.Prelude.{◌≡◌, [], IfErr, IfNone, IfOk, IfSome, IsSome, OnErr, OnOk, Some, false, is_some, length, option_map, slice_get, true};
 ghost use Rattle.line_network.specs.Networks.{network_at};
 ghost use Rattle.operating_db.specs.Problem.{problem_of};
 ghost use Rattle.operating_db.specs.Steps.{IsPromised};
-ghost use Rattle.commit_book.specs.BookStep.{IsCall, is_full, is_kept, kept_after};
-ghost use Rattle.commit_book.specs.Books.{IsNoEntry, answer_of, begun_of, entry_at, IsSetting};
+ghost use Rattle.commit_book.specs.BookStep.{IsCall, is_full, is_kept};
+ghost use Rattle.commit_book.specs.Books.{IsNoEntry, IsSetting, answer_of, begun_of, begun_with, entry_at, setting_with};
 ghost use Rattle.commit_book.specs.inner.Entered.{IsEntered};
 ghost use Rattle.commit_book.specs.inner.CommitTests.{IsAccepted, IsRefused};
 ghost use Rattle.commit_book.specs.Headline.{IsProved};
 ghost use Rattle.commit_book.specs.History.{IsTableAt, Owes, replay};
-ghost use Rattle.commit_book.specs.Requests.{call_of};
-ghost use Rattle.commit_book.specs.inner.Kept.{IsInSpan, IsKeptAt, IsLasting, IsMade, IsMendable, which_of};
+ghost use Rattle.move_messages.specs.declared.event.Event.TheVariants as event;
+ghost use Rattle.commit_book.specs.inner.Kept.{IsInSpan, IsIndexOfKept, IsKeptAt, IsLasting, IsMade, IsMendable, begun_at, which_of};
 ghost use Rattle.commit_book.specs.inner.Ledger.{IsMessageAt, IsNoMessage};
 ghost use Rattle.commit_book.specs.Snap.{IsVersionNumber, snap_of};
 ghost use Rattle.commit_book.specs.declared.answer.Answer.TheVariants.{Refused};
 ghost use Rattle.commit_book.specs.declared.call.Call.TheVariants as call;
 
 use crate::commits::judge;
-use crate::kept_problems::{KeptProblem, find_covering, find_kept, keep};
+use crate::kept_problems::{KeptProblem, find_covering, find_kept, index_of_kept, keep};
 use crate::ledger::{Ledger, MessageEntry};
 use crate::made_problem::MadeProblem;
-use crate::same_messages::is_same_message;
 use crate::{Limits, Refusal, Reply, Snap};
 use cost_table::{Cells, Problem};
 use fleet_rows::Roster;
 use line_network::{Networks, Tables};
-use move_messages::{CommitText, Message, OrderText};
-use operating_db::{Event, OfficeState};
+use move_messages::{CommitText, Event, Message, OrderText, is_same_message};
+use operating_db::OfficeState;
 use rail_codes::{Moment, OrderId};
 use std::alloc::{AllocError, Global};
 use std::marker::Model;
@@ -62,7 +61,7 @@ impl Book {
         networks: Arc<Networks>,
         limits: Limits,
     ) -> Result<Book, AllocError>
-        ensures setting { IfOk result (λ book. book.setting ≡ record { roster = roster; networks = networks.value; entries = limits.entries; kept = limits.kept }) }
+        ensures setting { IfOk result (λ book. book.setting ≡ setting_with roster networks.value limits) }
         ensures state { IfOk result (λ book. book.state ≡ record { history = []; kept = [] }) }
     {
         let count = networks.count();
@@ -80,8 +79,7 @@ impl Book {
         ensures value { result ≡ length self.now.state.history }
         ensures limit { IsVersionNumber result }
     {
-        // For the prover alone: there are at most 1,000,000 entries.
-        let _most = self.limits.entries();
+        self.limits.for_the_prover();
         self.ledger.len() as u64
     }
 
@@ -89,8 +87,8 @@ impl Book {
     pub fn entry(&self, n: u64) -> Option<&Event>
         ensures { option_map (λ event. event.now) result ≡ entry_at self.now.state.history n }
     {
-        let place = n.checked_sub(1)?;
-        self.ledger.get(place as usize)
+        let index = n.checked_sub(1)?;
+        self.ledger.get(index as usize)
     }
 
     /// The office after all entries. Whatever led to this book, its history is as the headline says, and it was given what
@@ -100,54 +98,83 @@ impl Book {
         ensures proved { IsProved self.now.setting self.now.state.history }
         ensures setting { IsSetting self.now.setting }
     {
-        // For the prover alone: what every roster, all networks and all limits keep.
+        self.for_the_prover();
+        self.ledger.state()
+    }
+
+    /// Does nothing: for the prover alone, it says what holds of every book.
+    pub fn for_the_prover(&self)
+        ensures proved { IsProved self.now.setting self.now.state.history }
+        ensures setting { IsSetting self.now.setting }
+    {
         let _rows = self.ledger.roster().rows();
         let _count = self.networks.count();
-        let _most = self.limits.entries();
-        self.ledger.state()
+        self.limits.for_the_prover();
+    }
+
+    /// Takes an event in: its answer and its refusals, with nothing changed, are those of the call of its kind, `message`,
+    /// `place`, `withdraw`, `commit` or `revise`.
+    pub fn submit(&mut self, alloc: Global, event: Event) -> Result<Reply, Refusal>
+        ensures call { IsCall self.old.setting self.old.state (call.Event event) (answer_of result) self.new.state }
+        ensures setting { self.new.setting ≡ self.old.setting }
+    {
+        match event {
+            Event::Message(message) => self.enter_message(alloc, &message),
+            Event::Place(text) => self.enter(alloc, Event::Place(text)),
+            Event::Withdraw(id) => self.enter(alloc, Event::Withdraw(id)),
+            Event::Commit(commit) => self.enter_commit(alloc, commit),
+            Event::Revise(network) => self.enter(alloc, Event::Revise(network)),
+        }
     }
 
     /// Takes a movement message in. One that is an entry already is answered with `Repeated`. Refused, with nothing
     /// changed: `IdReused` (71), another message has its id; `BookFull` (72); `UnknownWagon` (73); as the status table
     /// says (31 to 33); `OutOfMemory` (1).
     pub fn message(&mut self, alloc: Global, message: &Message) -> Result<Reply, Refusal>
-        ensures call { IsCall self.old.setting self.old.state (call.Message message.now) (answer_of result) self.new.state }
+        ensures call { IsCall self.old.setting self.old.state (call.Event (event.Message message.now)) (answer_of result) self.new.state }
         ensures setting { self.new.setting ≡ self.old.setting }
     {
-        if self.is_full() {
-            return self.answer_full(message);
-        }
-        match self.ledger.enter_message(alloc, message)? {
-            MessageEntry::Entered => Ok(Reply::Accepted(self.len())),
-            MessageEntry::Known(place) => self.answer_known(message, place),
-        }
+        self.submit(alloc, Event::Message(*message))
     }
 
     /// Places an order. Refused, with nothing changed: `BookFull` (72); `OrderKnown` (74); `TooManyOpen` (75);
     /// `OutOfMemory` (1).
     pub fn place(&mut self, alloc: Global, text: &OrderText) -> Result<Reply, Refusal>
-        ensures call { IsCall self.old.setting self.old.state (call.Place text.now) (answer_of result) self.new.state }
+        ensures call { IsCall self.old.setting self.old.state (call.Event (event.Place text.now)) (answer_of result) self.new.state }
         ensures setting { self.new.setting ≡ self.old.setting }
     {
-        self.enter(alloc, Event::Place(*text))
+        self.submit(alloc, Event::Place(*text))
     }
 
     /// Withdraws an order. Refused, with nothing changed: `BookFull` (72); `UnknownOrder` (76); `OrderClosed` (77);
     /// `OutOfMemory` (1).
     pub fn withdraw(&mut self, alloc: Global, id: OrderId) -> Result<Reply, Refusal>
-        ensures call { IsCall self.old.setting self.old.state (call.Withdraw id) (answer_of result) self.new.state }
+        ensures call { IsCall self.old.setting self.old.state (call.Event (event.Withdraw id)) (answer_of result) self.new.state }
         ensures setting { self.new.setting ≡ self.old.setting }
     {
-        self.enter(alloc, Event::Withdraw(id))
+        self.submit(alloc, Event::Withdraw(id))
     }
 
     /// Puts the network of this number, counted from 1, in force. Refused, with nothing changed: `BookFull` (72);
     /// `UnknownNetwork` (79); `SameNetwork` (80); `OutOfMemory` (1).
     pub fn revise(&mut self, alloc: Global, network: u32) -> Result<Reply, Refusal>
-        ensures call { IsCall self.old.setting self.old.state (call.Revise network) (answer_of result) self.new.state }
+        ensures call { IsCall self.old.setting self.old.state (call.Event (event.Revise network)) (answer_of result) self.new.state }
         ensures setting { self.new.setting ≡ self.old.setting }
     {
-        self.enter(alloc, Event::Revise(network))
+        self.submit(alloc, Event::Revise(network))
+    }
+
+    /// Promises the pairs of a commit, where its prices prove them to be a plan of least cost of the kept problem that
+    /// it names. Refused, with nothing changed: `NotKept` (81); `BookFull` (72); `Check`, as the price checker says of
+    /// the pairs and the prices: `NotInProblem` (84), the first pair whose wagon or order isn't in that problem, else
+    /// one of 61 to 66; `WagonChanged` (82), the first pair whose wagon isn't free now as it is in the problem;
+    /// `OrderChanged` (83), the first pair whose order, with this pair and those before it, lacks fewer wagons now;
+    /// `OutOfMemory` (1), which may come in place of 84 and what follows it.
+    pub fn commit(&mut self, alloc: Global, commit: CommitText) -> Result<Reply, Refusal>
+        ensures call { IsCall self.old.setting self.old.state (call.Event (event.Commit commit)) (answer_of result) self.new.state }
+        ensures setting { self.new.setting ≡ self.old.setting }
+    {
+        self.submit(alloc, Event::Commit(commit))
     }
 
     /// The problem of the present version at a moment, which is kept so that a commit may name it. It goes behind the
@@ -160,36 +187,36 @@ impl Book {
         ensures kept { OnOk result (is_kept self.new.state.kept (length self.old.state.history, at) ≡ true) }
         ensures setting { self.new.setting ≡ self.old.setting }
     {
-        let snap = self.snap(alloc, at)?;
-        self.keep_present(alloc, snap.problem())?;
+        let (snap, _index) = self.begin_indexed(alloc, at)?;
         Ok(snap)
     }
 
-    /// Promises the pairs of a commit, where its prices prove them to be a plan of least cost of the kept problem that
-    /// it names. Refused, with nothing changed: `NotKept` (81); `BookFull` (72); `Check`, as the price checker says of
-    /// the pairs and the prices: `NotInProblem` (84), the first pair whose wagon or order isn't in that problem, else
-    /// one of 61 to 66; `WagonChanged` (82), the first pair whose wagon isn't free now as it is in the problem;
-    /// `OrderChanged` (83), the first pair whose order, with this pair and those before it, lacks fewer wagons now;
-    /// `OutOfMemory` (1), which may come in place of 84 and what follows it.
-    pub fn commit(&mut self, alloc: Global, commit: &CommitText) -> Result<Reply, Refusal>
-        ensures call { IsCall self.old.setting self.old.state (call.Commit commit.now) (answer_of result) self.new.state }
+    /// The same, with the index of the problem among the kept ones, at which `kept_table` has its table.
+    pub fn begin_indexed(&mut self, alloc: Global, at: Moment) -> Result<(Snap, usize), AllocError>
+        ensures call { IsCall self.old.setting self.old.state (call.Begin at) (begun_with result) self.new.state }
+        ensures snap { IfOk result (λ begun. begun.0 ≡ snap_of self.old.setting self.old.state.history at) }
+        ensures index { IfOk result (λ begun. slice_get self.new.state.kept begun.1 ≡ Some (length self.old.state.history, at)) }
+        ensures kept { OnOk result (is_kept self.new.state.kept (length self.old.state.history, at) ≡ true) }
         ensures setting { self.new.setting ≡ self.old.setting }
     {
-        // The prover has no plan for `self.judged(..)?` here.
-        match self.judged(alloc, commit) {
-            Ok(()) => {
-                let commit = commit.copy(alloc)?;
-                self.enter(alloc, Event::Commit(commit))
-            }
-            Err(refusal) => Err(refusal),
-        }
+        let snap = self.snap(alloc, at)?;
+        let index = self.keep_present(alloc, snap.problem())?;
+        Ok((snap, index))
+    }
+
+    /// The table of the kept problem at an index, over the network in force in its version. Takes no memory.
+    pub fn kept_table(&self, index: usize) -> &Cells
+        requires { IsSome (slice_get self.now.state.kept index) }
+        ensures { IfSome (slice_get self.now.state.kept index) (λ which. IsTableAt self.now.setting self.now.state.history which.0 which.1 result.now) }
+    {
+        &self.kept[index].made.timed.cells
     }
 
     /// What the call for an event is answered where no memory is to be had, and no call is made: what needs none; else
     /// `OutOfMemory` (1), so of an event that would be accepted, and of a commit of a kept problem on a book that isn't
     /// full. Takes no memory.
     pub fn answer_without_memory(&self, event: &Event) -> Result<Reply, Refusal>
-        ensures call { IsCall self.now.setting self.now.state (call_of event.now) (answer_of result) self.now.state }
+        ensures call { IsCall self.now.setting self.now.state (call.Event event.now) (answer_of result) self.now.state }
         ensures no_entry { IsNoEntry result }
     {
         match event {
@@ -201,9 +228,9 @@ impl Book {
         }
     }
 
-    /// The same of a commit: `NotKept` (81), `BookFull` (72), else `OutOfMemory` (1). Takes no memory.
-    pub fn commit_without_memory(&self, commit: &CommitText) -> Refusal
-        ensures { IsCall self.now.setting self.now.state (call.Commit commit.now) (Refused result) self.now.state }
+    /// The same of a commit: `NotKept` (81), `BookFull` (72), else `OutOfMemory` (1).
+    fn commit_without_memory(&self, commit: &CommitText) -> Refusal
+        ensures { IsCall self.now.setting self.now.state (call.Event (event.Commit commit.now)) (Refused result) self.now.state }
     {
         if !self.is_kept(commit.version, commit.at) {
             return Refusal::NotKept;
@@ -216,11 +243,11 @@ impl Book {
 
     /// The same of a message.
     fn message_without_memory(&self, message: &Message) -> Result<Reply, Refusal>
-        ensures call { IsCall self.now.setting self.now.state (call.Message message.now) (answer_of result) self.now.state }
+        ensures call { IsCall self.now.setting self.now.state (call.Event (event.Message message.now)) (answer_of result) self.now.state }
         ensures no_entry { IsNoEntry result }
     {
         match self.ledger.find(message.id) {
-            Some(place) => self.answer_known(message, place),
+            Some(index) => self.answer_known(message, index),
             None => Err(self.refusal_without_memory(&Event::Message(*message))),
         }
     }
@@ -273,27 +300,53 @@ impl Book {
     /// What a message is answered where the book is full.
     fn answer_full(&self, message: &Message) -> Result<Reply, Refusal>
         requires { is_full self.now.setting self.now.state.history ≡ true }
-        ensures { IsCall self.now.setting self.now.state (call.Message message.now) (answer_of result) self.now.state }
+        ensures { IsCall self.now.setting self.now.state (call.Event (event.Message message.now)) (answer_of result) self.now.state }
     {
         match self.ledger.find(message.id) {
-            Some(place) => self.answer_known(message, place),
+            Some(index) => self.answer_known(message, index),
             None => Err(Refusal::BookFull),
         }
     }
 
-    /// What a message is answered where the event at this place, counted from 0, is a message of its id.
-    fn answer_known(&self, message: &Message, place: usize) -> Result<Reply, Refusal>
-        requires { IsMessageAt self.now.state.history message.now.id place }
-        ensures call { IsCall self.now.setting self.now.state (call.Message message.now) (answer_of result) self.now.state }
+    /// What a message is answered where the event at this index is a message of its id.
+    fn answer_known(&self, message: &Message, index: usize) -> Result<Reply, Refusal>
+        requires { IsMessageAt self.now.state.history message.now.id index }
+        ensures call { IsCall self.now.setting self.now.state (call.Event (event.Message message.now)) (answer_of result) self.now.state }
         ensures no_entry { IsNoEntry result }
     {
         // For the prover alone: the number of an entry fits.
         let _most = self.len();
-        match self.ledger.get(place) {
+        match self.ledger.get(index) {
             Some(Event::Message(other)) if is_same_message(other, message) => {
-                Ok(Reply::Repeated(place as u64 + 1))
+                Ok(Reply::Repeated(index as u64 + 1))
             }
             _ => Err(Refusal::IdReused),
+        }
+    }
+
+    /// Takes a movement message in.
+    fn enter_message(&mut self, alloc: Global, message: &Message) -> Result<Reply, Refusal>
+        ensures call { IsCall self.old.setting self.old.state (call.Event (event.Message message.now)) (answer_of result) self.new.state }
+        ensures setting { self.new.setting ≡ self.old.setting }
+    {
+        if self.is_full() {
+            return self.answer_full(message);
+        }
+        match self.ledger.enter_message(alloc, message)? {
+            MessageEntry::Entered => Ok(Reply::Accepted(self.len())),
+            MessageEntry::Known(index) => self.answer_known(message, index),
+        }
+    }
+
+    /// Tests a commit, and promises its pairs.
+    fn enter_commit(&mut self, alloc: Global, commit: CommitText) -> Result<Reply, Refusal>
+        ensures call { IsCall self.old.setting self.old.state (call.Event (event.Commit commit)) (answer_of result) self.new.state }
+        ensures setting { self.new.setting ≡ self.old.setting }
+    {
+        // The prover has no plan for `self.judged(..)?` here.
+        match self.judged(alloc, &commit) {
+            Ok(()) => self.enter(alloc, Event::Commit(commit)),
+            Err(refusal) => Err(refusal),
         }
     }
 
@@ -331,20 +384,29 @@ impl Book {
         }
     }
 
-    /// Keeps the problem of the present version at a moment, unless that problem is kept.
-    fn keep_present(&mut self, alloc: Global, problem: &Problem) -> Result<(), AllocError>
+    /// Keeps the problem of the present version at a moment, unless that problem is kept: the index at which it is.
+    fn keep_present(&mut self, alloc: Global, problem: &Problem) -> Result<usize, AllocError>
         requires { problem.now ≡ problem_of (replay self.old.setting self.old.state.history) problem.now.at }
-        ensures kept { OnOk result (self.new.state ≡ record self.old.state { kept = kept_after self.old.setting self.old.state.kept (length self.old.state.history, problem.now.at) }) }
+        ensures kept { OnOk result (self.new.state ≡ begun_at self.old.setting self.old.state problem.now.at) }
+        ensures index { IfOk result (λ index. slice_get self.new.state.kept index ≡ Some (length self.old.state.history, problem.now.at)) }
         ensures setting { self.new.setting ≡ self.old.setting }
         ensures unchanged { OnErr result (self.new ≡ self.old) }
     {
-        if self.is_kept(self.len(), problem.at()) {
-            return Ok(());
+        if let Some(index) = self.index_of_kept(self.len(), problem.at()) {
+            return Ok(index);
         }
         let one = self.kept_present(alloc, problem)?;
         let most = self.limits.kept() as usize;
-        keep(&mut self.kept, most, one)?;
-        Ok(())
+        let index = keep(&mut self.kept, most, one)?;
+        Ok(index)
+    }
+
+    /// The index of the problem of a version at a moment among the kept ones.
+    fn index_of_kept(&self, version: u64, at: Moment) -> Option<usize>
+        ensures found { IfSome result (IsIndexOfKept self.now.state.kept (version, at)) }
+        ensures none { IfNone result (is_kept self.now.state.kept (version, at) ≡ false) }
+    {
+        index_of_kept(&self.kept, version, at)
     }
 
     /// Whether the problem of a version at a moment is kept.
@@ -398,8 +460,7 @@ impl Book {
         ensures made { IfOk result (λ made. IsMade self.now.setting self.now.state.history (length self.now.state.history) made.value) }
         ensures span { IfOk result (λ made. IsInSpan made.value problem.now.at) }
     {
-        // For the prover alone: wagons ascend by number.
-        let _rows = self.state().wagon_rows();
+        self.state().for_the_prover();
         let made = match self.mendable(problem) {
             Some(earlier) => earlier.mended(alloc, problem, self.tables())?,
             None => MadeProblem::of(alloc, problem, self.state().network(), self.tables())?,

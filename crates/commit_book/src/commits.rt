@@ -2,7 +2,7 @@
 ghost use Rattle.std.specs.Prelude.{◌≡◌, ◌≢◌, [], IfErr, IfOk, None, OnOk, Some, length, nat_lt};
 ghost use Rattle.std.specs.Result.{result_err};
 ghost use Rattle.cost_table.specs.Table.{order_count, wagon_count};
-ghost use Rattle.commit_book.specs.BookStep.{refusal_in};
+ghost use Rattle.commit_book.specs.inner.CommitTests.{refusal_over};
 ghost use Rattle.commit_book.specs.Commits.{free_in, is_same_free, order_changed, wagon_changed, wagon_of as wagon_in_problem};
 ghost use Rattle.faults.specs.declared.faults.Refusal.TheVariants.{OutOfMemory};
 ghost use Rattle.operating_db.specs.Commits.{lack_in, times_of_order as times_in};
@@ -29,8 +29,8 @@ pub(crate) fn judge(
 ) -> Result<(), Refusal>
     requires wagons { wagon_count made.now.timed.cells ≡ length made.now.problem.wagons }
     requires orders { order_count made.now.timed.cells ≡ length made.now.problem.orders }
-    ensures accepted { OnOk result (refusal_in made.now.problem now.now.office commit.now made.now.timed.cells ≡ None) }
-    ensures refused { IfErr result (λ refusal. refusal ≢ OutOfMemory → refusal_in made.now.problem now.now.office commit.now made.now.timed.cells ≡ Some refusal) }
+    ensures accepted { OnOk result (refusal_over made.now now.now.office commit.now ≡ None) }
+    ensures refused { IfErr result (λ refusal. refusal ≢ OutOfMemory → refusal_over made.now now.now.office commit.now ≡ Some refusal) }
 {
     let pairs = commit.pairs.as_slice();
     let prices = prices_of(alloc, commit)?;

@@ -91,21 +91,21 @@ impl IndexedProblem {
         ensures { option_copied result ≡ wagon_of self.now number }
     {
         let wagons = self.problem.wagons();
-        let place = place_of(wagons, number)?;
-        wagons.get(place)
+        let index = position_of(wagons, number)?;
+        wagons.get(index)
     }
 
     /// Where a wagon and an order stand, `None` where one of them is not there.
     fn positions(&self, number: WagonNumber, id: OrderId) -> Option<(usize, usize)>
         ensures { result ≡ pair_of (names_of_problem self.now) number id }
     {
-        let i = place_of(self.problem.wagons(), number)?;
-        let j = self.place_of_order(id)?;
+        let i = position_of(self.problem.wagons(), number)?;
+        let j = self.position_of_order(id)?;
         Some((i, j))
     }
 
     /// Where an order stands.
-    fn place_of_order(&self, id: OrderId) -> Option<usize>
+    fn position_of_order(&self, id: OrderId) -> Option<usize>
         ensures { result ≡ position (is_name id) (order_names self.now.orders) }
     {
         self.orders.get(&id).copied()
@@ -131,7 +131,7 @@ impl PairNames for IndexedProblem {
 }
 
 /// Where the wagon of a number stands among ascending ones.
-fn place_of(wagons: &[FreeWagon], number: WagonNumber) -> Option<usize>
+fn position_of(wagons: &[FreeWagon], number: WagonNumber) -> Option<usize>
     requires ascending { Ascend wagons.now }
     requires distinct { first_repeated (wagon_names wagons.now) ≡ None }
     ensures { result ≡ position (is_name number) (wagon_names wagons.now) }

@@ -1,5 +1,5 @@
 //! The problems that a book keeps.
-ghost use Rattle.std.specs.Prelude.{◌≡◌, ◌≤◌, OnErr, OnOk, length, option_map};
+ghost use Rattle.std.specs.Prelude.{◌≡◌, ◌≤◌, IfOk, OnErr, OnOk, Some, length, option_map, position, slice_get};
 ghost use Rattle.std.specs.List.{find};
 ghost use Rattle.commit_book.specs.BookStep.{is_this};
 ghost use Rattle.commit_book.specs.inner.Kept.{is_covering, which_of, with_kept};
@@ -40,6 +40,13 @@ pub(crate) fn find_kept(kept: &[KeptProblem], version: u64, at: Moment) -> Optio
     kept.iter().find(|one| one.is_of(version, at))
 }
 
+/// The index of the problem of a version at a moment, where it is kept.
+pub(crate) fn index_of_kept(kept: &[KeptProblem], version: u64, at: Moment) -> Option<usize>
+    ensures { result ≡ position (λ one. is_this (version, at) (which_of one)) kept.now }
+{
+    kept.iter().position(|one| one.is_of(version, at))
+}
+
 /// A kept problem of a version whose table is that of this moment too, where there is one.
 pub(crate) fn find_covering(kept: &[KeptProblem], version: u64, at: Moment) -> Option<&KeptProblem>
     ensures { option_map (λ one. one.now) result ≡ find (is_covering version at) kept.now }
@@ -47,22 +54,23 @@ pub(crate) fn find_covering(kept: &[KeptProblem], version: u64, at: Moment) -> O
     kept.iter().find(|one| one.is_covering(version, at))
 }
 
-/// Keeps one more problem, as the last one. Where there are as many as may be, the first makes room. Where memory is
-/// refused, nothing changes.
+/// Keeps one more problem, as the last one, and gives its index. Where there are as many as may be, the first makes room.
+/// Where memory is refused, nothing changes.
 pub(crate) fn keep(
     kept: &mut Vec<KeptProblem>,
     most: usize,
     one: KeptProblem,
-) -> Result<(), AllocError>
+) -> Result<usize, AllocError>
     requires { 1 ≤ most }
     ensures kept { OnOk result (kept.new.items ≡ with_kept most kept.old.items one) }
+    ensures index { IfOk result (λ index. slice_get kept.new.items index ≡ Some one) }
     ensures unchanged { OnErr result (kept.new.items ≡ kept.old.items) }
 {
     if kept.len() < most {
         kept.push(one)?;
-        return Ok(());
+    } else {
+        kept.remove(0);
+        kept.push(one).unwrap();
     }
-    kept.remove(0);
-    kept.push(one).unwrap();
-    Ok(())
+    Ok(kept.len() - 1)
 }

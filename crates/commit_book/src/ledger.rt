@@ -4,16 +4,15 @@ ghost use Rattle.operating_db.specs.After.{after_call};
 ghost use Rattle.operating_db.specs.ApplyFault.{IsRefusal};
 ghost use Rattle.line_network.specs.NetworkCount.{max_networks};
 ghost use Rattle.operating_db.specs.Steps.{IsPromised};
-ghost use Rattle.operating_db.specs.declared.event.Event.TheVariants as event;
 ghost use Rattle.commit_book.specs.History.{IsFresh};
-ghost use Rattle.commit_book.specs.inner.Ledger.{IsAdmitted, IsIndexOf, IsMessageAt, IsMessageEntry, IsNoMessage, IsNoted, compare_ids, office_of, state_of};
+ghost use Rattle.commit_book.specs.inner.Ledger.{IsAdmitted, IsIndexOf, IsMessageAt, IsMessageEntry, IsNoMessage, IsNoted, compare_ids, message_after, office_of, state_of};
 ghost use Rattle.std.specs.BTreeMap.{get};
 ghost use Rattle.std.specs.Ordering.{is_eq};
 ghost use Rattle.rail_codes.specs.declared.message_id.MessageId.{MessageId};
 
 use fleet_rows::Roster;
-use move_messages::Message;
-use operating_db::{ApplyFault, Event, OfficeState};
+use move_messages::{Event, Message};
+use operating_db::{ApplyFault, OfficeState};
 use rail_codes::MessageId;
 use std::alloc::{AllocError, Global};
 use std::collections::BTreeMap;
@@ -24,7 +23,7 @@ use std::marker::Model;
 pub(crate) enum MessageEntry {
     /// It is the last event now.
     Entered,
-    /// The event at this place, counted from 0, is a message of its id.
+    /// The event at this index is a message of its id.
     Known(usize),
 }
 
@@ -34,7 +33,7 @@ pub(crate) enum MessageEntry {
 pub(crate) struct Ledger {
     roster: Roster,
     events: Vec<Event>,
-    // The place of each message among the events, by its id. Senders choose the ids, so the map is an ordered one: a
+    // The index of each message among the events, by its id. Senders choose the ids, so the map is an ordered one: a
     // look-up in it is short for all ids.
     ids: BTreeMap<MessageId, usize>,
     state: OfficeState,
@@ -81,11 +80,11 @@ impl Ledger {
         self.events.len()
     }
 
-    /// The event at a place, counted from 0.
-    pub fn get(&self, place: usize) -> Option<&Event>
-        ensures { option_map (λ event. event.now) result ≡ slice_get self.now.events place }
+    /// The event at an index.
+    pub fn get(&self, index: usize) -> Option<&Event>
+        ensures { option_map (λ event. event.now) result ≡ slice_get self.now.events index }
     {
-        self.events.get(place)
+        self.events.get(index)
     }
 
     /// The office after all events.
@@ -95,12 +94,12 @@ impl Ledger {
         &self.state
     }
 
-    /// The place of the message of an id, counted from 0.
+    /// The index of the message of an id.
     pub fn find(&self, id: MessageId) -> Option<usize>
-        ensures found { IfSome result (λ place. IsMessageAt self.now.events id place) }
+        ensures found { IfSome result (λ index. IsMessageAt self.now.events id index) }
         ensures fresh { IfNone result (IsFresh id self.now.events) }
     {
-        place_of(&self.ids, id)
+        index_of(&self.ids, id)
     }
 
     /// Lets a message happen, as the last event, unless an event has its id. Refused as the office refuses it, or
@@ -114,7 +113,7 @@ impl Ledger {
     {
         match admit(&self.state, &mut self.ids, &mut self.events, message) {
             Ok(None) => {}
-            Ok(Some(place)) => return Ok(MessageEntry::Known(place)),
+            Ok(Some(index)) => return Ok(MessageEntry::Known(index)),
             Err(fault) => return Err(fault),
         }
         let event = Event::Message(*message);
@@ -172,8 +171,8 @@ fn make_room(state: &OfficeState, events: &mut Vec<Event>, event: &Event) -> Res
 }
 
 /// Notes a message that is possible, and whose id no event has, behind the events, and makes room for it there. Else gives
-/// the place of the event of its id, or refuses it as the office refuses it. Where the office does, no memory is asked
-/// for: index and list stay as they were. Where memory is refused, nothing is noted.
+/// the index of the event of its id, or refuses it as the office refuses it. Where the office does, no memory is asked
+/// for: map and list stay as they were. Where memory is refused, nothing is noted.
 fn admit(
     state: &OfficeState,
     ids: &mut BTreeMap<MessageId, usize>,
@@ -181,13 +180,13 @@ fn admit(
     message: &Message,
 ) -> Result<Option<usize>, ApplyFault>
     requires { IsIndexOf events.old.items (get compare_ids ids.old) }
-    ensures admitted { IsAdmitted events.old.items message.now.id (after_call state.now.networks state.now.office (event.Message message.now)) result (get compare_ids ids.new) }
+    ensures admitted { IsAdmitted events.old.items message.now.id (message_after state.now message.now) result (get compare_ids ids.new) }
     ensures events { events.new.items ≡ events.old.items }
     ensures room { IfOk result (λ known. IfNone known (vec_len events.new < vec_capacity events.new)) }
-    ensures unasked { OnErr (after_call state.now.networks state.now.office (event.Message message.now)) ((ids.new ≡ ids.old) × (events.new ≡ events.old)) }
+    ensures unasked { OnErr (message_after state.now message.now) ((ids.new ≡ ids.old) × (events.new ≡ events.old)) }
 {
     if let Err(fault) = state.possible(&Event::Message(*message)) {
-        if let Some(known) = place_of(ids, message.id) {
+        if let Some(known) = index_of(ids, message.id) {
             return Ok(Some(known));
         }
         return Err(fault);
@@ -198,16 +197,16 @@ fn admit(
     }
 }
 
-/// The place that is noted for an id.
-fn place_of(ids: &BTreeMap<MessageId, usize>, id: MessageId) -> Option<usize>
+/// The index that is noted for an id.
+fn index_of(ids: &BTreeMap<MessageId, usize>, id: MessageId) -> Option<usize>
     ensures { result ≡ get compare_ids ids.now id }
 {
     ids.get(&id).copied()
 }
 
-/// Notes the place behind the events by the id of a message, and makes room for the message there; or, where an event
-/// is a message of this id, gives its place and notes nothing. Where memory is refused, no event is, and nothing is
-/// noted. In the common case, a new id, the index is searched once.
+/// Notes the index behind the events by the id of a message, and makes room for the message there; or, where an event
+/// is a message of this id, gives its index and notes nothing. Where memory is refused, no event is, and nothing is
+/// noted. In the common case, a new id, the map is searched once.
 fn note(
     ids: &mut BTreeMap<MessageId, usize>,
     events: &mut Vec<Event>,
@@ -218,9 +217,9 @@ fn note(
     ensures events { events.new.items ≡ events.old.items }
     ensures room { IfOk result (λ known. IfNone known (vec_len events.new < vec_capacity events.new)) }
 {
-    if let Some(place) = ids.insert(id, events.len())? {
-        note_again(ids, id, place);
-        return Ok(Some(place));
+    if let Some(index) = ids.insert(id, events.len())? {
+        note_again(ids, id, index);
+        return Ok(Some(index));
     }
     if events.reserve(1).is_err() {
         ids.remove(&id);
@@ -229,12 +228,12 @@ fn note(
     Ok(None)
 }
 
-/// Notes another place for an id that is noted. Takes no memory.
-fn note_again(ids: &mut BTreeMap<MessageId, usize>, id: MessageId, place: usize)
+/// Notes another index for an id that is noted. Takes no memory.
+fn note_again(ids: &mut BTreeMap<MessageId, usize>, id: MessageId, index: usize)
     requires { IsSome (get compare_ids ids.old id) }
-    ensures { (other : MessageId) → get compare_ids ids.new other ≡ cond (is_eq (compare_ids id other)) (Some place) (get compare_ids ids.old other) }
+    ensures { (other : MessageId) → get compare_ids ids.new other ≡ cond (is_eq (compare_ids id other)) (Some index) (get compare_ids ids.old other) }
 {
     if let Some(noted) = ids.get_mut(&id) {
-        *noted = place;
+        *noted = index;
     }
 }

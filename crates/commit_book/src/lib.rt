@@ -14,8 +14,6 @@ mod ledger;
 mod limits;
 mod made_problem;
 mod reply;
-mod request;
-mod same_messages;
 mod same_orders;
 mod snap;
 
@@ -26,7 +24,4 @@ pub use faults::Refusal;
 pub use laws::every_commit_is_proved_least;
 pub use limits::{Limits, MAX_ENTRIES, MAX_KEPT_PROBLEMS};
 pub use reply::Reply;
-pub use request::Request;
-pub use same_messages::is_same_message;
-pub use same_orders::is_same_order;
 pub use snap::Snap;

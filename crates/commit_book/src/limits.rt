@@ -40,6 +40,13 @@ impl Limits {
         Some(Limits { entries, kept })
     }
 
+    /// Does nothing: for the prover alone, it says between which bounds limits are.
+    pub(crate) fn for_the_prover(&self)
+        ensures { AreLimits self.now.entries self.now.kept }
+    {
+        let _entries = self.entries();
+    }
+
     /// The most entries, 1 to 1,000,000.
     pub fn entries(&self) -> u64
         ensures value { result ≡ self.now.entries }

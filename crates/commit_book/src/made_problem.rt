@@ -8,7 +8,7 @@ use crate::indexed_problem::IndexedProblem;
 use crate::same_orders::are_same_orders;
 use cost_table::Problem;
 use line_network::Tables;
-use problem_table::{TimedCells, mended_cells, timed_cells};
+use problem_table::{TimedCells, changed_cells, timed_cells};
 use rail_codes::Moment;
 use std::alloc::{AllocError, Global};
 
@@ -54,7 +54,7 @@ impl MadeProblem {
         requires lasting { IsLastingTable tables.now self.now.problem self.now.timed.cells self.now.timed.lasts.items }
         ensures { IfOk result (IsMadeOf tables.now self.now.network problem.now) }
     {
-        let timed = mended_cells(alloc, problem, tables, self.problem.problem(), &self.timed)?;
+        let timed = changed_cells(alloc, problem, tables, self.problem.problem(), &self.timed)?;
         let problem = self.problem.with_these_orders(problem.copy(alloc)?)?;
         Ok(MadeProblem {
             problem,

@@ -1,27 +1,8 @@
-//! Orders compared.
+//! Wanted orders compared.
 ghost use Rattle.std.specs.Prelude.{◌≡◌, ◌↔◌, IsTrue};
 
-use move_messages::{Classes, OrderText};
+use move_messages::is_same_order;
 use wagons_and_orders::Wanted;
-
-/// Whether two orders are one, field by field.
-pub fn is_same_order(one: &OrderText, other: &OrderText) -> bool
-    ensures { IsTrue result ↔ (one.now ≡ other.now) }
-{
-    one.id() == other.id()
-        && one.place() == other.place()
-        && are_same_classes(one.classes(), other.classes())
-        && one.load() == other.load()
-        && one.latest() == other.latest()
-        && one.penalty() == other.penalty()
-        && one.wagons() == other.wagons()
-}
-
-fn are_same_classes(one: &Classes, other: &Classes) -> bool
-    ensures { IsTrue result ↔ (one.now ≡ other.now) }
-{
-    *one == *other
-}
 
 /// Whether two lists have the same orders, which lack as many wagons.
 pub(crate) fn are_same_orders(one: &[Wanted], other: &[Wanted]) -> bool

@@ -1,5 +1,5 @@
 -- Rows that stand in two blocks: one that tables share, and a table's own.
-use Rattle.std.specs.Prelude.{◌≡◌, ◌+◌, ◌<◌, ℕ, List, [], ◌∷◌, ◌++◌, All, length, map, slice_index_or}
+use Rattle.std.specs.Prelude.{◌≡◌, ◌+◌, ◌/◌, ◌<◌, ℕ, Bool, List, [], ◌∷◌, ◌++◌, All, length, map, nat_lt, slice_index_or}
 use Rattle.cost_table.specs.declared.table_rows.TableRows.{TableRows}
 
 -- the row of a number among those of the shared block, then of the own one
@@ -25,3 +25,13 @@ pub record HasRowMore (old new : TableRows) (row : List (ℕ × ℕ)) : Type 0 w
   pub shared : new.shared.value ≡ old.shared.value
   pub rows : rows_in new ≡ rows_in old ++ row ∷ []
   pub placed : ArePlaced new
+
+-- the same rows
+pub record HasSameRows (old new : TableRows) : Type 0 where
+  pub shared : new.shared.value ≡ old.shared.value
+  pub rows : rows_in new ≡ rows_in old
+  pub placed : ArePlaced new
+
+-- more own rows than a quarter of the shared ones
+abbrev pub are_scattered : TableRows → Bool
+are_scattered rows = nat_lt (length rows.shared.value / 4) (length rows.own)

@@ -1,6 +1,6 @@
 //! The names of a table's wagons and orders.
-ghost use Rattle.std.specs.Prelude.{◌≡◌, ℕ, [], Some, IfSome, position, slice_get};
-ghost use Rattle.cost_table.specs.Names.{is_name, pair_of};
+ghost use Rattle.std.specs.Prelude.{◌≡◌, [], Some, IfSome, position, slice_get};
+ghost use Rattle.cost_table.specs.Names.{IsFoundWhere, StandAt, is_name, pair_of};
 ghost use Rattle.cost_table.specs.DistinctNames.{names_or_fault, repeated_from};
 
 use crate::limits::{MAX_TABLE_ORDERS, MAX_TABLE_WAGONS};
@@ -64,8 +64,8 @@ impl Names {
     /// Where a wagon and an order stand, `None` where one of them is not named.
     pub fn pair_of(&self, number: WagonNumber, id: OrderId) -> Option<(usize, usize)>
         ensures value { result ≡ pair_of self.now number id }
-        ensures found { IfSome result (λ p. (slice_get self.now.wagons p.0 ≡ Some number) × (slice_get self.now.orders p.1 ≡ Some id)) }
-        ensures held { (i j : ℕ) → slice_get self.now.wagons i ≡ Some number → slice_get self.now.orders j ≡ Some id → result ≡ Some (i, j) }
+        ensures found { IfSome result (StandAt self.now number id) }
+        ensures held { IsFoundWhere self.now number id result }
     {
         let i = position_of_wagon(&self.wagons, number)?;
         let j = position_of_order(&self.orders, id)?;

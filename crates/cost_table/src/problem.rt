@@ -1,7 +1,7 @@
 //! What is to be distributed.
-ghost use Rattle.std.specs.Prelude.{◌≡◌, ◌≤◌, ℕ, Some, IfOk, IfSome, length, position, slice_get, sum};
+ghost use Rattle.std.specs.Prelude.{◌≡◌, ◌≤◌, Some, IfOk, IfSome, length, position, slice_get, sum};
 ghost use Rattle.std.specs.List.{list_any};
-ghost use Rattle.cost_table.specs.Names.{both, is_name, pair_of};
+ghost use Rattle.cost_table.specs.Names.{IsFoundWhere, StandAt, both, is_name, pair_of};
 ghost use Rattle.cost_table.specs.DistinctNames.{first_repeated};
 ghost use Rattle.cost_table.specs.TableLimits.{max_table_orders};
 ghost use Rattle.cost_table.specs.ProblemLimits.{problem_or_fault, is_too_much, IsProblem};
@@ -109,8 +109,8 @@ impl Problem {
     /// Where a wagon and an order stand, `None` where one of them is not there.
     pub fn pair_of(&self, number: WagonNumber, id: OrderId) -> Option<(usize, usize)>
         ensures value { result ≡ pair_of (names_of_problem self.now) number id }
-        ensures found { IfSome result (λ p. (slice_get (wagon_names self.now.wagons) p.0 ≡ Some number) × (slice_get (order_names self.now.orders) p.1 ≡ Some id)) }
-        ensures held { (i j : ℕ) → slice_get (wagon_names self.now.wagons) i ≡ Some number → slice_get (order_names self.now.orders) j ≡ Some id → result ≡ Some (i, j) }
+        ensures found { IfSome result (StandAt (names_of_problem self.now) number id) }
+        ensures held { IsFoundWhere (names_of_problem self.now) number id result }
     {
         positions(&self.wagons, &self.orders, number, id)
     }

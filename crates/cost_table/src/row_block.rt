@@ -1,5 +1,5 @@
 //! Rows of cells that lie one after another in one list.
-ghost use Rattle.std.specs.Prelude.{◌≡◌, ◌<◌, ◌≤◌, ◌^◌, [], ◌∷◌, ◌++◌, OnOk, length, slice_index, slice_index_or};
+ghost use Rattle.std.specs.Prelude.{◌≡◌, ◌<◌, ◌≤◌, ◌^◌, [], ◌∷◌, ◌++◌, OnErr, OnOk, length, slice_index, slice_index_or};
 ghost use Rattle.cost_table.specs.RowBlocks.{rows_of, AreEnds, HoldRows};
 
 use std::alloc::{AllocError, Global};
@@ -42,9 +42,10 @@ impl RowBlock {
         RowBlock { entries, ends }
     }
 
-    /// Appends a row.
-    pub fn push(&mut self, row: &[(u32, u32)]) -> Result<(), AllocError>
-        ensures { OnOk result (self.new ≡ self.old ++ row.now ∷ []) }
+    /// Appends a row. `Err` only when out of memory; then there are the same rows.
+    pub(crate) fn push(&mut self, row: &[(u32, u32)]) -> Result<(), AllocError>
+        ensures pushed { OnOk result (self.new ≡ self.old ++ row.now ∷ []) }
+        ensures kept { OnErr result (self.new ≡ self.old) }
     {
         self.ends.reserve(1)?;
         self.entries.extend_from_slice(row)?;

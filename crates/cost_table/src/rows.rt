@@ -1,5 +1,5 @@
 //! Rows as they are handed in: their tests, and their cells one after another.
-ghost use Rattle.std.specs.Prelude.{◌≡◌, ◌≤◌, ◌++◌, All, IfOk, OnOk, IsTrue, ◌↔◌, length, map, sum, ◌==◌};
+ghost use Rattle.std.specs.Prelude.{◌≡◌, ◌≤◌, ◌++◌, All, IfOk, OnOk, length, map, sum, ◌==◌};
 ghost use Rattle.std.specs.List.{list_all};
 ghost use Rattle.wagons_and_orders.specs.WantedLimits.{IsLack};
 ghost use Rattle.cost_table.specs.TableLimits.{max_table_orders};

@@ -1,6 +1,6 @@
 //! The rows of a table, some of which it may share with other tables.
-ghost use Rattle.std.specs.Prelude.{◌≡◌, ◌+◌, ◌<◌, [], IfOk, OnOk, length, slice_index_or};
-ghost use Rattle.cost_table.specs.SharedRows.{ArePlaced, ArePlaces, HasRowMore, row_among, rows_among, rows_in};
+ghost use Rattle.std.specs.Prelude.{◌≡◌, ◌+◌, ◌<◌, [], IfOk, OnErr, OnOk, length, slice_index_or};
+ghost use Rattle.cost_table.specs.SharedRows.{ArePlaced, ArePlaces, HasRowMore, HasSameRows, are_scattered, row_among, rows_among, rows_in};
 
 use crate::row_block::RowBlock;
 use std::alloc::{AllocError, Global};
@@ -58,24 +58,28 @@ impl TableRows {
         row_at(&self.shared, &self.own, self.places[i])
     }
 
-    /// Appends a row.
+    /// Appends a row. `Err` only when out of memory; then there are the same rows.
     pub fn push(&mut self, row: &[(u32, u32)]) -> Result<(), AllocError>
         requires { ArePlaced self.old }
-        ensures { OnOk result (HasRowMore self.old self.new row.now) }
+        ensures pushed { OnOk result (HasRowMore self.old self.new row.now) }
+        ensures kept { OnErr result (HasSameRows self.old self.new) }
     {
         let place = self.shared.len() + self.own.len();
+        self.places.reserve(1)?;
         self.own.push(row)?;
-        self.places.push(place)?;
+        self.places.push_reserved(place);
         Ok(())
     }
 
-    /// Appends row `i` of another table, whose shared block is this one's too: a row of that block isn't copied.
+    /// Appends row `i` of another table, whose shared block is this one's too: a row of that block isn't copied. `Err` only
+    /// when out of memory; then there are the same rows.
     pub fn take_over(&mut self, other: &TableRows, i: usize) -> Result<(), AllocError>
         requires placed { ArePlaced self.old }
         requires shared { self.old.shared.value ≡ other.now.shared.value }
         requires others { ArePlaced other.now }
         requires wagon { i < length (rows_in other.now) }
-        ensures { OnOk result (HasRowMore self.old self.new (slice_index_or (rows_in other.now) i [])) }
+        ensures pushed { OnOk result (HasRowMore self.old self.new (slice_index_or (rows_in other.now) i [])) }
+        ensures kept { OnErr result (HasSameRows self.old self.new) }
     {
         let place = other.places[i];
         if place < self.shared.len() {
@@ -85,8 +89,11 @@ impl TableRows {
         self.push(other.row(i))
     }
 
-    /// Whether so many rows are the table's own that a table made anew would serve better as one to share.
-    pub fn are_scattered(&self) -> bool {
+    /// Whether so many rows are the table's own that a table made anew would serve better as one to share: over a quarter
+    /// of those that it shares.
+    pub fn are_scattered(&self) -> bool
+        ensures { result ≡ are_scattered self.now }
+    {
         self.own.len() > self.shared.len() / 4
     }
 }

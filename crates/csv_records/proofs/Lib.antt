@@ -2,3 +2,4 @@ pub mod Asking
 pub mod Collecting
 pub mod FieldLemmas
 pub mod Remaining
+pub mod Saying

@@ -1,3 +1,4 @@
 pub mod Fields
 pub mod Files
+pub mod Reading
 pub mod Requests

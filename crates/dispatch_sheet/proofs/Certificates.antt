@@ -17,14 +17,15 @@ use Rattle.rail_codes.specs.Moment.{moment_of}
 use Rattle.rail_codes.specs.OrderId.{order_id_of, IsOrderId}
 use Rattle.rail_codes.specs.WagonNumber.{IsWagonNumber}
 use Rattle.rail_codes.proofs.WagonNumbers.{wagon_number_of-IsWagonNumber}
-use Rattle.move_messages.specs.Values.{list_of_each, number_within, text_of, moment_from, wagon_and_order}
+use Rattle.move_messages.specs.Values.{code_from, list_of_each, number_within, text_of, moment_from, wagon_and_order}
 use Rattle.move_messages.specs.Written.{list_data, number_data, pair_data}
 use Rattle.move_messages.specs.Field.{field_name}
 use Rattle.move_messages.specs.Fields.{member, field_of}
 use Rattle.move_messages.proofs.Lines.{object_of-ok}
 use Rattle.move_messages.proofs.Writing.{list-reads, number_reads, pair_reads}
 use Rattle.move_messages.specs.declared.commit_text.CommitText.{CommitText}
-use Rattle.move_messages.specs.declared.command.Command.TheVariants.{Commit}
+use Rattle.move_messages.specs.declared.command.Command.TheVariants.{Event}
+use Rattle.move_messages.specs.declared.event.Event.TheVariants.{Commit}
 use Rattle.move_messages.specs.LineType.{line_type_of, type_name}
 use Rattle.move_messages.specs.Commands.{command_of, command_of_type, commit_text_of, max_version}
 use Rattle.dispatch_sheet.specs.Certificate.{commit_data}
@@ -79,7 +80,7 @@ pair-reads wagon order wagon_text order_text wagon_same wagon_valid order_same o
     pair_reads wagon order (wagon_number_of-IsWagonNumber wagon (subst IsWagonNumber wagon_same wagon_valid)) (order-reads order (subst IsOrderId order_same order_valid))
 
 moment-reads : (at : List ℕ) (moment : ℕ) → moment_of at ≡ Ok moment → moment_from (string at) ≡ Ok moment
-unfolding moment_from text_of
+unfolding code_from text_of
 moment-reads at moment e = rw e refl
 
 prices-read : (prices : List ℕ) → AreReadablePrices prices → list_of_each (number_within 0 (2 ^ 64 - 1)) (list_data number_data prices) ≡ Ok prices
@@ -91,11 +92,11 @@ commit-reads commit at readable moment =
     let version = number_reads 0 max_version commit.version (omega arith) readable.version in
     rw (version, moment-reads at commit.at moment, list-reads wagon_and_order pair_data commit.pairs readable.pairs, prices-read commit.u readable.u, prices-read commit.v readable.v) refl
 
-command-reads : (bytes : List ℕ) (commit : CommitText) (at : List ℕ) → IsUtf8 bytes → read bytes ≡ Some (commit_data commit at) → commit_text_of (commit_data commit at) ≡ Ok commit → command_of bytes ≡ Ok (Commit commit)
+command-reads : (bytes : List ℕ) (commit : CommitText) (at : List ℕ) → IsUtf8 bytes → read bytes ≡ Some (commit_data commit at) → commit_text_of (commit_data commit at) ≡ Ok commit → command_of bytes ≡ Ok (Event (Commit commit))
 unfolding command_of command_of_type field_of member field_name text_of line_type_of type_name
 command-reads bytes commit at utf8 is reads = rw (object_of-ok bytes (commit_data commit at) utf8 is refl, reads) refl
 
 -- a text of the commit's tokens
-pub line-reads : (bytes : List ℕ) (commit : CommitText) (at : List ℕ) → IsUtf8 bytes → tokens bytes ≡ data_tokens (commit_data commit at) → IsReadable commit → moment_of at ≡ Ok commit.at → command_of bytes ≡ Ok (Commit commit)
+pub line-reads : (bytes : List ℕ) (commit : CommitText) (at : List ℕ) → IsUtf8 bytes → tokens bytes ≡ data_tokens (commit_data commit at) → IsReadable commit → moment_of at ≡ Ok commit.at → command_of bytes ≡ Ok (Event (Commit commit))
 line-reads bytes commit at utf8 same readable moment =
     command-reads bytes commit at utf8 (read-tokens (outline (commit_data commit at)) (commit_data commit at) bytes same (commit_nests commit at) (commit_spells commit at readable)) (commit-reads commit at readable moment)

@@ -5,12 +5,22 @@ use Rattle.serde_json.specs.Written.{compact_text}
 use Rattle.rail_codes.specs.Moment.{IsMomentText}
 use Rattle.move_messages.specs.Written.{list_data, number_data, pair_data}
 use Rattle.move_messages.specs.declared.commit_text.CommitText.{CommitText}
+use Rattle.cost_table.specs.Problem.{ProblemValue}
+use Rattle.price_checker.specs.declared.prices.Prices.{Prices}
 use Rattle.commit_book.specs.Snap.{SnapValue, named_pair}
 
 -- the commit of a plan and its prices: the snapshot's version and moment, the plan's pairs by name
 abbrev pub commit_of : SnapValue → List (ℕ × ℕ) → (u v : List ℕ) → CommitText
 commit_of snap plan u v =
     record { version = snap.version; at = snap.problem.at; pairs = map (named_pair snap.problem) plan; u = u; v = v }
+
+-- the same with prices as they are handed in
+abbrev pub commit_with : SnapValue → List (ℕ × ℕ) → Prices → CommitText
+commit_with snap plan prices = commit_of snap plan prices.u.items prices.v.items
+
+-- the pairs at these positions, each a list of its wagon and its order
+abbrev pub pairs_data : ProblemValue → List (ℕ × ℕ) → Data
+pairs_data problem positions = list_data pair_data (map (named_pair problem) positions)
 
 -- a commit, with the text of its moment
 abbrev pub commit_data : CommitText → (at : List ℕ) → Data

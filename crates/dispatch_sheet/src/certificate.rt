@@ -3,7 +3,8 @@ ghost use Rattle.std.specs.Prelude.{◌≡◌, [], All, IfOk, Ok, string_bytes};
 ghost use Rattle.json.specs.Lex.{tokens};
 ghost use Rattle.json.specs.Print.{print};
 ghost use Rattle.move_messages.specs.Commands.{command_of};
-ghost use Rattle.move_messages.specs.declared.command.Command.TheVariants.{Commit};
+ghost use Rattle.move_messages.specs.declared.command.Command.TheVariants.{Event};
+ghost use Rattle.move_messages.specs.declared.event.Event.TheVariants.{Commit};
 ghost use Rattle.commit_book.specs.Snap.{IsInRange};
 ghost use Rattle.dispatch_sheet.specs.Certificate.{commit_of, IsCertificateLine};
 
@@ -24,7 +25,7 @@ pub fn certificate_line(
 ) -> Result<String, AllocError>
     requires { All (IsInRange snap.now.problem) plan.now }
     ensures text { IfOk result (λ line. IsCertificateLine (commit_of snap.now plan.now prices.now.u.items prices.now.v.items) (string_bytes line)) }
-    ensures reads { IfOk result (λ line. command_of (string_bytes line) ≡ Ok (Commit (commit_of snap.now plan.now prices.now.u.items prices.now.v.items))) }
+    ensures reads { IfOk result (λ line. command_of (string_bytes line) ≡ Ok (Event (Commit (commit_of snap.now plan.now prices.now.u.items prices.now.v.items)))) }
 {
     let at = snap.at().text(alloc)?;
     let mut out = Writer::new(Vec::new(alloc));

@@ -4,7 +4,7 @@ ghost use Rattle.json.specs.Token.{begin_object, end_object};
 ghost use Rattle.serde_json.specs.Data.{string};
 ghost use Rattle.move_messages.specs.Written.{list_data, number_data, pair_data};
 ghost use Rattle.commit_book.specs.Snap.{IsInRange, named_pair};
-ghost use Rattle.dispatch_sheet.specs.Certificate.{commit_data, commit_of};
+ghost use Rattle.dispatch_sheet.specs.Certificate.{commit_data, commit_with, pairs_data};
 ghost use Rattle.dispatch_sheet.specs.inner.Readable.{AreReadablePrices, IsReadable, IsReadablePair};
 ghost use Rattle.dispatch_sheet.specs.inner.Tokens.{data_tokens, member_tokens};
 
@@ -26,9 +26,9 @@ pub(crate) fn write_commit(
     at: &str,
 ) -> Result<(), AllocError>
     requires { All (IsInRange snap.now.problem) plan.now }
-    ensures tokens { OnOk result (out.new.tokens ≡ out.old.tokens ++ data_tokens (commit_data (commit_of snap.now plan.now prices.now.u.items prices.now.v.items) at.now)) }
+    ensures tokens { OnOk result (out.new.tokens ≡ out.old.tokens ++ data_tokens (commit_data (commit_with snap.now plan.now prices.now) at.now)) }
     ensures before { out.new.before ≡ out.old.before }
-    ensures readable { OnOk result (IsReadable (commit_of snap.now plan.now prices.now.u.items prices.now.v.items)) }
+    ensures readable { OnOk result (IsReadable (commit_with snap.now plan.now prices.now)) }
 {
     write_moment(out, at)?;
     write_pairs(out, snap.problem(), plan.pairs())?;
@@ -55,7 +55,7 @@ fn write_pairs(
     positions: &[(usize, usize)],
 ) -> Result<(), AllocError>
     requires { All (IsInRange problem.now) positions.now }
-    ensures tokens { OnOk result (out.new.tokens ≡ out.old.tokens ++ member_tokens (codes "pairs") (list_data pair_data (map (named_pair problem.now) positions.now))) }
+    ensures tokens { OnOk result (out.new.tokens ≡ out.old.tokens ++ member_tokens (codes "pairs") (pairs_data problem.now positions.now)) }
     ensures before { out.new.before ≡ out.old.before }
     ensures readable { OnOk result (All IsReadablePair (map (named_pair problem.now) positions.now)) }
 {

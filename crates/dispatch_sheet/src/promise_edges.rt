@@ -1,8 +1,8 @@
 //! Promises.
 ghost use Rattle.std.specs.Prelude.{◌≡◌, ◌++◌, ◌<◌, IfOk, OnOk, count_by, length, nat_eq, slice_get, string_bytes, take};
 ghost use Rattle.std.specs.Cmp.Lexicographic.{pointwise};
-ghost use Rattle.std.specs.List.{filter_map, flat_map, list_any, range_with_len};
-ghost use Rattle.dispatch_sheet.specs.MapPromises.{arrow_words, place_in, promise_at, promise_edge, promise_name, promise_node, promise_parts};
+ghost use Rattle.std.specs.List.{filter_map, flat_map, list_any};
+ghost use Rattle.dispatch_sheet.specs.MapPromises.{arrow_words, place_in, promise_at, promise_edge, promise_name, promise_node, promise_parts, promises_from};
 
 use crate::map_words::{push_number, push_quoted};
 use move_messages::OrderText;
@@ -63,7 +63,7 @@ fn place_in(state: &OfficeState, number: WagonNumber) -> Option<Place>
 
 /// Adds an arrow to an order's place from each of these places.
 fn push_arrows(text: &mut String, order: &OrderText, places: &[Place]) -> Result<(), AllocError>
-    ensures { OnOk result (string_bytes text.new ≡ string_bytes text.old ++ flat_map (promise_at order.now places.now) (range_with_len 0 (length places.now))) }
+    ensures { OnOk result (string_bytes text.new ≡ string_bytes text.old ++ promises_from order.now places.now) }
 {
     for i in 0..places.len() {
         push_arrow(text, order, places, i)?;

@@ -1,16 +1,20 @@
 -- The manual as text.
-use Rattle.std.specs.Prelude.{◌≡◌, ℕ, List, ◌∷◌, ◌++◌, codes, decimal}
+use Rattle.std.specs.Prelude.{◌≡◌, ℕ, List, ◌∷◌, ◌++◌, Contains, codes, decimal}
 use Rattle.std.specs.Io.{StartsWith}
 use Rattle.std.specs.List.{AllZip, flat_map}
-use Rattle.faults.specs.RefusalNumbers.{refusal_numbers}
+use Rattle.faults.specs.RefusalNumbers.{refusals}
 
--- how the heading of a refusal number begins
-abbrev pub heading : ℕ → List ℕ
-heading number = codes "## " ++ decimal number ++ codes " "
+-- the heading of a refusal of this number and name
+abbrev pub heading : ℕ → List ℕ → List ℕ
+heading number name = codes "## " ++ decimal number ++ codes " " ++ name ++ codes "\n"
 
--- an entry is that of a number where it begins with a heading of that number
-abbrev pub IsEntryOf : (number : ℕ) (entry : List ℕ) → Type 0
-IsEntryOf number entry = StartsWith entry (heading number)
+-- an entry is that of a refusal, its number and its name, where it begins with its heading
+abbrev pub IsEntryOf : (refusal : ℕ × List ℕ) (entry : List ℕ) → Type 0
+IsEntryOf refusal entry = StartsWith entry (heading refusal.0 refusal.1)
+
+-- an entry is that of a number where it is that of the listed refusal of this number
+abbrev pub IsEntryFor : (number : ℕ) (entry : List ℕ) → Type 0
+IsEntryFor number entry = (refusal : ℕ × List ℕ) × Contains refusals refusal × (refusal.0 ≡ number) × IsEntryOf refusal entry
 
 -- what stands above the entries
 abbrev pub preface : List ℕ
@@ -23,12 +27,12 @@ preface =
     ++ codes "`wagons explain` prints this page, and `wagons explain 25` one entry of it. What\n"
     ++ codes "is said of `run` holds of `map` too, but that `map` prints no replies.\n"
 
--- a text: the preface, and then an entry of each of these numbers, in their order, each behind an empty line
-pub record HasEntries (numbers text : List ℕ) : Type 0 where
+-- a text: the preface, and then an entry of each of these refusals, in their order, each behind an empty line
+pub record HasEntries (listed : List (ℕ × List ℕ)) (text : List ℕ) : Type 0 where
   pub entries : List (List ℕ)
-  pub each : AllZip IsEntryOf numbers entries
+  pub each : AllZip IsEntryOf listed entries
   pub whole : text ≡ preface ++ flat_map (λ entry. 10 ∷ entry) entries
 
--- the whole manual has an entry of each refusal number
+-- the whole manual has an entry of each refusal
 abbrev pub IsManual : List ℕ → Type 0
-IsManual text = HasEntries refusal_numbers text
+IsManual text = HasEntries refusals text

@@ -4,20 +4,12 @@
 //! There is an entry for each number of the list; that these are the numbers of all faults is a law of `wagons_program`.
 #![tactic(auto)]
 
-mod codes;
-mod entry;
-mod events;
+mod entries;
 mod faults;
-mod lines;
 mod manual;
-mod movements;
-mod networks;
-mod runs;
-mod tables;
 
-pub use entry::entry_text;
 pub use faults::{
     ApplyFault, CheckFault, FeedFault, NamedFault, NetworkFault, PlanFault, RecordFault, Refusal,
     RosterFault, StepFault, TableFault, WorkFault,
 };
-pub use manual::manual_text;
+pub use manual::{entry_text, manual_text};

@@ -1,9 +1,9 @@
-//! The whole manual.
-ghost use Rattle.std.specs.Prelude.{◌≡◌, ◌++◌, ◌∷◌, List, ℕ, true, IfOk, OnOk, string_bytes};
-ghost use Rattle.faults.specs.Manual.{IsEntryOf, IsManual};
+//! The manual: one entry of it, and all.
+ghost use Rattle.std.specs.Prelude.{◌≡◌, IfOk, IfSome, is_some, string_bytes};
+ghost use Rattle.faults.specs.Manual.{IsEntryFor, IsManual};
 ghost use Rattle.faults.specs.RefusalNumbers.{is_refusal_number};
 
-use crate::entry_text;
+use crate::entries::entries;
 use std::alloc::{AllocError, Global};
 
 /// What stands above the entries.
@@ -18,12 +18,16 @@ manual of lines, replies and files is FORMATS.md.
 is said of `run` holds of `map` too, but that `map` prints no replies.
 ";
 
-/// The numbers of all refusals, ascending.
-const NUMBERS: [u32; 55] = [
-    1, 11, 12, 13, 14, 15, 16, 17, 18, 19, 20, 21, 22, 23, 24, 25, 31, 32, 33, 41, 42, 43, 45, 46,
-    47, 51, 52, 53, 54, 61, 62, 63, 64, 65, 66, 71, 72, 73, 74, 75, 76, 77, 78, 79, 80, 81, 82, 83,
-    84, 91, 92, 93, 94, 95, 96,
-];
+/// The manual's entry of a refusal number; none where no refusal has this number. It is Markdown, in lines of at most 80
+/// columns: a heading of number and name, what is wrong, and an item each for where it comes (in which words of the
+/// program, to which lines or files), its usual cause, and what to do about it.
+pub fn entry_text(number: u32) -> Option<&'static str>
+    ensures known { is_some result ≡ is_refusal_number number }
+    ensures named { IfSome result (λ entry. IsEntryFor number entry.now) }
+{
+    let (_, text) = entries().iter().find(|(known, _)| number == *known)?;
+    Some(text)
+}
 
 /// The whole manual as Markdown, in lines of at most 80 columns: a heading, and the entry of each refusal number,
 /// ascending. `Err` only when out of memory.
@@ -31,18 +35,9 @@ pub fn manual_text(alloc: Global) -> Result<String, AllocError>
     ensures { IfOk result (λ text. IsManual (string_bytes text)) }
 {
     let mut text = String::from_str(alloc, ABOVE)?;
-    for number in NUMBERS {
-        push_entry(&mut text, number)?;
+    for (_, entry) in entries() {
+        text.push_str("\n")?;
+        text.push_str(entry)?;
     }
     Ok(text)
-}
-
-/// Adds the entry of a refusal number, behind an empty line.
-fn push_entry(text: &mut String, number: u32) -> Result<(), AllocError>
-    requires { is_refusal_number number ≡ true }
-    ensures { OnOk result ((entry : List ℕ) × IsEntryOf number entry × (string_bytes text.new ≡ string_bytes text.old ++ 10 ∷ entry)) }
-{
-    let entry = entry_text(number).unwrap();
-    text.push_str("\n")?;
-    text.push_str(entry)
 }

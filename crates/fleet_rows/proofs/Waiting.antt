@@ -12,7 +12,7 @@ use Rattle.wagons_and_orders.specs.OrderRow.{IsOrderRow, OrderRowValue}
 use Rattle.fleet_rows.specs.Kept.{IsOrderRows}
 use Rattle.fleet_rows.specs.Rows.{at_order, is_order, max_open_wagons, open_wagons, order_in, wanted_open}
 use Rattle.fleet_rows.specs.WaitingOrders.{waiting_from}
-use Rattle.fleet_rows.specs.inner.Indexed.{IsIndexed, IsStored, IsWaitingList, noted, without_place}
+use Rattle.fleet_rows.specs.inner.Indexed.{IsIndexed, IsStored, IsWaitingList, noted, without_index}
 use Rattle.fleet_rows.proofs.Orders.{IsRowAt, changed_is, indexed_new, indexed_with, row_at, wanted_within}
 
 abbrev AllFrom : ℕ → List ℕ → Type 0
@@ -40,7 +40,7 @@ not_below n m h = grind (arith, nat_tests, h)
 same_place : (n : ℕ) → nat_eq n n ≡ true
 same_place n = grind (arith, nat_tests)
 
-kept_all : (place : ℕ) (places : List ℕ) → AllFrom (place + 1) places → without_place place places ≡ places
+kept_all : (place : ℕ) (places : List ℕ) → AllFrom (place + 1) places → without_index place places ≡ places
 kept_all place [] h = refl
 kept_all place (other ∷ places) h = rw (differs place other h.0, kept_all place places h.1) refl
 
@@ -54,16 +54,16 @@ noted_all : (place : ℕ) (waits : Bool) (places kept : List ℕ) → kept ≡ p
 noted_all place true places kept same h = rw (same, none_below place places h) refl
 noted_all place false places kept same h = same
 
-gone_first : (place : ℕ) (b : Bool) (places : List ℕ) → AllFrom (place + 1) places → without_place place (cond b (place ∷ places) places) ≡ places
+gone_first : (place : ℕ) (b : Bool) (places : List ℕ) → AllFrom (place + 1) places → without_index place (cond b (place ∷ places) places) ≡ places
 gone_first place true places h = rw (same_place place) (kept_all place places h)
 gone_first place false places h = kept_all place places h
 
 -- at the first place
 noted_here : (place : ℕ) (waits b : Bool) (places : List ℕ) → AllFrom (place + 1) places → noted place waits (cond b (place ∷ places) places) ≡ cond waits (place ∷ places) places
-noted_here place waits b places h = noted_all place waits places (without_place place (cond b (place ∷ places) places)) (gone_first place b places h) h
+noted_here place waits b places h = noted_all place waits places (without_index place (cond b (place ∷ places) places)) (gone_first place b places h) h
 
 -- behind it
-kept_first : (first place : ℕ) (places : List ℕ) → first < place → without_place place (first ∷ places) ≡ first ∷ without_place place places
+kept_first : (first place : ℕ) (places : List ℕ) → first < place → without_index place (first ∷ places) ≡ first ∷ without_index place places
 kept_first first place places h = let apart : nat_eq first place ≡ false = grind (arith, nat_tests, h) in rw apart refl
 
 one_more : (first place : ℕ) (places : List ℕ) → first < place → count_by (λ other. nat_lt other place) (first ∷ places) ≡ suc (count_by (λ other. nat_lt other place) places)
@@ -75,7 +75,7 @@ insert_later first place places all n e f = rw (e, f) refl
 noted_later : (first place : ℕ) (waits : Bool) (places : List ℕ) → first < place → noted place waits (first ∷ places) ≡ first ∷ noted place waits places
 noted_later first place true places h =
     let front = kept_first first place places h in
-    insert_later first place (without_place place places) (without_place place (first ∷ places)) _ front (ap (λ ps. count_by (λ other. nat_lt other place) ps) front ∙ one_more first place (without_place place places) h)
+    insert_later first place (without_index place places) (without_index place (first ∷ places)) _ front (ap (λ ps. count_by (λ other. nat_lt other place) ps) front ∙ one_more first place (without_index place places) h)
 noted_later first place false places h = kept_first first place places h
 
 noted_behind : (first place : ℕ) (waits b : Bool) (places : List ℕ) → first < place → noted place waits (cond b (first ∷ places) places) ≡ cond b (first ∷ noted place waits places) (noted place waits places)
@@ -121,7 +121,7 @@ few_wait first (row ∷ rows) =
 -- there is room for one more place
 room_left : (rows : List OrderRowValue) (waiting : List ℕ) (room : ℕ) → IsOrderRows rows → IsWaitingList rows waiting room → 0 < length rows → length waiting < room
 room_left rows waiting room kept waits some =
-    let few : length waiting ≤ open_wagons rows = subst (λ (ps : List ℕ). length ps ≤ open_wagons rows) (sym waits.places) (few_wait 0 rows) in
+    let few : length waiting ≤ open_wagons rows = subst (λ (ps : List ℕ). length ps ≤ open_wagons rows) (sym waits.indexes) (few_wait 0 rows) in
     let most : max_open_wagons < room = waits.room_for_all some in
     let open_ : open_wagons rows ≤ max_open_wagons = kept.few_open in
     omega (arith, few, most, open_)
@@ -135,7 +135,7 @@ pub stored_new : (rows : List OrderRowValue) (places : BTreeMap (List ℕ) ℕ) 
 stored_new rows places waiting room none empty nothing = record {
   rows_kept = indexed_new rows places none empty;
   waits = record {
-    places = nothing ∙ ap (waiting_from 0) (sym none);
+    indexes = nothing ∙ ap (waiting_from 0) (sym none);
     room_for_all = λ some. let no_row : length rows ≡ 0 = ap length none in absurd (omega (arith, some, no_row));
   };
 }
@@ -146,7 +146,7 @@ pub stored_room : (rows : List OrderRowValue) (index index' : List ℕ → Optio
 stored_room rows index index' n waiting waiting' room room' h same_index same more = record {
   rows_kept = record { kept = h.rows_kept.kept; indexed = λ q. same_index q ∙ h.rows_kept.indexed q; counted = h.rows_kept.counted };
   waits = record {
-    places = same ∙ h.waits.places;
+    indexes = same ∙ h.waits.indexes;
     room_for_all = λ some. let most : max_open_wagons < room = h.waits.room_for_all some in omega (arith, most, more);
   };
 }
@@ -158,7 +158,7 @@ pub stored_with : {rows : List OrderRowValue} {index : List ℕ → Option ℕ} 
 stored_with {rows = rows} {index = index} {n = n} {m = m} {waiting = waiting} {room = room} id k row new h at named valid count fewer is changed same = record {
   rows_kept = indexed_with rows index n m id k row new h.rows_kept at named valid count fewer;
   waits = record {
-    places = changed ∙ ap (λ (b : Bool). noted k b waiting) is ∙ ap (noted k (is_waiting new)) h.waits.places ∙ sym (waiting-set 0 k k rows new at.within (omega arith));
+    indexes = changed ∙ ap (λ (b : Bool). noted k b waiting) is ∙ ap (noted k (is_waiting new)) h.waits.indexes ∙ sym (waiting-set 0 k k rows new at.within (omega arith));
     room_for_all = λ some. let within = at.within in let most : max_open_wagons < room = h.waits.room_for_all (omega (arith, within)) in omega (arith, most, same);
   };
 }
@@ -192,7 +192,7 @@ pub stored_push : (rows : List OrderRowValue) (index : List ℕ → Option ℕ) 
 stored_push rows index n m waiting waiting' room room' place new waits h index' indexed is last changed enough = record {
   rows_kept = indexed;
   waits = record {
-    places = changed ∙ ap (λ (b : Bool). noted place b waiting) is ∙ ap (noted place (is_waiting new)) h.waits.places ∙ sym (waiting-push 0 place rows new (omega (arith, last)));
+    indexes = changed ∙ ap (λ (b : Bool). noted place b waiting) is ∙ ap (noted place (is_waiting new)) h.waits.indexes ∙ sym (waiting-push 0 place rows new (omega (arith, last)));
     room_for_all = λ some. enough;
   };
 }

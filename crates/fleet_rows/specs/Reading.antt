@@ -1,7 +1,8 @@
 -- The rows of wagons that the records of a file say, or the first fault.
-use Rattle.std.specs.Prelude.{◌≡◌, ℕ, ◌+◌, Bool, true, false, if◌then◌else◌, nat_lt, List, [], ◌∷◌, ◌++◌, Option, Some, None, Result, Ok, Err}
+use Rattle.std.specs.Prelude.{◌≡◌, Bool, true, false, if◌then◌else◌, List, [], ◌∷◌, ◌++◌, Result, Ok, Err}
 use Rattle.std.specs.List.Sorted.{IsPermutation}
 use Rattle.csv_records.specs.Fields.{Record}
+use Rattle.csv_records.specs.Reading.{ReadingRule, Stops, value_of}
 use Rattle.wagons_and_orders.specs.declared.wagon_row.WagonRow.{WagonRow}
 use Rattle.fleet_rows.specs.Records.{is_header, wagon_record}
 use Rattle.fleet_rows.specs.SameWagons.{has_wagon}
@@ -13,35 +14,30 @@ use Rattle.faults.specs.declared.faults.RosterFault.TheVariants.{OutOfMemory, Du
 abbrev pub with_wagon : List WagonRow → WagonRow → Result (List WagonRow) RosterFault
 with_wagon rows row = if has_wagon rows row.number then Err (DuplicateWagon row.number) else Ok (rows ++ row ∷ [])
 
-abbrev pub with_read : ℕ → List WagonRow → Option WagonRow → Result (List WagonRow) RosterFault
-with_read n rows None = Err (BadRosterRow n)
-with_read n rows (Some row) = with_wagon rows row
+-- memory or the reader failed
+abbrev pub is_failure : RosterFault → Bool
+is_failure OutOfMemory = true
+is_failure ReadFailed = true
+is_failure (DuplicateWagon number) = false
+is_failure TooLarge = false
+is_failure (BadRosterRow n) = false
 
--- rows and what the record of number n says, which is at most the 1,000th below the header
-abbrev pub with_record : ℕ → List WagonRow → Record → Result (List WagonRow) RosterFault
-with_record n rows fields = if nat_lt (max_roster_wagons + 1) n then Err TooLarge else with_read n rows (wagon_record fields)
+-- how rows are collected from the records of a file
+abbrev pub roster_rule : ReadingRule WagonRow (List WagonRow) RosterFault
+roster_rule = record {
+  is_header = is_header;
+  says = wagon_record;
+  most = max_roster_wagons;
+  none_read = [];
+  with_one = with_wagon;
+  bad_record = BadRosterRow;
+  too_many = TooLarge;
+  is_failure = is_failure;
+}
 
-infixl 10 ◌>>=◌
-abbrev pub ◌>>=◌ : {A B : Type 0} → Result A RosterFault → (A → Result B RosterFault) → Result B RosterFault
-(Ok x) >>= f = f x
-(Err fault) >>= f = Err fault
-
--- rows and what these records say, numbered from n
-abbrev pub with_records : ℕ → List WagonRow → List Record → Result (List WagonRow) RosterFault
-with_records n rows [] = Ok rows
-with_records n rows (fields ∷ records) = with_record n rows fields >>= λ more. with_records (n + 1) more records
-
--- the rows that the records of a file say, in their order, the header being record 1
+-- the rows that the records of a file say, in their order
 abbrev pub rows_of : List Record → Result (List WagonRow) RosterFault
-rows_of [] = Err (BadRosterRow 1)
-rows_of (fields ∷ records) = if is_header fields then with_records 2 [] records else Err (BadRosterRow 1)
-
-abbrev pub Stops : {X : Type 0} → RosterFault → Result X RosterFault → Type 0
-Stops OutOfMemory read = Unit {0}
-Stops ReadFailed read = Unit {0}
-Stops (DuplicateWagon number) read = read ≡ Err (DuplicateWagon number)
-Stops TooLarge read = read ≡ Err TooLarge
-Stops (BadRosterRow n) read = read ≡ Err (BadRosterRow n)
+rows_of records = value_of roster_rule records
 
 -- The roster has exactly the rows that were read, in whatever order.
 pub record HasRowsOf (read : Result (List WagonRow) RosterFault) (roster : List WagonRow) : Type 0 where
@@ -52,12 +48,4 @@ pub record HasRowsOf (read : Result (List WagonRow) RosterFault) (roster : List 
 -- What was answered is what the reading gives, its rows or its fault, unless memory or the reader failed.
 abbrev pub Gives : Result (List WagonRow) RosterFault → Result (List WagonRow) RosterFault → Type 0
 Gives (Ok roster) read = HasRowsOf read roster
-Gives (Err fault) read = Stops fault read
-
--- memory or the reader failed
-abbrev pub is_failure : RosterFault → Bool
-is_failure OutOfMemory = true
-is_failure ReadFailed = true
-is_failure (DuplicateWagon number) = false
-is_failure TooLarge = false
-is_failure (BadRosterRow n) = false
+Gives (Err fault) read = Stops is_failure fault read

@@ -5,7 +5,7 @@ ghost use Rattle.wagons_and_orders.specs.Lack.{lack_of};
 ghost use Rattle.wagons_and_orders.specs.OrderRow.{placed_row};
 ghost use Rattle.fleet_rows.specs.Rows.{at_order, filled_by, freed_of, is_order, max_open_wagons, open_wagons, order_in, promised_to, taken_back, wanted_open};
 ghost use Rattle.fleet_rows.specs.WaitingOrders.{waiting_from};
-ghost use Rattle.fleet_rows.specs.inner.Indexed.{noted, without_place};
+ghost use Rattle.fleet_rows.specs.inner.Indexed.{noted, without_index};
 
 use crate::limits::MAX_OPEN_WAGONS;
 use move_messages::OrderText;
@@ -20,12 +20,12 @@ use wagons_and_orders::OrderRow;
 #[derive(Debug, Drop)]
 pub struct OrderRows {
     rows: Vec<OrderRow>,
-    // The place of each row by the name of its order. Customers choose the names, so the map is an
+    // The index of each row by the name of its order. Customers choose the names, so the map is an
     // ordered one: a look-up in it is short for all names.
-    places: BTreeMap<OrderId, usize>,
+    indexes: BTreeMap<OrderId, usize>,
     // How many wagons the open orders want in all.
     open_wagons: u32,
-    // The places of the rows that wait, ascending. Each of them wants a wagon, so they are at most as many as the
+    // The indexes of the rows that wait, ascending. Each of them wants a wagon, so they are at most as many as the
     // open orders may want; the room for them is there before the first row, so that an order that waits again wants
     // no memory.
     waiting: Vec<usize>,
@@ -43,7 +43,7 @@ impl Model for OrderRows {
 
     ghost view = { λ orders. orders.rows.items };
 
-    ghost invariant = { λ orders. IsStored orders.rows.items (get (slice_cmp nat_cmp) orders.places) orders.open_wagons orders.waiting.items (vec_capacity orders.waiting) };
+    ghost invariant = { λ orders. IsStored orders.rows.items (get (slice_cmp nat_cmp) orders.indexes) orders.open_wagons orders.waiting.items (vec_capacity orders.waiting) };
 }
 
 impl OrderRows {
@@ -55,7 +55,7 @@ impl OrderRows {
     {
         OrderRows {
             rows: Vec::new(alloc),
-            places: BTreeMap::new(alloc),
+            indexes: BTreeMap::new(alloc),
             open_wagons: 0,
             waiting: Vec::new(alloc),
         }
@@ -69,7 +69,7 @@ impl OrderRows {
         &self.rows
     }
 
-    /// The places of the orders that wait, ascending.
+    /// The indexes of the orders that wait, ascending.
     pub fn waiting(&self) -> &[usize]
         ensures { result.now ≡ waiting_from 0 self.now }
     {
@@ -80,25 +80,25 @@ impl OrderRows {
     pub fn get(&self, id: OrderId) -> Option<&OrderRow>
         ensures { option_map (λ row. row.now) result ≡ order_in self.now id }
     {
-        let (_place, row) = self.find(id)?;
+        let (_index, row) = self.find(id)?;
         Some(row)
     }
 
-    /// The row of an order and its place, where the office has it.
+    /// The row of an order and its index, where the office has it.
     pub fn find(&self, id: OrderId) -> Option<(usize, &OrderRow)>
         ensures row { option_map (λ found. found.1.now) result ≡ order_in self.now id }
-        ensures place { IfSome result (λ found. slice_get self.now found.0 ≡ Some found.1.now) }
+        ensures index { IfSome result (λ found. slice_get self.now found.0 ≡ Some found.1.now) }
     {
-        let place = self.place_of(id)?;
-        let row = self.rows.get(place)?;
-        Some((place, row))
+        let index = self.index_of(id)?;
+        let row = self.rows.get(index)?;
+        Some((index, row))
     }
 
     /// Where the row of an order stands, where there is one.
-    fn place_of(&self, id: OrderId) -> Option<usize>
+    fn index_of(&self, id: OrderId) -> Option<usize>
         ensures { result ≡ position (is_order id) self.now }
     {
-        self.places.get(&id).copied()
+        self.indexes.get(&id).copied()
     }
 
     /// How many wagons the open orders want in all, at most 500.
@@ -119,9 +119,9 @@ impl OrderRows {
         let row = OrderRow::new(alloc, text)?;
         self.rows.reserve(1)?;
         self.waiting.reserve(MAX_OPEN_WAGONS as usize + 1)?;
-        let place = self.rows.len();
-        self.places.insert(text.id(), place)?;
-        note(&mut self.waiting, place, row.is_waiting());
+        let index = self.rows.len();
+        self.indexes.insert(text.id(), index)?;
+        note(&mut self.waiting, index, row.is_waiting());
         self.rows.push(row).unwrap();
         self.open_wagons += text.wagons();
         Ok(())
@@ -134,10 +134,10 @@ impl OrderRows {
         requires unpromised { IfSome (order_in self.old id) (λ row. ¬ Contains row.promised number) }
         ensures { self.new ≡ at_order id (promised_to number) self.old }
     {
-        let place = self.place_of(id).unwrap();
-        let row = &mut self.rows[place];
+        let index = self.index_of(id).unwrap();
+        let row = &mut self.rows[index];
         row.promise(number);
-        note(&mut self.waiting, place, row.is_waiting());
+        note(&mut self.waiting, index, row.is_waiting());
     }
 
     /// A wagon promised to an order fills it. Takes no memory.
@@ -146,13 +146,13 @@ impl OrderRows {
         requires promised { IfSome (order_in self.old id) (λ row. Contains row.promised number) }
         ensures { self.new ≡ at_order id (filled_by number) self.old }
     {
-        let place = self.place_of(id).unwrap();
-        let row = &mut self.rows[place];
+        let index = self.index_of(id).unwrap();
+        let row = &mut self.rows[index];
         let before = wanted_open(row);
         row.fill(number);
         let after = wanted_open(row);
         self.open_wagons -= before - after;
-        note(&mut self.waiting, place, row.is_waiting());
+        note(&mut self.waiting, index, row.is_waiting());
     }
 
     /// Ends the promise of a wagon to an order, where there is one. Takes no memory.
@@ -160,21 +160,21 @@ impl OrderRows {
         requires { IsSome (order_in self.old id) }
         ensures { self.new ≡ at_order id (freed_of number) self.old }
     {
-        let place = self.place_of(id).unwrap();
-        let row = &mut self.rows[place];
+        let index = self.index_of(id).unwrap();
+        let row = &mut self.rows[index];
         row.end_promise(number);
-        note(&mut self.waiting, place, row.is_waiting());
+        note(&mut self.waiting, index, row.is_waiting());
     }
 
-    /// Takes the order at a place back, with all its promises. Takes no memory.
-    pub fn withdraw(&mut self, place: usize)
-        requires { place < length self.old }
-        ensures { IfSome (slice_get self.old place) (λ row. self.new ≡ at_order row.text.id taken_back self.old) }
+    /// Takes the order at an index back, with all its promises. Takes no memory.
+    pub fn withdraw(&mut self, index: usize)
+        requires { index < length self.old }
+        ensures { IfSome (slice_get self.old index) (λ row. self.new ≡ at_order row.text.id taken_back self.old) }
     {
-        let row = &mut self.rows[place];
+        let row = &mut self.rows[index];
         self.open_wagons -= wanted_open(row);
         row.withdraw();
-        note(&mut self.waiting, place, row.is_waiting());
+        note(&mut self.waiting, index, row.is_waiting());
     }
 }
 
@@ -189,31 +189,31 @@ fn wanted_open(row: &OrderRow) -> u32
     }
 }
 
-/// Notes whether the row at a place waits. Takes no memory.
-fn note(waiting: &mut Vec<usize>, place: usize, waits: bool)
+/// Notes whether the row at an index waits. Takes no memory.
+fn note(waiting: &mut Vec<usize>, index: usize, waits: bool)
     requires { length waiting.old.items < vec_capacity waiting.old }
-    ensures items { waiting.new.items ≡ noted place waits waiting.old.items }
+    ensures items { waiting.new.items ≡ noted index waits waiting.old.items }
     ensures room { vec_capacity waiting.new ≡ vec_capacity waiting.old }
 {
-    take_off(waiting, place);
+    take_off(waiting, index);
     if waits {
-        let before = count_below(waiting, place);
-        waiting.insert(before, place).unwrap();
+        let before = count_below(waiting, index);
+        waiting.insert(before, index).unwrap();
     }
 }
 
-/// Takes a place off a list. Takes no memory.
-fn take_off(places: &mut Vec<usize>, place: usize)
-    ensures items { places.new.items ≡ without_place place places.old.items }
-    ensures fewer { length places.new.items ≤ length places.old.items }
-    ensures room { vec_capacity places.new ≡ vec_capacity places.old }
+/// Takes an index off a list. Takes no memory.
+fn take_off(indexes: &mut Vec<usize>, index: usize)
+    ensures items { indexes.new.items ≡ without_index index indexes.old.items }
+    ensures fewer { length indexes.new.items ≤ length indexes.old.items }
+    ensures room { vec_capacity indexes.new ≡ vec_capacity indexes.old }
 {
-    places.retain(|other| *other != place);
+    indexes.retain(|other| *other != index);
 }
 
-/// How many of the places are below one.
-fn count_below(places: &[usize], place: usize) -> usize
-    ensures { result ≡ count_by (λ other. nat_lt other place) places.now }
+/// How many of the indexes are below one.
+fn count_below(indexes: &[usize], index: usize) -> usize
+    ensures { result ≡ count_by (λ other. nat_lt other index) indexes.now }
 {
-    places.iter().filter(|other| **other < place).count()
+    indexes.iter().filter(|other| **other < index).count()
 }

@@ -51,7 +51,8 @@ fn read_all<R: Read>(alloc: Global, records: &mut Reader<R>) -> Result<Roster, R
 
 impl FromRecords for Roster {
     ghost use Rattle.std.proofs.Common.{lit<};
-    ghost use Rattle.fleet_rows.specs.Reading.{Stops};
+    ghost use Rattle.csv_records.specs.Reading.{Stops};
+    ghost use Rattle.fleet_rows.specs.Reading.{is_failure};
     ghost use Rattle.fleet_rows.specs.inner.Reading.{IsReadSoFar, stops_failure, told_apart};
 
     type Fault = RosterFault;
@@ -62,7 +63,7 @@ impl FromRecords for Roster {
 
     ghost made_of = { λ roster records. IsReadSoFar roster records };
 
-    ghost refuses = { λ fault records. Stops fault (rows_of records) };
+    ghost refuses = { λ fault records. Stops is_failure fault (rows_of records) };
 
     ghost counted = { lit< tt };
 

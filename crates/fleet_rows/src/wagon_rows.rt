@@ -68,14 +68,14 @@ impl WagonRows {
         }
     }
 
-    /// The row of a wagon and its place, where the office has it.
+    /// The row of a wagon and its index, where the office has it.
     pub fn find(&self, number: WagonNumber) -> Option<(usize, &WagonRow)>
         ensures row { option_map (λ found. found.1.now) result ≡ wagon_in self.now number }
-        ensures place { IfSome result (λ found. slice_get self.now found.0 ≡ Some found.1.now) }
+        ensures index { IfSome result (λ found. slice_get self.now found.0 ≡ Some found.1.now) }
     {
-        let place = place_of(&self.rows, number)?;
-        let row = self.rows.get(place)?;
-        Some((place, row))
+        let index = index_of(&self.rows, number)?;
+        let row = self.rows.get(index)?;
+        Some((index, row))
     }
 
     /// How many wagons of a class stand at a place empty, not held and not promised. Only those that stand there
@@ -98,17 +98,17 @@ impl WagonRows {
             .count()
     }
 
-    /// Puts a row in place of the one that its wagon has, which stands at this place. Memory is wanted only where the
+    /// Puts a row in place of the one that its wagon has, which stands at this index. Memory is wanted only where the
     /// wagon is then empty and not held at a place where it wasn't so before; where memory is out, nothing changes.
-    pub fn put(&mut self, place: usize, row: WagonRow) -> Result<(), AllocError>
-        requires { (old : WagonRow) × (slice_get self.old place ≡ Some old) × (old.number ≡ row.number) }
+    pub fn put(&mut self, index: usize, row: WagonRow) -> Result<(), AllocError>
+        requires { (old : WagonRow) × (slice_get self.old index ≡ Some old) × (old.number ≡ row.number) }
         ensures put { OnOk result (self.new ≡ at_wagon row.number (λ _. row) self.old) }
         ensures refused { OnErr result (self.new ≡ self.old) }
         ensures memory { OnErr result (IsNewStand (stand_in self.old row.number) (stand_of row)) }
     {
-        let before = standing_of(&self.rows[place], place);
-        replace(&mut self.empty, before, standing_of(&row, place))?;
-        self.rows[place] = row;
+        let before = standing_of(&self.rows[index], index);
+        replace(&mut self.empty, before, standing_of(&row, index))?;
+        self.rows[index] = row;
         Ok(())
     }
 
@@ -116,13 +116,13 @@ impl WagonRows {
     pub fn set_promise(&mut self, number: WagonNumber, promise: Option<OrderId>)
         ensures { self.new ≡ at_wagon number (with_promise promise) self.old }
     {
-        if let Some(place) = place_of(&self.rows, number) {
-            self.rows[place].promise = promise;
+        if let Some(index) = index_of(&self.rows, number) {
+            self.rows[index].promise = promise;
         }
     }
 }
 
-/// Whether there is a row at a place, and its wagon isn't promised.
+/// Whether there is a row at an index, and its wagon isn't promised.
 fn is_unpromised(rows: &[WagonRow], at: usize) -> bool
     ensures { result ≡ is_unpromised (slice_get rows.now at) }
 {
@@ -133,9 +133,9 @@ fn is_unpromised(rows: &[WagonRow], at: usize) -> bool
 }
 
 /// Where the row of a wagon stands among ascending rows.
-fn place_of(rows: &[WagonRow], number: WagonNumber) -> Option<usize>
+fn index_of(rows: &[WagonRow], number: WagonNumber) -> Option<usize>
     requires { IsStrictlySortedBy by_number rows.now }
-    ensures found { IfSome result (λ place. (row : WagonRow) × (slice_get rows.now place ≡ Some row) × (row.number ≡ number)) }
+    ensures found { IfSome result (λ index. (row : WagonRow) × (slice_get rows.now index ≡ Some row) × (row.number ≡ number)) }
     ensures absent { IfNone result (wagon_in rows.now number ≡ None) }
 {
     rows.binary_search_by_key(&number, |row| row.number).ok()

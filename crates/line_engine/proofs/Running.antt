@@ -1,6 +1,6 @@
 -- How a run goes on from line to line.
 use Rattle.std.proofs.Common.{◌≡◌, ◌⊎◌, ℕ, ◌+◌, ◌<◌, ◌≤◌, Bool, true, false, List, [], ◌∷◌, ◌++◌, length, refl, sym, ap, ◌∙◌, subst, inl, inr, arith, append_assoc}
-use Rattle.std.specs.Prelude.{Option}
+use Rattle.std.specs.Prelude.{Option, Ok, Err}
 use mir.Val.{bool_byte}
 use Rattle.std.specs.List.{AllByRecursion}
 use Rattle.std.proofs.Math.Nat.{eq-or-lt_of_le}
@@ -11,9 +11,10 @@ use Rattle.std.proofs.KnownBytes.{Consumes-nil, Consumes-trans, Appends-nil, App
 use Rattle.line_engine.specs.Lines.{line_feed, has_feed, lines_of, first_line, max_input_lines, max_line_bytes, with_feeds, IsWithin}
 use Rattle.line_engine.specs.inner.Cutting.{CutsLine, StopsLine}
 use Rattle.line_engine.specs.Replies.{Replying, ServesLine, ServesLines, refusal_count}
-use Rattle.line_engine.specs.Runs.{Run, IsLineOrNext, RunEnds, RunStandsAt, RunStops}
+use Rattle.line_engine.specs.Runs.{Failures, Run, IsLineOrNext, RunEnds, RunStandsAt, RunStops, Runs}
 use Rattle.line_engine.specs.RunFault.{fault_at}
 use Rattle.line_engine.specs.declared.run.RunCount.{RunCount}
+use Rattle.line_engine.specs.declared.run.RunFault.{RunFault}
 use Rattle.line_engine.specs.declared.run.RunFault.TheVariants.{ReadFailed, WriteFailed}
 use Rattle.line_engine.specs.declared.window.LineEnd.{LineEnd}
 use Rattle.line_engine.specs.declared.window.LineEnd.TheVariants.{Feed, Input}
@@ -237,6 +238,13 @@ module _ {H : Type 0} (replying : Replying H) where
         },
         failed,
       )
+
+  -- what a run has done where it came to its end, and where it stopped
+  pub has_ended : (run : Run H) (failed : Failures) (count : RunCount) → RunEnds replying run count → failed.reader ≡ false → failed.writer ≡ false → Runs replying run failed (Ok count)
+  has_ended run failed count ends reader writer = record { ok = ends; err = tt; healthy = (reader, writer) }
+
+  pub has_stopped : (run : Run H) (failed : Failures) (fault : RunFault) → RunStops replying run failed fault → Runs replying run failed (Err fault)
+  has_stopped run failed fault stops = record { ok = tt; err = stops; healthy = tt }
 
 -- the line that was cut off stands at the front
 pub front_line : (window taken line left : List ℕ) (end : LineEnd) → CutsLine window taken line left end → (after : List ℕ) × (lines_of (window ++ taken) ≡ line ∷ lines_of after)

@@ -1,5 +1,5 @@
 -- What a run over all lines of an input has done when it ends or stops.
-use Rattle.std.specs.Prelude.{◌≡◌, ℕ, ◌+◌, ◌<◌, ◌≤◌, Bool, true, false, ◌⊎◌, List, [], ◌∷◌, ◌++◌, length, Option}
+use Rattle.std.specs.Prelude.{◌≡◌, ℕ, ◌+◌, ◌<◌, ◌≤◌, Bool, true, false, ◌⊎◌, List, [], ◌∷◌, ◌++◌, length, Option, Result, IfOk, IfErr, OnOk}
 use Rattle.std.specs.Io.KnownBytes.{Consumes, Appends, Keeps, IsAtEnd}
 use Rattle.std.specs.List.{AllByRecursion}
 use Rattle.line_engine.specs.Lines.{lines_of, first_line, has_feed, max_input_lines, max_line_bytes, BeginsWith, IsWithin}
@@ -17,6 +17,12 @@ pub record Run (H : Type 0) : Type 0 where
   pub holds : Option (List ℕ)
   pub old : H
   pub new : H
+
+-- the same by what is known of the bytes of a reader and of a writer, and by the reader, the writer and the state before
+-- the run and after it
+abbrev pub run_over : {R W H : Type 0} → (R → Option (List ℕ)) → (W → Option (List ℕ)) → (before after : R × W × H) → Run H
+run_over remaining contents before after =
+    record { from = remaining before.0; to = remaining after.0; held = contents before.1; holds = contents after.1; old = before.2; new = after.2 }
 
 -- whether the reader has failed by the end of a run; whether the writer has
 pub record Failures : Type 0 where
@@ -81,6 +87,13 @@ RunStops {H} replying run failed (ReadFailed n) =
 RunStops {H} replying run failed (WriteFailed n) =
     (mid : H) × (between : Option (List ℕ)) × (at : RunStandsAt replying (record run { holds = between; new = mid }) n) × (n ≤ max_input_lines)
     × RunWritesPart replying (record run { held = between; old = mid }) at.rest n × (failed.writer ≡ true)
+
+-- What a run has done, by what it answers: it came to the end of its input, and neither its reader nor its writer has
+-- failed; or it stopped.
+pub record Runs {H : Type 0} (replying : Replying H) (run : Run H) (failed : Failures) (result : Result RunCount RunFault) : Type 0 where
+  pub ok : IfOk result (λ count. RunEnds replying run count)
+  pub err : IfErr result (λ fault. RunStops replying run failed fault)
+  pub healthy : OnOk result ((failed.reader ≡ false) × (failed.writer ≡ false))
 
 -- ---- the same where replies stand behind their lines' numbers
 

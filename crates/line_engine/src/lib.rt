@@ -2,18 +2,16 @@
 #![tactic(auto)]
 
 mod device;
-mod from_read;
 mod handler;
 mod line_buffer;
 mod reply_text;
 mod run;
-mod to_write;
+mod std_device;
 mod window;
 
 pub use device::{DeviceFailed, Sink, Source};
-pub use from_read::FromRead;
 pub use handler::{Handler, Outcome, Responder};
 pub use line_buffer::MAX_LINE_BYTES;
 pub use reply_text::ReplyText;
 pub use run::{MAX_FILES, MAX_INPUT_LINES, RunCount, RunFault, run_lines, run_replies};
-pub use to_write::ToWrite;
+pub use std_device::StdDevice;

@@ -1,5 +1,5 @@
 //! The text of a reply.
-ghost use Rattle.std.specs.Prelude.{◌≡◌, ◌+◌, ◌<◌, ◌≤◌, ◌^◌, ◌++◌, [], ◌∷◌, length, decimal, OnOk, IfOk, IsOk};
+ghost use Rattle.std.specs.Prelude.{◌≡◌, ◌+◌, ◌<◌, ◌≤◌, ◌++◌, [], ◌∷◌, length, decimal, OnOk, IfOk, IsOk};
 ghost use Rattle.line_engine.specs.Replies.{least_room, max_head_bytes, out_of_memory_body};
 
 use itoa::Buffer;

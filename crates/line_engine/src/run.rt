@@ -1,9 +1,9 @@
 //! The loop over the lines of an input, and why it may stop early.
-ghost use Rattle.std.specs.Prelude.{◌≡◌, ℕ, ◌+◌, ◌++◌, List, [], ◌∷◌, Bool, false, true, IsOk, IfOk, IfErr, OnOk, OnErr};
+ghost use Rattle.std.specs.Prelude.{◌≡◌, ℕ, ◌+◌, ◌++◌, List, Bool, false, true, IfOk, OnOk, OnErr};
 ghost use Rattle.std.specs.Io.KnownBytes.{Appends};
 ghost use Rattle.line_engine.specs.Lines.{is_blank as is_blank_line};
-ghost use Rattle.line_engine.specs.Replies.{ServesLine};
-ghost use Rattle.line_engine.specs.Runs.{Ends, RunEnds, RunStops, Stops};
+ghost use Rattle.line_engine.specs.Replies.{Numbered, ServesLine};
+ghost use Rattle.line_engine.specs.Runs.{Runs, run_over};
 
 use crate::device::{DeviceFailed, Sink, Source};
 use crate::handler::{Handler, NumberedReplies, Responder};
@@ -161,24 +161,8 @@ pub fn run_replies<R: Source, W: Sink, H: Responder>(
 ) -> Result<RunCount, RunFault>
     requires reader { R.has_failed reader.old ≡ false }
     requires writer { W.has_failed writer.old ≡ false }
-    ensures ok { IfOk result (λ count. RunEnds H.replies (record {
-      from = R.remaining reader.old;
-      to = R.remaining reader.new;
-      held = W.contents writer.old;
-      holds = W.contents writer.new;
-      old = state.old;
-      new = state.new;
-    }) count) }
-    ensures err { IfErr result (λ fault. RunStops H.replies (record {
-      from = R.remaining reader.old;
-      to = R.remaining reader.new;
-      held = W.contents writer.old;
-      holds = W.contents writer.new;
-      old = state.old;
-      new = state.new;
-    })
-        (record { reader = R.has_failed reader.new; writer = W.has_failed writer.new }) fault) }
-    ensures healthy { OnOk result ((R.has_failed reader.new ≡ false) × (W.has_failed writer.new ≡ false)) }
+    ensures { Runs H.replies (run_over R.remaining W.contents (reader.old, writer.old, state.old) (reader.new, writer.new, state.new))
+        (record { reader = R.has_failed reader.new; writer = W.has_failed writer.new }) result }
 {
     let mut window = Window::new(alloc)?;
     let mut line = LineBuffer::new(alloc)?;
@@ -226,24 +210,8 @@ pub fn run_lines<R: Source, W: Sink, H: Handler>(
 ) -> Result<RunCount, RunFault>
     requires reader { R.has_failed reader.old ≡ false }
     requires writer { W.has_failed writer.old ≡ false }
-    ensures ok { IfOk result (λ count. Ends H.answers H.runs_out (record {
-      from = R.remaining reader.old;
-      to = R.remaining reader.new;
-      held = W.contents writer.old;
-      holds = W.contents writer.new;
-      old = state.old;
-      new = state.new;
-    }) count) }
-    ensures err { IfErr result (λ fault. Stops H.answers H.runs_out (record {
-      from = R.remaining reader.old;
-      to = R.remaining reader.new;
-      held = W.contents writer.old;
-      holds = W.contents writer.new;
-      old = state.old;
-      new = state.new;
-    })
-        (record { reader = R.has_failed reader.new; writer = W.has_failed writer.new }) fault) }
-    ensures healthy { OnOk result ((R.has_failed reader.new ≡ false) × (W.has_failed writer.new ≡ false)) }
+    ensures { Runs (Numbered H.answers H.runs_out) (run_over R.remaining W.contents (reader.old, writer.old, state.old) (reader.new, writer.new, state.new))
+        (record { reader = R.has_failed reader.new; writer = W.has_failed writer.new }) result }
 {
     run_replies(alloc, reader, writer, &NumberedReplies { handler }, state)
 }

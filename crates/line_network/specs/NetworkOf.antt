@@ -3,9 +3,10 @@ use Rattle.std.specs.Prelude.{◌≡◌, ℕ, ◌≤◌, List, [], ◌∷◌, le
 use Rattle.std.specs.List.{flat_map}
 use Rattle.csv_records.specs.Fields.{Record}
 use Rattle.csv_records.specs.Files.{AreBelowHeader, AreRecordsOf}
+use Rattle.csv_records.specs.Reading.{Gives}
 use Rattle.line_network.specs.Network.{NetworkValue}
 use Rattle.line_network.specs.NetworkLimits.{max_places}
-use Rattle.line_network.specs.Reading.{Gives, lines_of, max_line_records, network_of, with_place}
+use Rattle.line_network.specs.Reading.{is_failure, lines_of, max_line_records, network_of, with_place}
 use Rattle.line_network.specs.Records.{is_header, line_record}
 use Rattle.line_network.specs.declared.line_record.LineRecord.{LineRecord}
 use Rattle.faults.specs.declared.faults.NetworkFault.{NetworkFault}
@@ -32,6 +33,6 @@ pub record IsNetworkOf (rows : List Record) (network : NetworkValue) : Type 0 wh
 pub record IsReadFrom (known : Option (List ℕ)) (result : Result NetworkValue NetworkFault) : Type 0 where
   pub rows : List Record
   pub all_rows : IfSome known (λ bytes. AreRecordsOf bytes rows)
-  pub first_fault : Gives result (network_of rows)
+  pub first_fault : Gives is_failure result (network_of rows)
   pub exact : IfOk result (IsNetworkOf rows)
-  pub complete : (network : NetworkValue) → IsNetworkOf rows network → Gives result (Ok network)
+  pub complete : (network : NetworkValue) → IsNetworkOf rows network → Gives is_failure result (Ok network)

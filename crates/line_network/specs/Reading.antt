@@ -1,7 +1,8 @@
 -- The network that the records of a file say, or the first fault.
-use Rattle.std.specs.Prelude.{◌≡◌, ℕ, ◌+◌, if◌then◌else◌, nat_lt, List, [], ◌∷◌, ◌++◌, length, Option, Some, None, Result, Ok, Err}
+use Rattle.std.specs.Prelude.{ℕ, Bool, true, false, if◌then◌else◌, nat_lt, List, [], ◌∷◌, ◌++◌, length, Result, Ok, Err}
 use Rattle.std.specs.List.{list_any, position_or_len}
 use Rattle.csv_records.specs.Fields.{Record}
+use Rattle.csv_records.specs.Reading.{ReadingRule, value_of}
 use Rattle.line_network.specs.Network.{NetworkValue, are_one_place}
 use Rattle.line_network.specs.NetworkLimits.{max_places}
 use Rattle.line_network.specs.Records.{is_header, line_record}
@@ -53,37 +54,27 @@ with_record network r =
     if nat_lt max_places (length (with_ends network.places r)) then Err TooManyPlaces
     else Ok (after_record network r)
 
-abbrev pub with_read : ℕ → NetworkValue → Option LineRecord → Result NetworkValue NetworkFault
-with_read n network None = Err (BadRow n)
-with_read n network (Some r) = with_record network r
+-- memory or the reader failed
+abbrev pub is_failure : NetworkFault → Bool
+is_failure OutOfMemory = true
+is_failure ReadFailed = true
+is_failure (BadRow n) = false
+is_failure TooManyPlaces = false
+is_failure TooManyLines = false
 
--- a network with the record of number n, which is at most the 20,000th below the header
-abbrev pub with_row : ℕ → NetworkValue → Record → Result NetworkValue NetworkFault
-with_row n network row = if nat_lt (max_line_records + 1) n then Err TooManyLines else with_read n network (line_record row)
+-- how a network is collected from the records of a file
+abbrev pub network_rule : ReadingRule LineRecord NetworkValue NetworkFault
+network_rule = record {
+  is_header = is_header;
+  says = line_record;
+  most = max_line_records;
+  none_read = no_network;
+  with_one = with_record;
+  bad_record = BadRow;
+  too_many = TooManyLines;
+  is_failure = is_failure;
+}
 
-infixl 10 ◌>>=◌
-abbrev pub ◌>>=◌ : {A B : Type 0} → Result A NetworkFault → (A → Result B NetworkFault) → Result B NetworkFault
-(Ok x) >>= f = f x
-(Err fault) >>= f = Err fault
-
--- a network with these records, numbered from n
-abbrev pub with_rows : ℕ → NetworkValue → List Record → Result NetworkValue NetworkFault
-with_rows n network [] = Ok network
-with_rows n network (row ∷ rows) = with_row n network row >>= λ more. with_rows (n + 1) more rows
-
--- the network that the records of a file say, the header being record 1
+-- the network that the records of a file say
 abbrev pub network_of : List Record → Result NetworkValue NetworkFault
-network_of [] = Err (BadRow 1)
-network_of (row ∷ rows) = if is_header row then with_rows 2 no_network rows else Err (BadRow 1)
-
-abbrev pub Stops : {X : Type 0} → NetworkFault → Result X NetworkFault → Type 0
-Stops OutOfMemory read = Unit {0}
-Stops ReadFailed read = Unit {0}
-Stops (BadRow n) read = read ≡ Err (BadRow n)
-Stops TooManyPlaces read = read ≡ Err TooManyPlaces
-Stops TooManyLines read = read ≡ Err TooManyLines
-
--- What was answered is what the reading gives, unless memory or the reader failed.
-abbrev pub Gives : {X : Type 0} → Result X NetworkFault → Result X NetworkFault → Type 0
-Gives (Ok x) read = read ≡ Ok x
-Gives (Err fault) read = Stops fault read
+network_of rows = value_of network_rule rows

@@ -1,6 +1,6 @@
 //! The lengths of walks, as numbers.
 ghost use Rattle.std.specs.Prelude.{◌≡◌, ◌+◌, ◌^◌, ◌<◌, MatchBool, IfSome, None};
-ghost use Rattle.line_network.specs.inner.Lengths.{distance_of, label_of, length_of, as_pair};
+ghost use Rattle.line_network.specs.inner.Lengths.{distance_of, label_of, length_of, as_pair, plus_distance};
 ghost use Rattle.line_network.specs.inner.Search.{LabelAbove, LabelAtMost};
 
 /// More than the minutes of any walk that a search looks at: it is of 2,001 lines at most, each of which has 10,000
@@ -49,7 +49,7 @@ impl Length {
     pub(crate) fn plus(self, other: Length) -> Length
         requires km { (distance_of self).km + (distance_of other).km < 2 ^ 25 }
         requires minutes { (distance_of self).minutes + (distance_of other).minutes < 2 ^ 25 }
-        ensures { distance_of result ≡ record { km = (distance_of self).km + (distance_of other).km; minutes = (distance_of self).minutes + (distance_of other).minutes } }
+        ensures { distance_of result ≡ plus_distance (distance_of self) (distance_of other) }
     {
         Length {
             number: self.number + other.number,

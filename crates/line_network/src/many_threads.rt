@@ -92,7 +92,7 @@ fn started<'s, 'e: 's, G: Gate + Sync>(
     gate: &'e G,
 ) -> Result<Vec<Running<'e>>, AllocError>
     requires { IsWork work.lines.now.lines.items work.lines.now.starts.items work.places work.workers }
-    ensures own { IfOk result (λ running. (k : ℕ) (d : _) → k < vec_len running → (slice_index_or running.items k d).promise ≡ record { work = work.entry; worker = k }) }
+    ensures own { IfOk result (λ made. (k : ℕ) (d : _) → k < vec_len made → (slice_index_or made.items k d).promise ≡ record { work = work.entry; worker = k }) }
     ensures few { IfOk result (λ running. vec_len running ≤ work.entry.workers) }
 {
     let mut running = Vec::with_capacity(alloc, work.workers)?;

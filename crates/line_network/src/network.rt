@@ -2,7 +2,8 @@
 ghost use Rattle.std.specs.Prelude.{◌≡◌, ◌≢◌, ◌+◌, ◌≤◌, ◌++◌, ℕ, IfErr, IfNone, IfOk, IfSome, OnOk, length, slice_get};
 ghost use Rattle.line_network.specs.NetworkLimits.{IsNetwork, max_network_lines, max_places};
 ghost use Rattle.line_network.specs.Network.{place_index};
-ghost use Rattle.line_network.specs.Reading.{Gives, lines_between, no_network, number_of, with_place, with_record};
+ghost use Rattle.csv_records.specs.Reading.{Gives};
+ghost use Rattle.line_network.specs.Reading.{is_failure, lines_between, no_network, number_of, with_place, with_record};
 ghost use Rattle.line_network.specs.inner.Reading.{HasLengths, RefusesPlace};
 
 use crate::limits::MAX_PLACES;
@@ -48,7 +49,7 @@ impl Network {
     pub(crate) fn with_line_record(self, read: &LineRecord) -> Result<Network, NetworkFault>
         requires room { length self.lines + 2 ≤ max_network_lines }
         requires lengths { HasLengths read.now }
-        ensures meaning { Gives result (with_record self read.now) }
+        ensures meaning { Gives is_failure result (with_record self read.now) }
         ensures no_reader { IfErr result (λ fault. fault ≢ NetworkFault.ReadFailed) }
         ensures longer { IfOk result (λ network. length network.lines ≤ length self.lines + 2) }
     {

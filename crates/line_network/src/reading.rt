@@ -2,9 +2,10 @@
 ghost use Rattle.std.specs.Prelude.{◌≡◌, ◌+◌, IsErrOf, true, List};
 ghost use Rattle.csv.specs.Reading.{has_failed};
 ghost use Rattle.csv_records.specs.Fields.{Record};
+ghost use Rattle.csv_records.specs.Reading.{Gives};
 ghost use Rattle.csv_records.specs.Requests.{AreLeft, AsksAtMost, IsSetUp};
 ghost use Rattle.line_network.specs.NetworkOf.{IsReadFrom};
-ghost use Rattle.line_network.specs.Reading.{Gives, max_line_records, network_of};
+ghost use Rattle.line_network.specs.Reading.{is_failure, max_line_records, network_of};
 
 use crate::limits::MAX_LINE_RECORDS;
 use crate::line_record::{LineRecord, is_header};
@@ -34,7 +35,7 @@ pub fn read_lines<R: Read + Drop>(alloc: Global, reader: R) -> Result<Network, N
 /// Reads the header and the records below it.
 fn read_rows<R: Read>(alloc: Global, rows: &mut Reader<R>) -> Result<Network, NetworkFault>
     requires { IsSetUp rows.old }
-    ensures meaning { (all : List Record) × AreLeft R.remaining rows.old all × Gives result (network_of all) }
+    ensures meaning { (all : List Record) × AreLeft R.remaining rows.old all × Gives is_failure result (network_of all) }
     ensures stopped { IsErrOf result NetworkFault.ReadFailed → has_failed rows.new ≡ true }
     ensures asked { AsksAtMost R.remaining rows.old (max_line_records + 2) rows.new }
 {
@@ -42,7 +43,7 @@ fn read_rows<R: Read>(alloc: Global, rows: &mut Reader<R>) -> Result<Network, Ne
 }
 
 impl FromRecords for Network {
-    ghost use Rattle.line_network.specs.Reading.{Stops};
+    ghost use Rattle.csv_records.specs.Reading.{Stops};
     ghost use Rattle.line_network.specs.inner.Reading.{IsReadSoFar, stops_failure, told_apart};
     ghost use Rattle.std.proofs.Common.{lit<};
 
@@ -54,7 +55,7 @@ impl FromRecords for Network {
 
     ghost made_of = { λ network records. IsReadSoFar network records };
 
-    ghost refuses = { λ fault records. Stops fault (network_of records) };
+    ghost refuses = { λ fault records. Stops is_failure fault (network_of records) };
 
     ghost counted = { lit< tt };
 

@@ -6,8 +6,7 @@
 ghost use Rattle.std.specs.Prelude.{◌≡◌, ◌+◌, ◌^◌, ◌<◌, ◌≤◌, ◌↔◌, Some, None, [], All, replicate, IsTrue, IfOk, OnOk, length, vec_len};
 ghost use Rattle.line_network.specs.inner.Lengths.{distance_of, known};
 ghost use Rattle.line_network.specs.inner.Rows.{IsRow};
-ghost use Rattle.line_network.specs.inner.Search.{label_at, AreBounded, IsRelaxed, Improves, Relaxes};
-ghost use Rattle.line_network.specs.inner.Steps.{line_from};
+ghost use Rattle.line_network.specs.inner.Search.{label_at, AreBounded, IsRelaxed, Improves, RelaxesFrom};
 ghost use Rattle.line_network.specs.inner.Turns.{waiting_of, waits};
 ghost use Rattle.line_network.specs.NetworkLimits.{IsLine, max_places};
 
@@ -116,7 +115,7 @@ fn relax(
     requires known { step.now.to < length labels.old }
     requires km { (waiting_of at).distance.km + (distance_of step.now.length).km < 2 ^ 25 }
     requires minutes { (waiting_of at).distance.minutes + (distance_of step.now.length).minutes < 2 ^ 25 }
-    ensures { OnOk result (Relaxes (known labels.old) (known labels.new) (waits waiting.old) (waits waiting.new) (waiting_of at).distance (line_from (waiting_of at).place step.now)) }
+    ensures { OnOk result (RelaxesFrom (waiting_of at) step.now (known labels.old) (known labels.new) (waits waiting.old) (waits waiting.new)) }
 {
     let way = at.label().plus(step.length);
     if labels[step.to].falls_to(way) {

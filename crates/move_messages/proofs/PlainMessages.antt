@@ -18,7 +18,8 @@ use Rattle.rail_codes.specs.WagonNumber.{wagon_number_of}
 use Rattle.rail_codes.specs.Place.{place_read}
 use Rattle.rail_codes.specs.Moment.{moment_of}
 use Rattle.move_messages.specs.Commands.{command_of, message_of}
-use Rattle.move_messages.specs.declared.command.Command.TheVariants.{Message}
+use Rattle.move_messages.specs.declared.command.Command.TheVariants.{Event}
+use Rattle.move_messages.specs.declared.event.Event.TheVariants.{Message}
 use Rattle.move_messages.specs.declared.message.MessageKind.{MessageKind}
 use Rattle.move_messages.specs.declared.plain_message.PlainMessage.{PlainMessage}
 use Rattle.move_messages.specs.inner.PlainMessage.{IsTypeOf, plain_json, plain_object}
@@ -55,7 +56,7 @@ message_of-plain m kind company wagon place moment small is_company is_wagon is_
 pub command_of-plain : (m : PlainMessage) (kind : MessageKind) (company wagon place : List ℕ) (moment : ℕ) → m.number < 2 ^ 32 → IsTypeOf m.type_name.now kind
     → company_of m.company.now ≡ Ok company → wagon_number_of m.wagon.now ≡ Ok wagon → place_read m.place.now ≡ Ok place → moment_of m.moment.now ≡ Ok moment
     → (line : List ℕ) → object_of line ≡ Ok (plain_object m)
-    → command_of line ≡ Ok (Message (record { id = record { company = company; number = m.number }; kind = kind; wagon = wagon; place = place; moment = moment }))
+    → command_of line ≡ Ok (Event (Message (record { id = record { company = company; number = m.number }; kind = kind; wagon = wagon; place = place; moment = moment })))
 unfolding command_of field_of member field_name text_of
 command_of-plain m kind company wagon place moment small type_is is_company is_wagon is_place is_moment line object =
     let fields = message_of-plain m kind company wagon place moment small is_company is_wagon is_place is_moment in

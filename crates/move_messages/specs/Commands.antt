@@ -11,7 +11,8 @@ use Rattle.move_messages.specs.declared.message.MessageKind.TheVariants.{Release
 use Rattle.move_messages.specs.declared.message.Message as message
 use Rattle.move_messages.specs.declared.commit_text.CommitText.{CommitText}
 use Rattle.move_messages.specs.declared.command.Command.{Command}
-use Rattle.move_messages.specs.declared.command.Command.TheVariants.{Message, Place, Withdraw, Begin, Plan, Commit, Sheet, Revise}
+use Rattle.move_messages.specs.declared.command.Command.TheVariants.{Event, Begin, Plan, Sheet}
+use Rattle.move_messages.specs.declared.event.Event.TheVariants.{Message, Place, Withdraw, Commit, Revise}
 use Rattle.move_messages.specs.Classes.{max_classes}
 use Rattle.move_messages.specs.Order.{Order, max_load}
 use Rattle.move_messages.specs.OrderLimits.{max_penalty, max_order_wagons}
@@ -73,20 +74,20 @@ commit_text_of d = do
 
 -- the command of each type
 unfoldable pub command_of_type : LineType → Data → Result Command LineFault
-command_of_type of_type.Release d = message_of Release d >>= λ message. Ok (Message message)
-command_of_type of_type.Departure d = message_of Departure d >>= λ message. Ok (Message message)
-command_of_type of_type.YardArrival d = message_of YardArrival d >>= λ message. Ok (Message message)
-command_of_type of_type.YardDeparture d = message_of YardDeparture d >>= λ message. Ok (Message message)
-command_of_type of_type.Exception d = exception_of d >>= λ message. Ok (Message message)
-command_of_type of_type.Arrival d = message_of Arrival d >>= λ message. Ok (Message message)
-command_of_type of_type.Delivery d = message_of Delivery d >>= λ message. Ok (Message message)
-command_of_type of_type.Order d = order_text_of d >>= λ order. Ok (Place order)
-command_of_type of_type.Withdraw d = field_of order_id_from field.Order d >>= λ id. Ok (Withdraw id)
+command_of_type of_type.Release d = message_of Release d >>= λ message. Ok (Event (Message message))
+command_of_type of_type.Departure d = message_of Departure d >>= λ message. Ok (Event (Message message))
+command_of_type of_type.YardArrival d = message_of YardArrival d >>= λ message. Ok (Event (Message message))
+command_of_type of_type.YardDeparture d = message_of YardDeparture d >>= λ message. Ok (Event (Message message))
+command_of_type of_type.Exception d = exception_of d >>= λ message. Ok (Event (Message message))
+command_of_type of_type.Arrival d = message_of Arrival d >>= λ message. Ok (Event (Message message))
+command_of_type of_type.Delivery d = message_of Delivery d >>= λ message. Ok (Event (Message message))
+command_of_type of_type.Order d = order_text_of d >>= λ order. Ok (Event (Place order))
+command_of_type of_type.Withdraw d = field_of order_id_from field.Order d >>= λ id. Ok (Event (Withdraw id))
 command_of_type of_type.Begin d = field_of moment_from field.At d >>= λ at. Ok (Begin at)
 command_of_type of_type.Plan d = field_of moment_from field.At d >>= λ at. Ok (Plan at)
-command_of_type of_type.Commit d = commit_text_of d >>= λ commit. Ok (Commit commit)
+command_of_type of_type.Commit d = commit_text_of d >>= λ commit. Ok (Event (Commit commit))
 command_of_type of_type.Sheet d = Ok Sheet
-command_of_type of_type.Network d = field_of (number_within 1 max_revision) field.Revision d >>= λ k. Ok (Revise k)
+command_of_type of_type.Network d = field_of (number_within 1 max_revision) field.Revision d >>= λ k. Ok (Event (Revise k))
 
 -- the command that a line is, or its first fault
 unfoldable pub command_of : List ℕ → Result Command LineFault

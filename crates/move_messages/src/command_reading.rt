@@ -8,14 +8,15 @@ ghost use Rattle.move_messages.specs.Commands as meaning;
 use crate::class_reading::classes_at;
 use crate::command::Command;
 use crate::commit_text::{CommitText, Pairs, PriceList};
+use crate::event::Event;
 use crate::limits::{MAX_LOAD, MAX_ORDER_WAGONS, MAX_PENALTY, MAX_REVISION, MAX_VERSION};
 use crate::line_type::LineType;
 use crate::message::{Message, MessageKind};
 use crate::order_text::OrderText;
 use crate::plain_message::plain_message;
 use crate::{
-    Field, LineFault, boolean_at, company_at, count_at, moment_at, number_at, numbers_at,
-    object_of, optional_count_at, order_id_at, pairs_at, place_at, text_at, wagon_number_at,
+    Field, LineFault, boolean_at, code_at, count_at, number_at, numbers_at, object_of,
+    optional_count_at, pairs_at, text_at,
 };
 use rail_codes::MessageId;
 use serde_json::Value;
@@ -32,7 +33,7 @@ pub fn read_line(alloc: Global, bytes: &[u8]) -> Result<Command, LineFault>
     ensures { Gives (λ command. command) result (meaning.command_of bytes.now) }
 {
     if let Some(message) = plain_message(bytes) {
-        return Ok(Command::Message(message));
+        return Ok(Command::Event(Event::Message(message)));
     }
     let object = object_of(alloc, bytes)?;
     let line_type = LineType::named(text_at(&object, Field::TypeName)?)?;
@@ -45,27 +46,23 @@ fn command_at(alloc: Global, line_type: LineType, object: &Value) -> Result<Comm
     ensures { Gives (λ command. command) result
         (meaning.command_of_type line_type (view object.now)) }
 {
-    let command = match line_type {
-        LineType::Release => Command::Message(message_at(object, MessageKind::Release)?),
-        LineType::Departure => Command::Message(message_at(object, MessageKind::Departure)?),
-        LineType::YardArrival => Command::Message(message_at(object, MessageKind::YardArrival)?),
-        LineType::YardDeparture => {
-            Command::Message(message_at(object, MessageKind::YardDeparture)?)
-        }
-        LineType::Exception => Command::Message(exception_at(object)?),
-        LineType::Arrival => Command::Message(message_at(object, MessageKind::Arrival)?),
-        LineType::Delivery => Command::Message(message_at(object, MessageKind::Delivery)?),
-        LineType::Order => Command::Place(order_at(object)?),
-        LineType::Withdraw => Command::Withdraw(order_id_at(object, Field::Order)?),
-        LineType::Begin => Command::Begin(moment_at(object, Field::At)?),
-        LineType::Plan => Command::Plan(moment_at(object, Field::At)?),
-        LineType::Commit => Command::Commit(commit_at(alloc, object)?),
-        LineType::Sheet => Command::Sheet,
-        LineType::Network => {
-            Command::Revise(count_at(object, Field::Revision, 1, MAX_REVISION)?)
-        }
+    let event = match line_type {
+        LineType::Release => Event::Message(message_at(object, MessageKind::Release)?),
+        LineType::Departure => Event::Message(message_at(object, MessageKind::Departure)?),
+        LineType::YardArrival => Event::Message(message_at(object, MessageKind::YardArrival)?),
+        LineType::YardDeparture => Event::Message(message_at(object, MessageKind::YardDeparture)?),
+        LineType::Exception => Event::Message(exception_at(object)?),
+        LineType::Arrival => Event::Message(message_at(object, MessageKind::Arrival)?),
+        LineType::Delivery => Event::Message(message_at(object, MessageKind::Delivery)?),
+        LineType::Order => Event::Place(order_at(object)?),
+        LineType::Withdraw => Event::Withdraw(code_at(object, Field::Order)?),
+        LineType::Commit => Event::Commit(commit_at(alloc, object)?),
+        LineType::Network => Event::Revise(count_at(object, Field::Revision, 1, MAX_REVISION)?),
+        LineType::Begin => return Ok(Command::Begin(code_at(object, Field::At)?)),
+        LineType::Plan => return Ok(Command::Plan(code_at(object, Field::At)?)),
+        LineType::Sheet => return Ok(Command::Sheet),
     };
-    Ok(command)
+    Ok(Command::Event(event))
 }
 
 /// A message of this kind.
@@ -73,11 +70,11 @@ fn command_at(alloc: Global, line_type: LineType, object: &Value) -> Result<Comm
 fn message_at(object: &Value, kind: MessageKind) -> Result<Message, LineFault>
     ensures { result ≡ meaning.message_of kind (view object.now) }
 {
-    let company = company_at(object, Field::Company)?;
+    let company = code_at(object, Field::Company)?;
     let number = count_at(object, Field::Number, 0, u32::MAX)?;
-    let wagon = wagon_number_at(object, Field::Wagon)?;
-    let place = place_at(object, Field::Place)?;
-    let moment = moment_at(object, Field::Moment)?;
+    let wagon = code_at(object, Field::Wagon)?;
+    let place = code_at(object, Field::Place)?;
+    let moment = code_at(object, Field::Moment)?;
     Ok(Message {
         id: MessageId { company, number },
         kind,
@@ -105,11 +102,11 @@ fn exception_at(object: &Value) -> Result<Message, LineFault>
 fn order_at(object: &Value) -> Result<OrderText, LineFault>
     ensures { result ≡ meaning.order_text_of (view object.now) }
 {
-    let id = order_id_at(object, Field::Order)?;
-    let place = place_at(object, Field::Place)?;
+    let id = code_at(object, Field::Order)?;
+    let place = code_at(object, Field::Place)?;
     let classes = classes_at(object)?;
     let load = count_at(object, Field::Load, 0, MAX_LOAD)?;
-    let latest = moment_at(object, Field::Latest)?;
+    let latest = code_at(object, Field::Latest)?;
     let penalty = number_at(object, Field::Penalty, 0, MAX_PENALTY)?;
     let wagons = optional_count_at(object, Field::Wagons, 1, MAX_ORDER_WAGONS)?.unwrap_or(1);
     let order = OrderText::new(id, place, classes, load, latest, penalty, wagons);
@@ -122,7 +119,7 @@ fn commit_at(alloc: Global, object: &Value) -> Result<CommitText, LineFault>
     ensures { Gives (λ commit. commit) result (meaning.commit_text_of (view object.now)) }
 {
     let version = number_at(object, Field::Version, 0, MAX_VERSION)?;
-    let at = moment_at(object, Field::At)?;
+    let at = code_at(object, Field::At)?;
     let pairs = pairs_at(alloc, object, Field::Pairs)?;
     let u = numbers_at(alloc, object, Field::WagonPrices, 0, u64::MAX)?;
     let v = numbers_at(alloc, object, Field::OrderPrices, 0, u64::MAX)?;

@@ -1,6 +1,6 @@
 //! Commits: the pairs of a plan and the prices that prove it.
 
-ghost use Rattle.std.specs.Prelude.{◌≡◌, IfOk, nat_eq};
+ghost use Rattle.std.specs.Prelude.{◌≡◌, ◌↔◌, IfOk, IsTrue, nat_eq};
 ghost use Rattle.std.specs.Cmp.{partial_equiv_from_equiv};
 ghost use Rattle.std.specs.Cmp.Lexicographic.{pointwise, lists_equiv, nat_list_eq_equiv};
 ghost use Rattle.move_messages.specs.Pairs.{pair_eq, pair_eq_equiv};
@@ -160,4 +160,27 @@ impl CommitText {
             v,
         })
     }
+}
+
+/// Whether two commits are one, field by field. (Of `==` it isn't proved.)
+pub(crate) fn is_same_commit(one: &CommitText, other: &CommitText) -> bool
+    ensures { IsTrue result ↔ (one.now ≡ other.now) }
+{
+    one.version == other.version
+        && one.at == other.at
+        && are_same_pairs(&one.pairs, &other.pairs)
+        && are_same_prices(&one.u, &other.u)
+        && are_same_prices(&one.v, &other.v)
+}
+
+fn are_same_pairs(one: &Pairs, other: &Pairs) -> bool
+    ensures { IsTrue result ↔ (one.now ≡ other.now) }
+{
+    *one == *other
+}
+
+fn are_same_prices(one: &PriceList, other: &PriceList) -> bool
+    ensures { IsTrue result ↔ (one.now ≡ other.now) }
+{
+    *one == *other
 }

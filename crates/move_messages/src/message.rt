@@ -1,4 +1,5 @@
 //! Movement messages: what a railway says of a wagon.
+ghost use Rattle.std.specs.Prelude.{◌≡◌, ◌↔◌, IsTrue};
 
 use rail_codes::{MessageId, Moment, Place, WagonNumber};
 
@@ -34,4 +35,27 @@ pub struct Message {
     pub place: Place,
     /// When, in seconds since 1970.
     pub moment: Moment,
+}
+
+/// Whether two messages are one, field by field. (Of `==` it isn't proved.)
+pub fn is_same_message(one: &Message, other: &Message) -> bool
+    ensures { IsTrue result ↔ (one.now ≡ other.now) }
+{
+    is_same_id(one.id, other.id)
+        && is_same_kind(one.kind, other.kind)
+        && one.wagon == other.wagon
+        && one.place == other.place
+        && one.moment == other.moment
+}
+
+fn is_same_id(one: MessageId, other: MessageId) -> bool
+    ensures { IsTrue result ↔ (one ≡ other) }
+{
+    one == other
+}
+
+fn is_same_kind(one: MessageKind, other: MessageKind) -> bool
+    ensures { IsTrue result ↔ (one ≡ other) }
+{
+    one == other
 }

@@ -1,6 +1,6 @@
 //! Orders: who wants which wagons, where and until when.
 
-ghost use Rattle.std.specs.Prelude.{◌≡◌, ◌≤◌};
+ghost use Rattle.std.specs.Prelude.{◌≡◌, ◌≤◌, ◌↔◌, IsTrue};
 ghost use Rattle.move_messages.specs.OrderLimits.{IsOrder, order_of};
 
 use crate::classes::Classes;
@@ -114,4 +114,23 @@ impl OrderText {
     {
         self.wagons
     }
+}
+
+/// Whether two orders are one, field by field. (Of `==` it isn't proved.)
+pub fn is_same_order(one: &OrderText, other: &OrderText) -> bool
+    ensures { IsTrue result ↔ (one.now ≡ other.now) }
+{
+    one.id == other.id
+        && one.place == other.place
+        && are_same_classes(&one.classes, &other.classes)
+        && one.load == other.load
+        && one.latest == other.latest
+        && one.penalty == other.penalty
+        && one.wagons == other.wagons
+}
+
+fn are_same_classes(one: &Classes, other: &Classes) -> bool
+    ensures { IsTrue result ↔ (one.now ≡ other.now) }
+{
+    *one == *other
 }

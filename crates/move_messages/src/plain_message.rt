@@ -5,6 +5,7 @@ ghost use Rattle.std.specs.Prelude.{◌≡◌, ℕ, List, Ok, IfSome, codes, tru
 ghost use Rattle.move_messages.specs.Line.{object_of};
 ghost use Rattle.move_messages.specs.Commands.{command_of};
 ghost use Rattle.move_messages.specs.declared.command.Command.TheVariants as command;
+ghost use Rattle.move_messages.specs.declared.event.Event.TheVariants as event;
 ghost use Rattle.move_messages.specs.inner.PlainMessage.{IsKindOf, IsTypeOf, plain_object};
 
 use crate::line_type::LineType;
@@ -26,7 +27,7 @@ pub(crate) struct PlainMessage<'a> {
 /// The message that a line is, where it has no spaces and its fields stand in the order `type`, `company`, `number`,
 /// `wagon`, `place` and `moment`. `None` for any other line, and where a field is refused.
 pub(crate) fn plain_message(line: &[u8]) -> Option<Message>
-    ensures { IfSome result (λ message. command_of line.now ≡ Ok (command.Message message)) }
+    ensures { IfSome result (λ message. command_of line.now ≡ Ok (command.Event (event.Message message))) }
 {
     let fields = plain_fields(line)?;
     message_of(&fields)
@@ -70,7 +71,7 @@ fn is_closing_brace(rest: &str) -> bool
 
 /// The message of these fields, `None` where one of them is refused.
 fn message_of(fields: &PlainMessage<'_>) -> Option<Message>
-    ensures { IfSome result (λ message. (line : List ℕ) → object_of line ≡ Ok (plain_object fields.now) → command_of line ≡ Ok (command.Message message)) }
+    ensures { IfSome result (λ message. (line : List ℕ) → object_of line ≡ Ok (plain_object fields.now) → command_of line ≡ Ok (command.Event (event.Message message))) }
 {
     let kind = kind_named(fields.type_name)?;
     let Ok(company) = Company::read(fields.company) else {

@@ -1,10 +1,9 @@
 -- What a run has done to a book: calls, one after the other.
 use Rattle.std.proofs.Common.{◌≡◌, ◌+◌, ℕ, Bool, true, false, List, [], ◌∷◌, ◌++◌, Result, Ok, Err, refl, sym, ◌∙◌, subst, inl, inr}
-use Rattle.std.specs.Prelude.{IfOk, IfErr}
 use Rattle.move_messages.specs.declared.fault.LineFault.{LineFault}
 use Rattle.line_engine.specs.Lines.{is_blank}
-use Rattle.line_engine.specs.Replies.{AnswersLine, Replies, Responds}
-use Rattle.line_engine.specs.Runs.{Ends, Failures, Run, Stops}
+use Rattle.line_engine.specs.Replies.{AnswersLine, Numbered, Replies, Responds}
+use Rattle.line_engine.specs.Runs.{Failures, Run, Runs, Stops}
 use Rattle.line_engine.specs.declared.run.RunCount.{RunCount}
 use Rattle.line_engine.specs.declared.run.RunFault.{RunFault}
 use Rattle.line_engine.specs.declared.run.RunFault.TheVariants.{OutOfMemory, TooManyLines, LineTooLong, ReadFailed, WriteFailed}
@@ -108,7 +107,6 @@ led_by_stop run failed (WriteFailed n) stops =
     led_on run.old stops.0 run.new before (led_by_line n stops.0 run.new part.line part.text part.refused (is_blank part.line) refl part.reply)
 
 -- a run, however it ended
-pub led_by_run : (run : Run BookValue) (failed : Failures) (result : Result RunCount RunFault)
-    → IfOk result (λ count. Ends RepliesToLine LineRunsOutOfMemory run count) → IfErr result (λ fault. Stops RepliesToLine LineRunsOutOfMemory run failed fault) → IsLedTo run.old run.new
-led_by_run run failed (Ok count) ends stops = led_by_lines 1 run.old run.new _ ends.output count.refused ends.replies
-led_by_run run failed (Err fault) ends stops = led_by_stop run failed fault stops
+pub led_by_run : (run : Run BookValue) (failed : Failures) (result : Result RunCount RunFault) → Runs (Numbered RepliesToLine LineRunsOutOfMemory) run failed result → IsLedTo run.old run.new
+led_by_run run failed (Ok count) runs = led_by_lines 1 run.old run.new _ runs.ok.output count.refused runs.ok.replies
+led_by_run run failed (Err fault) runs = led_by_stop run failed fault runs.err

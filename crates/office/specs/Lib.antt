@@ -1,3 +1,2 @@
 pub mod CommandReplies
-pub mod Replies
 pub mod inner

@@ -1,14 +1,13 @@
 //! The run that brings command lines to a book.
-ghost use Rattle.std.specs.Prelude.{◌≡◌, ◌≢◌, ◌⊎◌, ◌≤◌, ◌++◌, false, true, List, ℕ, All, Err, IfOk, IfErr, MatchResult, Ok, IsOk, OnErr, OnOk, length};
+ghost use Rattle.std.specs.Prelude.{◌≡◌, ◌≢◌, ◌≤◌, ◌++◌, false, true, List, ℕ, Err, IfOk, MatchResult, Ok, IsOk, OnErr, OnOk, length};
 ghost use Rattle.commit_book.specs.Books.{answer_of};
 ghost use Rattle.commit_book.specs.BookStep.{is_kept};
 ghost use Rattle.commit_book.specs.Headline.{IsProved};
 ghost use Rattle.commit_book.specs.declared.answer.Answer.TheVariants.{Refused};
 ghost use Rattle.faults.specs.declared.faults.Refusal.TheVariants.{OutOfMemory};
 ghost use Rattle.line_engine.specs.Outcome.{is_refusal};
-ghost use Rattle.line_engine.specs.Replies.{max_head_bytes};
-ghost use Rattle.line_engine.specs.Runs.{Ends, Stops};
-ghost use Rattle.commit_book.specs.Snap.{IsInRange};
+ghost use Rattle.line_engine.specs.Replies.{Numbered, max_head_bytes};
+ghost use Rattle.line_engine.specs.Runs.{Runs, run_over};
 ghost use Rattle.cost_table.specs.Plan.{IsOptimal};
 ghost use Rattle.price_checker.specs.Certificate.{IsCertificate};
 ghost use Rattle.dispatch_sheet.specs.PlanText.{FitsProblem};
@@ -183,24 +182,9 @@ pub fn run<R: Source, W: Sink>(
 ) -> Result<RunCount, RunFault>
     requires reader { R.has_failed reader.old ≡ false }
     requires writer { W.has_failed writer.old ≡ false }
-    ensures ok { IfOk result (λ count. Ends RepliesToLine LineRunsOutOfMemory (record {
-      from = R.remaining reader.old;
-      to = R.remaining reader.new;
-      held = W.contents writer.old;
-      holds = W.contents writer.new;
-      old = book.old;
-      new = book.new;
-    }) count) }
-    ensures err { IfErr result (λ fault. Stops RepliesToLine LineRunsOutOfMemory (record {
-      from = R.remaining reader.old;
-      to = R.remaining reader.new;
-      held = W.contents writer.old;
-      holds = W.contents writer.new;
-      old = book.old;
-      new = book.new;
-    })
-        (record { reader = R.has_failed reader.new; writer = W.has_failed writer.new }) fault) }
-    ensures healthy { OnOk result ((R.has_failed reader.new ≡ false) × (W.has_failed writer.new ≡ false)) }
+    ensures replies { Runs (Numbered RepliesToLine LineRunsOutOfMemory)
+        (run_over R.remaining W.contents (reader.old, writer.old, book.old) (reader.new, writer.new, book.new))
+        (record { reader = R.has_failed reader.new; writer = W.has_failed writer.new }) result }
     ensures calls { IsLedTo book.old book.new }
     ensures proved { IsProved book.new.setting book.new.state.history }
 {

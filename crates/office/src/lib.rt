@@ -1,12 +1,9 @@
-//! The runs of the office: lines in, replies out.
+//! The run of the office: command lines in, replies out.
 #![tactic(auto)]
 
 mod command_lines;
-mod table_checker;
 
 pub use command_lines::{CommandLines, run};
 pub use line_engine::{
-    DeviceFailed, FromRead, MAX_INPUT_LINES, MAX_LINE_BYTES, RunCount, RunFault, Sink, Source,
-    ToWrite,
+    DeviceFailed, MAX_INPUT_LINES, MAX_LINE_BYTES, RunCount, RunFault, Sink, Source,
 };
-pub use table_checker::{TableChecker, check_run};

@@ -10,15 +10,15 @@ use Rattle.wagons_and_orders.specs.declared.change.Effect.TheVariants as effect
 use Rattle.faults.specs.declared.faults.StepFault.{StepFault}
 use Rattle.faults.specs.declared.faults.StepFault.TheVariants.{Earlier, WrongPlace}
 use Rattle.wagons_and_orders.specs.declared.wagon_row.WagonRow.{WagonRow}
-use Rattle.wagons_and_orders.specs.StatusTable.{step_of, fitted, change_by, promise_after, effect_on, table_line, is_at}
+use Rattle.wagons_and_orders.specs.StatusTable.{step_of, fitted, change_by, promise_after, effect_on, transition_of, is_at}
 use Rattle.fleet_rows.specs.Roster.{IsRosterRow}
 use Rattle.wagons_and_orders.specs.Lack.{is_open}
 use Rattle.wagons_and_orders.specs.OrderRow.{OrderRowValue, placed_row}
 use Rattle.fleet_rows.proofs.Wagons.{number-wagon_in}
 use Rattle.fleet_rows.specs.Rows.{wagon_in, order_in, at_wagon, at_order, max_open_wagons, open_wagons, filled_by, freed_of, taken_back, promised_to}
 use Rattle.faults.specs.declared.faults.ApplyFault.TheVariants.{OrderKnown, TooManyOpen, OrderClosed, UnknownNetwork, SameNetwork}
-use Rattle.operating_db.specs.declared.event.Event.{Event}
-use Rattle.operating_db.specs.declared.event.Event.TheVariants.{Message, Place, Withdraw, Commit, Revise}
+use Rattle.move_messages.specs.declared.event.Event.{Event}
+use Rattle.move_messages.specs.declared.event.Event.TheVariants.{Message, Place, Withdraw, Commit, Revise}
 use Rattle.operating_db.specs.After.{orders_after, order_place, moved, message_to, unpromised, withdrawn_from, after_call}
 use Rattle.operating_db.specs.Commits.{Pair, given_to, promise_pair, promise_all}
 use Rattle.operating_db.specs.Laws.{IsKept, EventsKeepOffices, RostersAgree, numbers_of, texts_of, Steps}
@@ -63,7 +63,7 @@ later false r change h = h
 pub step_keeps : (row : WagonRow) (m : message.Message) (place : Option (List ℕ)) (change : Change) → step_of row m place ≡ Ok change → KeepsRow row change
 unfolding step_of
 step_keeps row m place change h =
-    fitted_keeps row m (table_line m.kind row.status (is_at place m.place) m.place m.moment) change (later (nat_lt m.moment row.last) _ change h)
+    fitted_keeps row m (transition_of m.kind row.status (is_at place m.place) m.place m.moment) change (later (nat_lt m.moment row.last) _ change h)
 
 -- ---- numbers of wagons, texts of orders
 

@@ -13,8 +13,8 @@ use Rattle.wagons_and_orders.specs.OrderRow.{OrderRowValue, placed_row}
 use Rattle.fleet_rows.specs.Rows.{wagon_in, order_in, at_wagon, at_order, max_open_wagons, open_wagons, filled_by, freed_of, taken_back}
 use Rattle.faults.specs.declared.faults.ApplyFault.{ApplyFault}
 use Rattle.faults.specs.declared.faults.ApplyFault.TheVariants.{UnknownWagon, Step, OrderKnown, TooManyOpen, UnknownOrder, OrderClosed, UnknownNetwork, SameNetwork}
-use Rattle.operating_db.specs.declared.event.Event.{Event}
-use Rattle.operating_db.specs.declared.event.Event.TheVariants.{Message, Place, Withdraw, Commit, Revise}
+use Rattle.move_messages.specs.declared.event.Event.{Event}
+use Rattle.move_messages.specs.declared.event.Event.TheVariants.{Message, Place, Withdraw, Commit, Revise}
 use Rattle.operating_db.specs.Commits.{promise_all}
 use Rattle.operating_db.specs.Office.{Office}
 use Rattle.operating_db.specs.Promises.{is_promise_to}
@@ -46,6 +46,9 @@ abbrev pub message_to : Office → message.Message → Option WagonRow → Resul
 message_to office message None = Err UnknownWagon
 message_to office message (Some row) = moved office message.wagon row.promise (step_of row message (order_place office.orders row.promise))
 
+abbrev pub after_message : Office → message.Message → Result Office ApplyFault
+after_message office message = message_to office message (wagon_in office.wagons message.wagon)
+
 -- An order: its name is new, and the open orders want at most 500 wagons in all.
 abbrev pub after_order : Office → Order → Result Office ApplyFault
 after_order office text =
@@ -73,7 +76,7 @@ after_revision networks office network =
 -- What an event makes of an office where there are so many networks, or its first refusal. Which commits are possible
 -- is said by `CanPromise`.
 unfoldable pub after_call : (networks : ℕ) → Office → Event → Result Office ApplyFault
-after_call networks office (Message message) = message_to office message (wagon_in office.wagons message.wagon)
+after_call networks office (Message message) = after_message office message
 after_call networks office (Place text) = after_order office text
 after_call networks office (Withdraw id) = withdrawn_from office id (order_in office.orders id)
 after_call networks office (Commit commit) = Ok (promise_all office commit.pairs)

@@ -3,9 +3,11 @@ use Rattle.std.specs.Prelude.{◌≡◌, ◌⊎◌, ℕ, List, Result, Ok, Err, 
 use Rattle.fleet_rows.specs.EmptyWagons.{IsNewStand, stand_in}
 use Rattle.faults.specs.declared.faults.ApplyFault.{ApplyFault}
 use Rattle.faults.specs.declared.faults.ApplyFault.TheVariants.{OutOfMemory, UnknownWagon, Step, OrderKnown, TooManyOpen, UnknownOrder, OrderClosed, UnknownNetwork, SameNetwork}
-use Rattle.operating_db.specs.declared.event.Event.{Event}
-use Rattle.operating_db.specs.declared.event.Event.TheVariants.{Message, Place}
+use Rattle.move_messages.specs.declared.event.Event.{Event}
+use Rattle.move_messages.specs.declared.event.Event.TheVariants.{Message, Place}
+use Rattle.operating_db.specs.After.{after_call}
 use Rattle.operating_db.specs.Office.{Office}
+use Rattle.operating_db.specs.State.{StateValue}
 
 -- why an event is refused: with the fault that the definitions give; or because memory is out, where they give none
 abbrev pub IsRefusal : Result Office ApplyFault → ApplyFault → Type 0
@@ -29,3 +31,7 @@ abbrev pub MayWantMemory : Office → Event → (after : Result Office ApplyFaul
 MayWantMemory office (Place text) after = Unit {0}
 MayWantMemory office (Message message) after = EmptiesWagon office message.wagon after
 MayWantMemory office event after = ⊥
+
+-- the same of an event in this state
+abbrev pub MayRunOutOfMemory : StateValue → Event → Type 0
+MayRunOutOfMemory state event = MayWantMemory state.office event (after_call state.networks state.office event)

@@ -1,6 +1,6 @@
 -- Runs of events.
-use Rattle.operating_db.specs.declared.event.Event.{Event}
-use Rattle.operating_db.specs.declared.event.Event.TheVariants.{Commit}
+use Rattle.move_messages.specs.declared.event.Event.{Event}
+use Rattle.move_messages.specs.declared.event.Event.TheVariants.{Commit}
 use Rattle.operating_db.specs.Commits.{CanPromise}
 use Rattle.operating_db.specs.Office.{Office}
 

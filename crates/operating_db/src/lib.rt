@@ -1,14 +1,12 @@
 //! The operating database: what each event does to the office.
 #![tactic(auto)]
 
-mod event;
 mod laws;
 mod lists;
 mod office_state;
 mod pair_counts;
 mod promises;
 
-pub use event::Event;
 pub use faults::ApplyFault;
 pub use fleet_rows::{Roster, RosterFault};
 pub use laws::events_keep_offices;

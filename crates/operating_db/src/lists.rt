@@ -28,25 +28,25 @@ pub(crate) fn waiting_orders(alloc: Global, orders: &OrderRows) -> Result<Vec<Wa
     wanted_among(alloc, orders.as_slice(), orders.waiting())
 }
 
-/// The orders at these places that lack a wagon.
+/// The orders at these indices that lack a wagon.
 fn wanted_among(
     alloc: Global,
     rows: &[OrderRow],
-    places: &[usize],
+    indices: &[usize],
 ) -> Result<Vec<Wanted>, AllocError>
-    ensures { IfOk result (λ wanted. wanted.items ≡ filter_map (wanted_at rows.now) places.now) }
+    ensures { IfOk result (λ wanted. wanted.items ≡ filter_map (wanted_at rows.now) indices.now) }
 {
-    places
+    indices
         .iter()
-        .filter_map(|place| wanted_at(rows, *place))
+        .filter_map(|index| wanted_at(rows, *index))
         .collect(alloc)
 }
 
-/// The order at a place, with how many wagons it lacks, where one stands there and lacks one.
-fn wanted_at(rows: &[OrderRow], place: usize) -> Option<Wanted>
-    ensures { result ≡ wanted_at rows.now place }
+/// The order at an index, with how many wagons it lacks, where one stands there and lacks one.
+fn wanted_at(rows: &[OrderRow], index: usize) -> Option<Wanted>
+    ensures { result ≡ wanted_at rows.now index }
 {
-    wanted(rows.get(place)?)
+    wanted(rows.get(index)?)
 }
 
 /// An order that lacks a wagon, with how many it lacks.

@@ -1,11 +1,11 @@
 //! The state of an office.
-ghost use Rattle.std.specs.Prelude.{◌≡◌, ◌≤◌, ◌↔◌, IsTrue, Ok, Err, IfOk, IfErr, IsOk, OnErr, OnOk, MatchResult, Some, option_copied, option_map, slice_get};
+ghost use Rattle.std.specs.Prelude.{◌≡◌, ◌≤◌, ◌↔◌, IsTrue, Ok, Err, IfOk, IfErr, IsOk, OnErr, OnOk, option_copied, option_map};
 ghost use Rattle.std.specs.List.{list_all};
 ghost use Rattle.fleet_rows.specs.Kept.{IsOrderRows, IsWagonRows};
 ghost use Rattle.fleet_rows.specs.Rows.{order_in, wagon_in};
-ghost use Rattle.operating_db.specs.After.{after_call, after_order, after_revision, message_to, order_place, withdrawn_from};
-ghost use Rattle.operating_db.specs.inner.EventParts.{IsChange, IsNext, is_promisable};
-ghost use Rattle.operating_db.specs.ApplyFault.{EmptiesWagon, IsRefusal, IsRefusalOf, MayWantMemory};
+ghost use Rattle.operating_db.specs.After.{after_call, after_message, after_order, after_revision, order_place, withdrawn_from};
+ghost use Rattle.operating_db.specs.inner.EventParts.{EmptiesItsWagon, IsChange, IsNext, IsRowAt, is_promisable};
+ghost use Rattle.operating_db.specs.ApplyFault.{IsRefusal, IsRefusalOf, MayRunOutOfMemory};
 ghost use Rattle.operating_db.specs.Commits.{CanPromise, is_free_row, lack_in, promise_all, promise_pair};
 ghost use Rattle.operating_db.specs.Office.{first_office};
 ghost use Rattle.operating_db.specs.FreeCount.{free_count};
@@ -14,15 +14,14 @@ ghost use Rattle.operating_db.specs.Promises.{PromisesAgree};
 ghost use Rattle.line_network.specs.NetworkCount.{max_networks};
 ghost use Rattle.operating_db.specs.State.{IsState};
 ghost use Rattle.operating_db.specs.Steps.{IsPromised};
-ghost use Rattle.wagons_and_orders.specs.declared.wagon_row.WagonRow.{WagonRow};
 
+use crate::ApplyFault;
 use crate::lists::{free_wagons, waiting_orders};
 use crate::pair_counts::{times_of_order, times_of_wagon};
 use crate::promises::{end_promises, settle};
-use crate::{ApplyFault, Event};
 use cost_table::Problem;
 use fleet_rows::{MAX_OPEN_WAGONS, OrderRows, Roster, WagonRows};
-use move_messages::{Message, OrderText};
+use move_messages::{Event, Message, OrderText};
 use rail_codes::{ClassCode, Moment, OrderId, Place, WagonNumber};
 use std::alloc::{AllocError, Global};
 use std::marker::Model;
@@ -30,8 +29,8 @@ use wagons_and_orders::{Change, OrderRow, WagonRow, free, step};
 
 /// The rows of the wagons and of the orders, and the network in force. A wagon is promised to an order exactly where
 /// the order has it among its promised wagons; no two orders have one name; and each order has every promised wagon
-/// once, together with those that filled it at most as many as it wants. A contract sees the office of the definitions, and how many networks
-/// there are.
+/// once, together with those that filled it at most as many as it wants. A contract sees the office of the definitions,
+/// and how many networks there are.
 #[derive(Debug, Drop)]
 pub struct OfficeState {
     wagons: WagonRows,
@@ -41,14 +40,13 @@ pub struct OfficeState {
 }
 
 impl Model for OfficeState {
-    ghost use Rattle.operating_db.specs.State.{StateValue, IsState};
-    ghost use Rattle.operating_db.specs.Promises.{PromisesAgree};
+    ghost use Rattle.operating_db.specs.State.{StateValue, IsState, state_of};
 
     ghost Value = { StateValue };
 
-    ghost view = { λ state. record { office = record { wagons = state.wagons; orders = state.orders; network = state.network }; networks = state.networks } };
+    ghost view = { λ state. state_of state.wagons state.orders state.network state.networks };
 
-    ghost invariant = { λ state. IsState (record { office = record { wagons = state.wagons; orders = state.orders; network = state.network }; networks = state.networks }) };
+    ghost invariant = { λ state. IsState (state_of state.wagons state.orders state.network state.networks) };
 }
 
 impl OfficeState {
@@ -105,6 +103,17 @@ impl OfficeState {
         ensures valid { IsState self.now }
     {
         self.network
+    }
+
+    /// Does nothing: for the prover alone, it says what every office keeps.
+    pub fn for_the_prover(&self)
+        ensures wagons { IsWagonRows self.now.office.wagons }
+        ensures orders { IsOrderRows self.now.office.orders }
+        ensures valid { IsState self.now }
+    {
+        let _wagons = self.wagon_rows();
+        let _orders = self.order_rows();
+        let _network = self.network();
     }
 
     /// How many networks there are, 1 to 8. Takes no memory.
@@ -212,7 +221,7 @@ impl OfficeState {
         ensures done { OnOk result (after_call self.old.networks self.old.office event.now ≡ Ok self.new.office) }
         ensures refused { IfErr result (λ fault. IsRefusal (after_call self.old.networks self.old.office event.now) fault) }
         ensures by_event { IfErr result (λ fault. IsRefusalOf event.now (after_call self.old.networks self.old.office event.now) fault) }
-        ensures memory { IfErr result (λ fault. fault ≡ ApplyFault.OutOfMemory → MayWantMemory self.old.office event.now (after_call self.old.networks self.old.office event.now)) }
+        ensures memory { IfErr result (λ fault. fault ≡ ApplyFault.OutOfMemory → MayRunOutOfMemory self.old event.now) }
         ensures unchanged { OnErr result (self.new ≡ self.old) }
         ensures networks { self.new.networks ≡ self.old.networks }
     {
@@ -228,18 +237,18 @@ impl OfficeState {
         }
     }
 
-    /// Where the row of a message's wagon stands, what the message changes, and the order that the wagon is promised to.
+    /// The index of the row of a message's wagon, what the message changes, and the order that the wagon is promised to.
     fn change_by(&self, message: &Message) -> Result<(usize, Change, Option<OrderId>), ApplyFault>
         ensures change { IfOk result (λ found. IsChange self.now.office message.now found.1 found.2) }
-        ensures place { IfOk result (λ found. (row : WagonRow) × (slice_get self.now.office.wagons found.0 ≡ Some row) × (row.number ≡ found.1.row.number)) }
-        ensures refused { IfErr result (λ fault. message_to self.now.office message.now (wagon_in self.now.office.wagons message.now.wagon) ≡ Err fault) }
+        ensures index { IfOk result (λ found. IsRowAt self.now.office.wagons found.0 found.1.row.number) }
+        ensures refused { IfErr result (λ fault. after_message self.now.office message.now ≡ Err fault) }
         ensures memory { IfErr result (λ fault. ¬ (fault ≡ ApplyFault.OutOfMemory)) }
     {
-        let Some((place, row)) = self.wagons.find(message.wagon) else {
+        let Some((index, row)) = self.wagons.find(message.wagon) else {
             return Err(ApplyFault::UnknownWagon);
         };
         match step(row, message, self.order_place(row.promise)) {
-            Ok(change) => Ok((place, change, row.promise)),
+            Ok(change) => Ok((index, change, row.promise)),
             Err(fault) => Err(ApplyFault::Step(fault)),
         }
     }
@@ -254,18 +263,18 @@ impl OfficeState {
 
     /// Takes a message in.
     fn accept(&mut self, message: &Message) -> Result<(), ApplyFault>
-        ensures done { OnOk result (message_to self.old.office message.now (wagon_in self.old.office.wagons message.now.wagon) ≡ Ok self.new.office) }
-        ensures refused { IfErr result (λ fault. IsRefusal (message_to self.old.office message.now (wagon_in self.old.office.wagons message.now.wagon)) fault) }
-        ensures memory { IfErr result (λ fault. fault ≡ ApplyFault.OutOfMemory → EmptiesWagon self.old.office message.now.wagon (message_to self.old.office message.now (wagon_in self.old.office.wagons message.now.wagon))) }
+        ensures done { OnOk result (after_message self.old.office message.now ≡ Ok self.new.office) }
+        ensures refused { IfErr result (λ fault. IsRefusal (after_message self.old.office message.now) fault) }
+        ensures memory { IfErr result (λ fault. fault ≡ ApplyFault.OutOfMemory → EmptiesItsWagon self.old.office message.now) }
         ensures unchanged { OnErr result (self.new ≡ self.old) }
         ensures networks { self.new.networks ≡ self.old.networks }
     {
         let number = message.wagon;
-        let (place, change, promise) = match self.change_by(message) {
+        let (index, change, promise) = match self.change_by(message) {
             Ok(found) => found,
             Err(fault) => return Err(fault),
         };
-        match self.wagons.put(place, change.row) {
+        match self.wagons.put(index, change.row) {
             Ok(()) => {
                 settle(&mut self.orders, change.effect, promise, number);
                 Ok(())
@@ -324,7 +333,7 @@ impl OfficeState {
         ensures unchanged { OnErr result (self.new ≡ self.old) }
         ensures networks { self.new.networks ≡ self.old.networks }
     {
-        let Some((place, row)) = self.orders.find(id) else {
+        let Some((index, row)) = self.orders.find(id) else {
             return Err(ApplyFault::UnknownOrder);
         };
         if !row.is_open() {
@@ -333,7 +342,7 @@ impl OfficeState {
         // For the prover alone: no number stands twice among the wagons.
         let _rows = self.wagons.as_slice();
         end_promises(&mut self.wagons, row.promised());
-        self.orders.withdraw(place);
+        self.orders.withdraw(index);
         Ok(())
     }
 

@@ -10,7 +10,8 @@ use Rattle.price_checker.specs.Faults.{first_fault, wrong_lengths, not_allowed, 
 use Rattle.faults.specs.declared.faults.CheckFault.{CheckFault}
 use Rattle.faults.specs.declared.faults.CheckFault.TheVariants as check
 use Rattle.price_checker.specs.NamedPairs.{NamedPair, positions_of}
-use Rattle.price_checker.specs.inner.Naming.{AreNamed, IsNamed}
+use Rattle.price_checker.specs.NamedFaults.{IsNamed}
+use Rattle.price_checker.specs.inner.Naming.{AreNamed}
 use Rattle.price_checker.proofs.Checked.{first_position}
 
 -- each pair's wagon and order are named

@@ -1,5 +1,5 @@
 -- Pairs that are given by name: their positions in a table, and what the price checker says of them.
-use Rattle.std.specs.Prelude.{ℕ, List, [], ◌∷◌, Option, Some, None, Result, Ok, Err}
+use Rattle.std.specs.Prelude.{◌≡◌, ◌≢◌, ℕ, List, [], ◌∷◌, Option, Some, None, Result, Ok, Err}
 use Rattle.cost_table.specs.Table.{Table}
 use Rattle.cost_table.specs.Plan.{cost_of}
 use Rattle.cost_table.specs.Names.{NameLists, pair_of}
@@ -7,7 +7,7 @@ use Rattle.price_checker.specs.Faults.{first_fault}
 use Rattle.faults.specs.declared.faults.CheckFault.{CheckFault}
 use Rattle.price_checker.specs.NamedFaults.{named}
 use Rattle.faults.specs.declared.faults.NamedFault.{NamedFault}
-use Rattle.faults.specs.declared.faults.NamedFault.TheVariants.{NotInProblem}
+use Rattle.faults.specs.declared.faults.NamedFault.TheVariants.{NotInProblem, OutOfMemory}
 
 -- a wagon's number and an order's id
 abbrev pub NamedPair : Type 0
@@ -42,3 +42,7 @@ checked_at names table u v (Ok positions) = cost_unless names (first_fault table
 -- the cost of the pairs in a table, where they and the prices are a certificate of it, or the first fault
 unfoldable pub checked : NameLists → Table → List NamedPair → (u v : List ℕ) → Result ℕ NamedFault
 checked names table pairs u v = checked_at names table u v (positions_of names pairs)
+
+-- this fault is what there is, unless memory was refused
+abbrev pub IsFaultOf : {A : Type 0} → Result A NamedFault → NamedFault → Type 0
+IsFaultOf outcome fault = fault ≢ OutOfMemory → outcome ≡ Err fault

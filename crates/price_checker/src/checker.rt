@@ -1,9 +1,9 @@
 //! The checker: each test in its order.
-ghost use Rattle.std.specs.Prelude.{◌≡◌, ◌<◌, ◌≤◌, ◌+◌, ◌*◌, ◌^◌, ◌==◌, ◌↔◌, [], None, length, sum, All, IsOk, OnOk, IfOk};
+ghost use Rattle.std.specs.Prelude.{◌≡◌, ◌<◌, ◌≤◌, ◌+◌, ◌*◌, ◌^◌, ◌==◌, ◌↔◌, [], length, sum, All, IsOk, OnOk, IfOk};
 ghost use Rattle.std.specs.Result.{result_err};
 ghost use Rattle.cost_table.specs.TableLimits.{IsTable, max_table_wagons};
 ghost use Rattle.cost_table.specs.Table.{lack_at, wagon_count, order_count};
-ghost use Rattle.cost_table.specs.Plan.{IsPlan, IsOptimal, cost_of, uses, serves, sum_below};
+ghost use Rattle.cost_table.specs.Plan.{IsPlan, IsOptimal, cost_of, uses, serves};
 ghost use Rattle.price_checker.specs.Certificate.{IsCertificate};
 ghost use Rattle.price_checker.specs.inner.RowWalk.{gap_of_row};
 ghost use Rattle.price_checker.specs.Faults.{first_fault, wrong_lengths, not_allowed, used_twice, price_gap, over_penalty, sums_differ, paid_by_orders};

@@ -12,5 +12,5 @@ pub use certified::Certified;
 pub use checker::check;
 pub use faults::{CheckFault, NamedFault};
 pub use named_check::check_named;
-pub use positions::{order_name, positions_of, wagon_name};
+pub use positions::{order_name, pairs_by_name, positions_of, wagon_name};
 pub use prices::Prices;

@@ -1,11 +1,10 @@
 //! The price checker over pairs that are given by name.
-ghost use Rattle.std.specs.Prelude.{◌≡◌, ◌≢◌, IfErr, IfOk, Err, Ok, length};
+ghost use Rattle.std.specs.Prelude.{◌≡◌, IfErr, IfOk, Ok, length};
 ghost use Rattle.cost_table.specs.Table.{order_count, wagon_count};
 ghost use Rattle.price_checker.specs.NamedFaults.{named};
-ghost use Rattle.price_checker.specs.NamedPairs.{checked};
+ghost use Rattle.price_checker.specs.NamedPairs.{IsFaultOf, checked};
 ghost use Rattle.price_checker.specs.CertifiedPairs.{CertifiesPairs};
 ghost use Rattle.price_checker.specs.inner.Naming.{AreNamed};
-ghost use Rattle.faults.specs.declared.faults.NamedFault.TheVariants.{OutOfMemory};
 
 use crate::positions::{order_name, positions_of, wagon_name};
 use crate::{Certified, CheckFault, Prices, check};
@@ -52,7 +51,7 @@ pub fn check_named<N: PairNames>(
     requires wagons { let lists = N.names names.now in wagon_count cells.now ≡ length lists.wagons }
     requires orders { let lists = N.names names.now in order_count cells.now ≡ length lists.orders }
     ensures meaning { IfOk result (λ cost. checked (N.names names.now) cells.now pairs.now prices.now.u.items prices.now.v.items ≡ Ok cost) }
-    ensures refused { IfErr result (λ fault. fault ≢ OutOfMemory → checked (N.names names.now) cells.now pairs.now prices.now.u.items prices.now.v.items ≡ Err fault) }
+    ensures refused { IfErr result (IsFaultOf (checked (N.names names.now) cells.now pairs.now prices.now.u.items prices.now.v.items)) }
     ensures optimal { IfOk result (CertifiesPairs (N.names names.now) cells.now pairs.now prices.now.u.items prices.now.v.items) }
 {
     let positions = positions_of(alloc, names, pairs)?;

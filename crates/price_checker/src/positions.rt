@@ -1,13 +1,12 @@
 //! Positions of a table's wagons and orders, and the names that stand there.
-ghost use Rattle.std.specs.Prelude.{◌≡◌, ◌≢◌, ◌<◌, IfErr, IfOk, Err, Ok, length};
-ghost use Rattle.price_checker.specs.NamedFaults.{name_at};
-ghost use Rattle.price_checker.specs.NamedPairs.{positions_of};
-ghost use Rattle.faults.specs.declared.faults.NamedFault.TheVariants.{OutOfMemory};
+ghost use Rattle.std.specs.Prelude.{◌≡◌, ◌<◌, All, IfErr, IfOk, Ok, length, map};
+ghost use Rattle.price_checker.specs.NamedFaults.{IsNamed, name_at, named_at};
+ghost use Rattle.price_checker.specs.NamedPairs.{IsFaultOf, positions_of};
 
 use cost_table::PairNames;
 use faults::NamedFault;
 use rail_codes::{OrderId, WagonNumber};
-use std::alloc::Global;
+use std::alloc::{AllocError, Global};
 
 /// The positions of the pairs; else `NotInProblem` (84) with the first pair whose wagon or order isn't named, or
 /// `OutOfMemory` (1).
@@ -18,7 +17,7 @@ pub fn positions_of<N: PairNames>(
     pairs: &[(WagonNumber, OrderId)],
 ) -> Result<Vec<(usize, usize)>, NamedFault>
     ensures found { IfOk result (λ positions. positions_of (N.names names.now) pairs.now ≡ Ok positions.items) }
-    ensures refused { IfErr result (λ fault. fault ≢ OutOfMemory → positions_of (N.names names.now) pairs.now ≡ Err fault) }
+    ensures refused { IfErr result (IsFaultOf (positions_of (N.names names.now) pairs.now)) }
 {
     let mut positions = Vec::with_capacity(alloc, pairs.len())?;
     for (number, id) in pairs {
@@ -44,4 +43,20 @@ pub fn order_name<N: PairNames>(names: &N, j: usize) -> OrderId
     ensures { let lists = N.names names.now in result ≡ name_at lists.orders j }
 {
     names.order_at(j).unwrap()
+}
+
+/// The names at these positions. `Err` only when out of memory.
+pub fn pairs_by_name<N: PairNames>(
+    alloc: Global,
+    names: &N,
+    positions: &[(usize, usize)],
+) -> Result<Vec<(WagonNumber, OrderId)>, AllocError>
+    requires { All (IsNamed (N.names names.now)) positions.now }
+    ensures { IfOk result (λ pairs. pairs.items ≡ map (named_at (N.names names.now)) positions.now) }
+{
+    let mut pairs = Vec::with_capacity(alloc, positions.len())?;
+    for (i, j) in positions {
+        pairs.push((wagon_name(names, *i), order_name(names, *j)))?;
+    }
+    Ok(pairs)
 }

@@ -1,5 +1,5 @@
 pub mod AllowedLemmas
 pub mod Made
-pub mod MendedLemmas
+pub mod ChangedLemmas
 pub mod GoalLemmas
 pub mod GoalSteps

@@ -1,11 +1,10 @@
 //! The table of a problem over a network.
-ghost use Rattle.std.specs.Prelude.{◌≡◌, ◌+◌, ◌*◌, ◌<◌, ◌≤◌, ◌↔◌, ℕ, IfNone, IfOk, IfSome, Option, Some, length, max, option_map};
+ghost use Rattle.std.specs.Prelude.{◌≡◌, ◌+◌, ◌*◌, ◌<◌, ◌≤◌, ℕ, IfNone, IfOk, IfSome, Option, Some, length, max};
 ghost use Rattle.line_network.specs.Network.{place_index};
-ghost use Rattle.problem_table.specs.Allowed.{IsTableOf, Reaches};
+ghost use Rattle.problem_table.specs.Allowed.{IsTableOf};
 ghost use Rattle.problem_table.specs.Lasting.{IsLastingTable};
-ghost use Rattle.problem_table.specs.inner.AllowedRows.{AddsRow, AreLastingRows};
-ghost use Rattle.problem_table.specs.inner.Goals.{goal_of, goals_of};
-ghost use Rattle.wagons_and_orders.specs.Wanted.{WantedOrder};
+ghost use Rattle.problem_table.specs.inner.AllowedRows.{AddsRowUntil, AreLastingRows};
+ghost use Rattle.problem_table.specs.inner.Goals.{IsWayTo, goals_of};
 ghost use Rattle.cost_table.specs.TableLimits.{max_cost};
 
 use crate::goals::{Goal, class_position};
@@ -75,7 +74,7 @@ pub(crate) fn push_row(
     tables: &Tables,
 ) -> Result<u64, AllocError>
     requires goals { goals.now ≡ goals_of tables.now wagon.now.class problem.now.orders }
-    ensures row { IfOk result (λ until. (m : ℕ) → problem.now.at ≤ m → m ≤ until → AddsRow (λ wanted. Reaches tables.now m wagon.now wanted.order) problem.now.orders entries.old.items entries.new.items) }
+    ensures row { IfOk result (AddsRowUntil tables.now problem.now.at wagon.now problem.now.orders entries.old.items entries.new.items) }
     ensures within { IfOk result (λ until. problem.now.at ≤ until) }
 {
     let at = problem.at();
@@ -113,7 +112,7 @@ fn way_to(
 ) -> Option<Way>
     requires from { from ≡ place_index tables.now.places wagon.now.place }
     requires goal { goal.place < length tables.now.places }
-    ensures meaning { (m : ℕ) → at ≤ m → IfSome result (λ way. m ≤ way.last_start) → (wanted : WantedOrder) → Some goal ≡ goal_of tables.now wagon.now.class goal.order wanted → (km : ℕ) → (option_map (λ way. way.km) result ≡ Some km) ↔ Reaches tables.now m wagon.now wanted.order km }
+    ensures meaning { IsWayTo tables.now at wagon.now goal result }
     ensures within { IfSome result (λ way. at ≤ way.last_start) }
     ensures limit { IfSome result (λ way. way.km ≤ max_cost) }
 {

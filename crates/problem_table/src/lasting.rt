@@ -3,6 +3,7 @@ ghost use Rattle.std.specs.Prelude.{◌≡◌, ◌<◌, ◌≤◌, ◌^◌, ℕ,
 ghost use Rattle.cost_table.specs.Problem.{penalties_of, lacks_of};
 ghost use Rattle.cost_table.specs.TableLimits.{IsRow, max_cost};
 ghost use Rattle.cost_table.specs.SharedRows.{ArePlaced, rows_in};
+ghost use Rattle.problem_table.specs.inner.AllowedRows.{table_of_rows};
 ghost use Rattle.wagons_and_orders.specs.WantedLimits.{IsLack};
 
 use cost_table::{Cells, Problem, TableRows};
@@ -31,7 +32,7 @@ pub(crate) fn timed(
     requires count { length (rows_in rows) ≡ length problem.now.wagons }
     requires ascend { All (IsRow (length problem.now.orders) 0) (rows_in rows) }
     requires within { All (λ last. problem.now.at ≤ last) lasts.items }
-    ensures cells { IfOk result (λ made. made.cells ≡ record { rows = rows_in rows; penalties = penalties_of problem.now.orders; lacks = lacks_of problem.now.orders }) }
+    ensures cells { IfOk result (λ made. made.cells ≡ table_of_rows (rows_in rows) problem.now.orders) }
     ensures lasts { IfOk result (λ made. made.lasts.items ≡ lasts.items) }
     ensures within { IfOk result (λ made. problem.now.at ≤ made.until) }
     ensures least { IfOk result (λ made. All (λ last. made.until ≤ last) lasts.items) }

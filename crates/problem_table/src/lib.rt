@@ -2,10 +2,10 @@
 #![tactic(auto)]
 
 mod allowed;
+mod changed;
 mod goals;
 mod lasting;
-mod mended;
 
 pub use allowed::{cells, timed_cells};
+pub use changed::changed_cells;
 pub use lasting::TimedCells;
-pub use mended::mended_cells;

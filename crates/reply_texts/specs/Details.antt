@@ -4,14 +4,10 @@ use Rattle.move_messages.specs.Field.{field_name}
 use Rattle.move_messages.specs.Faults.{field_fault_number}
 use Rattle.move_messages.specs.declared.fault.LineFault.{LineFault}
 use Rattle.move_messages.specs.declared.fault.LineFault.TheVariants as line
-use Rattle.faults.specs.declared.faults.TableFault.{TableFault}
-use Rattle.faults.specs.declared.faults.TableFault.TheVariants as table
 use Rattle.faults.specs.declared.faults.NamedFault.{NamedFault}
 use Rattle.faults.specs.declared.faults.NamedFault.TheVariants as check
 use Rattle.faults.specs.declared.faults.Refusal.{Refusal}
 use Rattle.faults.specs.declared.faults.Refusal.TheVariants as book
-use Rattle.table_lines.specs.declared.table_refusal.TableRefusal.{TableRefusal}
-use Rattle.table_lines.specs.declared.table_refusal.TableRefusal.TheVariants.{OutOfMemory, Line, Table, Check}
 
 -- a word behind a space
 abbrev pub then : List ℕ → List ℕ
@@ -26,14 +22,6 @@ line_details line.UnknownType = []
 line_details (line.MissingField field) = then (field_name field)
 line_details (line.BadField field fault) = then (field_name field) ++ then (decimal (field_fault_number fault))
 
--- of a table: the wagon or the order that is listed twice
-abbrev pub table_details : TableFault → List ℕ
-table_details table.OutOfMemory = []
-table_details (table.DuplicateWagon wagon) = then wagon
-table_details (table.DuplicateOrder order) = then order
-table_details table.TooLarge = []
-table_details table.UnevenRows = []
-
 -- of pairs and prices: the wagon and the order, or the order; the two sums that differ, in km
 abbrev pub check_details : NamedFault → List ℕ
 check_details check.OutOfMemory = []
@@ -44,13 +32,6 @@ check_details (check.PriceGap wagon order) = then wagon ++ then order
 check_details (check.OverPenalty order) = then order
 check_details (check.SumsDiffer left right) = then (decimal left) ++ then (decimal right)
 check_details (check.NotInProblem wagon order) = then wagon ++ then order
-
--- of a table line
-abbrev pub table_line_details : TableRefusal → List ℕ
-table_line_details OutOfMemory = []
-table_line_details (Line fault) = line_details fault
-table_line_details (Table fault) = table_details fault
-table_line_details (Check fault) = check_details fault
 
 -- of a call on the book: the wagon or the order that has changed
 abbrev pub book_details : Refusal → List ℕ

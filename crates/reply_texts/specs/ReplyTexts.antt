@@ -4,9 +4,7 @@ use Rattle.move_messages.specs.Faults.{line_fault_number}
 use Rattle.move_messages.specs.declared.fault.LineFault.{LineFault}
 use Rattle.faults.specs.Numbers.{refusal_number}
 use Rattle.faults.specs.declared.faults.Refusal.{Refusal}
-use Rattle.table_lines.specs.TableRefusals.{table_refusal_number}
-use Rattle.table_lines.specs.declared.table_refusal.TableRefusal.{TableRefusal}
-use Rattle.reply_texts.specs.Details.{then, book_details, line_details, table_line_details}
+use Rattle.reply_texts.specs.Details.{then, book_details, line_details}
 
 -- a refusal's number and its details
 abbrev pub refused_text : ℕ → List ℕ → List ℕ
@@ -16,15 +14,8 @@ refused_text number details = codes "refused" ++ then (decimal number) ++ detail
 abbrev pub line_refused_text : LineFault → List ℕ
 line_refused_text fault = refused_text (line_fault_number fault) (line_details fault)
 
-abbrev pub table_refused_text : TableRefusal → List ℕ
-table_refused_text refusal = refused_text (table_refusal_number refusal) (table_line_details refusal)
-
 abbrev pub book_refused_text : Refusal → List ℕ
 book_refused_text refusal = refused_text (refusal_number refusal) (book_details refusal)
-
--- the cost of a plan that passes, in km
-abbrev pub optimal_text : ℕ → List ℕ
-optimal_text cost = codes "optimal" ++ then (decimal cost) ++ 10 ∷ []
 
 -- the number of the entry that an event is
 abbrev pub accepted_text : ℕ → List ℕ

@@ -1,16 +1,15 @@
 //! The details of a refusal, behind its number.
 ghost use Rattle.std.specs.Prelude.{◌≡◌, ◌++◌, ℕ, List, OnOk};
-ghost use Rattle.reply_texts.specs.Details.{book_details, check_details, line_details, table_details, table_line_details};
+ghost use Rattle.reply_texts.specs.Details.{book_details, check_details, line_details};
 
 use crate::words::{push_number, push_numbers, push_pair, push_word};
-use faults::{NamedFault, Refusal, TableFault};
+use faults::{NamedFault, Refusal};
 use line_engine::ReplyText;
 use move_messages::LineFault;
 use std::alloc::AllocError;
-use table_lines::TableRefusal;
 
 /// A fault or a refusal that has details in its reply.
-pub(crate) trait Detailed {
+pub trait Detailed {
     // the details, each behind a space
     ghost details: { Self → List ℕ };
 
@@ -37,18 +36,6 @@ impl Detailed for LineFault {
     }
 }
 
-impl Detailed for TableFault {
-    ghost details = { table_details };
-
-    fn push_details(&self, reply: &mut ReplyText) -> Result<(), AllocError> {
-        match self {
-            TableFault::DuplicateWagon(wagon) => push_word(reply, wagon.digits()),
-            TableFault::DuplicateOrder(order) => push_word(reply, order.as_bytes()),
-            TableFault::OutOfMemory | TableFault::TooLarge | TableFault::UnevenRows => Ok(()),
-        }
-    }
-}
-
 impl Detailed for NamedFault {
     ghost details = { check_details };
 
@@ -61,19 +48,6 @@ impl Detailed for NamedFault {
             NamedFault::OverPenalty(order) => push_word(reply, order.as_bytes()),
             NamedFault::SumsDiffer(left, right) => push_numbers(reply, *left, *right),
             NamedFault::OutOfMemory | NamedFault::WrongLengths => Ok(()),
-        }
-    }
-}
-
-impl Detailed for TableRefusal {
-    ghost details = { table_line_details };
-
-    fn push_details(&self, reply: &mut ReplyText) -> Result<(), AllocError> {
-        match self {
-            TableRefusal::OutOfMemory => Ok(()),
-            TableRefusal::Line(fault) => fault.push_details(reply),
-            TableRefusal::Table(fault) => fault.push_details(reply),
-            TableRefusal::Check(fault) => fault.push_details(reply),
         }
     }
 }

@@ -2,7 +2,7 @@
 ghost use Rattle.std.specs.Prelude.{◌≡◌, ◌+◌, ◌≤◌, ◌++◌, [], ◌∷◌, decimal, length, IsOk, OnOk};
 ghost use Rattle.line_engine.specs.Replies.{least_room, max_head_bytes};
 ghost use Rattle.reply_texts.specs.Details.{then};
-ghost use Rattle.reply_texts.specs.ReplyTexts.{accepted_text, book_refused_text, begun_text, counted, line_refused_text, optimal_text, planned_text, refused_text, repeated_text, table_refused_text};
+ghost use Rattle.reply_texts.specs.ReplyTexts.{accepted_text, book_refused_text, begun_text, counted, line_refused_text, planned_text, refused_text, repeated_text};
 
 use crate::details::Detailed;
 use crate::words::{push_number, push_numbers};
@@ -10,10 +10,9 @@ use faults::Refusal;
 use line_engine::ReplyText;
 use move_messages::LineFault;
 use std::alloc::AllocError;
-use table_lines::TableRefusal;
 
 /// Adds `refused`, the number of a refusal, its details, and the line feed.
-fn push_refused<T: Detailed>(
+pub fn push_refused<T: Detailed>(
     reply: &mut ReplyText,
     number: u32,
     refusal: &T,
@@ -27,7 +26,7 @@ fn push_refused<T: Detailed>(
 }
 
 /// Adds a word, a number behind it, and the line feed.
-fn push_counted(reply: &mut ReplyText, word: &[u8], number: u128) -> Result<(), AllocError>
+pub fn push_counted(reply: &mut ReplyText, word: &[u8], number: u128) -> Result<(), AllocError>
     ensures text { OnOk result (reply.new ≡ reply.old ++ (word.now ++ then (decimal number) ++ 10 ∷ [])) }
     ensures room { length reply.old + length word.now + 42 ≤ least_room → IsOk result }
 {
@@ -43,25 +42,11 @@ pub fn push_line_refused(reply: &mut ReplyText, fault: &LineFault) -> Result<(),
     push_refused(reply, fault.number(), fault)
 }
 
-/// Adds `refused CODE` and the details of a table line's refusal.
-pub fn push_table_refused(reply: &mut ReplyText, refusal: &TableRefusal) -> Result<(), AllocError>
-    ensures { OnOk result (reply.new ≡ reply.old ++ table_refused_text refusal.now) }
-{
-    push_refused(reply, refusal.number(), refusal)
-}
-
 /// Adds `refused CODE` and the details of a book's refusal.
 pub fn push_book_refused(reply: &mut ReplyText, refusal: &Refusal) -> Result<(), AllocError>
     ensures { OnOk result (reply.new ≡ reply.old ++ book_refused_text refusal.now) }
 {
     push_refused(reply, refusal.number(), refusal)
-}
-
-/// Adds `optimal COST`, in kilometres.
-pub fn push_optimal(reply: &mut ReplyText, cost: u128) -> Result<(), AllocError>
-    ensures { OnOk result (reply.new ≡ reply.old ++ optimal_text cost) }
-{
-    push_counted(reply, b"optimal", cost)
 }
 
 /// Adds `accepted ENTRY`. Takes no memory where the line's number and a space are all that stands there.

@@ -8,7 +8,7 @@ use rail_codes::{OrderId, WagonNumber};
 use std::alloc::AllocError;
 
 /// Adds a word.
-pub(crate) fn push_word(reply: &mut ReplyText, word: &[u8]) -> Result<(), AllocError>
+pub fn push_word(reply: &mut ReplyText, word: &[u8]) -> Result<(), AllocError>
     ensures { OnOk result (reply.new ≡ reply.old ++ then word.now) }
 {
     reply.push_bytes(b" ")?;

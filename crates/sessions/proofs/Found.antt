@@ -23,20 +23,20 @@ use Rattle.sessions.proofs.Offices.{IsNamedOnce, same}
 
 -- the row of which something was picked
 pub record IsPicked {X Y : Type 0} (pick : X → Option Y) (xs : List X) (y : Y) : Type 0 where
-  pub place : ℕ
+  pub index : ℕ
   pub row : X
-  pub is_row : slice_get xs place ≡ Some row
+  pub is_row : slice_get xs index ≡ Some row
   pub picked : pick row ≡ Some y
 
 one_later : {X Y : Type 0} (pick : X → Option Y) (x : X) (xs : List X) (y : Y) → IsPicked pick xs y → IsPicked pick (x ∷ xs) y
-one_later pick x xs y h = record { place = suc h.place; row = h.row; is_row = h.is_row; picked = h.picked }
+one_later pick x xs y h = record { index = suc h.index; row = h.row; is_row = h.is_row; picked = h.picked }
 
 some_same : {Y : Type 0} (a b : Y) → let o : Option Y = Some a in o ≡ Some b → a ≡ b
 some_same a b h = cc
 
 picked_by : {X Y : Type 0} (pick : X → Option Y) (x : X) (xs : List X) (o : Option Y) → pick x ≡ o → ((k : ℕ) (y : Y) → slice_get (filter_map pick xs) k ≡ Some y → IsPicked pick xs y) → (k : ℕ) (y : Y) → slice_get (cons_option o (filter_map pick xs)) k ≡ Some y → IsPicked pick (x ∷ xs) y
 picked_by pick x xs None is rest k y h = one_later pick x xs y (rest k y h)
-picked_by pick x xs (Some first) is rest zero y h = record { place = zero; row = x; is_row = refl; picked = is ∙ ap (λ z. Some z) (some_same first y h) }
+picked_by pick x xs (Some first) is rest zero y h = record { index = zero; row = x; is_row = refl; picked = is ∙ ap (λ z. Some z) (some_same first y h) }
 picked_by pick x xs (Some first) is rest (suc k) y h = one_later pick x xs y (rest k y h)
 
 pub picked_from : {X Y : Type 0} (pick : X → Option Y) (xs : List X) (k : ℕ) (y : Y) → slice_get (filter_map pick xs) k ≡ Some y → IsPicked pick xs y
@@ -65,7 +65,7 @@ pub wagon_same : (office : Office) (at : ℕ) → IsNamedOnce office → (number
 wagon_same office at once number i w is named =
     let picked = picked_from free_of office.wagons i w is in
     let key : picked.row.number ≡ number = sym (free_keeps picked.row w picked.picked) ∙ named in
-    let row = found_by_name (λ (r : WagonRow). r.number) office.wagons picked.place picked.row once.wagons picked.is_row in
+    let row = found_by_name (λ (r : WagonRow). r.number) office.wagons picked.index picked.row once.wagons picked.is_row in
     let in_office : wagon_in office.wagons number ≡ Some picked.row = subst (λ (n : List ℕ). wagon_in office.wagons n ≡ Some picked.row) key row in
     let free : free_in office number ≡ Some w = ap (option_and_then free_of) in_office ∙ picked.picked in
     let found = found_by_name (λ (x : FreeWagon). x.number) (free_wagons office.wagons) i w (free_distinct office once) is in
@@ -94,6 +94,6 @@ order_same office once id j wanted is named =
     let picked = picked_from wanted_in office.orders j wanted is in
     let keeps = wanted_keeps picked.row wanted picked.picked in
     let key : picked.row.text.id ≡ id = sym keeps.0 ∙ named in
-    let row = found_by_name (λ (r : OrderRowValue). r.text.id) office.orders picked.place picked.row once.orders picked.is_row in
+    let row = found_by_name (λ (r : OrderRowValue). r.text.id) office.orders picked.index picked.row once.orders picked.is_row in
     let in_office : order_in office.orders id ≡ Some picked.row = subst (λ (n : List ℕ). order_in office.orders n ≡ Some picked.row) key row in
     ap lack_in in_office ∙ sym keeps.1

@@ -12,7 +12,7 @@ use Rattle.operating_db.specs.Laws.{numbers_of}
 use Rattle.operating_db.specs.Promises.{PromisesAgree}
 use Rattle.operating_db.specs.Steps.{IsPromised}
 use Rattle.faults.specs.declared.faults.ApplyFault.{ApplyFault}
-use Rattle.operating_db.specs.declared.event.Event.{Event}
+use Rattle.move_messages.specs.declared.event.Event.{Event}
 use Rattle.operating_db.proofs.Events.{step_kept}
 use Rattle.commit_book.specs.History.{IsLegal, replay, version}
 use Rattle.commit_book.specs.Setting.{Setting}

@@ -17,7 +17,8 @@ use Rattle.price_checker.proofs.FirstBelow.{none_both}
 use Rattle.price_checker.specs.NamedPairs.{checked, checked_at, cost_unless, positions_of}
 use Rattle.operating_db.specs.Office.{Office}
 use Rattle.operating_db.specs.Problem.{problem_of}
-use Rattle.operating_db.specs.declared.event.Event.{Event}
+use Rattle.move_messages.specs.declared.event.Event.{Event}
+use Rattle.move_messages.specs.declared.event.Event.TheVariants as event
 use Rattle.commit_book.specs.BookStep.{BookState, IsCall, IsCommitAnswer, accepted_unless, is_full, is_kept, is_this, refusal_by, refusal_in}
 use Rattle.commit_book.specs.Commits.{order_changed, wagon_changed}
 use Rattle.commit_book.specs.History.{IsLegal, IsTableAt, problem_at, replay, version}
@@ -130,7 +131,7 @@ answered_by setting history commit answer true true there h none = inr (inl h)
 answered_by setting history commit answer true false there h none = inl (h.answered ∙ ap (accepted_unless (length history + 1)) (none h.table h.is_table))
 
 accepted : (setting : Setting) (book : BookState) (commit : CommitText) → IsNamedOnce (replay setting book.history) → IsLast setting book.history commit → is_kept book.kept (commit.version, commit.at) ≡ true
-    → (answer : Answer) (new : BookState) → IsCall setting book (call.Commit commit) answer new → IsAcceptedOrLacks (length book.history + 1) answer
+    → (answer : Answer) (new : BookState) → IsCall setting book (call.Event (event.Commit commit)) answer new → IsAcceptedOrLacks (length book.history + 1) answer
 accepted setting book commit named last kept answer new (inr wants) = inr (inr wants.refused)
 accepted setting book commit named last kept answer new (inl step) =
     answered_by setting book.history commit answer (is_kept book.kept (commit.version, commit.at)) (is_full setting book.history) kept step.answered (no_refusal setting book.history commit named last)

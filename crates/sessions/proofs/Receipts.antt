@@ -11,14 +11,14 @@ use Rattle.std.proofs.lemmas.Option.{slice_get_within}
 use Rattle.cost_table.specs.Plan.{sum_below}
 use Rattle.cost_table.proofs.Sums.{sum_below-add, sum_below-at, sum_below-same, sum_below-zero}
 use Rattle.assignment.proofs.Placing.{sum_below-limit}
-use Rattle.operating_db.specs.declared.event.Event.{Event}
+use Rattle.move_messages.specs.declared.event.Event.{Event}
 use Rattle.commit_book.specs.Books.{entry_at}
 use Rattle.sessions.specs.Closing.{HasEntries, HasEntry}
 use Rattle.sessions.specs.OnlyReceipts.{IsReceived, IsReceivedAt, ReceiptsAgree, ReceiptsAreTheHistory, times_at_seats, times_of_entry}
 use Rattle.sessions.specs.Seat.{SeatValue, count_of}
 use Rattle.sessions.specs.declared.receipt.Receipt.{Receipt}
 
--- the number of an entry is one more than its place
+-- the number of an entry is one more than its index
 in_range : (history : List Event) (n : ℕ) (event : Event) → entry_at history n ≡ Some event → (k : ℕ) × (n ≡ suc k) × (k < length history)
 in_range history zero event h = absurd cc
 in_range history (suc k) event h = (k, refl, slice_get_within history k event h)
@@ -61,14 +61,14 @@ received_here : (history : List Event) (r : Receipt) (n : ℕ) (event : Event) �
 received_here history r n event is has entry = some_same r.event event (sym has ∙ (ap (entry_at history) is ∙ entry))
 
 later : (r : Receipt) (receipts : List Receipt) (n : ℕ) (event : Event) → IsReceived receipts n event → IsReceived (r ∷ receipts) n event
-later r receipts n event h = record { place = suc h.place; receipt = h.receipt; is_receipt = h.is_receipt; its_entry = h.its_entry; its_event = h.its_event }
+later r receipts n event h = record { index = suc h.index; receipt = h.receipt; is_receipt = h.is_receipt; its_entry = h.its_entry; its_event = h.its_event }
 
 -- an entry that some receipt has the number of is that receipt's event; `rest` says so of the other receipts
 received_by : (history : List Event) (r : Receipt) (rs : List Receipt) (n : ℕ) (event : Event) (b : Bool) → (r.entry == n) ≡ b → entry_at history n ≡ Some event → HasEntry history r
     → 1 ≤ times_of_entry n (r ∷ rs) → (1 ≤ times_of_entry n rs → IsReceived rs n event) → IsReceived (r ∷ rs) n event
 received_by history r rs n event true is entry has some rest =
     let its : r.entry ≡ n = grind (arith, nat_tests, is) in
-    record { place = zero; receipt = r; is_receipt = refl; its_entry = its; its_event = received_here history r n event its has entry }
+    record { index = zero; receipt = r; is_receipt = refl; its_entry = its; its_event = received_here history r n event its has entry }
 received_by history r rs n event false is entry has some rest =
     let split = sum_by-cons (λ (x : Receipt). cond (x.entry == n) 1 0) r rs in
     let none : ◌≡◌ {A = ℕ} (cond (r.entry == n) 1 0) 0 = ap (λ b. cond b 1 0) is in

@@ -1,6 +1,6 @@
 -- What is known of the book behind the lock: some book that there can be answers the call.
 use Rattle.std.specs.Prelude.{◌≡◌, ◌≤◌, ℕ, List, length, Result}
-use Rattle.operating_db.specs.declared.event.Event.{Event}
+use Rattle.move_messages.specs.declared.event.Event.{Event}
 use Rattle.commit_book.specs.BookStep.{BookState, IsCall}
 use Rattle.commit_book.specs.Books.{answer_of, IsSetting}
 use Rattle.commit_book.specs.Headline.{IsProved}
@@ -8,6 +8,7 @@ use Rattle.commit_book.specs.Setting.{Setting}
 use Rattle.commit_book.specs.Snap.{SnapValue, snap_of}
 use Rattle.commit_book.specs.declared.answer.Answer.{Answer}
 use Rattle.commit_book.specs.declared.call.Call.{Call}
+use Rattle.commit_book.specs.declared.call.Call.TheVariants as call
 use Rattle.faults.specs.declared.faults.Refusal.{Refusal}
 use Rattle.commit_book.specs.declared.reply.Reply.{Reply}
 
@@ -23,9 +24,9 @@ pub record IsAnsweredAt (count : ℕ) (call : Call) (answer : Answer) : Type 0 w
   pub is_call : IsCall setting book call answer new
   pub proved_after : IsProved setting new.history
 
--- the answer of a call with an event is that of such a book
-abbrev pub IsBooksAnswer : (count : ℕ) → Call → Result Reply Refusal → Type 0
-IsBooksAnswer count call result = IsAnsweredAt count call (answer_of result)
+-- the answer to an event is that of such a book
+abbrev pub IsBooksAnswer : (count : ℕ) → Event → Result Reply Refusal → Type 0
+IsBooksAnswer count event result = IsAnsweredAt count (call.Event event) (answer_of result)
 
 -- a snapshot of the last version of such a book
 pub record IsSnapAt (count at : ℕ) (snap : SnapValue) : Type 0 where

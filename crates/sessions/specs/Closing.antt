@@ -1,6 +1,6 @@
 -- What a book says of the receipts of its seats.
 use Rattle.std.specs.Prelude.{◌≡◌, ◌≢◌, ℕ, List, All, Some, slice_get}
-use Rattle.operating_db.specs.declared.event.Event.{Event}
+use Rattle.move_messages.specs.declared.event.Event.{Event}
 use Rattle.commit_book.specs.Books.{entry_at}
 use Rattle.sessions.specs.Seat.{SeatValue}
 use Rattle.sessions.specs.declared.receipt.Receipt.{Receipt}
@@ -15,9 +15,9 @@ HasEntries history seat = All (HasEntry history) seat.receipts
 
 -- a receipt of this entry, of the seat of this number, whose event is not that entry
 pub record IsLost (history : List Event) (seats : List SeatValue) (number entry : ℕ) : Type 0 where
-  pub place : ℕ
+  pub index : ℕ
   pub seat : SeatValue
-  pub is_seat : slice_get seats place ≡ Some seat
+  pub is_seat : slice_get seats index ≡ Some seat
   pub its_number : seat.number ≡ number
   pub which : ℕ
   pub receipt : Receipt

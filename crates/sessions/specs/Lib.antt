@@ -5,4 +5,5 @@ pub mod OnlyReceipts
 pub mod Planning
 pub mod PlannersCommit
 pub mod Seat
+pub mod Submitted
 pub mod inner

@@ -1,7 +1,7 @@
 -- When a history is its receipts and nothing else.
 use Rattle.std.specs.Prelude.{◌≡◌, ◌≤◌, ◌==◌, ℕ, List, length, All, Some, count_by, slice_get}
 use Rattle.std.specs.List.{sum_by}
-use Rattle.operating_db.specs.declared.event.Event.{Event}
+use Rattle.move_messages.specs.declared.event.Event.{Event}
 use Rattle.commit_book.specs.Books.{entry_at}
 use Rattle.sessions.specs.Closing.{HasEntries, HasEntry}
 use Rattle.sessions.specs.Seat.{SeatValue, count_of}
@@ -17,9 +17,9 @@ times_at_seats n seats = sum_by (λ (seat : SeatValue). times_of_entry n seat.re
 
 -- some receipt has this number and this event
 pub record IsReceived (receipts : List Receipt) (n : ℕ) (event : Event) : Type 0 where
-  pub place : ℕ
+  pub index : ℕ
   pub receipt : Receipt
-  pub is_receipt : slice_get receipts place ≡ Some receipt
+  pub is_receipt : slice_get receipts index ≡ Some receipt
   pub its_entry : receipt.entry ≡ n
   pub its_event : receipt.event ≡ event
 

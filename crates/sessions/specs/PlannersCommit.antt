@@ -6,7 +6,8 @@ use Rattle.cost_table.specs.Problem.{names_of_problem}
 use Rattle.cost_table.specs.Table.{Table}
 use Rattle.price_checker.specs.Certificate.{IsCertificate}
 use Rattle.price_checker.specs.NamedPairs.{positions_of}
-use Rattle.operating_db.specs.declared.event.Event.{Event}
+use Rattle.move_messages.specs.declared.event.Event.{Event}
+use Rattle.move_messages.specs.declared.event.Event.TheVariants as event
 use Rattle.commit_book.specs.BookStep.{BookState, IsCall}
 use Rattle.commit_book.specs.History.{IsLegal, IsTableAt, problem_at}
 use Rattle.commit_book.specs.Setting.{Setting}
@@ -45,7 +46,7 @@ pub record IsCommitOf (snap : SnapValue) (pairs : List (ℕ × ℕ)) (u v : List
 -- the commit is accepted as the next entry, unless the book is full (72) or memory is out (1)
 abbrev pub IsAcceptedOrLacksRoom : Setting → BookState → CommitText → Type 0
 IsAcceptedOrLacksRoom setting book commit =
-    (answer : Answer) (new : BookState) → IsCall setting book (call.Commit commit) answer new
+    (answer : Answer) (new : BookState) → IsCall setting book (call.Event (event.Commit commit)) answer new
     → (answer ≡ Done (Accepted (length book.history + 1))) ⊎ ((answer ≡ Refused BookFull) ⊎ (answer ≡ Refused OutOfMemory))
 
 -- A commit of a certificate of the version and the moment just begun is refused for no other reason.

@@ -1,6 +1,6 @@
 -- Seats: what each caller at a shared book holds, and how its calls change it.
 use Rattle.std.specs.Prelude.{◌≡◌, ◌≤◌, ℕ, zero, suc, List, [], ◌∷◌, ◌++◌, length, Result, Ok, Err}
-use Rattle.operating_db.specs.declared.event.Event.{Event}
+use Rattle.move_messages.specs.declared.event.Event.{Event}
 use Rattle.faults.specs.declared.faults.Refusal.{Refusal}
 use Rattle.commit_book.specs.declared.reply.Reply.{Reply}
 use Rattle.commit_book.specs.declared.reply.Reply.TheVariants.{Accepted, Repeated}
@@ -11,8 +11,8 @@ pub record SeatValue : Type 0 where
   pub number : ℕ
   pub receipts : List Receipt
 
--- an office, by how many seats it was opened with
-pub record OfficeValue : Type 0 where
+-- a shared book, by how many seats it was opened with
+pub record SharedBookValue : Type 0 where
   pub seats : ℕ
 
 -- the most seats

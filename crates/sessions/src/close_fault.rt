@@ -1,15 +1,15 @@
-//! Why no office was closed.
+//! Why no shared book was closed.
 ghost use Rattle.std.specs.Prelude.{◌≡◌};
 
-use crate::{Office, Seat};
+use crate::{Seat, SharedBook};
 use commit_book::Book;
 use std::sync::ledger::Ledger;
 
-/// Why an office was not closed, or a book is not what its receipts say.
+/// Why a shared book was not closed, or a book is not what its receipts say.
 #[derive(Drop)]
 pub enum CloseFault<L: Ledger> {
-    /// Fewer seats came than the office was opened with (95). Office and seats are handed back.
-    SeatsMissing(Office<L>, Vec<Seat<L>>),
+    /// Fewer seats came than the shared book was opened with (95). SharedBook and seats are handed back.
+    SeatsMissing(SharedBook<L>, Vec<Seat<L>>),
     /// An entry of the book is not the event of a receipt (96): the seat's number and the entry's. The book, with as many
     /// entries as all seats have receipts, and the seats are handed back.
     ReceiptLost(u32, u64, Book, Vec<Seat<L>>),

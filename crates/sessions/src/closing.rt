@@ -1,4 +1,4 @@
-//! How an office is closed.
+//! How a shared book is closed.
 ghost use Rattle.std.specs.Prelude.{◌≡◌, ◌≤◌, ◌+◌, ◌↔◌, All, IfErr, IfNone, IfOk, IfSome, IsTrue, length};
 ghost use Rattle.std.specs.List.{sum_by};
 ghost use Rattle.sessions.specs.Closing.{HasEntries, HasEntry, IsLost};
@@ -6,31 +6,31 @@ ghost use Rattle.sessions.specs.CloseFault.{IsHandedBack, IsMissing};
 ghost use Rattle.sessions.specs.Seat.{count_of};
 ghost use Rattle.sessions.specs.inner.Others.{IsOther};
 
-use crate::same_events::is_same_event;
-use crate::shared_book::SharedBook;
-use crate::{CloseFault, Office, Receipt, Seat};
+use crate::counted_book::CountedBook;
+use crate::{CloseFault, Receipt, Seat, SharedBook};
 use commit_book::Book;
+use move_messages::is_same_event;
 use std::sync::ledger;
 use std::sync::ledger::{Ledger, Share};
 
-/// Closes an office, and answers its book: as many entries as all seats have receipts, and each receipt's event is the
-/// entry of its number. An office has as many seats as its ledger has parts.
+/// Closes a shared book, and answers its book: as many entries as all seats have receipts, and each receipt's event is the
+/// entry of its number. A shared book has as many seats as its ledger has parts.
 ///
-/// The first of these is answered: `SeatsMissing` (95), exactly where fewer seats come than the office was opened with;
-/// office and seats are handed back. `ReceiptLost` (96), only where the entry of a receipt is not its event; the book, with
-/// as many entries as all seats have receipts, and the seats are handed back. Takes no memory, and waits for nobody.
-pub fn close<L: Ledger>(office: Office<L>, seats: Vec<Seat<L>>) -> Result<Book, CloseFault<L>>
-    requires { office.seats ≡ L.parts }
+/// The first of these is answered: `SeatsMissing` (95), exactly where fewer seats come than the shared book was opened with;
+/// shared book and seats are handed back. `ReceiptLost` (96), only where the entry of a receipt is not its event; the book,
+/// with as many entries as all seats have receipts, and the seats are handed back. Takes no memory, and waits for nobody.
+pub fn close<L: Ledger>(shared: SharedBook<L>, seats: Vec<Seat<L>>) -> Result<Book, CloseFault<L>>
+    requires { shared.seats ≡ L.parts }
     ensures counts { IfOk result (λ book. length book.state.history ≡ sum_by count_of seats.items) }
     ensures receipts { IfOk result (λ book. All (HasEntries book.state.history) seats.items) }
-    ensures fault { IfErr result (IsHandedBack office seats) }
-    ensures missing { IsMissing result office seats.items }
+    ensures fault { IfErr result (IsHandedBack shared seats) }
+    ensures missing { IsMissing result shared seats.items }
 {
-    if seats.len() < office.seats as usize {
-        return Err(CloseFault::SeatsMissing(office, seats));
+    if seats.len() < shared.seats as usize {
+        return Err(CloseFault::SeatsMissing(shared, seats));
     }
-    let Office { book, seats: _ } = office;
-    let SharedBook {
+    let SharedBook { book, seats: _ } = shared;
+    let CountedBook {
         book,
         mut total,
         mut rest,

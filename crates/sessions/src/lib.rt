@@ -4,13 +4,12 @@
 
 mod close_fault;
 mod closing;
+mod counted_book;
 mod laws;
-mod office;
 mod open_fault;
 mod opening;
 mod planning;
 mod receipt;
-mod same_events;
 mod seat;
 mod shared_book;
 
@@ -18,9 +17,9 @@ pub use close_fault::CloseFault;
 pub use closing::close;
 pub use faults::PlanFault;
 pub use laws::{a_plan_for_the_present_is_accepted, receipts_are_the_history};
-pub use office::Office;
 pub use open_fault::OpenFault;
 pub use opening::{MAX_SEATS, open};
 pub use planning::work;
 pub use receipt::Receipt;
 pub use seat::Seat;
+pub use shared_book::SharedBook;

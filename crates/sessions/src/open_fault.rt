@@ -1,10 +1,10 @@
-//! Why no office was opened.
+//! Why no shared book was opened.
 ghost use Rattle.std.specs.Prelude.{◌≡◌};
 
 use commit_book::Book;
 use std::sync::ledger::Blank;
 
-/// Why no office was opened: out of memory (1). What it was to be opened with is handed back.
+/// Why no shared book was opened: out of memory (1). What it was to be opened with is handed back.
 #[derive(Drop)]
 pub struct OpenFault {
     /// The ledger.

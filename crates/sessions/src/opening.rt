@@ -1,9 +1,9 @@
-//! How an office is opened.
+//! How a shared book is opened.
 ghost use Rattle.std.specs.Prelude.{◌≡◌, ◌≤◌, [], IfErr, IfOk, vec_capacity};
 ghost use Rattle.sessions.specs.Seat.{IsSeatCount, new_seats};
 
-use crate::shared_book::SharedBook;
-use crate::{Office, OpenFault, Seat};
+use crate::counted_book::CountedBook;
+use crate::{OpenFault, Seat, SharedBook};
 use commit_book::Book;
 use std::alloc::Global;
 use std::sync::Mutex;
@@ -12,23 +12,23 @@ use std::sync::ledger::{Blank, Ledger, Share};
 /// The most seats.
 pub const MAX_SEATS: u32 = 64;
 
-// No clause names it, since who opens an office tests its number by it.
+// No clause names it, since who opens a shared book tests its number by it.
 const _: () = prove!(MAX_SEATS == 64);
 
-/// Opens an office over a book without entries, with so many seats, 1 to 64, numbered from 1. The blank is that of the
+/// Opens a shared book over a book without entries, with so many seats, 1 to 64, numbered from 1. The blank is that of the
 /// ledger `L`, made with one part for each seat. Where memory is refused, blank and book are handed back.
 pub fn open<L: Ledger>(
     alloc: Global,
     blank: Blank,
     book: Book,
     count: u32,
-) -> Result<(Office<L>, Vec<Seat<L>>), OpenFault>
+) -> Result<(SharedBook<L>, Vec<Seat<L>>), OpenFault>
     requires ledger { blank.name ≡ L.name }
     requires parts { blank.parts ≡ L.parts }
     requires one_each { blank.parts ≡ count }
     requires count { IsSeatCount count }
     requires no_entry { book.state.history ≡ [] }
-    ensures office { IfOk result (λ opened. opened.0.seats ≡ count) }
+    ensures shared { IfOk result (λ opened. opened.0.seats ≡ count) }
     ensures seats { IfOk result (λ opened. opened.1.items ≡ new_seats count) }
     ensures handed_back { IfErr result (λ fault. (fault.blank ≡ blank) × (fault.book ≡ book)) }
 {
@@ -37,8 +37,8 @@ pub fn open<L: Ledger>(
     };
     let (total, mut rest) = blank.open::<L>();
     seat_all(alloc, &mut seats, &mut rest, count);
-    let book = Mutex::new(SharedBook { book, total, rest });
-    Ok((Office { book, seats: count }, seats))
+    let book = Mutex::new(CountedBook { book, total, rest });
+    Ok((SharedBook { book, seats: count }, seats))
 }
 
 /// Makes the seats, each with a part of a share.

@@ -1,6 +1,6 @@
 //! Receipts.
 
-use operating_db::Event;
+use move_messages::Event;
 
 /// That a call of a seat was accepted: the number of its entry, counted from 1, and the event.
 #[derive(Debug, Drop, PartialEq, Eq)]

@@ -6,10 +6,10 @@ use std::alloc::Global;
 use std::marker::Model;
 use std::sync::ledger::{Ledger, Share};
 
-/// One caller's place at a book that several share: its number, and a receipt for each call that was accepted. A contract
+/// What one caller holds at a book that several share: its number, and a receipt for each call that was accepted. A contract
 /// sees these two.
 ///
-/// A seat belongs to the office of its ledger `L`. It has one part of that ledger, and as much of the ledger's total as it
+/// A seat belongs to the shared book of its ledger `L`. It has one part of that ledger, and as much of the ledger's total as it
 /// has receipts.
 #[derive(Drop)]
 pub struct Seat<L: Ledger> {

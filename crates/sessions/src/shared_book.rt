@@ -1,146 +1,194 @@
-//! The book behind the lock.
-ghost use Rattle.std.specs.Prelude.{◌≡◌, ◌≤◌, ◌<◌, ◌+◌, IfOk, length};
-ghost use Rattle.commit_book.specs.BookStep.{IsCall};
-ghost use Rattle.commit_book.specs.Books.{IsNoEntry, answer_of, begun_of, IsSetting};
-ghost use Rattle.commit_book.specs.Headline.{IsProved};
-ghost use Rattle.commit_book.specs.Requests.{call_of};
-ghost use Rattle.commit_book.specs.Snap.{snap_of};
-ghost use Rattle.commit_book.specs.declared.answer.Answer.TheVariants.{Refused};
-ghost use Rattle.commit_book.specs.declared.call.Call.TheVariants as call;
-ghost use Rattle.sessions.specs.AnyBook.{IsAnsweredAt, IsBooksAnswer};
-ghost use Rattle.sessions.specs.inner.Counted.{IsCounted, accepted_in};
+//! The shared book: one lock round the book that several seats share.
+ghost use Rattle.std.specs.Prelude.{◌≡◌, ◌≤◌, ◌<◌, IfOk, OnOk, vec_len, vec_capacity};
+ghost use Rattle.move_messages.specs.declared.event.Event.TheVariants as event;
+ghost use Rattle.sessions.specs.AnyBook.{IsSnapAt};
+ghost use Rattle.sessions.specs.Seat.{count_of, noted};
+ghost use Rattle.sessions.specs.Submitted.{IsSubmitted};
 
-use commit_book::{Book, Refusal, Reply, Snap};
-use move_messages::CommitText;
-use operating_db::Event;
-use rail_codes::Moment;
+use crate::counted_book::CountedBook;
+use crate::{Receipt, Seat};
+use commit_book::{Refusal, Reply, Snap};
+use move_messages::{CommitText, Event, Message, OrderText};
+use rail_codes::{Moment, OrderId};
 use std::alloc::{AllocError, Global};
-use std::sync::ledger;
-use std::sync::ledger::{Ledger, Share};
+use std::marker::Model;
+use std::sync::ledger::Ledger;
+use std::sync::{Mutex, MutexGuard, Wait};
+use std::thread::yield_now;
 
-/// What stands behind the lock: a book, and the total of the ledger whose shares the seats have. The total is the number of
-/// the book's entries, so the counts of all seats add up to it whenever the lock is taken. (This is no `OfficeState`, which
-/// is the office that a book's entries lead to.)
+/// How often a call tries to take the lock before it waits in turn. With a yield after each try that is longer than most
+/// calls hold it.
+const TRIES: u32 = 2_000;
+
+/// A book that several seats share. A contract sees how many seats it was opened with.
+///
+/// Each call of a seat takes the lock, makes one call of the book, and lets go; so each call may wait for others. What a
+/// call does to the book is what the book's own call of that name does. No contract can name the book behind the lock: it
+/// says that the answer is one that some book gives to this call, which was given what a book can be given, and whose
+/// history is as the headline says and has at least as many entries as the seat has receipts.
 #[derive(Drop)]
-pub(crate) struct SharedBook<L: Ledger> {
-    pub(crate) book: Book,
-    pub(crate) total: ledger::Book<L>,
-    /// A share that has no part, into which those of the seats are merged when the office closes.
-    pub(crate) rest: Share<L>,
-    ghost counted: { length book.state.history ≡ total.total },
-    ghost no_part: { rest.parts ≡ 0 },
+pub struct SharedBook<L: Ledger> {
+    pub(crate) book: Mutex<CountedBook<L>>,
+    pub(crate) seats: u32,
+}
+
+impl<L: Ledger> Model for SharedBook<L> {
+    ghost use Rattle.sessions.specs.Seat.{SharedBookValue};
+
+    ghost Value = { SharedBookValue };
+
+    ghost view = { λ shared. record { seats = shared.seats } };
 }
 
 impl<L: Ledger> SharedBook<L> {
-    /// Lets an event of a seat be taken in by the book, and counts it on the seat's share if it was accepted.
-    pub(crate) fn enter(
-        &mut self,
+    /// Sends a movement message. One that is accepted gives the seat a receipt; one that is an entry already is answered
+    /// with `Repeated` and gives none. Refused, with book and seat unchanged: as `Book::message` refuses it, where
+    /// `OutOfMemory` (1) comes only of a message that would be accepted. May wait.
+    pub fn send(
+        &self,
+        rt: &impl Wait,
         alloc: Global,
-        share: &mut Share<L>,
-        event: &Event,
+        seat: &mut Seat<L>,
+        message: &Message,
     ) -> Result<Reply, Refusal>
-        requires { 0 < share.old.parts }
-        ensures call { IsCall self.old.book.setting self.old.book.state (call_of event.now) (answer_of result) self.new.book.state }
-        ensures given { IsSetting self.old.book.setting }
-        ensures proved { IsProved self.old.book.setting self.old.book.state.history }
-        ensures proved_after { IsProved self.old.book.setting self.new.book.state.history }
-        ensures within { share.old.amount ≤ length self.old.book.state.history }
-        ensures counted { IsCounted share.old.amount share.new.amount result }
-        ensures parts { share.new.parts ≡ share.old.parts }
+        ensures { IsSubmitted seat.old seat.new (event.Message message.now) result }
     {
-        self.audit(share);
-        let SharedBook {
-            book,
-            total,
-            rest: _,
-        } = self;
-        let answer = book.submit(alloc, event);
-        // For the prover alone: the history is as the headline says afterwards too.
-        let _proved = book.state();
-        let reply = match answer {
+        self.submit(rt, alloc, seat, Event::Message(*message))
+    }
+
+    /// Places an order. One that is accepted gives the seat a receipt. Refused, with book and seat unchanged: as
+    /// `Book::place` refuses it, where `OutOfMemory` (1) comes only of an order that would be accepted. May wait.
+    pub fn place(
+        &self,
+        rt: &impl Wait,
+        alloc: Global,
+        seat: &mut Seat<L>,
+        text: &OrderText,
+    ) -> Result<Reply, Refusal>
+        ensures { IsSubmitted seat.old seat.new (event.Place text.now) result }
+    {
+        self.submit(rt, alloc, seat, Event::Place(*text))
+    }
+
+    /// Withdraws an order. A withdrawal that is accepted gives the seat a receipt. Refused, with book and seat unchanged:
+    /// as `Book::withdraw` refuses it, where `OutOfMemory` (1) comes only of a withdrawal that would be accepted. May wait.
+    pub fn withdraw(
+        &self,
+        rt: &impl Wait,
+        alloc: Global,
+        seat: &mut Seat<L>,
+        id: OrderId,
+    ) -> Result<Reply, Refusal>
+        ensures { IsSubmitted seat.old seat.new (event.Withdraw id) result }
+    {
+        self.submit(rt, alloc, seat, Event::Withdraw(id))
+    }
+
+    /// Puts the network of this number, counted from 1, in force. A revision that is accepted gives the seat a receipt.
+    /// Refused, with book and seat unchanged: as `Book::revise` refuses it, where `OutOfMemory` (1) comes only of a revision
+    /// that would be accepted. May wait.
+    pub fn revise(
+        &self,
+        rt: &impl Wait,
+        alloc: Global,
+        seat: &mut Seat<L>,
+        network: u32,
+    ) -> Result<Reply, Refusal>
+        ensures { IsSubmitted seat.old seat.new (event.Revise network) result }
+    {
+        self.submit(rt, alloc, seat, Event::Revise(network))
+    }
+
+    /// Promises the pairs of a commit. One that is accepted gives the seat a receipt. Refused, with book and seat
+    /// unchanged: as `Book::commit` refuses it, where `OutOfMemory` (1) comes only behind 81 and 72. May wait.
+    pub fn commit(
+        &self,
+        rt: &impl Wait,
+        alloc: Global,
+        seat: &mut Seat<L>,
+        commit: CommitText,
+    ) -> Result<Reply, Refusal>
+        ensures { IsSubmitted seat.old seat.new (event.Commit commit) result }
+    {
+        self.submit(rt, alloc, seat, Event::Commit(commit))
+    }
+
+    /// The problem of the book's present version at a moment, which the book keeps so that a commit may name it. The
+    /// version is at least the seat's count. The seat stays as it was. `Err` only when out of memory. May wait.
+    pub fn begin(
+        &self,
+        rt: &impl Wait,
+        alloc: Global,
+        seat: &mut Seat<L>,
+        at: Moment,
+    ) -> Result<Snap, AllocError>
+        ensures version { IfOk result (λ snap. count_of seat.old ≤ snap.version) }
+        ensures moment { IfOk result (λ snap. snap.problem.at ≡ at) }
+        ensures book { IfOk result (IsSnapAt (count_of seat.old) at) }
+        ensures seat { seat.new ≡ seat.old }
+    {
+        self.locked(rt).begin(alloc, &mut seat.share, at)
+    }
+
+    /// Makes the call for an event at a seat, whose answer and refusals are those of the call of its kind: `send`, `place`,
+    /// `withdraw`, `commit` or `revise`. May wait.
+    pub fn submit(
+        &self,
+        rt: &impl Wait,
+        alloc: Global,
+        seat: &mut Seat<L>,
+        event: Event,
+    ) -> Result<Reply, Refusal>
+        ensures { IsSubmitted seat.old seat.new event result }
+    {
+        // First the receipt's event and memory, then the book's call while the lock is held, then the receipt: once the
+        // book has taken the event nothing can fail. An answer that gives no receipt needs none of that memory.
+        let Ok(copy) = copy_with_room(alloc, &mut seat.receipts, &event) else {
+            let mut book = self.locked(rt);
+            return book.answer_without_memory(&mut seat.share, &event);
+        };
+        let reply = match self.locked(rt).enter(alloc, &mut seat.share, event) {
             Ok(reply) => reply,
             Err(refusal) => return Err(refusal),
         };
-        count(total, share, reply);
+        note(&mut seat.receipts, reply, copy);
         Ok(reply)
     }
 
-    /// What the call for an event is answered where no memory is to be had, which changes nothing.
-    pub(crate) fn answer_without_memory(
-        &mut self,
-        share: &mut Share<L>,
-        event: &Event,
-    ) -> Result<Reply, Refusal>
-        ensures answered { IsBooksAnswer share.old.amount (call_of event.now) result }
-        ensures no_entry { IsNoEntry result }
-        ensures amount { share.new.amount ≡ share.old.amount }
-        ensures parts { share.new.parts ≡ share.old.parts }
-    {
-        self.audit(share);
-        self.book.answer_without_memory(event)
-    }
-
-    /// The same of a commit.
-    pub(crate) fn commit_without_memory(
-        &mut self,
-        share: &mut Share<L>,
-        commit: &CommitText,
-    ) -> Refusal
-        ensures answered { IsAnsweredAt share.old.amount (call.Commit commit.now) (Refused result) }
-        ensures amount { share.new.amount ≡ share.old.amount }
-        ensures parts { share.new.parts ≡ share.old.parts }
-    {
-        self.audit(share);
-        self.book.commit_without_memory(commit)
-    }
-
-    /// The problem of the book's present version at a moment, which the book keeps. The seat's count is at most the
-    /// version.
-    pub(crate) fn begin(
-        &mut self,
-        alloc: Global,
-        share: &mut Share<L>,
-        at: Moment,
-    ) -> Result<Snap, AllocError>
-        ensures call { IsCall self.old.book.setting self.old.book.state (call.Begin at) (begun_of result) self.new.book.state }
-        ensures given { IsSetting self.old.book.setting }
-        ensures proved { IsProved self.old.book.setting self.old.book.state.history }
-        ensures within { share.old.amount ≤ length self.old.book.state.history }
-        ensures snap { IfOk result (λ snap. snap ≡ snap_of self.old.book.setting self.old.book.state.history at) }
-        ensures version { IfOk result (λ snap. share.old.amount ≤ snap.version) }
-        ensures amount { share.new.amount ≡ share.old.amount }
-        ensures parts { share.new.parts ≡ share.old.parts }
-    {
-        self.audit(share);
-        self.book.begin(alloc, at)
-    }
-
-    /// Holds a seat's share against the total, which changes nothing: the book was given what a book can be given, and its
-    /// history is as the headline says and has at least as many entries as the seat has receipts.
-    fn audit(&mut self, share: &mut Share<L>)
-        ensures given { IsSetting self.old.book.setting }
-        ensures proved { IsProved self.old.book.setting self.old.book.state.history }
-        ensures within { share.old.amount ≤ length self.old.book.state.history }
-        ensures book { self.new.book ≡ self.old.book }
-        ensures amount { share.new.amount ≡ share.old.amount }
-        ensures parts { share.new.parts ≡ share.old.parts }
-    {
-        // For the prover alone: what holds of every book.
-        let _proved = self.book.state();
-        self.total.audit(share);
+    /// The book behind the lock. May wait.
+    fn locked(&self, rt: &impl Wait) -> MutexGuard<'_, CountedBook<L>> {
+        // Most calls are short, and to sleep and be woken takes long. A try takes the lock's cache line from the thread
+        // that holds it, so a yield, for which no other thread need wait, keeps the tries apart.
+        for _ in 0..TRIES {
+            if let Some(book) = self.book.try_lock() {
+                return book;
+            }
+            yield_now();
+        }
+        self.book.lock(rt)
     }
 }
 
-/// Counts an accepted call on a share.
-fn count<L: Ledger>(total: &mut ledger::Book<L>, share: &mut Share<L>, reply: Reply)
-    requires { 0 < share.old.parts }
-    ensures total { total.new.total ≡ total.old.total + accepted_in reply }
-    ensures amount { share.new.amount ≡ share.old.amount + accepted_in reply }
-    ensures parts { share.new.parts ≡ share.old.parts }
-    ensures bound { share.new.amount ≤ total.new.total }
+/// The event of a receipt, and room for one more behind the others.
+fn copy_with_room(
+    alloc: Global,
+    receipts: &mut Vec<Receipt>,
+    event: &Event,
+) -> Result<Event, AllocError>
+    ensures copy { IfOk result (λ copy. copy ≡ event.now) }
+    ensures receipts { receipts.new.items ≡ receipts.old.items }
+    ensures room { OnOk result (vec_len receipts.new < vec_capacity receipts.new) }
 {
-    if let Reply::Accepted(_) = reply {
-        total.add(share, 1);
+    receipts.reserve(1)?;
+    event.copy(alloc)
+}
+
+/// Puts the receipt of an accepted event behind the others; any other answer gives none.
+fn note(receipts: &mut Vec<Receipt>, reply: Reply, event: Event)
+    requires { vec_len receipts.old < vec_capacity receipts.old }
+    ensures { receipts.new.items ≡ noted receipts.old.items event reply }
+{
+    if let Reply::Accepted(entry) = reply {
+        receipts.push_reserved(Receipt { entry, event });
     }
-    total.audit(share);
 }

@@ -1,6 +1,6 @@
 -- A table line whose fields stand in the order of the manual.
 use Rattle.std.proofs.Common.{◌≡◌, ℕ, ◌-◌, ◌<◌, ◌≤◌, List, [], ◌∷◌, length, map, Option, Some, None, Ok, refl, ap, ◌∙◌, codes, arith}
-use Rattle.std.specs.Prelude.{All, ◌^◌}
+use Rattle.std.specs.Prelude.{◌^◌}
 use Rattle.std.specs.Str.{IsUtf8}
 use Rattle.json.specs.Token.{Token}
 use Rattle.json.specs.Lex.{tokens}
@@ -15,9 +15,8 @@ use Rattle.move_messages.specs.Fields.{field_of, optional_field_of, member, list
 use Rattle.move_messages.proofs.Lines.{object_of-ok}
 use Rattle.move_messages.proofs.Bounds.{numbers_within}
 use Rattle.cost_table.specs.TableLimits.{max_cost}
-use Rattle.cost_table.specs.Rows.{IsNumber}
 use Rattle.table_lines.specs.declared.table_line.TableLine.{TableLine}
-use Rattle.table_lines.specs.TableLine.{row_of, cells_of, lacks_field, prices_of, table_of, table_text, table_text_of, table_line_of, with_plan_of}
+use Rattle.table_lines.specs.TableLine.{IsWithinLimits, row_of, cells_of, lacks_field, prices_of, table_of, table_text, table_text_of, table_line_of, with_plan_of}
 use Rattle.table_lines.specs.inner.Tokens.{AreRead, SpellsMember}
 use Rattle.table_lines.specs.inner.InOrder.{IsTable}
 use Rattle.table_lines.proofs.Bounds.{cells_are}
@@ -106,11 +105,9 @@ line_is bytes text ts ms line same utf8 begins within t =
     rw first (ap (converted of_json) (value-begin_object 127 ts (omega arith)) ∙ converted-object (members (value 126) (length ts) ts) ∙ ap (parse_map object) within) in
     rw (object_of-ok bytes (object ms) utf8 (whole_read (value 127 (tokens bytes)) (object ms) one) refl) t.whole
 
-pub costs_are : (d : Data) (line : TableLine) → IsTable d line → All (λ row. All IsNumber row.items) line.cells.items
-costs_are d line t = cells_are d (Ok line.cells) t.cells
-
-at_most : (n : ℕ) → (0 ≤ n) × (n ≤ max_cost) → n ≤ max_cost
-at_most n h = h.1
-
-pub penalties_are : (d : Data) (line : TableLine) → IsTable d line → All (λ penalty. penalty ≤ max_cost) line.penalties.items
-penalties_are d line t = λ k x inside_it. (numbers_within 0 max_cost Penalties d (Ok line.penalties) t.penalties k x inside_it).1
+pub is_within_limits : (d : Data) (line : TableLine) → IsTable d line → IsWithinLimits line
+is_within_limits d line t = record {
+  costs = cells_are d (Ok line.cells) t.cells;
+  penalties = λ k x inside_it. (numbers_within 0 max_cost Penalties d (Ok line.penalties) t.penalties k x inside_it).1;
+  lacks = rw t.lacks tt;
+}

@@ -5,3 +5,6 @@ pub mod Parts
 pub mod Spelled
 pub mod Turns
 pub mod InOrder
+pub mod Written
+pub mod Planned
+pub mod Costs

@@ -3,4 +3,9 @@ pub mod TableRefusals
 pub mod TableCost
 pub mod TablePart
 pub mod StatedTable
+pub mod TableDetails
+pub mod Checking
+pub mod JsonReplies
+pub mod SolvedText
+pub mod Solving
 pub mod inner

@@ -1,5 +1,5 @@
 -- The table that a line states, by its names: whether it is one, and what a plan of it costs.
-use Rattle.std.specs.Prelude.{◌≡◌, ℕ, List, length, if◌then◌else◌, Result, Ok, Err}
+use Rattle.std.specs.Prelude.{◌≡◌, ℕ, List, if◌then◌else◌, Result, Ok, Err}
 use Rattle.cost_table.specs.Names.{NameLists}
 use Rattle.cost_table.specs.DistinctNames.{names_or_fault}
 use Rattle.cost_table.specs.Table.{Table}
@@ -8,7 +8,7 @@ use Rattle.move_messages.specs.Values.{◌>>=◌}
 use Rattle.price_checker.specs.NamedPairs.{checked}
 use Rattle.table_lines.specs.TableLine.{TableText, with_plan}
 use Rattle.table_lines.specs.TablePart.{table_of_line}
-use Rattle.table_lines.specs.TableCost.{cost_of_text, even_table, is_too_large, lacks_in, with_check_fault, with_line_fault, with_table_fault}
+use Rattle.table_lines.specs.TableCost.{cost_of_text, even_table_of, is_too_large, with_check_fault, with_line_fault, with_table_fault}
 use Rattle.table_lines.specs.declared.table_refusal.TableRefusal.{TableRefusal}
 use Rattle.table_lines.specs.declared.table_refusal.TableRefusal.TheVariants.{Table as OfTable}
 
@@ -18,7 +18,7 @@ unfoldable pub stated_in : TableText → Result (NameLists × Table) TableRefusa
 stated_in t =
     if is_too_large t then Err (OfTable TooLarge)
     else (with_table_fault (names_or_fault t.wagons t.orders) >>= λ names.
-    even_table (length t.wagons) (length t.orders) t.cells t.penalties (lacks_in t) >>= λ table.
+    even_table_of t >>= λ table.
     Ok (names, table))
 
 -- the cost of any plan with any prices: what the check of it says once the table is stated

@@ -41,6 +41,10 @@ abbrev pub even_table : ℕ → ℕ → List (List (Option ℕ)) → List ℕ �
 even_table wagons orders cells penalties lacks =
     if is_even wagons orders cells penalties lacks then Ok (record { rows = map (cells_of 0) cells; penalties = penalties; lacks = lacks }) else Err (OfTable UnevenRows)
 
+-- the table of a line's cells, if they are even
+abbrev pub even_table_of : TableText → Result Table TableRefusal
+even_table_of t = even_table (length t.wagons) (length t.orders) t.cells t.penalties (lacks_in t)
+
 -- the table that a line states
 abbrev pub table_in : TableText → Table
 table_in t = record { rows = map (cells_of 0) t.cells; penalties = t.penalties; lacks = lacks_in t }
@@ -63,7 +67,7 @@ unfoldable pub cost_of_text : TableText → Result ℕ TableRefusal
 cost_of_text t =
     if is_too_large t then Err (OfTable TooLarge)
     else (with_table_fault (names_or_fault t.wagons t.orders) >>= λ names.
-    even_table (length t.wagons) (length t.orders) t.cells t.penalties (lacks_in t) >>= λ table.
+    even_table_of t >>= λ table.
     with_check_fault (checked names table t.pairs t.u t.v))
 
 unfoldable pub cost_of_line : List ℕ → Result ℕ TableRefusal

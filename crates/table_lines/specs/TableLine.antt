@@ -1,5 +1,5 @@
 -- What a line is read as: a table, a plan and its prices, or the first fault.
-use Rattle.std.specs.Prelude.{ℕ, ◌^◌, ◌-◌, List, [], map, if◌then◌else◌, Option, Some, None, option_map, is_some, Result, Ok}
+use Rattle.std.specs.Prelude.{ℕ, ◌^◌, ◌-◌, ◌≤◌, All, IfSome, List, [], map, if◌then◌else◌, Option, Some, None, option_map, is_some, Result, Ok}
 use Rattle.serde_json.specs.Data.{Data}
 use Rattle.serde_json.specs.Find.{as_null}
 use Rattle.move_messages.specs.declared.field.Field.{Field}
@@ -10,6 +10,8 @@ use Rattle.move_messages.specs.Values.{◌>>=◌, number_within, wagon_number_fr
 use Rattle.move_messages.specs.Fields.{list_at, optional_list_at}
 use Rattle.move_messages.specs.Line.{object_of}
 use Rattle.move_messages.specs.OrderLimits.{max_order_wagons}
+use Rattle.wagons_and_orders.specs.WantedLimits.{IsLack}
+use Rattle.cost_table.specs.Rows.{IsNumber}
 use Rattle.cost_table.specs.TableLimits.{max_cost}
 use Rattle.table_lines.specs.declared.table_line.TableLine.{TableLine}
 
@@ -28,6 +30,12 @@ pub record TableText : Type 0 where
 abbrev pub table_text : TableLine → TableText
 table_text line =
     record { wagons = line.wagons.items; orders = line.orders.items; cells = map (λ row. row.items) line.cells.items; penalties = line.penalties.items; lacks = option_map (λ list. list.items) line.lacks; pairs = line.pairs.items; u = line.u.items; v = line.v.items }
+
+-- its costs and penalties are within a table's limits, and so is what each order lacks
+pub record IsWithinLimits (line : TableLine) : Type 0 where
+  pub costs : All (λ row. All IsNumber row.items) line.cells.items
+  pub penalties : All (λ penalty. penalty ≤ max_cost) line.penalties.items
+  pub lacks : IfSome line.lacks (λ lacks. All IsLack lacks.items)
 
 -- ---- fields
 

@@ -1,7 +1,6 @@
 //! The rows of costs of a table line.
 
-ghost use Rattle.std.specs.Prelude.{◌≡◌, All, IfOk, Result, map};
-ghost use Rattle.serde_json.specs.Data.{Data};
+ghost use Rattle.std.specs.Prelude.{All, IfOk, Result, map};
 ghost use Rattle.serde_json.specs.View.{view, items_view};
 ghost use Rattle.move_messages.specs.declared.fault.FieldFault.{FieldFault};
 ghost use Rattle.move_messages.specs.Values.{each};

@@ -1,21 +1,30 @@
-//! Table lines: a distribution problem, a plan and its prices, as one JSON object a line, and what such a line is
-//! answered.
+//! Table lines: a distribution problem, a plan and its prices, as one JSON object a line. Such a line is read, judged and
+//! planned, and `check_run` and `solve_run` are the runs over many of them.
 #![tactic(auto)]
 
 mod cells;
+mod details;
+mod json_replies;
 mod lacks;
+mod line_solver;
+mod solved_value;
 mod stating;
 mod table_answer;
+mod table_checker;
 mod table_in_order;
 mod table_line;
 mod table_part;
 mod table_reading;
 mod table_refusal;
+mod table_solver;
 mod tokens;
 
+pub use line_solver::solve_line;
 pub use stating::stated_table;
 pub use table_answer::table_cost;
+pub use table_checker::{TableChecker, check_run};
 pub use table_line::TableLine;
 pub use table_part::read_table;
 pub use table_reading::read_table_line;
 pub use table_refusal::TableRefusal;
+pub use table_solver::{TableSolver, solve_run};

@@ -1,12 +1,12 @@
 //! The table that a line states, by its names.
 
-ghost use Rattle.std.specs.Prelude.{◌≡◌, ◌≤◌, All, IfSome, length, sum};
+ghost use Rattle.std.specs.Prelude.{◌≡◌, ◌≤◌, All, length, sum};
 ghost use Rattle.cost_table.specs.DistinctNames.{names_or_fault as read_names};
 ghost use Rattle.cost_table.specs.Rows.{IsNumber};
 ghost use Rattle.cost_table.specs.TableLimits.{max_cost, max_table_lack, max_table_orders, max_table_wagons};
 ghost use Rattle.wagons_and_orders.specs.WantedLimits.{IsLack};
-ghost use Rattle.table_lines.specs.TableLine.{table_text};
-ghost use Rattle.table_lines.specs.TableCost.{Yields, even_table, lacks_in, with_table_fault};
+ghost use Rattle.table_lines.specs.TableLine.{IsWithinLimits, table_text};
+ghost use Rattle.table_lines.specs.TableCost.{Yields, even_table_of, lacks_in, with_table_fault};
 ghost use Rattle.table_lines.specs.StatedTable.{CostsOfPlans, stated_in};
 
 use crate::table_answer::{even_cells, is_too_large, lacks_of};
@@ -21,9 +21,7 @@ use std::alloc::Global;
 /// uneven (54). When out of memory it is `OutOfMemory` (1).
 #[tactic(auto, unfolding(crate::specs::StatedTable::stated_in))]
 pub fn stated_table(alloc: Global, table: &TableLine) -> Result<(Names, Cells), TableRefusal>
-    requires costs { All (λ row. All IsNumber row.items) table.now.cells.items }
-    requires penalties { All (λ penalty. penalty ≤ max_cost) table.now.penalties.items }
-    requires lacks { IfSome table.now.lacks (λ lacks. All IsLack lacks.items) }
+    requires limits { IsWithinLimits table.now }
     ensures meaning { Yields (λ stated. stated) result (stated_in (table_text table.now)) }
     // What the check of a plan of this table answers.
     ensures checked { CostsOfPlans (table_text table.now) }
@@ -55,7 +53,7 @@ fn cells_of(alloc: Global, table: &TableLine, lacks: Vec<u32>) -> Result<Cells, 
     requires penalties { All (λ penalty. penalty ≤ max_cost) table.now.penalties.items }
     requires lacks { All IsLack lacks.items }
     requires stated { lacks.items ≡ lacks_in (table_text table.now) }
-    ensures { let t = table_text table.now in Yields (λ cells. cells) result (even_table (length t.wagons) (length t.orders) t.cells t.penalties (lacks_in t)) }
+    ensures { Yields (λ cells. cells) result (even_table_of (table_text table.now)) }
 {
     let (wagons, orders) = (table.wagons.len(), table.orders.len());
     let penalties = Vec::from_slice(alloc, &table.penalties)?;

@@ -1,13 +1,10 @@
 //! What a table line is answered.
-ghost use Rattle.std.specs.Prelude.{◌≡◌, ◌<◌, ◌≤◌, ℕ, All, IfOk, IfSome, length, map, sum, nat_lt};
+ghost use Rattle.std.specs.Prelude.{◌≡◌, ◌<◌, ◌≤◌, All, IfOk, IfSome, map, sum, nat_lt};
 ghost use Rattle.cost_table.specs.Rows.{IsNumber};
-ghost use Rattle.cost_table.specs.Table.{wagon_count, order_count};
 ghost use Rattle.cost_table.specs.TableLimits.{max_cost, max_table_lack, max_table_orders, max_table_wagons};
 ghost use Rattle.wagons_and_orders.specs.WantedLimits.{IsLack};
-ghost use Rattle.price_checker.specs.NamedPairs.{checked};
-ghost use Rattle.price_checker.specs.CertifiedPairs.{CertifiesPairs};
-ghost use Rattle.table_lines.specs.TableLine.{table_text};
-ghost use Rattle.table_lines.specs.TableCost.{Yields, lacks_in, is_too_large as is_large, even_table, with_check_fault, cost_of_text, cost_of_line, IsCertified, CertifiesLine};
+ghost use Rattle.table_lines.specs.TableLine.{IsWithinLimits, table_text};
+ghost use Rattle.table_lines.specs.TableCost.{Yields, lacks_in, is_too_large as is_large, even_table, cost_of_text, cost_of_line, IsCertified, CertifiesLine};
 
 use crate::table_line::TableLine;
 use crate::table_reading::read_table_line;
@@ -90,29 +87,10 @@ pub(crate) fn even_cells(
     Ok(Cells::from_lists(alloc, cells, penalties, lacks)?)
 }
 
-/// The cost of the pairs in a table, where they and the prices are a certificate of it.
-fn checked_cost(
-    alloc: Global,
-    names: &Names,
-    cells: &Cells,
-    pairs: &[(WagonNumber, OrderId)],
-    prices: &Prices,
-) -> Result<u128, TableRefusal>
-    requires wagons { wagon_count cells.now ≡ length names.now.wagons }
-    requires orders { order_count cells.now ≡ length names.now.orders }
-    ensures meaning { Yields (λ cost. cost) result (with_check_fault (checked names.now cells.now pairs.now prices.now.u.items prices.now.v.items)) }
-    ensures optimal { IfOk result (CertifiesPairs names.now cells.now pairs.now prices.now.u.items prices.now.v.items) }
-{
-    let certified = check_named(alloc, names, cells, pairs, prices)?;
-    Ok(certified.cost())
-}
-
 /// The cost of a table's plan.
 #[tactic(auto, unfolding(crate::specs::TableCost::cost_of_text))]
 fn cost_of(alloc: Global, table: TableLine) -> Result<u128, TableRefusal>
-    requires costs { All (λ row. All IsNumber row.items) table.cells.items }
-    requires penalties { All (λ penalty. penalty ≤ max_cost) table.penalties.items }
-    requires lacks { IfSome table.lacks (λ lacks. All IsLack lacks.items) }
+    requires limits { IsWithinLimits table }
     ensures meaning { Yields (λ cost. cost) result (cost_of_text (table_text table)) }
     ensures optimal { IfOk result (IsCertified (table_text table)) }
 {
@@ -128,5 +106,6 @@ fn cost_of(alloc: Global, table: TableLine) -> Result<u128, TableRefusal>
         u: table.u,
         v: table.v,
     };
-    checked_cost(alloc, &names, &cells, &table.pairs, &prices)
+    let certified = check_named(alloc, &names, &cells, &table.pairs, &prices)?;
+    Ok(certified.cost())
 }

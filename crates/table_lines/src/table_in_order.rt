@@ -1,13 +1,11 @@
 //! Table lines as most are written, with the fields in the order of the manual. They are read in one pass over their
 //! tokens, into the table's own lists.
 
-ghost use Rattle.std.specs.Prelude.{◌≡◌, ◌<◌, ◌≤◌, All, IfSome, OnSome, Ok, Some, None, length};
+ghost use Rattle.std.specs.Prelude.{◌≡◌, ◌<◌, IfSome, OnSome, Ok, Some, None, length};
 ghost use Rattle.json.specs.Json.{members, read_key, value};
 ghost use Rattle.serde_json.specs.Data.{Members, object, no_members};
 ghost use Rattle.serde_json.specs.Read.{of_members, converted};
-ghost use Rattle.cost_table.specs.Rows.{IsNumber};
-ghost use Rattle.cost_table.specs.TableLimits.{max_cost};
-ghost use Rattle.table_lines.specs.TableLine.{table_line_of, table_text};
+ghost use Rattle.table_lines.specs.TableLine.{IsWithinLimits, table_line_of, table_text};
 ghost use Rattle.table_lines.specs.inner.Tokens.{SpellsMember};
 ghost use Rattle.table_lines.specs.inner.InOrder.{IsTable};
 
@@ -26,9 +24,7 @@ const OPENING: &[u8] = b"{\"wagons\":";
 /// `lacks`. `None` for any other line, where a field is refused, and where memory is.
 pub(crate) fn table_in_order(alloc: Global, bytes: &[u8]) -> Option<TableLine>
     ensures meaning { IfSome result (λ line. table_line_of bytes.now ≡ Ok (table_text line)) }
-    ensures costs { IfSome result (λ line. All (λ row. All IsNumber row.items) line.cells.items) }
-    ensures penalties { IfSome result (λ line. All (λ penalty. penalty ≤ max_cost) line.penalties.items) }
-    ensures lacks { IfSome result (λ line. line.lacks ≡ None) }
+    ensures limits { IfSome result IsWithinLimits }
 {
     if !bytes.starts_with(OPENING) {
         return None;

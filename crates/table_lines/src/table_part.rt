@@ -1,19 +1,16 @@
 //! Table lines, read without their plan.
 
-ghost use Rattle.std.specs.Prelude.{◌≡◌, ◌≤◌, All, IfOk, IfSome};
+ghost use Rattle.std.specs.Prelude.{◌≡◌, IfOk};
 ghost use Rattle.serde_json.specs.View.{view};
 ghost use Rattle.move_messages.specs.Fields.{Gives};
-ghost use Rattle.table_lines.specs.TableLine.{table_line_of, table_of, table_text};
+ghost use Rattle.table_lines.specs.TableLine.{IsWithinLimits, table_line_of, table_of, table_text};
 ghost use Rattle.table_lines.specs.TablePart.{table_of_line, table_then_plan};
-ghost use Rattle.cost_table.specs.Rows.{IsNumber};
-ghost use Rattle.cost_table.specs.TableLimits.{max_cost};
-ghost use Rattle.wagons_and_orders.specs.WantedLimits.{IsLack};
 
 use crate::cells::cells_at;
 use crate::lacks::lacks_at;
 use crate::table_line::TableLine;
 use cost_table::MAX_COST;
-use move_messages::{Field, LineFault, numbers_at, object_of, order_ids_at, wagon_numbers_at};
+use move_messages::{Field, LineFault, codes_at, numbers_at, object_of};
 use serde_json::Value;
 use std::alloc::Global;
 
@@ -25,10 +22,7 @@ use std::alloc::Global;
 #[tactic(auto, unfolding(crate::specs::TablePart::table_of_line))]
 pub fn read_table(alloc: Global, bytes: &[u8]) -> Result<TableLine, LineFault>
     ensures meaning { Gives table_text result (table_of_line bytes.now) }
-    ensures costs { IfOk result (λ line. All (λ row. All IsNumber row.items) line.cells.items) }
-    ensures penalties { IfOk result
-        (λ line. All (λ penalty. penalty ≤ max_cost) line.penalties.items) }
-    ensures lacks { IfOk result (λ line. IfSome line.lacks (λ lacks. All IsLack lacks.items)) }
+    ensures limits { IfOk result IsWithinLimits }
     // What `read_table_line` reads is this table, and then its plan.
     ensures agrees { table_line_of bytes.now ≡ table_then_plan bytes.now }
 {
@@ -40,13 +34,10 @@ pub fn read_table(alloc: Global, bytes: &[u8]) -> Result<TableLine, LineFault>
 #[tactic(auto, unfolding(crate::specs::TableLine::table_of))]
 pub(crate) fn table_part(alloc: Global, object: &Value) -> Result<TableLine, LineFault>
     ensures meaning { Gives table_text result (table_of (view object.now)) }
-    ensures costs { IfOk result (λ line. All (λ row. All IsNumber row.items) line.cells.items) }
-    ensures penalties { IfOk result
-        (λ line. All (λ penalty. penalty ≤ max_cost) line.penalties.items) }
-    ensures lacks { IfOk result (λ line. IfSome line.lacks (λ lacks. All IsLack lacks.items)) }
+    ensures limits { IfOk result IsWithinLimits }
 {
-    let wagons = wagon_numbers_at(alloc, object, Field::Wagons)?;
-    let orders = order_ids_at(alloc, object, Field::Orders)?;
+    let wagons = codes_at(alloc, object, Field::Wagons)?;
+    let orders = codes_at(alloc, object, Field::Orders)?;
     let cells = cells_at(alloc, object)?;
     let penalties = numbers_at(alloc, object, Field::Penalties, 0, MAX_COST)?;
     let lacks = lacks_at(alloc, object)?;

@@ -1,12 +1,9 @@
 //! Table lines, read field by field.
 
-ghost use Rattle.std.specs.Prelude.{◌≤◌, All, IfOk, IfSome};
+ghost use Rattle.std.specs.Prelude.{IfOk};
 ghost use Rattle.serde_json.specs.View.{view};
 ghost use Rattle.move_messages.specs.Fields.{Gives};
-ghost use Rattle.table_lines.specs.TableLine.{table_text, table_text_of, table_line_of};
-ghost use Rattle.cost_table.specs.Rows.{IsNumber};
-ghost use Rattle.cost_table.specs.TableLimits.{max_cost};
-ghost use Rattle.wagons_and_orders.specs.WantedLimits.{IsLack};
+ghost use Rattle.table_lines.specs.TableLine.{IsWithinLimits, table_text, table_text_of, table_line_of};
 
 use crate::table_in_order::table_in_order;
 use crate::table_line::TableLine;
@@ -24,10 +21,7 @@ use std::alloc::Global;
 #[tactic(auto, unfolding(crate::specs::TableLine::table_line_of))]
 pub fn read_table_line(alloc: Global, bytes: &[u8]) -> Result<TableLine, LineFault>
     ensures meaning { Gives table_text result (table_line_of bytes.now) }
-    ensures costs { IfOk result (λ line. All (λ row. All IsNumber row.items) line.cells.items) }
-    ensures penalties { IfOk result
-        (λ line. All (λ penalty. penalty ≤ max_cost) line.penalties.items) }
-    ensures lacks { IfOk result (λ line. IfSome line.lacks (λ lacks. All IsLack lacks.items)) }
+    ensures limits { IfOk result IsWithinLimits }
 {
     if let Some(table) = table_in_order(alloc, bytes) {
         return Ok(table);
@@ -40,10 +34,7 @@ pub fn read_table_line(alloc: Global, bytes: &[u8]) -> Result<TableLine, LineFau
 #[tactic(auto, unfolding(crate::specs::TableLine::table_text_of, crate::specs::TableLine::with_plan_of))]
 fn table_of(alloc: Global, object: &Value) -> Result<TableLine, LineFault>
     ensures meaning { Gives table_text result (table_text_of (view object.now)) }
-    ensures costs { IfOk result (λ line. All (λ row. All IsNumber row.items) line.cells.items) }
-    ensures penalties { IfOk result
-        (λ line. All (λ penalty. penalty ≤ max_cost) line.penalties.items) }
-    ensures lacks { IfOk result (λ line. IfSome line.lacks (λ lacks. All IsLack lacks.items)) }
+    ensures limits { IfOk result IsWithinLimits }
 {
     let mut table = table_part(alloc, object)?;
     table.pairs = pairs_at(alloc, object, Field::Pairs)?;

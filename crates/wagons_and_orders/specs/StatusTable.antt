@@ -13,33 +13,33 @@ use Rattle.wagons_and_orders.specs.declared.change.Change.{Change}
 use Rattle.wagons_and_orders.specs.declared.wagon_row.WagonRow.{WagonRow}
 use Rattle.faults.specs.declared.faults.StepFault.{StepFault}
 use Rattle.faults.specs.declared.faults.StepFault.TheVariants.{Earlier, WrongStatus, WrongPlace}
-use Rattle.wagons_and_orders.specs.declared.status_table.Line.{Line}
+use Rattle.wagons_and_orders.specs.declared.status_table.Transition.{Transition}
 
 -- A line of the table says the status that follows, what becomes of a promise, and whether the message must name
 -- the place where the wagon is. A line for the wagon's own place keeps a promise.
-abbrev pub own_place : Status → Line
+abbrev pub own_place : Status → Transition
 own_place next = record { next = next; effect = effect.None; own_place = true }
 
-abbrev pub any_place : Status → Effect → Line
+abbrev pub any_place : Status → Effect → Transition
 any_place next on_promise = record { next = next; effect = on_promise; own_place = false }
 
 -- The table, one clause for each line of it: the message and the status that it finds, whether the wagon is
 -- promised and the message names the place of its order, and the message's place and moment.
-abbrev pub table_line : MessageKind → Status → (at_order : Bool) → (place : List ℕ) → (moment : ℕ) → Option Line
-table_line Release (Loading at) at_order place moment = Some (own_place (Ready place))
-table_line Release (Unloading at) at_order place moment = Some (own_place (Empty place moment))
-table_line Departure (Ready at) at_order place moment = Some (own_place (Journey Loaded place))
-table_line Departure (Empty at ready) at_order place moment = Some (own_place (Journey Unladen place))
-table_line YardArrival (Journey load at) at_order place moment = Some (any_place (Yard load place) effect.None)
-table_line YardDeparture (Yard load at) at_order place moment = Some (own_place (Journey load place))
-table_line Arrival (Journey load at) at_order place moment = Some (any_place (Arrived load place) effect.None)
-table_line Delivery (Arrived Loaded at) at_order place moment = Some (any_place (Unloading place) effect.None)
-table_line Delivery (Arrived Unladen at) true place moment = Some (any_place (Loading place) effect.Fills)
-table_line Delivery (Arrived Unladen at) false place moment = Some (any_place (Empty place moment) effect.Ends)
-table_line (Exception true) status at_order place moment = Some (any_place status effect.Ends)
-table_line (Exception false) (Empty at ready) at_order place moment = Some (any_place (Empty at moment) effect.None)
-table_line (Exception false) status at_order place moment = Some (any_place status effect.None)
-table_line kind status at_order place moment = None
+abbrev pub transition_of : MessageKind → Status → (at_order : Bool) → (place : List ℕ) → (moment : ℕ) → Option Transition
+transition_of Release (Loading at) at_order place moment = Some (own_place (Ready place))
+transition_of Release (Unloading at) at_order place moment = Some (own_place (Empty place moment))
+transition_of Departure (Ready at) at_order place moment = Some (own_place (Journey Loaded place))
+transition_of Departure (Empty at ready) at_order place moment = Some (own_place (Journey Unladen place))
+transition_of YardArrival (Journey load at) at_order place moment = Some (any_place (Yard load place) effect.None)
+transition_of YardDeparture (Yard load at) at_order place moment = Some (own_place (Journey load place))
+transition_of Arrival (Journey load at) at_order place moment = Some (any_place (Arrived load place) effect.None)
+transition_of Delivery (Arrived Loaded at) at_order place moment = Some (any_place (Unloading place) effect.None)
+transition_of Delivery (Arrived Unladen at) true place moment = Some (any_place (Loading place) effect.Fills)
+transition_of Delivery (Arrived Unladen at) false place moment = Some (any_place (Empty place moment) effect.Ends)
+transition_of (Exception true) status at_order place moment = Some (any_place status effect.Ends)
+transition_of (Exception false) (Empty at ready) at_order place moment = Some (any_place (Empty at moment) effect.None)
+transition_of (Exception false) status at_order place moment = Some (any_place status effect.None)
+transition_of kind status at_order place moment = None
 
 -- where a wagon is, by its status
 abbrev pub place_of : Status → List ℕ
@@ -76,24 +76,24 @@ promise_after effect.None promise = promise
 promise_after effect.Fills promise = None
 promise_after effect.Ends promise = None
 
--- a line as it changes a row: every message sets the last moment
-abbrev pub change_by : WagonRow → Message → Line → Change
-change_by row message line =
+-- a transition as it changes a row: every message sets the last moment
+abbrev pub change_by : WagonRow → Message → Transition → Change
+change_by row message transition =
     record {
-      row = record row { status = line.next; held = held_after message.kind row.held; last = message.moment; promise = promise_after line.effect row.promise };
-      effect = effect_on row.promise line.effect;
+      row = record row { status = transition.next; held = held_after message.kind row.held; last = message.moment; promise = promise_after transition.effect row.promise };
+      effect = effect_on row.promise transition.effect;
     }
 
--- the change by a line, where the message names a place that the line allows
-abbrev pub placed : WagonRow → Message → Line → Result Change StepFault
-placed row message line =
-    if line.own_place && not (is_same_place message.place (place_of row.status)) then Err WrongPlace
-    else Ok (change_by row message line)
+-- the change by a transition, where the message names a place that it allows
+abbrev pub placed : WagonRow → Message → Transition → Result Change StepFault
+placed row message transition =
+    if transition.own_place && not (is_same_place message.place (place_of row.status)) then Err WrongPlace
+    else Ok (change_by row message transition)
 
--- the change by the line that fits, if there is one
-abbrev pub fitted : WagonRow → Message → Option Line → Result Change StepFault
+-- the change by the transition that fits, if there is one
+abbrev pub fitted : WagonRow → Message → Option Transition → Result Change StepFault
 fitted row message None = Err WrongStatus
-fitted row message (Some line) = placed row message line
+fitted row message (Some transition) = placed row message transition
 
 -- what a message makes of a row, where `order_place` is the place of the order that the wagon is promised to; or
 -- the first fault: the message is older than the last one, no line fits, or the message names a place that the
@@ -101,4 +101,4 @@ fitted row message (Some line) = placed row message line
 unfoldable pub step_of : WagonRow → Message → (order_place : Option (List ℕ)) → Result Change StepFault
 step_of row message order_place =
     if nat_lt message.moment row.last then Err Earlier
-    else fitted row message (table_line message.kind row.status (is_at order_place message.place) message.place message.moment)
+    else fitted row message (transition_of message.kind row.status (is_at order_place message.place) message.place message.moment)

@@ -1,7 +1,7 @@
 //! The status table: what each message makes of the row of its wagon.
 ghost use Rattle.std.specs.Prelude.{◌≡◌, ◌≤◌, ◌↔◌, IsSome, IfOk};
 ghost use Rattle.wagons_and_orders.specs.Laws.{IsSameWagon, IsEmpty, IsEmptiedBy, IsPromiseAfter};
-ghost use Rattle.wagons_and_orders.specs.StatusTable.{table_line, own_place, any_place, is_at, step_of, held_after, promise_after, effect_on};
+ghost use Rattle.wagons_and_orders.specs.StatusTable.{transition_of, own_place, any_place, is_at, step_of, held_after, promise_after, effect_on};
 
 use crate::Load::{Loaded, Unladen};
 use crate::Status::{Arrived, Empty, Journey, Loading, Ready, Unloading, Yard};
@@ -12,9 +12,9 @@ use move_messages::MessageKind::{
 use move_messages::{Message, MessageKind};
 use rail_codes::{OrderId, Place};
 
-/// A line of the status table.
+/// What a line of the status table says.
 #[derive(Clone, Copy)]
-struct Line {
+struct Transition {
     /// The status that follows.
     next: Status,
     /// What becomes of a promise.
@@ -48,28 +48,28 @@ pub fn step(
         return Err(StepFault::Earlier);
     }
     let at_order = is_at(order_place, message.place);
-    let Some(line) = table_line(message, row.status, at_order) else {
+    let Some(transition) = transition_of(message, row.status, at_order) else {
         return Err(StepFault::WrongStatus);
     };
-    if line.own_place && message.place != row.status.place() {
+    if transition.own_place && message.place != row.status.place() {
         return Err(StepFault::WrongPlace);
     }
     Ok(Change {
         row: WagonRow {
-            status: line.next,
+            status: transition.next,
             held: held_after(message.kind, row.held),
             last: message.moment,
-            promise: promise_after(line.effect, row.promise),
+            promise: promise_after(transition.effect, row.promise),
             ..*row
         },
-        effect: effect_on(row.promise, line.effect),
+        effect: effect_on(row.promise, transition.effect),
     })
 }
 
-/// The line that fits a message and the status that it finds. `at_order` says that the wagon is
+/// The transition that fits a message and the status that it finds. `at_order` says that the wagon is
 /// promised and the message names the place of its order.
-fn table_line(message: &Message, status: Status, at_order: bool) -> Option<Line>
-    ensures { result ≡ table_line message.now.kind status at_order message.now.place message.now.moment }
+fn transition_of(message: &Message, status: Status, at_order: bool) -> Option<Transition>
+    ensures { result ≡ transition_of message.now.kind status at_order message.now.place message.now.moment }
 {
     let Message { place, moment, .. } = *message;
     Some(match (message.kind, status) {
@@ -90,22 +90,22 @@ fn table_line(message: &Message, status: Status, at_order: bool) -> Option<Line>
     })
 }
 
-/// A line for messages that name the wagon's own place. It keeps a promise.
-fn own_place(next: Status) -> Line
+/// A transition for messages that name the wagon's own place. It keeps a promise.
+fn own_place(next: Status) -> Transition
     ensures { result ≡ own_place next }
 {
-    Line {
+    Transition {
         next,
         effect: Effect::None,
         own_place: true,
     }
 }
 
-/// A line for messages that may name any place.
-fn any_place(next: Status, effect: Effect) -> Line
+/// A transition for messages that may name any place.
+fn any_place(next: Status, effect: Effect) -> Transition
     ensures { result ≡ any_place next effect }
 {
-    Line {
+    Transition {
         next,
         effect,
         own_place: false,

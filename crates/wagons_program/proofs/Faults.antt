@@ -1,13 +1,7 @@
 -- Faults and the list of refusal numbers.
 use Rattle.std.proofs.Common.{ℕ, zero, suc, List, [], ◌∷◌, map, codes, refl, arith, Vec, Global}
-use Rattle.std.specs.Prelude.{IsTrue}
 use Rattle.sessions.specs.Seat.{SeatValue}
-use Rattle.rail_codes.specs.declared.code_fault.CodeFault.{CodeFault}
-use Rattle.move_messages.specs.declared.fault.LineFault.{LineFault}
-use Rattle.faults.specs.declared.faults.StepFault.{StepFault}
-use Rattle.faults.specs.declared.faults.TableFault.{TableFault}
-use Rattle.faults.specs.declared.faults.NamedFault.{NamedFault}
-use Rattle.faults.specs.RefusalNumbers.{is_refusal_number}
+use Rattle.faults.specs.RefusalNumbers.{refusals}
 use Rattle.move_messages.specs.declared.field.Field.TheVariants.{Wagon}
 use Rattle.line_network.specs.declared.networks_fault.NetworksFault.TheVariants.{BadNetworkCount}
 use Rattle.rail_codes.specs.declared.code_fault.CodeFault.TheVariants as code
@@ -28,127 +22,33 @@ use Rattle.faults.specs.declared.faults.Refusal.TheVariants as call
 use Rattle.faults.specs.declared.faults.PlanFault.TheVariants as plan
 use Rattle.sessions.specs.declared.close_fault.CloseFault.TheVariants as close
 use Rattle.faults.specs.declared.faults.FeedFault.TheVariants as feed
-use Rattle.wagons_program.specs.Laws.{AnyFault, of_code, of_field, of_line, of_step, of_record, of_roster, of_run, of_network, of_networks, of_work, of_table, of_check, of_named, of_table_line, of_event, of_call, of_plan, of_opening, of_closing, of_feed, EachFaultIsListed, EachNumberIsAFaults, AreFaults, number_of}
+use Rattle.wagons_program.specs.Laws.{AnyFault, of_code, of_field, of_line, of_step, of_record, of_roster, of_run, of_network, of_networks, of_work, of_table, of_check, of_named, of_table_line, of_event, of_call, of_plan, of_closing, of_feed, EachFaultIsListed, EachNumberIsAFaults, AreFaults, number_of}
 
-abbrev IsListed : (L : Type 0) → AnyFault L → Type 0
-IsListed L fault = IsTrue (is_refusal_number (number_of fault))
-
--- ---- faults that others hold
-
-code_listed : (L : Type 0) (fault : CodeFault) → IsListed L (of_code fault)
-code_listed L code.NotTwelveDigits = refl
-code_listed L code.CheckDigit = refl
-code_listed L code.BadPlace = refl
-code_listed L code.BadClass = refl
-code_listed L code.BadCompany = refl
-code_listed L code.BadOrderId = refl
-code_listed L code.BadMoment = refl
-code_listed L code.MomentOutOfRange = refl
-
-line_listed : (L : Type 0) (fault : LineFault) → IsListed L (of_line fault)
-line_listed L line.OutOfMemory = refl
-line_listed L line.NotJson = refl
-line_listed L line.NotAnObject = refl
-line_listed L line.UnknownType = refl
-line_listed L (line.MissingField a) = refl
-line_listed L (line.BadField a b) = refl
-
-step_listed : (L : Type 0) (fault : StepFault) → IsListed L (of_step fault)
-step_listed L step.Earlier = refl
-step_listed L step.WrongStatus = refl
-step_listed L step.WrongPlace = refl
-
-table_listed : (L : Type 0) (fault : TableFault) → IsListed L (of_table fault)
-table_listed L table.OutOfMemory = refl
-table_listed L (table.DuplicateWagon a) = refl
-table_listed L (table.DuplicateOrder a) = refl
-table_listed L table.TooLarge = refl
-table_listed L table.UnevenRows = refl
-
-named_listed : (L : Type 0) (fault : NamedFault) → IsListed L (of_named fault)
-named_listed L named.OutOfMemory = refl
-named_listed L named.WrongLengths = refl
-named_listed L (named.NotAllowed a b) = refl
-named_listed L (named.UsedTwice a b) = refl
-named_listed L (named.PriceGap a b) = refl
-named_listed L (named.OverPenalty a) = refl
-named_listed L (named.SumsDiffer a b) = refl
-named_listed L (named.NotInProblem a b) = refl
-
--- ---- all faults
-
+-- each computes: a case of each type, and at the end one that stands for all others
 pub listed : (L : Type 0) → EachFaultIsListed L
-listed L (of_code fault) = code_listed L fault
-listed L (of_field (field.Code fault)) = code_listed L fault
-listed L (of_field field.WrongKind) = refl
-listed L (of_field field.OutOfRange) = refl
-listed L (of_line fault) = line_listed L fault
-listed L (of_step fault) = step_listed L fault
+unfolding refusals
+listed L (of_code code.NotTwelveDigits) = refl
+listed L (of_field (field.Code code.NotTwelveDigits)) = refl
+listed L (of_line line.OutOfMemory) = refl
+listed L (of_step step.Earlier) = refl
 listed L (of_record records.OutOfMemory) = refl
-listed L (of_record records.ReadFailed) = refl
 listed L (of_roster roster.OutOfMemory) = refl
-listed L (of_roster (roster.DuplicateWagon a)) = refl
-listed L (of_roster roster.TooLarge) = refl
-listed L (of_roster (roster.BadRosterRow a)) = refl
-listed L (of_roster roster.ReadFailed) = refl
 listed L (of_run run.OutOfMemory) = refl
-listed L (of_run (run.TooManyLines a)) = refl
-listed L (of_run (run.LineTooLong a)) = refl
-listed L (of_run (run.ReadFailed a)) = refl
-listed L (of_run (run.WriteFailed a)) = refl
 listed L (of_network network.OutOfMemory) = refl
-listed L (of_network (network.BadRow a)) = refl
-listed L (of_network network.TooManyPlaces) = refl
-listed L (of_network network.TooManyLines) = refl
-listed L (of_network network.ReadFailed) = refl
-listed L (of_networks fault) = refl
 listed L (of_work work.OutOfMemory) = refl
-listed L (of_work work.BadWorkerCount) = refl
-listed L (of_work work.NoThread) = refl
-listed L (of_table fault) = table_listed L fault
+listed L (of_table table.OutOfMemory) = refl
 listed L (of_check check.WrongLengths) = refl
-listed L (of_check (check.NotAllowed a b)) = refl
-listed L (of_check (check.UsedTwice a b)) = refl
-listed L (of_check (check.PriceGap a b)) = refl
-listed L (of_check (check.OverPenalty a)) = refl
-listed L (of_check (check.SumsDiffer a b)) = refl
-listed L (of_named fault) = named_listed L fault
-listed L (of_table_line table_line.OutOfMemory) = refl
-listed L (of_table_line (table_line.Line fault)) = line_listed L fault
-listed L (of_table_line (table_line.Table fault)) = table_listed L fault
-listed L (of_table_line (table_line.Check fault)) = named_listed L fault
-listed L (of_event event.OutOfMemory) = refl
-listed L (of_event (event.Step fault)) = step_listed L fault
-listed L (of_event event.UnknownWagon) = refl
-listed L (of_event event.OrderKnown) = refl
-listed L (of_event event.TooManyOpen) = refl
-listed L (of_event event.UnknownOrder) = refl
-listed L (of_event event.OrderClosed) = refl
-listed L (of_event event.UnknownNetwork) = refl
-listed L (of_event event.SameNetwork) = refl
-listed L (of_call call.OutOfMemory) = refl
-listed L (of_call (call.Step fault)) = step_listed L fault
-listed L (of_call (call.Check fault)) = named_listed L fault
-listed L (of_call call.IdReused) = refl
-listed L (of_call call.BookFull) = refl
-listed L (of_call call.UnknownWagon) = refl
-listed L (of_call call.OrderKnown) = refl
-listed L (of_call call.TooManyOpen) = refl
-listed L (of_call call.UnknownOrder) = refl
-listed L (of_call call.OrderClosed) = refl
-listed L (of_call call.UnknownNetwork) = refl
-listed L (of_call call.SameNetwork) = refl
-listed L (of_call call.NotKept) = refl
-listed L (of_call (call.WagonChanged a)) = refl
-listed L (of_call (call.OrderChanged a)) = refl
+listed L (of_named named.OutOfMemory) = refl
+listed L (of_table_line (table_line.Line line.OutOfMemory)) = refl
+listed L (of_table_line (table_line.Table table.OutOfMemory)) = refl
+listed L (of_table_line (table_line.Check named.OutOfMemory)) = refl
+listed L (of_event (event.Step step.Earlier)) = refl
+listed L (of_call (call.Step step.Earlier)) = refl
+listed L (of_call (call.Check named.OutOfMemory)) = refl
 listed L (of_plan plan.OutOfMemory) = refl
-listed L (of_plan plan.UnknownNetwork) = refl
-listed L (of_opening fault) = refl
 listed L (of_closing (close.SeatsMissing a b)) = refl
-listed L (of_closing (close.ReceiptLost a b c d)) = refl
 listed L (of_feed feed.OutOfMemory) = refl
-listed L (of_feed feed.NoThread) = refl
-listed L (of_feed (feed.ReceiptLost a b)) = refl
+listed L fault = refl
 
 a_wagon : List ℕ
 a_wagon = codes "338447961008"
@@ -221,4 +121,5 @@ are_faults L (fault ∷ faults) zero d lt = (fault, refl)
 are_faults L (fault ∷ faults) (suc k) d lt = are_faults L faults k d (omega arith)
 
 pub answered : (L : Type 0) → EachNumberIsAFaults L
+unfolding refusals
 answered L seats = are_faults L (examples L seats)

@@ -6,8 +6,6 @@ use Rattle.line_engine.specs.Runs.{Failures, Run, RunEnds, RunStops}
 use Rattle.line_engine.specs.declared.run.RunCount.{RunCount}
 use Rattle.line_engine.specs.declared.run.RunFault.{RunFault}
 use Rattle.office.specs.CommandReplies.{RepliesToLine, LineRunsOutOfMemory}
-use Rattle.office.specs.Replies.{ChecksLine}
-use Rattle.table_solver.specs.Solving.{SolvesLine}
 use Rattle.wagons_program.specs.Status.{status_of_count}
 use Rattle.wagons_program.specs.declared.stop.Stop.{Stop}
 use Rattle.wagons_program.specs.declared.stop.Stop.TheVariants as stop
@@ -41,12 +39,6 @@ pub record AreStopped {H : Type 0} (replying : Replying H) (lines : Lines H) (wh
   pub stops : RunStops replying (run_of lines left holds) failed fault
   pub why_is : why ≡ stop.Run fault
 
--- the replies to command lines, to table lines with a plan, and to table lines that are to be planned
+-- the replies to command lines
 abbrev pub ToCommands : Replying BookValue
 ToCommands = Numbered RepliesToLine LineRunsOutOfMemory
-
-abbrev pub ToPlans : Replying (Unit {0})
-ToPlans = Numbered ChecksLine (λ _ _ _. Unit {0})
-
-abbrev pub ToTables : Replying (Unit {0})
-ToTables = SolvesLine

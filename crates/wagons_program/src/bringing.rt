@@ -10,8 +10,8 @@ use crate::status::status_of_run;
 use crate::stop::Stop;
 use command_line::OfficeOptions;
 use commit_book::Book;
+use line_engine::StdDevice;
 use line_network::Network;
-use office::{FromRead, ToWrite};
 use std::alloc::Global;
 use std::io::{Read, Write};
 use std::mem;
@@ -58,8 +58,8 @@ fn bring_lines<I: Read + Drop, O: Write + Drop>(
     ensures ok { IfOk result (λ status. AreAnswered ToCommands (record { input = I.remaining input; held = O.contents output; old = book.old; new = book.new }) status) }
     ensures err { IfErr result (λ stop. AreStopped ToCommands (record { input = I.remaining input; held = O.contents output; old = book.old; new = book.new }) stop) }
 {
-    let mut reader = FromRead::new(input);
-    let mut writer = ToWrite::new(output);
+    let mut reader = StdDevice::new(input);
+    let mut writer = StdDevice::new(output);
     status_of_run(office::run(alloc, &mut reader, &mut writer, book))
 }
 

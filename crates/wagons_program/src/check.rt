@@ -1,18 +1,20 @@
 //! The word `check`.
 ghost use Rattle.std.specs.Prelude.{◌≡◌, IfOk};
-ghost use Rattle.wagons_program.specs.Brought.{AreAnswered, Lines, ToPlans};
+ghost use Rattle.table_lines.specs.Checking.{ToPlans};
+ghost use Rattle.wagons_program.specs.Brought.{AreAnswered, Lines};
 
 use crate::status::status_of_run;
 use crate::stop::Stop;
-use office::{FromRead, ToWrite, check_run};
+use line_engine::StdDevice;
 use std::io;
 use std::io::Read;
+use table_lines::check_run;
 
 /// Checks the table lines of an input: status 0, or 1 where one was refused.
 pub(crate) fn check<R: Print + AllocGlobal, I: Read + Drop>(rt: &R, input: I) -> Result<u8, Stop>
     ensures { IfOk result (λ status. (lines : Lines (Unit {0})) × (lines.input ≡ I.remaining input) × AreAnswered ToPlans lines status) }
 {
-    let mut reader = FromRead::new(input);
-    let mut writer = ToWrite::new(io::writer(rt));
+    let mut reader = StdDevice::new(input);
+    let mut writer = StdDevice::new(io::writer(rt));
     status_of_run(check_run(rt.alloc(), &mut reader, &mut writer))
 }

@@ -10,8 +10,7 @@ use crate::status::{DONE, REFUSED, STOPPED};
 use crate::stop::Stop;
 use book_feed::{FeedReport, report_text};
 use command_line::FeedOptions;
-use line_engine::MAX_FILES;
-use office::{FromRead, Source};
+use line_engine::{MAX_FILES, Source, StdDevice};
 use std::rt::Files;
 use std::sync::Wait;
 use std::thread::Threads;
@@ -47,12 +46,12 @@ where
 fn open_files<R: Files + AllocGlobal>(
     rt: &R,
     paths: &[&str],
-) -> Result<Vec<FromRead<R::File>>, Stop>
-    ensures { IfOk result (λ readers. All (λ reader. ⟦<FromRead<R::File> as Source>⟧.has_failed reader ≡ false) readers.items) }
+) -> Result<Vec<StdDevice<R::File>>, Stop>
+    ensures { IfOk result (λ readers. All (λ reader. ⟦<StdDevice<R::File> as Source>⟧.has_failed reader ≡ false) readers.items) }
 {
     let mut readers = Vec::with_capacity(rt.alloc(), paths.len())?;
     for path in paths {
-        readers.push(FromRead::new(open(rt, path)?))?;
+        readers.push(StdDevice::new(open(rt, path)?))?;
     }
     Ok(readers)
 }

@@ -30,7 +30,7 @@ label_at f i = slice_index f.label.items i
 abbrev pub distance_at : Search → ℕ → ℕ
 distance_at f k = slice_index f.order_distance.items k
 
--- the order settled at place x
+-- the order settled at index x
 abbrev pub settled_at : Search → ℕ → ℕ
 settled_at f x = slice_index f.orders.items x
 
@@ -38,22 +38,22 @@ settled_at f x = slice_index f.orders.items x
 abbrev pub reach : Kept → Search → ℕ → ℕ → ℕ
 reach s f i k = distance_at f k + cell_cost (cost_at s.table i k) + slice_index s.u i
 
--- wagon i is as far as it is over its cell of the order at place x
+-- wagon i is as far as it is over its cell of the order at index x
 pub record IsReachedFrom (s : Kept) (f : Search) (i x : ℕ) : Type 0 where
   pub within : x < length f.orders.items
   pub exact : label_at f i + slice_index s.v (settled_at f x) ≡ reach s f i (settled_at f x)
 
 -- wagon i was reached from one of the first n orders settled
 pub record IsWagonReached (s : Kept) (f : Search) (n i : ℕ) : Type 0 where
-  pub place : ℕ
-  pub before : place < n
-  pub from : IsReachedFrom s f i place
+  pub index : ℕ
+  pub before : index < n
+  pub from : IsReachedFrom s f i index
 
 -- no wagon is farther than over its cell of order k
 abbrev pub IsRelaxed : Kept → Search → ℕ → Type 0
 IsRelaxed s f k = (i : ℕ) → i < wagon_count s.table → label_at f i + slice_index s.v k ≤ reach s f i k
 
--- The order at place x was reached through one of its own wagons, which is as far as it is, and which was reached
+-- The order at index x was reached through one of its own wagons, which is as far as it is, and which was reached
 -- from an order settled before.
 pub record IsLed (s : Kept) (f : Search) (x : ℕ) : Type 0 where
   pub wagon : slice_index f.via.items x < wagon_count s.table
@@ -63,9 +63,9 @@ pub record IsLed (s : Kept) (f : Search) (x : ℕ) : Type 0 where
 
 -- where an order stands among those settled
 pub record IsAt (f : Search) (k : ℕ) : Type 0 where
-  pub place : ℕ
-  pub within : place < length f.orders.items
-  pub is : settled_at f place ≡ k
+  pub index : ℕ
+  pub within : index < length f.orders.items
+  pub is : settled_at f index ≡ k
 
 abbrev pub is_near : ℕ → Bool
 is_near distance = nat_lt distance FAR
@@ -97,8 +97,8 @@ pub record IsRefusal (s : Kept) (f : Search) : Type 0 where
   pub beyond : f.front ≤ f.refusal.distance
   pub none : length f.orders.items ≡ 0 → f.refusal.distance ≡ FAR
   pub limit : 0 < length f.orders.items → f.refusal.distance ≤ max_cost
-  pub within : 0 < length f.orders.items → f.refusal.place < length f.orders.items
-  pub exact : 0 < length f.orders.items → f.refusal.distance + slice_index s.v (settled_at f f.refusal.place) ≡ distance_at f (settled_at f f.refusal.place) + penalty_at s.table (settled_at f f.refusal.place)
+  pub within : 0 < length f.orders.items → f.refusal.index < length f.orders.items
+  pub exact : 0 < length f.orders.items → f.refusal.distance + slice_index s.v (settled_at f f.refusal.index) ≡ distance_at f (settled_at f f.refusal.index) + penalty_at s.table (settled_at f f.refusal.index)
   pub least : (x : ℕ) → x < length f.orders.items → f.refusal.distance + slice_index s.v (settled_at f x) ≤ distance_at f (settled_at f x) + penalty_at s.table (settled_at f x)
 
 -- A search of which the first `scanned` settled orders are relaxed.

@@ -1,6 +1,6 @@
 -- What the private calls of a book answer: an event that is entered, and a call of a list.
 use Rattle.std.specs.Prelude.{◌≡◌, ◌+◌, ◌⊎◌, length, Result, Ok, Err}
-use Rattle.operating_db.specs.declared.event.Event.{Event}
+use Rattle.move_messages.specs.declared.event.Event.{Event}
 use Rattle.commit_book.specs.BookStep.{BookState, entered, event_answer}
 use Rattle.commit_book.specs.Setting.{Setting}
 use Rattle.commit_book.specs.declared.answer.Answer.{Answer}

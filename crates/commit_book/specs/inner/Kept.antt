@@ -1,12 +1,13 @@
 -- What a book keeps beside its history.
-use Rattle.std.specs.Prelude.{◌≡◌, ◌≤◌, ◌==◌, ◌&&◌, nat_le, nat_lt, ℕ, Bool, if◌then◌else◌, List, [], ◌∷◌, ◌++◌, Some, length, drop, map, All}
+use Rattle.std.specs.Prelude.{◌≡◌, ◌≤◌, ◌==◌, ◌&&◌, nat_le, nat_lt, ℕ, Bool, if◌then◌else◌, List, [], ◌∷◌, ◌++◌, Some, length, drop, map, true, All, slice_get}
 use Rattle.line_network.specs.Network.{NetworkValue}
 use Rattle.line_network.specs.Networks.{network_at}
 use Rattle.problem_table.specs.Allowed.{IsTableOf}
 use Rattle.problem_table.specs.Lasting.{IsLastingTable}
 use Rattle.cost_table.specs.Problem.{ProblemValue}
-use Rattle.operating_db.specs.declared.event.Event.{Event}
-use Rattle.commit_book.specs.Books.{BookValue}
+use Rattle.move_messages.specs.declared.event.Event.{Event}
+use Rattle.commit_book.specs.BookStep.{BookState, is_kept, kept_after}
+use Rattle.commit_book.specs.Books.{BookValue, setting_with}
 use Rattle.commit_book.specs.History.{IsLegal, IsTableAt, problem_at}
 use Rattle.commit_book.specs.inner.Ledger.{LedgerValue}
 use Rattle.commit_book.specs.Limits.{LimitNumbers}
@@ -71,7 +72,7 @@ pub record IsBook (setting : Setting) (history : List Event) (kept : List KeptPr
 
 -- what a book was given
 abbrev pub setting_of : LedgerValue → List NetworkValue → LimitNumbers → Setting
-setting_of ledger networks limits = record { roster = ledger.roster; networks = networks; entries = limits.entries; kept = limits.kept }
+setting_of ledger networks limits = setting_with ledger.roster networks limits
 
 abbrev pub book_of : LedgerValue → List NetworkValue → LimitNumbers → List KeptProblem → BookValue
 book_of ledger networks limits kept = record {
@@ -83,3 +84,12 @@ book_of ledger networks limits kept = record {
 pub record IsBookOf (ledger : LedgerValue) (networks : List NetworkValue) (limits : LimitNumbers) (kept : List KeptProblem) : Type 0 where
   pub counted : ledger.networks ≡ length networks
   pub book : IsBook (setting_of ledger networks limits) ledger.events kept
+
+-- the book after a begin at a moment
+abbrev pub begun_at : Setting → BookState → (at : ℕ) → BookState
+begun_at setting book at = record book { kept = kept_after setting book.kept (length book.history, at) }
+
+-- the kept problem of a version at a moment stands at this index
+pub record IsIndexOfKept (kept : List (ℕ × ℕ)) (which : ℕ × ℕ) (index : ℕ) : Type 0 where
+  pub is_among : is_kept kept which ≡ true
+  pub there : slice_get kept index ≡ Some which

@@ -12,8 +12,8 @@ use Rattle.operating_db.specs.ApplyFault.{IsRefusal}
 use Rattle.operating_db.specs.Office.{Office, first_office}
 use Rattle.operating_db.specs.State.{StateValue}
 use Rattle.faults.specs.declared.faults.ApplyFault.{ApplyFault}
-use Rattle.operating_db.specs.declared.event.Event.{Event}
-use Rattle.operating_db.specs.declared.event.Event.TheVariants.{Message, Place, Withdraw, Commit, Revise}
+use Rattle.move_messages.specs.declared.event.Event.{Event}
+use Rattle.move_messages.specs.declared.event.Event.TheVariants.{Message, Place, Withdraw, Commit, Revise}
 use Rattle.commit_book.specs.History.{IsFresh, after_all}
 use Rattle.commit_book.specs.declared.ledger.MessageEntry.{MessageEntry}
 use Rattle.commit_book.specs.declared.ledger.MessageEntry.TheVariants.{Entered, Known}
@@ -46,14 +46,14 @@ is_message_of id (Withdraw other) = false
 is_message_of id (Commit commit) = false
 is_message_of id (Revise network) = false
 
--- an index finds the place of each message among the events by its id
-abbrev pub IsIndexOf : List Event → (index : MessageId → Option ℕ) → Type 0
-IsIndexOf events index = (id : MessageId) → index id ≡ position (is_message_of id) events
+-- a map of ids finds the index of each message among the events by its id
+abbrev pub IsIndexOf : List Event → (ids : MessageId → Option ℕ) → Type 0
+IsIndexOf events ids = (id : MessageId) → ids id ≡ position (is_message_of id) events
 
--- the event at a place is a message of this id
-pub record IsMessageAt (events : List Event) (id : MessageId) (place : ℕ) : Type 0 where
+-- the event at an index is a message of this id
+pub record IsMessageAt (events : List Event) (id : MessageId) (index : ℕ) : Type 0 where
   pub message : movement.Message
-  pub there : slice_get events place ≡ Some (Message message)
+  pub there : slice_get events index ≡ Some (Message message)
   pub its_id : message.id ≡ id
 
 -- an event that is no message
@@ -64,36 +64,40 @@ IsNoMessage (Withdraw id) = Unit {0}
 IsNoMessage (Commit commit) = Unit {0}
 IsNoMessage (Revise network) = Unit {0}
 
--- the index has the messages, and the state is the office after all events
-pub record IsLedger (roster : List WagonRow) (events : List Event) (index : MessageId → Option ℕ) (state : StateValue) : Type 0 where
-  pub indexed : IsIndexOf events index
+-- the map of ids has the messages, and the state is the office after all events
+pub record IsLedger (roster : List WagonRow) (events : List Event) (ids : MessageId → Option ℕ) (state : StateValue) : Type 0 where
+  pub indexed : IsIndexOf events ids
   pub replayed : state.office ≡ after_all state.networks (first_office roster) events
 
 -- ---- a message that is entered
 
--- the index has a message of this id behind the events
-pub record HasNoted (events : List Event) (id : MessageId) (index : MessageId → Option ℕ) : Type 0 where
+-- the office after a message, or why it is refused
+abbrev pub message_after : StateValue → movement.Message → Result Office ApplyFault
+message_after state message = after_call state.networks state.office (Message message)
+
+-- the map of ids has a message of this id behind the events
+pub record HasNoted (events : List Event) (id : MessageId) (ids : MessageId → Option ℕ) : Type 0 where
   pub fresh : IsFresh id events
-  pub behind : (message : movement.Message) → message.id ≡ id → IsIndexOf (events ++ Message message ∷ []) index
+  pub behind : (message : movement.Message) → message.id ≡ id → IsIndexOf (events ++ Message message ∷ []) ids
 
 -- what came of noting an id: it is noted behind the events; or an event is a message of it, or memory is out, and the
 -- index is that of the events
-abbrev pub IsNoted : List Event → MessageId → Result (Option ℕ) AllocError → (index : MessageId → Option ℕ) → Type 0
-IsNoted events id (Ok None) index = HasNoted events id index
-IsNoted events id (Ok (Some place)) index = IsMessageAt events id place × IsIndexOf events index
-IsNoted events id (Err error) index = IsFresh id events × IsIndexOf events index
+abbrev pub IsNoted : List Event → MessageId → Result (Option ℕ) AllocError → (ids : MessageId → Option ℕ) → Type 0
+IsNoted events id (Ok None) ids = HasNoted events id ids
+IsNoted events id (Ok (Some index)) ids = IsMessageAt events id index × IsIndexOf events ids
+IsNoted events id (Err error) ids = IsFresh id events × IsIndexOf events ids
 
 -- What came of noting a message, where this is the office after it: it is possible and noted behind the events; or an
--- event is a message of its id; or it is refused. In the last two the index is that of the events.
-abbrev pub IsAdmitted : List Event → MessageId → (after : Result Office ApplyFault) → Result (Option ℕ) ApplyFault → (index : MessageId → Option ℕ) → Type 0
-IsAdmitted events id after (Ok None) index = IsOk after × HasNoted events id index
-IsAdmitted events id after (Ok (Some place)) index = IsMessageAt events id place × IsIndexOf events index
-IsAdmitted events id after (Err fault) index = IsFresh id events × IsIndexOf events index × IsRefusal after fault
+-- event is a message of its id; or it is refused. In the last two the map of ids is that of the events.
+abbrev pub IsAdmitted : List Event → MessageId → (after : Result Office ApplyFault) → Result (Option ℕ) ApplyFault → (ids : MessageId → Option ℕ) → Type 0
+IsAdmitted events id after (Ok None) ids = IsOk after × HasNoted events id ids
+IsAdmitted events id after (Ok (Some index)) ids = IsMessageAt events id index × IsIndexOf events ids
+IsAdmitted events id after (Err fault) ids = IsFresh id events × IsIndexOf events ids × IsRefusal after fault
 
 -- what came of entering a message: it is the last event; or an event is a message of its id; or it is refused
 abbrev pub IsMessageEntry : (old : LedgerValue) → movement.Message → Result MessageEntry ApplyFault → (new : LedgerValue) → Type 0
 IsMessageEntry old message (Ok Entered) new =
     IsFresh message.id old.events × IsOk (after_call old.networks (office_of old) (Message message)) × (new ≡ record old { events = old.events ++ Message message ∷ [] })
-IsMessageEntry old message (Ok (Known place)) new = IsMessageAt old.events message.id place × (new ≡ old)
+IsMessageEntry old message (Ok (Known index)) new = IsMessageAt old.events message.id index × (new ≡ old)
 IsMessageEntry old message (Err fault) new =
     IsFresh message.id old.events × IsRefusal (after_call old.networks (office_of old) (Message message)) fault × (new ≡ old)

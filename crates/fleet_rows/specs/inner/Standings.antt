@@ -26,6 +26,10 @@ is_standing (Some standing) other = is_eq (compare_standings standing other)
 abbrev pub is_there : (before after : Option Standing) → (was : Bool) → Standing → Bool
 is_there before after was standing = is_standing after standing || (was && not (is_standing before standing))
 
+-- which standings a set has once `after` has come and `before` has gone
+abbrev pub IsReplaced : (before after : Option Standing) → (was has : Standing → Bool) → Type 0
+IsReplaced before after was has = (standing : Standing) → has standing ≡ is_there before after (was standing) standing
+
 -- whether a row that there may be is that of an empty wagon that isn't held, of this class, at this place
 abbrev pub stands_in : (class place : List ℕ) → Option WagonRow → Bool
 stands_in class place None = false

@@ -13,6 +13,10 @@ length_of km minutes = record { number = km * 33554432 + minutes }
 abbrev pub distance_of : Length → Distance
 distance_of l = record { km = l.number / 33554432; minutes = l.number % 33554432 }
 
+-- the distance of a walk that goes on by another
+abbrev pub plus_distance : Distance → Distance → Distance
+plus_distance d e = record { km = d.km + e.km; minutes = d.minutes + e.minutes }
+
 -- as the label of a place: the distance, if a way is found
 abbrev pub label_of : Length → Option Distance
 label_of l = cond (l.number == 18446744073709551615) None (Some (distance_of l))

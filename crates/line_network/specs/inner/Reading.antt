@@ -1,19 +1,20 @@
 -- What reading a network keeps from record to record, and why a place is not added.
-use Rattle.std.specs.Prelude.{◌≡◌, ℕ, ◌+◌, ◌*◌, ◌<◌, ◌≤◌, ◌++◌, List, length, Result}
+use Rattle.std.specs.Prelude.{◌≡◌, ℕ, ◌+◌, ◌*◌, ◌<◌, ◌≤◌, List, length, Result}
 use Rattle.csv_records.specs.Fields.{Record}
+use Rattle.csv_records.specs.Reading.{SaysSoFar, Stops}
 use Rattle.faults.specs.ReadingFaults.{network_fault_of}
 use Rattle.faults.specs.declared.faults.RecordFault.{RecordFault}
 use Rattle.faults.specs.declared.faults.RecordFault.TheVariants as rf
 use Rattle.line_network.specs.Network.{NetworkValue}
 use Rattle.line_network.specs.NetworkLimits.{max_line_km, max_line_minutes, max_places}
-use Rattle.line_network.specs.Reading.{Stops, network_of, with_rows}
+use Rattle.line_network.specs.Reading.{is_failure, network_rule}
 use Rattle.line_network.specs.declared.line_record.LineRecord.{LineRecord}
 use Rattle.faults.specs.declared.faults.NetworkFault.{NetworkFault}
 use Rattle.faults.specs.declared.faults.NetworkFault.TheVariants.{OutOfMemory, BadRow, TooManyPlaces, TooManyLines, ReadFailed}
 
 -- These records, the header among them, say this network, whatever follows them.
 pub record IsReadSoFar (network : NetworkValue) (records : List Record) : Type 0 where
-  pub so_far : (rest : List Record) → network_of (records ++ rest) ≡ with_rows (length records + 1) network rest
+  pub so_far : SaysSoFar network_rule network records
   pub few : length network.lines + 2 ≤ 2 * length records
 
 -- the kilometres and minutes of a record are within the limit
@@ -32,7 +33,7 @@ RefusesPlace TooManyLines places = ⊥
 RefusesPlace ReadFailed places = ⊥
 
 -- a failure says nothing of the records
-pub stops_failure : (failure : RecordFault) (fault : NetworkFault) (answer : Result NetworkValue NetworkFault) → fault ≡ network_fault_of failure → Stops fault answer
+pub stops_failure : (failure : RecordFault) (fault : NetworkFault) (answer : Result NetworkValue NetworkFault) → fault ≡ network_fault_of failure → Stops is_failure fault answer
 stops_failure rf.OutOfMemory fault answer e = rw e tt
 stops_failure rf.ReadFailed fault answer e = rw e tt
 

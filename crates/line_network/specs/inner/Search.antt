@@ -6,6 +6,8 @@ use Rattle.line_network.specs.declared.line.Line.{Line}
 use Rattle.line_network.specs.inner.Lengths.{Distance}
 use Rattle.line_network.specs.Distance.{AtMost}
 use Rattle.line_network.specs.inner.Rows.{IsPathPair}
+use Rattle.line_network.specs.declared.step.Step.{Step}
+use Rattle.line_network.specs.inner.Steps.{line_from}
 use Rattle.line_network.specs.inner.Turns.{Waiting, entry}
 
 -- the label of a place, `None` where it isn't reached
@@ -67,6 +69,10 @@ work_left labels waiting = sum_by label_weight labels + length waiting
 pub data Relaxes (old new : List (Option Distance)) (waited waits : List Waiting) (d : Distance) (l : Line) : Type 0 where
   stays : new ≡ old → waits ≡ waited → LabelAtMost (label_at old l.to) (plus_line d l) → Relaxes old new waited waits d l
   falls : new ≡ slice_set old l.to (Some (plus_line d l)) → IsPermutation (entry (plus_line d l) l.to ∷ waited) waits → LabelAbove (label_at old l.to) (plus_line d l) → Relaxes old new waited waits d l
+
+-- the same of a step from a place whose turn it is
+abbrev pub RelaxesFrom : Waiting → Step → (old new : List (Option Distance)) → (waited waits : List Waiting) → Type 0
+RelaxesFrom at step old new waited waits = Relaxes old new waited waits at.distance (line_from at.place step)
 
 -- what relaxing lines keeps
 pub record Improves (lines : List Line) (old new : List (Option Distance)) (waited waits : List Waiting) : Type 0 where

@@ -5,7 +5,8 @@ use Rattle.serde_json.specs.Data.{Data, unsigned, number, string, object, no_mem
 use Rattle.move_messages.specs.Values.{◌>>=◌}
 use Rattle.move_messages.specs.Commands.{command_of_type, message_of}
 use Rattle.move_messages.specs.LineType.{line_type_of}
-use Rattle.move_messages.specs.declared.command.Command.TheVariants.{Message}
+use Rattle.move_messages.specs.declared.command.Command.TheVariants.{Event}
+use Rattle.move_messages.specs.declared.event.Event.TheVariants.{Message}
 use Rattle.move_messages.specs.declared.line_type.LineType.{LineType}
 use Rattle.move_messages.specs.declared.message.MessageKind.{MessageKind}
 use Rattle.move_messages.specs.declared.plain_message.PlainMessage.{PlainMessage}
@@ -26,7 +27,7 @@ plain_object m =
 
 -- lines of this type are messages of this kind
 abbrev pub IsKindOf : LineType → MessageKind → Type 0
-IsKindOf line_type kind = (d : Data) → command_of_type line_type d ≡ (message_of kind d >>= λ message. Ok (Message message))
+IsKindOf line_type kind = (d : Data) → command_of_type line_type d ≡ (message_of kind d >>= λ message. Ok (Event (Message message)))
 
 -- and so are lines of the type of that name
 abbrev pub IsTypeOf : List ℕ → MessageKind → Type 0

@@ -5,7 +5,10 @@ use Rattle.wagons_and_orders.specs.Wanted.{WantedOrder}
 use Rattle.line_network.specs.Network.{NetworkValue}
 use Rattle.problem_table.specs.Allowed.{Reaches}
 use Rattle.cost_table.specs.TableLimits.{IsRow}
-use Rattle.cost_table.specs.Table.{cost_in}
+use Rattle.cost_table.specs.Problem.{ProblemValue, penalties_of, lacks_of}
+use Rattle.cost_table.specs.SharedRows.{rows_in}
+use Rattle.problem_table.specs.declared.changed.Changing.{Changing}
+use Rattle.cost_table.specs.Table.{Table, cost_in}
 
 -- A row of cells: the orders of which R holds at a cost, ascending, each with that cost.
 pub record IsRowOf (R : WantedOrder → ℕ → Type 0) (orders : List WantedOrder) (row : List (ℕ × ℕ)) : Type 0 where
@@ -18,9 +21,17 @@ pub record AddsRow (R : WantedOrder → ℕ → Type 0) (orders : List WantedOrd
   pub behind : new ≡ old ++ row
   pub is : IsRowOf R orders row
 
+-- at each moment from one up to another the wagon's row lies behind the entries
+abbrev pub AddsRowUntil : NetworkValue → (at : ℕ) → FreeWagon → List WantedOrder → (old new : List (ℕ × ℕ)) → (until : ℕ) → Type 0
+AddsRowUntil net at wagon orders old new until = (m : ℕ) → at ≤ m → m ≤ until → AddsRow (λ wanted. Reaches net m wagon wanted.order) orders old new
+
 -- a row of cells that is a wagon's at each moment up to its last
 abbrev pub IsLastingRow : NetworkValue → (at : ℕ) → FreeWagon → List WantedOrder → List (ℕ × ℕ) → (last : ℕ) → Type 0
 IsLastingRow net at wagon orders row last = (m : ℕ) → at ≤ m → m ≤ last → IsRowOf (λ wanted. Reaches net m wagon wanted.order) orders row
+
+-- the table of these rows, with the orders' penalties and lacks
+abbrev pub table_of_rows : List (List (ℕ × ℕ)) → List WantedOrder → Table
+table_of_rows rows orders = record { rows = rows; penalties = penalties_of orders; lacks = lacks_of orders }
 
 -- such a row for each wagon, none of which is past at this moment
 pub record AreLastingRows (net : NetworkValue) (at : ℕ) (wagons : List FreeWagon) (orders : List WantedOrder) (rows : List (List (ℕ × ℕ))) (lasts : List ℕ) : Type 0 where
@@ -37,3 +48,8 @@ pub record AddsLastingRow (net : NetworkValue) (at : ℕ) (wagon : FreeWagon) (o
   pub moments : lasts' ≡ lasts ++ last ∷ []
   pub within : at ≤ last
   pub is : IsLastingRow net at wagon orders row last
+
+-- the same of a table that is being changed
+abbrev pub AddsWagon : NetworkValue → ProblemValue → FreeWagon → (old new : Changing) → Type 0
+AddsWagon net problem wagon old new =
+    AddsLastingRow net problem.at wagon problem.orders (rows_in old.rows) (rows_in new.rows) old.lasts.items new.lasts.items

@@ -1,10 +1,13 @@
 -- What a wagon's way to an order depends on, for the wagons of one class.
-use Rattle.std.specs.Prelude.{◌≡◌, ◌+◌, ℕ, if◌then◌else◌, List, [], ◌∷◌, ◌++◌, Option, None}
+use Rattle.std.specs.Prelude.{◌≡◌, ◌+◌, ◌≤◌, ◌↔◌, ℕ, if◌then◌else◌, List, [], ◌∷◌, ◌++◌, Option, None, Some, IfSome}
 use Rattle.std.specs.Option.{option_map, option_to_list}
 use Rattle.move_messages.specs.Order.{Order}
+use Rattle.wagons_and_orders.specs.declared.free_wagon.FreeWagon.{FreeWagon}
 use Rattle.wagons_and_orders.specs.Listed.{is_listed}
 use Rattle.wagons_and_orders.specs.Wanted.{WantedOrder}
 use Rattle.line_network.specs.Network.{NetworkValue, place_index}
+use Rattle.problem_table.specs.Allowed.{Reaches}
+use Rattle.problem_table.specs.declared.allowed.Way.{Way}
 use Rattle.problem_table.specs.declared.goals.Goal.{Goal}
 use Rattle.problem_table.specs.declared.goals.ClassGoals.{ClassGoals}
 
@@ -29,3 +32,11 @@ goals_of network class orders = goals_from network class 0 orders
 -- whether goals that are kept with a class are those of that class
 abbrev pub AreGoalsOf : NetworkValue → List WantedOrder → ClassGoals → Type 0
 AreGoalsOf network orders kept = kept.goals.items ≡ goals_of network kept.class orders
+
+-- the way of a wagon to a goal: at each moment up to its last start the wagon reaches an order of this goal by its
+-- kilometres; where there is no way, at none
+abbrev pub IsWayTo : NetworkValue → (at : ℕ) → FreeWagon → Goal → Option Way → Type 0
+IsWayTo net at wagon goal way =
+    (m : ℕ) → at ≤ m → IfSome way (λ way. m ≤ way.last_start)
+    → (wanted : WantedOrder) → Some goal ≡ goal_of net wagon.class goal.order wanted
+    → (km : ℕ) → (option_map (λ way. way.km) way ≡ Some km) ↔ Reaches net m wagon wanted.order km

@@ -1,6 +1,6 @@
 -- A receipt whose event is not the entry of its number.
 use Rattle.std.specs.Prelude.{◌≡◌, ◌≢◌, ℕ, List, Some, slice_get}
-use Rattle.operating_db.specs.declared.event.Event.{Event}
+use Rattle.move_messages.specs.declared.event.Event.{Event}
 use Rattle.commit_book.specs.Books.{entry_at}
 use Rattle.sessions.specs.declared.receipt.Receipt.{Receipt}
 

@@ -7,5 +7,5 @@ returns-in-Some-clause-admitted c = (message_found c.args.message.now.id c.args.
 
 pub returns-in-Err-clause-admitted : goal.returns-in-Err-clause-admitted
 returns-in-Err-clause-admitted c =
-    let none = sym c.place_of.ensures ∙ none_by c.place_of.result c.in_default-place_of.not-Some in
+    let none = sym c.index_of.ensures ∙ none_by c.index_of.result c.in_default-index_of.not-Some in
     (fresh_by c.args.message.now.id c.args.events.now.items (sym (c.requires c.args.message.now.id) ∙ none), c.requires, inl c.in-Err.ensures.refused)

@@ -1,7 +1,7 @@
 use Rattle.std.proofs.Common.{◌≡◌, ℕ, ◌+◌, ◌<◌, List, ◌++◌, [], length, Ok, refl, sym, ap, ◌∙◌, subst, arith}
 use Rattle.line_engine.specs.inner.Cutting.{CutsLine}
 use Rattle.line_engine.specs.Replies.{ServesLine, refusal_count}
-use Rattle.line_engine.proofs.Running.{begins_run, stops_before, reads_more, passes_line, ends_run, ends_line, stops_reading, stops_writing, front_line, whole_line, bool_byte_count, at_most_one}
+use Rattle.line_engine.proofs.Running.{begins_run, stops_before, reads_more, passes_line, ends_run, ends_line, stops_reading, stops_writing, front_line, whole_line, bool_byte_count, at_most_one, has_ended, has_stopped}
 use Rattle.line_engine.proofs.run.run_replies.Goals as goal
 
 pub lines-init : goal.lines-init
@@ -13,37 +13,38 @@ lines-init g c = record {
   writer = c.requires.writer;
 }
 
-pub returns-in-Ok-false-clause-ok : goal.returns-in-Ok-false-clause-ok
-returns-in-Ok-false-clause-ok g c =
+pub returns-in-Ok-false : goal.returns-in-Ok-false
+returns-in-Ok-false g c =
     let taken = c.in-Ok-false.ensures.taken in
     let ended = c.in-Ok-false.ensures.end (ap Ok c.in-Ok-false.field-0-test) in
     let more = reads_more g.H.Responder.replies _ _ _ _ _ _ _ _ _ _ _ _ c.lines.invariant.here taken.1 taken.2 in
-    ends_run g.H.Responder.replies _ _ _ _ _ _ _ c.fill.new.self c.lines.count more refl c.lines.invariant.lines ended.0 ended.1
+    has_ended g.H.Responder.replies _ _ _ (ends_run g.H.Responder.replies _ _ _ _ _ _ _ c.fill.new.self c.lines.count more refl c.lines.invariant.lines ended.0 ended.1)
+    (c.in-Ok-false.ensures.failure ∙ c.lines.invariant.reader) c.lines.invariant.writer
 
-pub returns-in-Err-clause-err : goal.returns-in-Err-clause-err
-returns-in-Err-clause-err g c =
+pub returns-in-Err : goal.returns-in-Err
+returns-in-Err g c =
     let taken = c.in-Err.ensures.taken in
     let err = c.in-Err.ensures.err in
     let none : c.lines.window ++ taken.0 ≡ [] = sym taken.1 ∙ err.2 in
-    rw (c.at_line.ensures, err.0, c.in-Err.ensures.failure)
-    (stops_before g.H.Responder.replies _ _ _ _ _ (g.W.Sink.has_failed c.lines.writer) _ _ _ _ _ _ c.lines.invariant.here taken.2 none (omega (arith, c.lines.invariant.lines)))
+    has_stopped g.H.Responder.replies _ _ _ (rw (c.at_line.ensures, err.0, c.in-Err.ensures.failure)
+    (stops_before g.H.Responder.replies _ _ _ _ _ (g.W.Sink.has_failed c.lines.writer) _ _ _ _ _ _ c.lines.invariant.here taken.2 none (omega (arith, c.lines.invariant.lines))))
 
-pub returns-then-number-gt-MAX_INPUT_LINES-clause-err : goal.returns-then-number-gt-MAX_INPUT_LINES-clause-err
-returns-then-number-gt-MAX_INPUT_LINES-clause-err g c =
+pub returns-then-number-gt-MAX_INPUT_LINES : goal.returns-then-number-gt-MAX_INPUT_LINES
+returns-then-number-gt-MAX_INPUT_LINES g c =
     let taken = c.in-Ok-true.ensures.taken in
     let some = c.in-Ok-true.ensures.more (ap Ok c.in-Ok-true.field-0-test) in
     let more = reads_more g.H.Responder.replies _ _ _ _ _ _ _ _ _ _ _ _ c.lines.invariant.here taken.1 taken.2 in
-    (more.at, omega arith, subst (λ (xs : List ℕ). 0 < length xs) (sym more.here) some)
+    has_stopped g.H.Responder.replies _ _ _ (more.at, omega arith, subst (λ (xs : List ℕ). 0 < length xs) (sym more.here) some)
 
-pub returns-in-Err-read_line-clause-err : goal.returns-in-Err-read_line-clause-err
-returns-in-Err-read_line-clause-err g c =
+pub returns-in-Err-read_line : goal.returns-in-Err-read_line
+returns-in-Err-read_line g c =
     let taken = c.in-Ok-true.ensures.taken in
     let more = reads_more g.H.Responder.replies _ _ _ _ _ _ _ _ _ _ _ _ c.lines.invariant.here taken.1 taken.2 in
     let cut = c.in-Err-read_line.ensures.cut in
-    rw c.at_line-in-Err-read_line.ensures (stops_reading g.H.Responder.replies _ _ _ _ _ _ _ _ _ _ _ _ _ _ more cut.1 cut.2 (omega arith))
+    has_stopped g.H.Responder.replies _ _ _ (rw c.at_line-in-Err-read_line.ensures (stops_reading g.H.Responder.replies _ _ _ _ _ _ _ _ _ _ _ _ _ _ more cut.1 cut.2 (omega arith)))
 
-pub returns-in-Err-served-clause-err : goal.returns-in-Err-served-clause-err
-returns-in-Err-served-clause-err g c =
+pub returns-in-Err-served : goal.returns-in-Err-served
+returns-in-Err-served g c =
     let taken = c.in-Ok-true.ensures.taken in
     let more = reads_more g.H.Responder.replies _ _ _ _ _ _ _ _ _ _ _ _ c.lines.invariant.here taken.1 taken.2 in
     let cut = c.in-Ok.ensures.cut in
@@ -51,17 +52,18 @@ returns-in-Err-served-clause-err g c =
     let whole = whole_line c.fill.new.self cut.0 c.read_line.new.line c.read_line.new.self c.in-Ok.end (g.R.Source.remaining c.read_line.new.reader) cut.2.0 cut.2.1 in
     let served = c.in-Err-served.ensures.err in
     let reply = subst (λ (line : List ℕ). ServesLine g.H.Responder.replies (c.lines.count.lines + 1) c.lines.state line served.0 served.1 c.serve-served.new.state) c.as_slice-text.ensures.value served.2 in
-    stops_writing g.H.Responder.replies _ _ _ _ _ _ (g.R.Source.has_failed c.read_line.new.reader) (g.W.Sink.has_failed c.serve-served.new.writer) _ _ _ _ _ _ c.read_line.new.line served.0 served.3 served.4 c.lines.count.refused served.1 more cut.1 front.0 front.1 whole c.as_slice-text.ensures.within reply served.5 served.6 served.7 (omega arith)
+    has_stopped g.H.Responder.replies _ _ _ (stops_writing g.H.Responder.replies _ _ _ _ _ _ (g.R.Source.has_failed c.read_line.new.reader) (g.W.Sink.has_failed c.serve-served.new.writer) _ _ _ _ _ _ c.read_line.new.line served.0 served.3 served.4 c.lines.count.refused served.1 more cut.1 front.0 front.1 whole c.as_slice-text.ensures.within reply served.5 served.6 served.7 (omega arith))
 
-pub returns-in-Input-clause-ok : goal.returns-in-Input-clause-ok
-returns-in-Input-clause-ok g c =
+pub returns-in-Input : goal.returns-in-Input
+returns-in-Input g c =
     let taken = c.in-Ok-true.ensures.taken in
     let more = reads_more g.H.Responder.replies _ _ _ _ _ _ _ _ _ _ _ _ c.lines.invariant.here taken.1 taken.2 in
     let cut = c.in-Ok.ensures.cut in
     let served = c.in-Ok-served.ensures.ok in
     let reply = subst (λ (line : List ℕ). ServesLine g.H.Responder.replies (c.lines.count.lines + 1) c.lines.state line served.0 c.in-Ok-served.refused c.serve-served.new.state) c.as_slice-text.ensures.value served.1 in
     let last = subst (CutsLine c.fill.new.self cut.0 c.read_line.new.line c.read_line.new.self) c.in-Input.is cut.2.0 in
-    ends_line g.H.Responder.replies _ _ _ _ _ _ _ _ _ _ _ _ _ _ _ _ _ _ more cut.1 last c.as_slice-text.ensures.within reply served.2 (cut.2.1 c.in-Input.is) refl (omega arith) (ap (λ (n : ℕ). c.lines.count.refused + n) (c.from.ensures ∙ bool_byte_count c.in-Ok-served.refused))
+    has_ended g.H.Responder.replies _ _ _ (ends_line g.H.Responder.replies _ _ _ _ _ _ _ _ _ _ _ _ _ _ _ _ _ _ more cut.1 last c.as_slice-text.ensures.within reply served.2 (cut.2.1 c.in-Input.is) refl (omega arith) (ap (λ (n : ℕ). c.lines.count.refused + n) (c.from.ensures ∙ bool_byte_count c.in-Ok-served.refused)))
+    (c.in-Ok.ensures.failure (c.in-Ok-true.ensures.failure ∙ c.lines.invariant.reader) refl) (c.in-Ok-served.ensures.failure ∙ c.lines.invariant.writer)
 
 pub lines-preserved : goal.lines-preserved
 lines-preserved g c =

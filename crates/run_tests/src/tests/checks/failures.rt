@@ -1,8 +1,9 @@
 //! Readers and writers that fail, each time or once: no read and no write is tried again.
 
 use super::runs::{INPUT, OUTPUT};
-use office::{FromRead, RunFault, Source, ToWrite, check_run};
+use line_engine::{RunFault, Source, StdDevice};
 use std::alloc::Global;
+use table_lines::check_run;
 use test_samples::{MemoryReader, MemorySink, MemorySource, MemoryWriter};
 
 /// The first bytes of the output.
@@ -33,7 +34,7 @@ fn a_reader_fails(rt: HostRuntime) {
                 let reader = MemorySource::failing(INPUT, 1, *given, once);
                 let stops = stops_reading(rt.alloc(), reader, line, output);
                 assert!(rt; stops, "{given} {once}");
-                let reader = FromRead::new(MemoryReader::failing(INPUT, *given, once));
+                let reader = StdDevice::new(MemoryReader::failing(INPUT, *given, once));
                 let stops = stops_reading(rt.alloc(), reader, line, output);
                 assert!(rt; stops, "{given} {once}, a reader of std");
             }
@@ -80,7 +81,7 @@ fn a_writer_fails(rt: HostRuntime) {
 fn stops_writing_std(alloc: Global, room: usize, once: bool, line: u64, writes: u64) -> bool {
     let mut reader = MemorySource::new(INPUT, 100);
     let mut written = MemoryWriter::failing(alloc, room, once);
-    let mut writer = ToWrite::new(&mut written);
+    let mut writer = StdDevice::new(&mut written);
     let answer = check_run(alloc, &mut reader, &mut writer);
     let is_written = written.bytes() == output(room);
     answer == Err(RunFault::WriteFailed(line)) && is_written && written.writes() == writes

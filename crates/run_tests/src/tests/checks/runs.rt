@@ -1,9 +1,10 @@
 //! Whole runs: pieces of any size, a million lines, and stops.
 
 use crate::tests::End;
-use office::{RunCount, RunFault, check_run};
+use line_engine::{RunCount, RunFault};
 use std::alloc::Global;
 use std::test::Fail;
+use table_lines::check_run;
 use test_samples::{MemorySink, MemorySource};
 
 /// Three lines: one that isn't JSON, a blank one, and one that is no object.

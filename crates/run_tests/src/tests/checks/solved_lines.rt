@@ -1,10 +1,9 @@
 //! Tables without a plan in, the same with one out, and what the check of them replies: costs are worked out by hand. Which
 //! plan and which prices stand in a line is open, so no script can have these lines.
 
-use office::check_run;
 use std::alloc::{AllocError, Global};
 use std::test::Fail;
-use table_solver::solve_run;
+use table_lines::{check_run, solve_run};
 use test_samples::{MemorySink, MemorySource, numbers_list};
 
 /// What is replied to an input: the solved lines.

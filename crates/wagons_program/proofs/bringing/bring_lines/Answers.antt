@@ -1,13 +1,14 @@
+use Rattle.std.proofs.Common.{ap}
 use Rattle.wagons_program.specs.Brought.{ToCommands}
 use Rattle.wagons_program.proofs.Outcomes.{are_answered, are_stopped, status_of_ended, why_of_stopped}
 use Rattle.wagons_program.proofs.bringing.bring_lines.Goals as goal
 
 pub returns-clause-ok : goal.returns-clause-ok
 returns-clause-ok g c =
-    status_of_ended _ c.run.result _ _ c.status_of_run.ensures c.run.ensures.ok
-    (λ count ends. are_answered ToCommands _ _ _ _ _ c.new-reader.ensures.remaining c.new-writer.ensures.contents count ends)
+    status_of_ended _ c.run.result _ _ c.status_of_run.ensures c.run.ensures.replies.ok
+    (λ count ends. are_answered ToCommands _ _ _ _ _ (ap g.I.Read.remaining c.new-reader.ensures.device) (ap g.O.Write.contents c.new-writer.ensures.device) count ends)
 
 pub returns-clause-err : goal.returns-clause-err
 returns-clause-err g c =
-    why_of_stopped _ c.run.result _ _ c.status_of_run.ensures c.run.ensures.err
-    (λ fault stops. are_stopped ToCommands _ _ _ _ _ c.new-reader.ensures.remaining c.new-writer.ensures.contents _ fault stops)
+    why_of_stopped _ c.run.result _ _ c.status_of_run.ensures c.run.ensures.replies.err
+    (λ fault stops. are_stopped ToCommands _ _ _ _ _ (ap g.I.Read.remaining c.new-reader.ensures.device) (ap g.O.Write.contents c.new-writer.ensures.device) _ fault stops)

@@ -1,9 +1,9 @@
-use Rattle.std.proofs.Common.{refl}
-use Rattle.wagons_program.specs.Brought.{ToTables}
+use Rattle.std.proofs.Common.{ap, refl}
+use Rattle.table_lines.specs.Solving.{ToTables}
 use Rattle.wagons_program.proofs.Outcomes.{are_answered, status_of_ended}
 use Rattle.wagons_program.proofs.solve.solve.Goals as goal
 
 pub returns : goal.returns
 returns g c =
     status_of_ended _ c.solve_run.result _ _ c.status_of_run.ensures c.solve_run.ensures.ok
-    (λ count ends. (record { input = g.I.Read.remaining c.args.input; held = _; old = tt; new = tt }, refl, are_answered ToTables _ _ _ _ _ c.new-reader.ensures.remaining refl count ends))
+    (λ count ends. (record { input = g.I.Read.remaining c.args.input; held = _; old = tt; new = tt }, refl, are_answered ToTables _ _ _ _ _ (ap g.I.Read.remaining c.new-reader.ensures.device) refl count ends))

@@ -14,7 +14,7 @@ returns-in_err-wagon-clause-none c =
     let less = c.if-nearest-min.false in
     let at = c.requires.nearest.onward.attained (omega (arith, limit, less, top)) in
     let none = rw (c.deref.ensures.value, c.deref-2.ensures.value) at c.in_err-wagon.ensures.none in
-    absurd (none at.place (omega arith) at.within at.is at.among)
+    absurd (none at.index (omega arith) at.within at.is at.among)
 
 pub returns-clause-next : goal.returns-clause-next
 returns-clause-next c =

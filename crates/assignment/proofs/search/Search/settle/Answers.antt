@@ -31,8 +31,8 @@ close_next-requires c =
     let within = c.requires.next.within in
     let number : c.index-2.result.now ≡ served next.order s.order_of = get_or_read c.args.state.now.served.items next.order c.index-2.result.now (omega (arith, within, numbers)) c.index-2.ensures 0 ∙ c.requires.state.served.each next.order within in
     let count = f.orders.ok.0 in
-    let place = c.len-place.ensures in
-    let later : c.len-place.result == 0 ≡ false → 0 < length f.orders.items = λ no. let apart = eqb-false c.len-place.result 0 no in omega (arith, apart, place, count) in
+    let index = c.len-index.ensures in
+    let later : c.len-index.result == 0 ≡ false → 0 < length f.orders.items = λ no. let apart = eqb-false c.len-index.result 0 no in omega (arith, apart, index, count) in
     record {
       wagon = λ no. let led = (c.requires.next.led (later no)).0 in omega (arith, led, len, targets);
       none = λ zero_served i l. rw value (target_none s f next _ i keeps h c.requires.next (sym number ∙ zero_served) (omega (arith, l, len, targets)));
@@ -53,7 +53,7 @@ returns-clause-search c =
     let within = c.requires.next.within in
     let price : c.index.result.now ≡ get_or s.v next.order 0 = get_or_read s.v next.order c.index.result.now (omega (arith, within, prices)) c.index.ensures 0 in
     let count = f.orders.ok.0 in
-    let len = c.len-place.ensures in
+    let len = c.len-index.ensures in
     let settled : IsSettled s f next.order next.distance next.wagon (with_item f.order_distance next.order next.distance).items c.push_reserved.new.self.items c.push_reserved-2.new.self.items target = record {
       distances_are = refl;
       orders_are = c.push_reserved.ensures.items;
@@ -62,4 +62,4 @@ returns-clause-search c =
       opens = λ i l. rw c.deref_mut.ensures.value at (c.close_next.ensures i (omega (arith, l, value, targets)));
     } in
     search_settled s f next.order next.distance next.wagon (length f.orders.items) c.nearer-self.result (with_item f.order_distance next.order next.distance) c.push_reserved.new.self c.push_reserved-2.new.self (with_items f.target target) c.requires.state.keeps h (omega arith) c.requires.next (rw target_is settled) c.push_reserved.ensures.capacity c.push_reserved-2.ensures.capacity
-    (refusal_read s f next.order next.distance c.penalty-penalty.result c.index.result.now c.len-place.result c.nearer-self.result c.penalty-penalty.ensures.value price (omega (arith, len, count)) c.nearer-self.ensures)
+    (refusal_read s f next.order next.distance c.penalty-penalty.result c.index.result.now c.len-index.result c.nearer-self.result c.penalty-penalty.ensures.value price (omega (arith, len, count)) c.nearer-self.ensures)

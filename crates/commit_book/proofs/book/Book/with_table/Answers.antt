@@ -11,12 +11,12 @@ use Rattle.commit_book.proofs.book.Book.with_table.Goals.{in-Some+in_ok-made-in-
 
 pub mended-requires-clause-ascend : goal.mended-requires-clause-ascend
 mended-requires-clause-ascend c =
-    let rows = subst (λ (s : StateValue). IsWagonRows s.office.wagons) c.state.ensures.state c.wagon_rows-rows.ensures.valid in
+    let rows = subst (λ (s : StateValue). IsWagonRows s.office.wagons) c.state.ensures.state c.for_the_prover.ensures.wagons in
     problem_ascends _ (replay c.args.self.now.setting c.args.self.now.state.history) c.args.problem.now.at c.requires rows
 
 pub of-requires : goal.of-requires
 of-requires c =
-    let rows = subst (λ (s : StateValue). IsWagonRows s.office.wagons) c.state.ensures.state c.wagon_rows-rows.ensures.valid in
+    let rows = subst (λ (s : StateValue). IsWagonRows s.office.wagons) c.state.ensures.state c.for_the_prover.ensures.wagons in
     problem_ascends _ (replay c.args.self.now.setting c.args.self.now.state.history) c.args.problem.now.at c.requires rows
 
 pub returns-clause-made : goal.returns-clause-made

@@ -6,6 +6,6 @@ pub invariant_of-self-2 : goal.invariant_of-self-2
 invariant_of-self-2 c =
     held _ _ _ (HoldRows-more c.self.inside.entries.items c.extend_from_slice.new.self.items c.args.row.now c.self.inside.ends.items c.push_reserved.new.self.items _ _ (search rules) (search rules) refl c.self.invariant)
 
-pub returns : goal.returns
-returns c =
+pub returns-clause-pushed : goal.returns-clause-pushed
+returns-clause-pushed c =
     rw (← c.self.view_is) (HoldRows-more c.self.inside.entries.items c.extend_from_slice.new.self.items c.args.row.now c.self.inside.ends.items c.push_reserved.new.self.items _ _ (search rules) (search rules) refl c.self.invariant).rows_are

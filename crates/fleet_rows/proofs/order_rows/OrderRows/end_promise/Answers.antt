@@ -6,17 +6,17 @@ use Rattle.fleet_rows.proofs.Orders.{known_at}
 use Rattle.fleet_rows.proofs.Waiting.{changed_there, room_there, stored_there}
 use Rattle.fleet_rows.proofs.order_rows.OrderRows.end_promise.Goals as goal
 
-pub unwrap-place-requires : goal.unwrap-place-requires
-unwrap-place-requires c = known_at c.args.self.now c.args.id c.place_of.result c.place_of.ensures c.requires
+pub unwrap-index-requires : goal.unwrap-index-requires
+unwrap-index-requires c = known_at c.args.self.now c.args.id c.index_of.result c.index_of.ensures c.requires
 
 pub note-requires : goal.note-requires
-note-requires c = room_there c.args.id c.self.invariant c.self.view_is c.place_of.ensures c.unwrap-place.ensures c.index_mut-row.ensures.value
+note-requires c = room_there c.args.id c.self.invariant c.self.view_is c.index_of.ensures c.unwrap-index.ensures c.index_mut-row.ensures.value
 
 pub invariant_of-self : goal.invariant_of-self
 invariant_of-self c =
-    rw c.end_promise.ensures.row (stored_there c.args.id c.self.invariant c.self.view_is c.place_of.ensures c.unwrap-place.ensures c.index_mut-row.ensures.value (freed_of c.args.number c.index_mut-row.result.now) refl
+    rw c.end_promise.ensures.row (stored_there c.args.id c.self.invariant c.self.view_is c.index_of.ensures c.unwrap-index.ensures c.index_mut-row.ensures.value (freed_of c.args.number c.index_mut-row.result.now) refl
     (λ seen valid. row_without c.index_mut-row.result.now c.args.number valid) refl (omega arith)
     (c.is_waiting.ensures.value ∙ ap is_waiting c.end_promise.ensures.row) c.note.ensures.items c.note.ensures.room)
 
 pub returns : goal.returns
-returns c = rw c.end_promise.ensures.row (changed_there c.args.id c.self.invariant c.self.view_is c.place_of.ensures c.unwrap-place.ensures c.index_mut-row.ensures.value (freed_of c.args.number))
+returns c = rw c.end_promise.ensures.row (changed_there c.args.id c.self.invariant c.self.view_is c.index_of.ensures c.unwrap-index.ensures c.index_mut-row.ensures.value (freed_of c.args.number))

@@ -13,9 +13,9 @@ pub invariant_of-self-2 : goal.invariant_of-self-2
 invariant_of-self-2 c =
     let pushed : c.push.new.self.items ≡ c.self.inside.rows.items ++ placed_row c.args.text ∷ [] = search rules in
     let new = rw (← c.self.view_is) at c.requires.new in
-    let place : c.len-place.result ≡ length c.self.inside.rows.items = search rules in
+    let place : c.len-index.result ≡ length c.self.inside.rows.items = search rules in
     let indexed =
-    indexed_push c.self.inside.rows.items (get (slice_cmp nat_cmp) c.self.inside.places) (get (slice_cmp nat_cmp) c.insert.new.self) c.self.inside.open_wagons c.args.text c.self.invariant.rows_kept new (rw (← c.self.view_is, ← c.self.invariant.rows_kept.counted) at c.requires.few_open)
+    indexed_push c.self.inside.rows.items (get (slice_cmp nat_cmp) c.self.inside.indexes) (get (slice_cmp nat_cmp) c.insert.new.self) c.self.inside.open_wagons c.args.text c.self.invariant.rows_kept new (rw (← c.self.view_is, ← c.self.invariant.rows_kept.counted) at c.requires.few_open)
     (λ q. rw (c.id.ensures, place) at (c.in_ok-insert.ensures.updates.0 q)) in
-    rw (pushed, c.wagons.ensures.value) (stored_push c.self.inside.rows.items (get (slice_cmp nat_cmp) c.self.inside.places) c.self.inside.open_wagons _ c.self.inside.waiting.items _ _ _ c.len-place.result (placed_row c.args.text) c.is_waiting.result c.self.invariant (get (slice_cmp nat_cmp) c.insert.new.self) indexed
-    (c.is_waiting.ensures.value ∙ ap is_waiting c.in_ok-row.ensures) place (c.note.ensures.items ∙ ap (noted c.len-place.result c.is_waiting.result) c.reserve-2.ensures.items) (omega (arith, c.note.ensures.room, c.in_ok-reserve-2.ensures.ok)))
+    rw (pushed, c.wagons.ensures.value) (stored_push c.self.inside.rows.items (get (slice_cmp nat_cmp) c.self.inside.indexes) c.self.inside.open_wagons _ c.self.inside.waiting.items _ _ _ c.len-index.result (placed_row c.args.text) c.is_waiting.result c.self.invariant (get (slice_cmp nat_cmp) c.insert.new.self) indexed
+    (c.is_waiting.ensures.value ∙ ap is_waiting c.in_ok-row.ensures) place (c.note.ensures.items ∙ ap (noted c.len-index.result c.is_waiting.result) c.reserve-2.ensures.items) (omega (arith, c.note.ensures.room, c.in_ok-reserve-2.ensures.ok)))

@@ -4,16 +4,16 @@ use Rattle.fleet_rows.proofs.Named.{read_at}
 use Rattle.fleet_rows.proofs.Wagons.{found_in}
 use Rattle.fleet_rows.proofs.wagon_rows.WagonRows.find.Goals as goal
 
-there : (c : goal.In_ok-row) → slice_get c.self.inside.rows.items c.in_ok-place.place ≡ Some c.in_ok-row.row.now
+there : (c : goal.In_ok-row) → slice_get c.self.inside.rows.items c.in_ok-index.index ≡ Some c.in_ok-row.row.now
 there c =
-    let (row, at, named) = rw (c.in_ok-place.was, c.deref.ensures.value) at c.place_of.ensures.found in
+    let (row, at, named) = rw (c.in_ok-index.was, c.deref.ensures.value) at c.index_of.ensures.found in
     let lookup = rw c.deref-2.ensures.value at c.get.ensures.lookup in
-    sym (read_at c.get.result c.self.inside.rows.items c.in_ok-place.place lookup.0 lookup.1 (slice_get_within c.self.inside.rows.items c.in_ok-place.place row at)) ∙ ap (option_map (λ row. row.now)) c.in_ok-row.was
+    sym (read_at c.get.result c.self.inside.rows.items c.in_ok-index.index lookup.0 lookup.1 (slice_get_within c.self.inside.rows.items c.in_ok-index.index row at)) ∙ ap (option_map (λ row. row.now)) c.in_ok-row.was
 
-pub returns-clause-place : goal.returns-clause-place
-returns-clause-place c = rw (← c.self.view_is) (there c)
+pub returns-clause-index : goal.returns-clause-index
+returns-clause-index c = rw (← c.self.view_is) (there c)
 
 pub returns-clause-row : goal.returns-clause-row
 returns-clause-row c =
-    let (row, at, named) = rw (c.in_ok-place.was, c.deref.ensures.value) at c.place_of.ensures.found in
-    rw (← c.self.view_is) (found_in c.self.inside.rows.items c.in_ok-place.place row c.args.number (Some c.in_ok-row.row.now) c.self.invariant.kept.ascending at named (sym (there c)))
+    let (row, at, named) = rw (c.in_ok-index.was, c.deref.ensures.value) at c.index_of.ensures.found in
+    rw (← c.self.view_is) (found_in c.self.inside.rows.items c.in_ok-index.index row c.args.number (Some c.in_ok-row.row.now) c.self.invariant.kept.ascending at named (sym (there c)))

@@ -10,24 +10,24 @@ use Rattle.fleet_rows.proofs.wagon_rows.WagonRows.put.Goals as goal
 
 pub returns-in_err-replace-clause-memory : goal.returns-in_err-replace-clause-memory
 returns-in_err-replace-clause-memory c =
-    let (at, named) = read_row c.self.inside.rows.items c.args.place c.args.row.number c.index.result.now (rw (← c.self.view_is) at c.requires) c.index.ensures in
+    let (at, named) = read_row c.self.inside.rows.items c.args.index c.args.row.number c.index.result.now (rw (← c.self.view_is) at c.requires) c.index.ensures in
     let stood : stand_in c.self.inside.rows.items c.args.row.number ≡ stand_of c.index.result.now =
-    ap (option_and_then stand_of) (ap (wagon_in c.self.inside.rows.items) (sym named) ∙ wagon_in-there c.self.inside.rows.items c.args.place c.index.result.now c.self.invariant.kept.ascending at) in
-    let stands = new_stand c.self.inside.rows.items c.args.place c.index.result.now (contains compare_standings c.self.inside.empty) (stand_of c.args.row) at c.self.invariant.standings
+    ap (option_and_then stand_of) (ap (wagon_in c.self.inside.rows.items) (sym named) ∙ wagon_in-there c.self.inside.rows.items c.args.index c.index.result.now c.self.invariant.kept.ascending at) in
+    let stands = new_stand c.self.inside.rows.items c.args.index c.index.result.now (contains compare_standings c.self.inside.empty) (stand_of c.args.row) at c.self.invariant.standings
     (rw c.standing_of.ensures at c.in_err-replace.ensures.comes) (rw c.standing_of.ensures at c.in_err-replace.ensures.absent) in
     on_err c.from_residual.result _ (rw (← c.self.view_is) (subst (λ s. IsNewStand s (stand_of c.args.row)) (sym stood) stands))
 
 pub invariant_of-self-2 : goal.invariant_of-self-2
 invariant_of-self-2 c =
-    let (at, named) = read_row c.self.inside.rows.items c.args.place c.args.row.number c.index.result.now (rw (← c.self.view_is) at c.requires) c.index.ensures in
+    let (at, named) = read_row c.self.inside.rows.items c.args.index c.args.row.number c.index.result.now (rw (← c.self.view_is) at c.requires) c.index.ensures in
     record {
-      kept = rows_with c.self.inside.rows.items c.args.place c.index.result.now c.args.row c.self.invariant.kept at named;
+      kept = rows_with c.self.inside.rows.items c.args.index c.index.result.now c.args.row c.self.invariant.kept at named;
       standings =
-          put_standings c.self.inside.rows.items c.args.place c.index.result.now c.args.row (contains compare_standings c.self.inside.empty) (contains compare_standings c.replace.new.standings) at c.self.invariant.standings
+          put_standings c.self.inside.rows.items c.args.index c.index.result.now c.args.row (contains compare_standings c.self.inside.empty) (contains compare_standings c.replace.new.standings) at c.self.invariant.standings
           (rw (c.standing_of-before.ensures, c.standing_of.ensures) at c.in_ok-replace.ensures.replaced);
     }
 
 pub returns-clause-put : goal.returns-clause-put
 returns-clause-put c =
-    let (at, named) = read_row c.self.inside.rows.items c.args.place c.args.row.number c.index.result.now (rw (← c.self.view_is) at c.requires) c.index.ensures in
-    rw (← c.self.view_is) (put_is c.self.inside.rows.items c.args.place c.index.result.now c.args.row c.self.invariant.kept.ascending at named)
+    let (at, named) = read_row c.self.inside.rows.items c.args.index c.args.row.number c.index.result.now (rw (← c.self.view_is) at c.requires) c.index.ensures in
+    rw (← c.self.view_is) (put_is c.self.inside.rows.items c.args.index c.index.result.now c.args.row c.self.invariant.kept.ascending at named)

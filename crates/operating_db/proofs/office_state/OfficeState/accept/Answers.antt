@@ -4,7 +4,7 @@ use Rattle.operating_db.proofs.States.{change_done, change_settles, change_state
 use Rattle.operating_db.proofs.office_state.OfficeState.accept.Goals as goal
 
 pub put-requires : goal.put-requires
-put-requires c = rw (← c.self.view_is) at c.in-Ok.ensures.place
+put-requires c = rw (← c.self.view_is) at c.in-Ok.ensures.index
 
 pub settle-requires : goal.settle-requires
 settle-requires c =

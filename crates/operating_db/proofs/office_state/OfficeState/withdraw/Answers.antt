@@ -14,7 +14,7 @@ wagons_are c =
 
 orders_are : (c : goal.After-withdraw) → c.withdraw.new.self ≡ at_order c.args.id taken_back c.self.inside.orders
 orders_are c =
-    (rw c.in-Some.ensures.place at c.withdraw.ensures) ∙ ap (λ name. at_order name taken_back c.self.inside.orders) (id-order_in c.self.inside.orders c.args.id c.in-Some.row.now (sym c.in-Some.ensures.row))
+    (rw c.in-Some.ensures.index at c.withdraw.ensures) ∙ ap (λ name. at_order name taken_back c.self.inside.orders) (id-order_in c.self.inside.orders c.args.id c.in-Some.row.now (sym c.in-Some.ensures.row))
 
 pub invariant_of-self : goal.invariant_of-self
 invariant_of-self c = withdrawn_state _ c.args.id c.end_promises.new.wagons c.withdraw.new.self (wagons_are c) (orders_are c) c.self.invariant

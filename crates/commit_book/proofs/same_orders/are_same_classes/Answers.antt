@@ -1,6 +1,0 @@
-use Rattle.std.specs.Cmp.Lexicographic.{bytes_decides}
-use Rattle.std.proofs.lemmas.Slice.Eq.{slice_eq-Decides}
-use Rattle.commit_book.proofs.same_orders.are_same_classes.Goals as goal
-
-pub returns : goal.returns
-returns c = slice_eq-Decides bytes_decides c.args.one.now c.args.other.now _ c.eq.ensures

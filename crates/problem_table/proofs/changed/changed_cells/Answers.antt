@@ -1,0 +1,20 @@
+use Rattle.std.proofs.Common.{◌≡◌, ◌∙◌, rules, sym, subst}
+use Rattle.problem_table.proofs.AllowedLemmas.{lasting_ascend, lasting_rows}
+use Rattle.problem_table.proofs.Made.{timed_lasting, timed_lasts, timed_now}
+use Rattle.problem_table.proofs.changed.changed_cells.Goals as goal
+
+pub changed_rows-requires-clause-rows : goal.changed_rows-requires-clause-rows
+changed_rows-requires-clause-rows c =
+    rw (c.deref.ensures.value, c.rows-rows.ensures.rows, ← c.requires.orders) (lasting_rows c.args.tables.now c.args.earlier.now c.args.made.now.cells c.args.made.now.lasts.items c.rows-rows.ensures.table c.requires.made)
+
+pub timed-requires-clause-ascend : goal.timed-requires-clause-ascend
+timed-requires-clause-ascend c = lasting_ascend c.args.tables.now c.args.problem.now.at c.args.problem.now.wagons c.args.problem.now.orders _ c.in_ok-rows.lasts.items c.in_ok-rows.ensures.rows
+
+pub returns-clause-table : goal.returns-clause-table
+returns-clause-table c = timed_now c.args.tables.now c.args.problem.now _ c.in_ok-rows.lasts.items c.in_ok-rows.ensures.rows c.timed.result c.timed.ensures.cells
+
+pub returns-clause-lasts : goal.returns-clause-lasts
+returns-clause-lasts c = timed_lasts c.args.tables.now c.args.problem.now _ c.in_ok-rows.lasts.items c.in_ok-rows.ensures.rows c.timed.result c.timed.ensures.cells c.timed.ensures.least
+
+pub returns-clause-by_wagon : goal.returns-clause-by_wagon
+returns-clause-by_wagon c = timed_lasting c.args.tables.now c.args.problem.now _ c.in_ok-rows.lasts.items c.in_ok-rows.ensures.rows c.timed.result c.timed.ensures.cells c.timed.ensures.lasts

@@ -1,0 +1,126 @@
+//! The book behind the lock.
+ghost use Rattle.std.specs.Prelude.{◌≡◌, ◌≤◌, ◌<◌, ◌+◌, IfOk, length};
+ghost use Rattle.commit_book.specs.BookStep.{IsCall};
+ghost use Rattle.commit_book.specs.Books.{IsNoEntry, answer_of, begun_of, IsSetting};
+ghost use Rattle.commit_book.specs.Headline.{IsProved};
+ghost use Rattle.commit_book.specs.Snap.{snap_of};
+ghost use Rattle.commit_book.specs.declared.call.Call.TheVariants as call;
+ghost use Rattle.sessions.specs.AnyBook.{IsBooksAnswer};
+ghost use Rattle.sessions.specs.inner.Counted.{IsCounted, accepted_in};
+
+use commit_book::{Book, Refusal, Reply, Snap};
+use move_messages::Event;
+use rail_codes::Moment;
+use std::alloc::{AllocError, Global};
+use std::sync::ledger;
+use std::sync::ledger::{Ledger, Share};
+
+/// What stands behind the lock: a book, and the total of the ledger whose shares the seats have. The total is the number of
+/// the book's entries, so the counts of all seats add up to it whenever the lock is taken.
+#[derive(Drop)]
+pub(crate) struct CountedBook<L: Ledger> {
+    pub(crate) book: Book,
+    pub(crate) total: ledger::Book<L>,
+    /// A share that has no part, into which those of the seats are merged when the shared book closes.
+    pub(crate) rest: Share<L>,
+    ghost counted: { length book.state.history ≡ total.total },
+    ghost no_part: { rest.parts ≡ 0 },
+}
+
+impl<L: Ledger> CountedBook<L> {
+    /// Lets an event of a seat be taken in by the book, and counts it on the seat's share if it was accepted.
+    pub(crate) fn enter(
+        &mut self,
+        alloc: Global,
+        share: &mut Share<L>,
+        event: Event,
+    ) -> Result<Reply, Refusal>
+        requires { 0 < share.old.parts }
+        ensures call { IsCall self.old.book.setting self.old.book.state (call.Event event) (answer_of result) self.new.book.state }
+        ensures given { IsSetting self.old.book.setting }
+        ensures proved { IsProved self.old.book.setting self.old.book.state.history }
+        ensures proved_after { IsProved self.old.book.setting self.new.book.state.history }
+        ensures within { share.old.amount ≤ length self.old.book.state.history }
+        ensures counted { IsCounted share.old.amount share.new.amount result }
+        ensures parts { share.new.parts ≡ share.old.parts }
+    {
+        self.audit(share);
+        let CountedBook {
+            book,
+            total,
+            rest: _,
+        } = self;
+        let answer = book.submit(alloc, event);
+        book.for_the_prover();
+        let reply = match answer {
+            Ok(reply) => reply,
+            Err(refusal) => return Err(refusal),
+        };
+        count(total, share, reply);
+        Ok(reply)
+    }
+
+    /// What the call for an event is answered where no memory is to be had, which changes nothing.
+    pub(crate) fn answer_without_memory(
+        &mut self,
+        share: &mut Share<L>,
+        event: &Event,
+    ) -> Result<Reply, Refusal>
+        ensures answered { IsBooksAnswer share.old.amount event.now result }
+        ensures no_entry { IsNoEntry result }
+        ensures amount { share.new.amount ≡ share.old.amount }
+        ensures parts { share.new.parts ≡ share.old.parts }
+    {
+        self.audit(share);
+        self.book.answer_without_memory(event)
+    }
+
+    /// The problem of the book's present version at a moment, which the book keeps. The seat's count is at most the
+    /// version.
+    pub(crate) fn begin(
+        &mut self,
+        alloc: Global,
+        share: &mut Share<L>,
+        at: Moment,
+    ) -> Result<Snap, AllocError>
+        ensures call { IsCall self.old.book.setting self.old.book.state (call.Begin at) (begun_of result) self.new.book.state }
+        ensures given { IsSetting self.old.book.setting }
+        ensures proved { IsProved self.old.book.setting self.old.book.state.history }
+        ensures within { share.old.amount ≤ length self.old.book.state.history }
+        ensures snap { IfOk result (λ snap. snap ≡ snap_of self.old.book.setting self.old.book.state.history at) }
+        ensures version { IfOk result (λ snap. share.old.amount ≤ snap.version) }
+        ensures amount { share.new.amount ≡ share.old.amount }
+        ensures parts { share.new.parts ≡ share.old.parts }
+    {
+        self.audit(share);
+        self.book.begin(alloc, at)
+    }
+
+    /// Holds a seat's share against the total, which changes nothing: the book was given what a book can be given, and its
+    /// history is as the headline says and has at least as many entries as the seat has receipts.
+    fn audit(&mut self, share: &mut Share<L>)
+        ensures given { IsSetting self.old.book.setting }
+        ensures proved { IsProved self.old.book.setting self.old.book.state.history }
+        ensures within { share.old.amount ≤ length self.old.book.state.history }
+        ensures book { self.new.book ≡ self.old.book }
+        ensures amount { share.new.amount ≡ share.old.amount }
+        ensures parts { share.new.parts ≡ share.old.parts }
+    {
+        self.book.for_the_prover();
+        self.total.audit(share);
+    }
+}
+
+/// Counts an accepted call on a share.
+fn count<L: Ledger>(total: &mut ledger::Book<L>, share: &mut Share<L>, reply: Reply)
+    requires { 0 < share.old.parts }
+    ensures total { total.new.total ≡ total.old.total + accepted_in reply }
+    ensures amount { share.new.amount ≡ share.old.amount + accepted_in reply }
+    ensures parts { share.new.parts ≡ share.old.parts }
+    ensures bound { share.new.amount ≤ total.new.total }
+{
+    if let Reply::Accepted(_) = reply {
+        total.add(share, 1);
+    }
+    total.audit(share);
+}

@@ -1,3 +1,0 @@
-pub mod SolvedText
-pub mod Solving
-pub mod inner
