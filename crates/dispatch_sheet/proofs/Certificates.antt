@@ -17,7 +17,7 @@ use Rattle.rail_codes.specs.Moment.{moment_of}
 use Rattle.rail_codes.specs.OrderId.{order_id_of, IsOrderId}
 use Rattle.rail_codes.specs.WagonNumber.{IsWagonNumber}
 use Rattle.rail_codes.proofs.WagonNumbers.{wagon_number_of-IsWagonNumber}
-use Rattle.move_messages.specs.Values.{list_of_each, number_within, text_of, moment_from, wagon_and_order}
+use Rattle.move_messages.specs.Values.{code_from, list_of_each, number_within, text_of, moment_from, wagon_and_order}
 use Rattle.move_messages.specs.Written.{list_data, number_data, pair_data}
 use Rattle.move_messages.specs.Field.{field_name}
 use Rattle.move_messages.specs.Fields.{member, field_of}
@@ -80,7 +80,7 @@ pair-reads wagon order wagon_text order_text wagon_same wagon_valid order_same o
     pair_reads wagon order (wagon_number_of-IsWagonNumber wagon (subst IsWagonNumber wagon_same wagon_valid)) (order-reads order (subst IsOrderId order_same order_valid))
 
 moment-reads : (at : List ℕ) (moment : ℕ) → moment_of at ≡ Ok moment → moment_from (string at) ≡ Ok moment
-unfolding moment_from text_of
+unfolding code_from text_of
 moment-reads at moment e = rw e refl
 
 prices-read : (prices : List ℕ) → AreReadablePrices prices → list_of_each (number_within 0 (2 ^ 64 - 1)) (list_data number_data prices) ≡ Ok prices

@@ -4,26 +4,4 @@
 #![tactic(auto)]
 
 #[cfg(test)]
-mod books;
-#[cfg(test)]
-mod commits;
-#[cfg(test)]
-mod distances;
-#[cfg(test)]
-mod examples;
-#[cfg(test)]
-mod moments;
-#[cfg(test)]
-mod networks;
-#[cfg(test)]
-mod orders;
-#[cfg(test)]
-mod problems;
-#[cfg(test)]
-mod rosters;
-#[cfg(test)]
-mod sessions;
-#[cfg(test)]
-mod small_tables;
-#[cfg(test)]
-mod tables;
+mod tests;

@@ -15,8 +15,8 @@ use crate::message::{Message, MessageKind};
 use crate::order_text::OrderText;
 use crate::plain_message::plain_message;
 use crate::{
-    Field, LineFault, boolean_at, company_at, count_at, moment_at, number_at, numbers_at,
-    object_of, optional_count_at, order_id_at, pairs_at, place_at, text_at, wagon_number_at,
+    Field, LineFault, boolean_at, code_at, count_at, number_at, numbers_at, object_of,
+    optional_count_at, pairs_at, text_at,
 };
 use rail_codes::MessageId;
 use serde_json::Value;
@@ -55,11 +55,11 @@ fn command_at(alloc: Global, line_type: LineType, object: &Value) -> Result<Comm
         LineType::Arrival => Event::Message(message_at(object, MessageKind::Arrival)?),
         LineType::Delivery => Event::Message(message_at(object, MessageKind::Delivery)?),
         LineType::Order => Event::Place(order_at(object)?),
-        LineType::Withdraw => Event::Withdraw(order_id_at(object, Field::Order)?),
+        LineType::Withdraw => Event::Withdraw(code_at(object, Field::Order)?),
         LineType::Commit => Event::Commit(commit_at(alloc, object)?),
         LineType::Network => Event::Revise(count_at(object, Field::Revision, 1, MAX_REVISION)?),
-        LineType::Begin => return Ok(Command::Begin(moment_at(object, Field::At)?)),
-        LineType::Plan => return Ok(Command::Plan(moment_at(object, Field::At)?)),
+        LineType::Begin => return Ok(Command::Begin(code_at(object, Field::At)?)),
+        LineType::Plan => return Ok(Command::Plan(code_at(object, Field::At)?)),
         LineType::Sheet => return Ok(Command::Sheet),
     };
     Ok(Command::Event(event))
@@ -70,11 +70,11 @@ fn command_at(alloc: Global, line_type: LineType, object: &Value) -> Result<Comm
 fn message_at(object: &Value, kind: MessageKind) -> Result<Message, LineFault>
     ensures { result ≡ meaning.message_of kind (view object.now) }
 {
-    let company = company_at(object, Field::Company)?;
+    let company = code_at(object, Field::Company)?;
     let number = count_at(object, Field::Number, 0, u32::MAX)?;
-    let wagon = wagon_number_at(object, Field::Wagon)?;
-    let place = place_at(object, Field::Place)?;
-    let moment = moment_at(object, Field::Moment)?;
+    let wagon = code_at(object, Field::Wagon)?;
+    let place = code_at(object, Field::Place)?;
+    let moment = code_at(object, Field::Moment)?;
     Ok(Message {
         id: MessageId { company, number },
         kind,
@@ -102,11 +102,11 @@ fn exception_at(object: &Value) -> Result<Message, LineFault>
 fn order_at(object: &Value) -> Result<OrderText, LineFault>
     ensures { result ≡ meaning.order_text_of (view object.now) }
 {
-    let id = order_id_at(object, Field::Order)?;
-    let place = place_at(object, Field::Place)?;
+    let id = code_at(object, Field::Order)?;
+    let place = code_at(object, Field::Place)?;
     let classes = classes_at(object)?;
     let load = count_at(object, Field::Load, 0, MAX_LOAD)?;
-    let latest = moment_at(object, Field::Latest)?;
+    let latest = code_at(object, Field::Latest)?;
     let penalty = number_at(object, Field::Penalty, 0, MAX_PENALTY)?;
     let wagons = optional_count_at(object, Field::Wagons, 1, MAX_ORDER_WAGONS)?.unwrap_or(1);
     let order = OrderText::new(id, place, classes, load, latest, penalty, wagons);
@@ -119,7 +119,7 @@ fn commit_at(alloc: Global, object: &Value) -> Result<CommitText, LineFault>
     ensures { Gives (λ commit. commit) result (meaning.commit_text_of (view object.now)) }
 {
     let version = number_at(object, Field::Version, 0, MAX_VERSION)?;
-    let at = moment_at(object, Field::At)?;
+    let at = code_at(object, Field::At)?;
     let pairs = pairs_at(alloc, object, Field::Pairs)?;
     let u = numbers_at(alloc, object, Field::WagonPrices, 0, u64::MAX)?;
     let v = numbers_at(alloc, object, Field::OrderPrices, 0, u64::MAX)?;

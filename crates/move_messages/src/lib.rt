@@ -37,14 +37,9 @@ pub use field::Field;
 pub use kind::{CountKind, ItemKind};
 pub use limits::{MAX_CLASSES, MAX_LOAD, MAX_ORDER_WAGONS, MAX_PENALTY, MAX_REVISION, MAX_VERSION};
 pub use line::object_of;
-pub use lists::{
-    codes_at, codes_at as order_ids_at, codes_at as wagon_numbers_at, list_of_each, numbers_at,
-    optional_list_at, pairs_at,
-};
+pub use lists::{codes_at, list_of_each, numbers_at, optional_list_at, pairs_at};
 pub use members::{
-    boolean_at, code_at, code_at as company_at, code_at as moment_at, code_at as order_id_at,
-    code_at as place_at, code_at as wagon_number_at, count_at, in_field, member, number_at,
-    optional_count_at, text_at,
+    boolean_at, code_at, count_at, in_field, member, number_at, optional_count_at, text_at,
 };
 pub use message::{Message, MessageKind, is_same_message};
 pub use order_text::{OrderText, is_same_order};

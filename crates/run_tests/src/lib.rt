@@ -4,20 +4,4 @@
 #![tactic(auto)]
 
 #[cfg(test)]
-mod checks;
-#[cfg(test)]
-mod commands;
-#[cfg(test)]
-mod feeding;
-#[cfg(test)]
-mod manual;
-#[cfg(test)]
-mod names;
-#[cfg(test)]
-mod stops;
-#[cfg(test)]
-mod words;
-
-/// How a run ends: the lines and the refusals, or the stop's number and line.
-#[cfg(test)]
-type End = Result<(u64, u64), (u32, Option<u64>)>;
+mod tests;

@@ -10,7 +10,7 @@ use crate::cells::cells_at;
 use crate::lacks::lacks_at;
 use crate::table_line::TableLine;
 use cost_table::MAX_COST;
-use move_messages::{Field, LineFault, numbers_at, object_of, order_ids_at, wagon_numbers_at};
+use move_messages::{Field, LineFault, codes_at, numbers_at, object_of};
 use serde_json::Value;
 use std::alloc::Global;
 
@@ -36,8 +36,8 @@ pub(crate) fn table_part(alloc: Global, object: &Value) -> Result<TableLine, Lin
     ensures meaning { Gives table_text result (table_of (view object.now)) }
     ensures limits { IfOk result IsWithinLimits }
 {
-    let wagons = wagon_numbers_at(alloc, object, Field::Wagons)?;
-    let orders = order_ids_at(alloc, object, Field::Orders)?;
+    let wagons = codes_at(alloc, object, Field::Wagons)?;
+    let orders = codes_at(alloc, object, Field::Orders)?;
     let cells = cells_at(alloc, object)?;
     let penalties = numbers_at(alloc, object, Field::Penalties, 0, MAX_COST)?;
     let lacks = lacks_at(alloc, object)?;

@@ -1,7 +1,7 @@
 //! All tables of at most two wagons and two orders, with cells from none, 0, 1 and 2, penalties from 0 to 2 and lacks
 //! of 1 and 2: the planner's cost is the least of all plans.
 
-use crate::tables::table;
+use crate::tests::tables::table;
 use assignment::certified_plan;
 use cost_table::Cells;
 use std::alloc::Global;

@@ -1,6 +1,6 @@
 //! Whole runs: pieces of any size, a million lines, and stops.
 
-use crate::End;
+use crate::tests::End;
 use line_engine::{RunCount, RunFault};
 use std::alloc::Global;
 use std::test::Fail;

@@ -1,5 +1,5 @@
 use Rattle.std.proofs.Common.{◌≡◌, All, false, vec_len}
-use Rattle.run_tests.proofs.feeding.feeds.readers_of.Given as goal
+use Rattle.run_tests.proofs.tests.feeding.feeds.readers_of.Given as goal
 
 abbrev pub invariant-loop-text : goal.invariant-loop-text
 invariant-loop-text l = record {

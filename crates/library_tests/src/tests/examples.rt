@@ -1,6 +1,6 @@
 //! A table that doesn't fit a line, planned.
 
-use crate::tables::table;
+use crate::tests::tables::table;
 use assignment::plan;
 use cost_table::{Cells, Plan};
 use price_checker::check;

@@ -1,7 +1,7 @@
 //! An input of a million lines.
 
 use super::runs::end_of;
-use crate::End;
+use crate::tests::End;
 use std::alloc::Global;
 use std::test::Fail;
 use test_samples::SAMPLE;

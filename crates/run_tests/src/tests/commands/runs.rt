@@ -1,6 +1,6 @@
 //! Runs in memory.
 
-use crate::End;
+use crate::tests::End;
 use office::{RunCount, RunFault, run};
 use std::alloc::Global;
 use std::test::Fail;

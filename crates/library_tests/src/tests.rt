@@ -1,0 +1,14 @@
+//! The tests, by what they try.
+
+mod books;
+mod commits;
+mod distances;
+mod examples;
+mod moments;
+mod networks;
+mod orders;
+mod problems;
+mod rosters;
+mod sessions;
+mod small_tables;
+mod tables;
