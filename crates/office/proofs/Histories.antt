@@ -9,15 +9,14 @@ use Rattle.line_engine.specs.declared.run.RunFault.{RunFault}
 use Rattle.line_engine.specs.declared.run.RunFault.TheVariants.{OutOfMemory, TooManyLines, LineTooLong, ReadFailed, WriteFailed}
 use Rattle.move_messages.specs.Commands.{command_of}
 use Rattle.move_messages.specs.declared.command.Command.{Command}
-use Rattle.commit_book.specs.Requests.{request_of}
-use Rattle.commit_book.specs.declared.request.Request.{Request}
-use Rattle.commit_book.specs.declared.request.Request.TheVariants as request
+use Rattle.move_messages.specs.declared.command.Command.TheVariants as command
+use Rattle.move_messages.specs.declared.event.Event.{Event}
 use Rattle.commit_book.specs.BookStep.{BookState, IsRun, IsStep}
 use Rattle.commit_book.specs.Books.{BookValue}
 use Rattle.commit_book.specs.Setting.{Setting}
 use Rattle.commit_book.specs.declared.answer.Answer.{Answer}
 use Rattle.commit_book.specs.declared.call.Call.{Call}
-use Rattle.office.specs.CommandReplies.{CommandLeaves, IsBegun, IsLedTo, LeavesOutOfMemory, RepliesToCall, RepliesToCommand, RepliesToLine, RepliesToRequest, LineRunsOutOfMemory}
+use Rattle.office.specs.CommandReplies.{ReadLeaves, IsBegun, IsLedTo, LeavesOutOfMemory, LineRunsOutOfMemory, RepliesToRead, RepliesToEvent, RepliesToLine, RepliesToCommand}
 
 -- ---- calls
 
@@ -51,36 +50,36 @@ led_on old mid new first second = record {
 led_by_begin : (old new : BookValue) (at : ℕ) → IsBegun old at new → IsLedTo old new
 led_by_begin old new at begun = led_by_step old new _ _ begun.step begun.setting
 
-led_by_call : (old new : BookValue) (call : Call) (body : List ℕ) (refused : Bool) → RepliesToCall old call body refused new → IsLedTo old new
-led_by_call old new call body refused replies = led_by_step old new call replies.answer replies.step replies.setting
+led_by_event : (old new : BookValue) (event : Event) (body : List ℕ) (refused : Bool) → RepliesToEvent old event body refused new → IsLedTo old new
+led_by_event old new event body refused replies = led_by_step old new _ replies.answer replies.step replies.setting
 
-led_by_request : (old new : BookValue) (asked : Request) (body : List ℕ) (refused : Bool) → RepliesToRequest old asked body refused new → IsLedTo old new
-led_by_request old new (request.Event event) body refused replies = led_by_call old new _ body refused replies
-led_by_request old new (request.Begin at) body refused replies = led_by_begin old new at replies.2
-led_by_request old new (request.Plan at) body refused replies = led_by_begin old new at replies.2
-led_by_request old new request.Sheet body refused replies = led_nowhere old new replies.2
+led_by_command : (old new : BookValue) (asked : Command) (body : List ℕ) (refused : Bool) → RepliesToCommand old asked body refused new → IsLedTo old new
+led_by_command old new (command.Event event) body refused replies = led_by_event old new event body refused replies
+led_by_command old new (command.Begin at) body refused replies = led_by_begin old new at replies.2
+led_by_command old new (command.Plan at) body refused replies = led_by_begin old new at replies.2
+led_by_command old new command.Sheet body refused replies = led_nowhere old new replies.2
 
-led_by_command : (old new : BookValue) (read : Result Command LineFault) (body : List ℕ) (refused : Bool) → RepliesToCommand old read body refused new → IsLedTo old new
-led_by_command old new (Err fault) body refused replies = led_nowhere old new replies.2
-led_by_command old new (Ok asked) body refused replies = led_by_request old new (request_of asked) body refused replies
+led_by_read : (old new : BookValue) (read : Result Command LineFault) (body : List ℕ) (refused : Bool) → RepliesToRead old read body refused new → IsLedTo old new
+led_by_read old new (Err fault) body refused replies = led_nowhere old new replies.2
+led_by_read old new (Ok asked) body refused replies = led_by_command old new asked body refused replies
 
-left_by_request : (old new : BookValue) (asked : Request) → LeavesOutOfMemory old asked new → IsLedTo old new
-left_by_request old new (request.Event event) leaves = led_nowhere old new leaves
-left_by_request old new (request.Begin at) leaves = led_nowhere old new leaves
-left_by_request old new (request.Plan at) leaves = elim leaves [
+left_by_command : (old new : BookValue) (asked : Command) → LeavesOutOfMemory old asked new → IsLedTo old new
+left_by_command old new (command.Event event) leaves = led_nowhere old new leaves
+left_by_command old new (command.Begin at) leaves = led_nowhere old new leaves
+left_by_command old new (command.Plan at) leaves = elim leaves [
   | inl same ↦ led_nowhere old new same
   | inr begun ↦ led_by_begin old new at begun
 ]
-left_by_request old new request.Sheet leaves = led_nowhere old new leaves
+left_by_command old new command.Sheet leaves = led_nowhere old new leaves
 
-left_by_command : (old new : BookValue) (read : Result Command LineFault) → CommandLeaves old read new → IsLedTo old new
-left_by_command old new (Err fault) leaves = led_nowhere old new leaves
-left_by_command old new (Ok asked) leaves = left_by_request old new (request_of asked) leaves
+left_by_read : (old new : BookValue) (read : Result Command LineFault) → ReadLeaves old read new → IsLedTo old new
+left_by_read old new (Err fault) leaves = led_nowhere old new leaves
+left_by_read old new (Ok asked) leaves = left_by_command old new asked leaves
 
 led_by_response : (old new : BookValue) (line body : List ℕ) (refused : Bool) → Responds RepliesToLine LineRunsOutOfMemory old line body refused new → IsLedTo old new
 led_by_response old new line body refused responds = elim responds [
-  | inl replies ↦ led_by_command old new (command_of line) body refused replies
-  | inr memory ↦ left_by_command old new (command_of line) memory.0
+  | inl replies ↦ led_by_read old new (command_of line) body refused replies
+  | inr memory ↦ left_by_read old new (command_of line) memory.0
 ]
 
 led_by_line : (n : ℕ) (old new : BookValue) (line text : List ℕ) (refused blank : Bool) → is_blank line ≡ blank → AnswersLine RepliesToLine LineRunsOutOfMemory n old line text refused new → IsLedTo old new

@@ -4,6 +4,8 @@ use Rattle.move_messages.specs.declared.fault.LineFault.{LineFault}
 use Rattle.move_messages.specs.Commands.{command_of}
 use Rattle.move_messages.specs.declared.command.Command.{Command}
 use Rattle.move_messages.specs.declared.command.Command.TheVariants as command
+use Rattle.move_messages.specs.declared.event.Event.{Event}
+use Rattle.move_messages.specs.declared.event.Event.TheVariants as event
 use Rattle.cost_table.specs.Plan.{IsOptimal, cost_of}
 use Rattle.cost_table.specs.PlanList.{IsPlanList}
 use Rattle.cost_table.specs.Table.{Table}
@@ -11,9 +13,6 @@ use Rattle.price_checker.specs.Certificate.{IsCertificate}
 use Rattle.commit_book.specs.Books.{BookValue}
 use Rattle.commit_book.specs.BookStep.{IsRun, IsStep}
 use Rattle.commit_book.specs.History.{IsTableAt}
-use Rattle.commit_book.specs.Requests.{call_of, request_of}
-use Rattle.commit_book.specs.declared.request.Request.{Request}
-use Rattle.commit_book.specs.declared.request.Request.TheVariants as request
 use Rattle.commit_book.specs.Snap.{SnapValue, snap_of}
 use Rattle.commit_book.specs.declared.answer.Answer.{Answer}
 use Rattle.commit_book.specs.declared.answer.Answer.TheVariants.{Done, Begun, Refused}
@@ -43,10 +42,10 @@ is_refused (Refused refusal) = true
 is_refused (Done reply) = false
 is_refused (Begun n) = false
 
--- a call is a step of the book, and the reply is its answer
-pub record RepliesToCall (old : BookValue) (call : Call) (body : List ℕ) (refused : Bool) (new : BookValue) : Type 0 where
+-- an event is a step of the book, and the reply is its answer
+pub record RepliesToEvent (old : BookValue) (event : Event) (body : List ℕ) (refused : Bool) (new : BookValue) : Type 0 where
   pub answer : Answer
-  pub step : IsStep old.setting old.state call answer new.state
+  pub step : IsStep old.setting old.state (call.Event event) answer new.state
   pub setting : new.setting ≡ old.setting
   pub text : body ≡ answer_text answer
   pub mark : refused ≡ is_refused answer
@@ -75,7 +74,7 @@ pub record IsPlanned (snap : SnapValue) (table : Table) (body : List ℕ) : Type
   pub certificate : IsCertificate table pairs u v
   pub line : List ℕ
   pub is_line : IsCertificateLine (commit_of snap pairs u v) line
-  pub reads : command_of line ≡ Ok (command.Commit (commit_of snap pairs u v))
+  pub reads : command_of line ≡ Ok (command.Event (event.Commit (commit_of snap pairs u v)))
   pub text : body ≡ planned_reply snap (cost_of table pairs) ++ plan_text_of snap.problem table pairs ++ line ++ 10 ∷ []
 
 -- a plan of the present version's problem at a moment
@@ -84,36 +83,36 @@ IsPlanOf old at body = (table : Table) × IsTableAt old.setting old.state.histor
 
 -- ---- lines
 
--- the reply to what a command asks for
-abbrev pub RepliesToRequest : BookValue → Request → List ℕ → Bool → BookValue → Type 0
-RepliesToRequest old (request.Event event) body refused new = RepliesToCall old (call_of event) body refused new
-RepliesToRequest old (request.Begin at) body refused new = (body ≡ begun_reply (present old at)) × (refused ≡ false) × IsBegun old at new
-RepliesToRequest old (request.Plan at) body refused new = IsPlanOf old at body × (refused ≡ false) × IsBegun old at new
-RepliesToRequest old request.Sheet body refused new = IsSheetText (length old.state.history) (present_office old) body × (refused ≡ false) × (new ≡ old)
+-- the reply to a command
+abbrev pub RepliesToCommand : BookValue → Command → List ℕ → Bool → BookValue → Type 0
+RepliesToCommand old (command.Event event) body refused new = RepliesToEvent old event body refused new
+RepliesToCommand old (command.Begin at) body refused new = (body ≡ begun_reply (present old at)) × (refused ≡ false) × IsBegun old at new
+RepliesToCommand old (command.Plan at) body refused new = IsPlanOf old at body × (refused ≡ false) × IsBegun old at new
+RepliesToCommand old command.Sheet body refused new = IsSheetText (length old.state.history) (present_office old) body × (refused ≡ false) × (new ≡ old)
 
--- the reply to a command, or to a line that is none
-abbrev pub RepliesToCommand : BookValue → Result Command LineFault → List ℕ → Bool → BookValue → Type 0
-RepliesToCommand old (Err fault) body refused new = (body ≡ line_refused_text fault) × (refused ≡ true) × (new ≡ old)
-RepliesToCommand old (Ok asked) body refused new = RepliesToRequest old (request_of asked) body refused new
+-- the reply to what was read: a command, or a line that is none
+abbrev pub RepliesToRead : BookValue → Result Command LineFault → List ℕ → Bool → BookValue → Type 0
+RepliesToRead old (Err fault) body refused new = (body ≡ line_refused_text fault) × (refused ≡ true) × (new ≡ old)
+RepliesToRead old (Ok asked) body refused new = RepliesToCommand old asked body refused new
 
 -- the reply to a line's bytes
 abbrev pub RepliesToLine : BookValue → List ℕ → List ℕ → Bool → BookValue → Type 0
-RepliesToLine old line body refused new = RepliesToCommand old (command_of line) body refused new
+RepliesToLine old line body refused new = RepliesToRead old (command_of line) body refused new
 
--- what a request does whose reply is that memory is out: nothing; but a plan may have begun
-abbrev pub LeavesOutOfMemory : BookValue → Request → BookValue → Type 0
-LeavesOutOfMemory old (request.Plan at) new = (new ≡ old) ⊎ IsBegun old at new
-LeavesOutOfMemory old (request.Event event) new = new ≡ old
-LeavesOutOfMemory old (request.Begin at) new = new ≡ old
-LeavesOutOfMemory old request.Sheet new = new ≡ old
+-- what a command does whose reply is that memory is out: nothing; but a plan may have begun
+abbrev pub LeavesOutOfMemory : BookValue → Command → BookValue → Type 0
+LeavesOutOfMemory old (command.Plan at) new = (new ≡ old) ⊎ IsBegun old at new
+LeavesOutOfMemory old (command.Event event) new = new ≡ old
+LeavesOutOfMemory old (command.Begin at) new = new ≡ old
+LeavesOutOfMemory old command.Sheet new = new ≡ old
 
-abbrev pub CommandLeaves : BookValue → Result Command LineFault → BookValue → Type 0
-CommandLeaves old (Ok asked) new = LeavesOutOfMemory old (request_of asked) new
-CommandLeaves old (Err fault) new = new ≡ old
+abbrev pub ReadLeaves : BookValue → Result Command LineFault → BookValue → Type 0
+ReadLeaves old (Ok asked) new = LeavesOutOfMemory old asked new
+ReadLeaves old (Err fault) new = new ≡ old
 
 -- the same of a line's bytes
 abbrev pub LineRunsOutOfMemory : BookValue → List ℕ → BookValue → Type 0
-LineRunsOutOfMemory old line new = CommandLeaves old (command_of line) new
+LineRunsOutOfMemory old line new = ReadLeaves old (command_of line) new
 
 -- ---- runs
 

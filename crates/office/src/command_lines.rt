@@ -1,7 +1,6 @@
 //! The run that brings command lines to a book.
-ghost use Rattle.std.specs.Prelude.{◌≡◌, ◌≢◌, ◌≤◌, ◌++◌, false, true, List, ℕ, Err, IfOk, MatchResult, Ok, IsOk, OnErr, OnOk, length};
+ghost use Rattle.std.specs.Prelude.{◌≡◌, ◌≢◌, ◌≤◌, ◌++◌, false, true, List, ℕ, Err, IfOk, MatchResult, Ok, IsOk, OnErr, OnOk, length, Some, slice_get};
 ghost use Rattle.commit_book.specs.Books.{answer_of};
-ghost use Rattle.commit_book.specs.BookStep.{is_kept};
 ghost use Rattle.commit_book.specs.Headline.{IsProved};
 ghost use Rattle.commit_book.specs.declared.answer.Answer.TheVariants.{Refused};
 ghost use Rattle.faults.specs.declared.faults.Refusal.TheVariants.{OutOfMemory};
@@ -11,15 +10,15 @@ ghost use Rattle.line_engine.specs.Runs.{Runs, run_over};
 ghost use Rattle.cost_table.specs.Plan.{IsOptimal};
 ghost use Rattle.price_checker.specs.Certificate.{IsCertificate};
 ghost use Rattle.dispatch_sheet.specs.PlanText.{FitsProblem};
-ghost use Rattle.office.specs.CommandReplies.{IsLedTo, IsPlanOf, IsPlanned, LeavesOutOfMemory, RepliesToLine, RepliesToRequest, LineRunsOutOfMemory, answer_text, begun_reply, is_refused, present};
+ghost use Rattle.office.specs.CommandReplies.{IsLedTo, IsPlanOf, IsPlanned, LeavesOutOfMemory, LineRunsOutOfMemory, RepliesToCommand, RepliesToLine, answer_text, begun_reply, is_refused, present};
 ghost use Rattle.office.specs.inner.OutOfMemory.{MayAnswerOutOfMemory};
 
 use assignment::plan;
-use commit_book::{Book, Refusal, Reply, Request, Snap};
+use commit_book::{Book, Refusal, Reply, Snap};
 use cost_table::{Cells, Plan, cost};
 use dispatch_sheet::{certificate_line, plan_text, sheet_text};
 use line_engine::{Handler, Outcome, ReplyText, RunCount, RunFault, Sink, Source, run_lines};
-use move_messages::{LineFault, read_line};
+use move_messages::{Command, LineFault, read_line};
 use price_checker::Prices;
 use rail_codes::Moment;
 use reply_texts::{
@@ -46,7 +45,7 @@ impl Handler for CommandLines {
         reply: &mut ReplyText,
     ) -> Result<Outcome, AllocError> {
         match read_line(alloc, line) {
-            Ok(command) => answer_request(alloc, book, Request::from(command), reply),
+            Ok(command) => answer_command(alloc, book, command, reply),
             Err(LineFault::OutOfMemory) => Err(AllocError),
             Err(fault) => {
                 push_line_refused(reply, &fault)?;
@@ -56,30 +55,30 @@ impl Handler for CommandLines {
     }
 }
 
-/// Does what is asked for, and adds the reply.
-fn answer_request(
+/// Does what a command asks for, and adds the reply.
+fn answer_command(
     alloc: Global,
     book: &mut Book,
-    request: Request,
+    command: Command,
     reply: &mut ReplyText,
 ) -> Result<Outcome, AllocError>
     requires short { length reply.old ≤ max_head_bytes }
     ensures reply { MatchResult result
-        (λ outcome. (body : List ℕ) × (reply.new ≡ reply.old ++ body) × RepliesToRequest book.old request body (is_refusal outcome) book.new)
-        (λ _. LeavesOutOfMemory book.old request book.new) }
-    ensures memory { OnErr result (MayAnswerOutOfMemory book.old request) }
+        (λ outcome. (body : List ℕ) × (reply.new ≡ reply.old ++ body) × RepliesToCommand book.old command body (is_refusal outcome) book.new)
+        (λ _. LeavesOutOfMemory book.old command book.new) }
+    ensures memory { OnErr result (MayAnswerOutOfMemory book.old command) }
 {
-    match request {
-        Request::Event(event) => return push_answer(reply, book.submit(alloc, &event)),
-        Request::Begin(at) => {
+    match command {
+        Command::Event(event) => return push_answer(reply, book.submit(alloc, event)),
+        Command::Begin(at) => {
             let snap = book.begin(alloc, at)?;
             push_begun_reply(reply, &snap)?;
         }
-        Request::Plan(at) => {
-            let snap = book.begin(alloc, at)?;
-            push_plan(alloc, reply, book, &snap)?;
+        Command::Plan(at) => {
+            let (snap, index) = book.begin_indexed(alloc, at)?;
+            push_plan(alloc, reply, book, &snap, index)?;
         }
-        Request::Sheet => reply.push_str(&sheet_text(alloc, book.len(), book.state())?)?,
+        Command::Sheet => reply.push_str(&sheet_text(alloc, book.len(), book.state())?)?,
     }
     Ok(Outcome::Answered)
 }
@@ -123,18 +122,19 @@ fn push_begun_reply(reply: &mut ReplyText, snap: &Snap) -> Result<(), AllocError
     )
 }
 
-/// Plans the problem just begun, whose table the book keeps, and adds the plan and its certificate.
+/// Plans the problem just begun, which the book keeps at this index, and adds the plan and its certificate.
 fn push_plan(
     alloc: Global,
     reply: &mut ReplyText,
     book: &Book,
     snap: &Snap,
+    index: usize,
 ) -> Result<(), AllocError>
-    requires kept { is_kept book.now.state.kept (snap.now.version, snap.now.problem.at) ≡ true }
+    requires kept { slice_get book.now.state.kept index ≡ Some (snap.now.version, snap.now.problem.at) }
     requires present { snap.now ≡ present book.now snap.now.problem.at }
     ensures { OnOk result ((body : List ℕ) × (reply.new ≡ reply.old ++ body) × IsPlanOf book.now snap.now.problem.at body) }
 {
-    let cells = book.kept_cells(snap.version(), snap.at()).unwrap();
+    let cells = book.kept_table(index);
     let (plan, prices) = plan(alloc, cells)?;
     push_planned_reply(alloc, reply, snap, cells, &plan, &prices)
 }
@@ -189,7 +189,6 @@ pub fn run<R: Source, W: Sink>(
     ensures proved { IsProved book.new.setting book.new.state.history }
 {
     let count = run_lines(alloc, reader, writer, &CommandLines, book);
-    // Whatever was called, the book's history is legal and its commits are proved.
-    let _state = book.state();
+    book.for_the_prover();
     count
 }
