@@ -2,3 +2,4 @@ pub mod Fields
 pub mod Files
 pub mod Reading
 pub mod Requests
+pub mod Refusing

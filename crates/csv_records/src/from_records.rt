@@ -2,6 +2,7 @@
 ghost use Rattle.std.specs.Prelude.{◌≡◌, ◌≤◌, ◌<◌, ◌+◌, ◌^◌, ◌++◌, ◌∷◌, [], ℕ, IfErr, IfOk, List, length};
 ghost use Rattle.csv.specs.Records.{fields_of};
 ghost use Rattle.csv_records.specs.Fields.{Record};
+ghost use Rattle.csv_records.specs.Refusing.{RefusesNext, RefusesPast};
 ghost use Rattle.faults.specs.declared.faults.RecordFault.{RecordFault};
 ghost use Rattle.faults.specs.declared.faults.RecordFault.TheVariants.{OutOfMemory, ReadFailed};
 
@@ -35,7 +36,7 @@ pub trait FromRecords: Drop {
     fn with_record(self, number: u32, fields: &ByteRecord) -> Result<Self, Self::Fault>
         requires { (done : List Record) × made_of self done × (length done + 1 ≡ number) × (number ≤ MOST_RECORDS + 1) }
         ensures made { IfOk result (λ made. (done : List Record) → made_of self done → length done + 1 ≡ number → made_of made (done ++ fields_of fields.now ∷ [])) }
-        ensures refused { IfErr result (λ fault. (done rest : List Record) → made_of self done → length done + 1 ≡ number → refuses fault (done ++ fields_of fields.now ∷ rest)) }
+        ensures refused { IfErr result (RefusesNext made_of refuses self number (fields_of fields.now)) }
         ensures no_reader { IfErr result (λ fault. Self.Fault.from_gives ReadFailed fault → ⊥) };
 
     /// Why a file with no record is refused.
@@ -45,7 +46,7 @@ pub trait FromRecords: Drop {
 
     /// Why a file with a record past the most is refused.
     fn too_many() -> Self::Fault
-        ensures refused { (made : Self) (done rest : List Record) (past : Record) → made_of made done → length done ≡ MOST_RECORDS + 1 → refuses result (done ++ past ∷ rest) }
+        ensures refused { RefusesPast made_of refuses MOST_RECORDS result }
         ensures no_reader { Self.Fault.from_gives ReadFailed result → ⊥ };
 
     // records are counted in 32 bits

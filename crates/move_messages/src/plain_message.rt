@@ -1,12 +1,12 @@
 //! Messages as most senders write them: without spaces, and with the fields in the order of the manual. They are read
 //! in one pass and without memory.
 
-ghost use Rattle.std.specs.Prelude.{◌≡◌, ℕ, List, Ok, IfSome, codes, true};
+ghost use Rattle.std.specs.Prelude.{◌≡◌, Ok, IfSome, codes, true};
 ghost use Rattle.move_messages.specs.Line.{object_of};
 ghost use Rattle.move_messages.specs.Commands.{command_of};
 ghost use Rattle.move_messages.specs.declared.command.Command.TheVariants as command;
 ghost use Rattle.move_messages.specs.declared.event.Event.TheVariants as event;
-ghost use Rattle.move_messages.specs.inner.PlainMessage.{IsKindOf, IsTypeOf, plain_object};
+ghost use Rattle.move_messages.specs.inner.PlainMessage.{IsKindOf, IsReadAs, IsTypeOf, plain_object};
 
 use crate::line_type::LineType;
 use crate::message::{Message, MessageKind};
@@ -71,7 +71,7 @@ fn is_closing_brace(rest: &str) -> bool
 
 /// The message of these fields, `None` where one of them is refused.
 fn message_of(fields: &PlainMessage<'_>) -> Option<Message>
-    ensures { IfSome result (λ message. (line : List ℕ) → object_of line ≡ Ok (plain_object fields.now) → command_of line ≡ Ok (command.Event (event.Message message))) }
+    ensures { IfSome result (IsReadAs fields.now) }
 {
     let kind = kind_named(fields.type_name)?;
     let Ok(company) = Company::read(fields.company) else {

@@ -18,6 +18,10 @@ pub record Lines (H : Type 0) : Type 0 where
   pub old : H
   pub new : H
 
+-- the same of an input, an output, and the states before and after
+abbrev pub lines_over : {H : Type 0} → (input held : Option (List ℕ)) → (old new : H) → Lines H
+lines_over input held old new = record { input = input; held = held; old = old; new = new }
+
 -- by what is left of the input after it, and what the output holds then
 abbrev pub run_of : {H : Type 0} → Lines H → (left holds : Option (List ℕ)) → Run H
 run_of lines left holds = record { from = lines.input; to = left; held = lines.held; holds = holds; old = lines.old; new = lines.new }

@@ -2,7 +2,7 @@
 ghost use Rattle.std.specs.Prelude.{IfErr, IfOk, List};
 ghost use Rattle.commit_book.specs.Books.{BookValue};
 ghost use Rattle.wagons_and_orders.specs.declared.wagon_row.WagonRow.{WagonRow};
-ghost use Rattle.wagons_program.specs.Brought.{AreAnswered, AreStopped, ToCommands};
+ghost use Rattle.wagons_program.specs.Brought.{AreAnswered, AreStopped, ToCommands, lines_over};
 ghost use Rattle.wagons_program.specs.FirstBook.{IsFirstBook};
 
 use crate::new_book::{OfficeFiles, new_book, read_files};
@@ -36,7 +36,7 @@ pub(crate) fn bring<R: Files + Threads + Wait + AllocGlobal, I: Read + Drop, O: 
     output: O,
 ) -> Result<Brought, Stop>
     ensures { IfOk result (λ brought. (roster : List WagonRow) × (first : BookValue) × IsFirstBook roster brought.networks.items options.now.limits first
-        × AreAnswered ToCommands (record { input = I.remaining input; held = O.contents output; old = first; new = brought.book }) brought.status) }
+        × AreAnswered ToCommands (lines_over (I.remaining input) (O.contents output) first brought.book) brought.status) }
 {
     let OfficeFiles { roster, networks } = read_files(rt, options)?;
     let mut book = new_book(rt, options, roster, &networks)?.book;
@@ -55,8 +55,8 @@ fn bring_lines<I: Read + Drop, O: Write + Drop>(
     output: O,
     book: &mut Book,
 ) -> Result<u8, Stop>
-    ensures ok { IfOk result (λ status. AreAnswered ToCommands (record { input = I.remaining input; held = O.contents output; old = book.old; new = book.new }) status) }
-    ensures err { IfErr result (λ stop. AreStopped ToCommands (record { input = I.remaining input; held = O.contents output; old = book.old; new = book.new }) stop) }
+    ensures ok { IfOk result (AreAnswered ToCommands (lines_over (I.remaining input) (O.contents output) book.old book.new)) }
+    ensures err { IfErr result (AreStopped ToCommands (lines_over (I.remaining input) (O.contents output) book.old book.new)) }
 {
     let mut reader = StdDevice::new(input);
     let mut writer = StdDevice::new(output);

@@ -3,7 +3,9 @@ use Rattle.std.specs.Prelude.{◌≡◌, ℕ, List, codes, decimal, Ok}
 use Rattle.json.specs.Json as json
 use Rattle.serde_json.specs.Data.{Data, unsigned, number, string, object, no_members, member}
 use Rattle.move_messages.specs.Values.{◌>>=◌}
-use Rattle.move_messages.specs.Commands.{command_of_type, message_of}
+use Rattle.move_messages.specs.Line.{object_of}
+use Rattle.move_messages.specs.Commands.{command_of, command_of_type, message_of}
+use Rattle.move_messages.specs.declared.message.Message as movement
 use Rattle.move_messages.specs.LineType.{line_type_of}
 use Rattle.move_messages.specs.declared.command.Command.TheVariants.{Event}
 use Rattle.move_messages.specs.declared.event.Event.TheVariants.{Message}
@@ -32,3 +34,7 @@ IsKindOf line_type kind = (d : Data) → command_of_type line_type d ≡ (messag
 -- and so are lines of the type of that name
 abbrev pub IsTypeOf : List ℕ → MessageKind → Type 0
 IsTypeOf name kind = (line_type : LineType) × (line_type_of name ≡ Ok line_type) × IsKindOf line_type kind
+
+-- a line whose object has these fields is read as this message
+abbrev pub IsReadAs : PlainMessage → movement.Message → Type 0
+IsReadAs fields message = (line : List ℕ) → object_of line ≡ Ok (plain_object fields) → command_of line ≡ Ok (Event (Message message))
