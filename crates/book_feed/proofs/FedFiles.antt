@@ -1,15 +1,18 @@
 -- The files that were fed, their counts and their seats.
-use Rattle.std.proofs.Common.{◌≡◌, ℕ, Bool, List, [], ◌∷◌, ◌++◌, All, map, sym, ap, ◌∙◌, subst, append_assoc}
+use Rattle.std.proofs.Common.{◌≡◌, ℕ, Bool, List, [], ◌∷◌, ◌++◌, All, arith, length, map, refl, suc, sym, ap, ◌∙◌, subst, append_assoc}
 use Rattle.std.specs.Prelude.{Option, Result, Ok, Err, IfOk, Vec}
 use Rattle.std.specs.declared.alloc.Global.{Global}
-use Rattle.std.specs.List.{AllZip}
+use Rattle.std.specs.List.{AllZip, sum_by}
 use Rattle.std.proofs.lemmas.List.{append-nil}
 use Rattle.std.proofs.lemmas.List.Elements.{All-head, All-tail}
+use Rattle.std.proofs.lemmas.List.Sums.{sum_by-cons}
 use Rattle.line_network.specs.Network.{NetworkValue}
-use Rattle.operating_db.specs.declared.event.Event.{Event}
+use Rattle.move_messages.specs.declared.event.Event.{Event}
 use Rattle.sessions.specs.Closing.{HasEntries}
-use Rattle.sessions.specs.Seat.{SeatValue}
+use Rattle.sessions.specs.Seat.{SeatValue, count_of}
+use Rattle.commit_book.specs.Headline.{IsProved}
 use Rattle.book_feed.specs.FeedCounts.{IsFed}
+use Rattle.book_feed.specs.FeedReports.{IsFeedReport}
 use Rattle.book_feed.specs.inner.Fed.{AreFed, IsCountOf, given_with, no_file, one_file}
 use Rattle.dispatch_sheet.specs.declared.feed_report.FeedReport.{FeedReport}
 use Rattle.dispatch_sheet.specs.declared.feed_report.FileCount.{FileCount}
@@ -56,9 +59,25 @@ module _ {R : Type 0} (remaining : R → Option (List ℕ)) (has_failed : R → 
     fed_with networks history readers files seats others (All-tail (HasEntries history) seat seats entries),
   )
 
+  -- the files' accepted lines are the seats' receipts
+  accepted_by : (given : List (List NetworkValue × R)) (files : List (FileCount R)) (seats : List SeatValue) → AreFed remaining has_failed given files seats → sum_by (λ file. file.accepted) files ≡ sum_by count_of seats
+  accepted_by given files seats no_file = refl
+  accepted_by given (file ∷ files) (seat ∷ seats) (one_file is others) =
+      omega (arith, sum_by-cons (λ (f : FileCount R). f.accepted) file files, sum_by-cons count_of seat seats, is.accepted, accepted_by _ files seats others)
+
+  -- a seat for each file that was given
+  pub seats_by : (given : List (List NetworkValue × R)) (files : List (FileCount R)) (seats : List SeatValue) → AreFed remaining has_failed given files seats → length seats ≡ length given
+  seats_by given files seats no_file = refl
+  seats_by (first ∷ given) files (seat ∷ seats) (one_file is others) = ap suc (seats_by given _ seats others)
+
   -- so of a report
-  pub report_fed : {E : Type 0} (networks : List NetworkValue) (readers : List R) (files : Vec (FileCount R) Global) (seats : List SeatValue) (result : Result (FeedReport R) E) → AreFed remaining has_failed (map (given_with networks) readers) files.items seats
+  pub reported : {E : Type 0} (networks : List NetworkValue) (readers : List R) (files : Vec (FileCount R) Global) (seats : List SeatValue) (result : Result (FeedReport R) E) → AreFed remaining has_failed (map (given_with networks) readers) files.items seats
       → IfOk result (λ report. report.files ≡ files) → IfOk result (λ report. All (HasEntries report.book.state.history) seats)
-      → IfOk result (λ report. AllZip (IsFed networks report.book.state.history remaining has_failed) readers report.files.items)
-  report_fed networks readers files seats (Ok report) fed is entries = rw is (fed_with networks report.book.state.history readers files.items seats fed entries)
-  report_fed networks readers files seats (Err fault) fed is entries = tt
+      → IfOk result (λ report. length report.book.state.history ≡ sum_by count_of seats) → IfOk result (λ report. IsProved report.book.setting report.book.state.history)
+      → IfOk result (IsFeedReport networks remaining has_failed readers)
+  reported networks readers files seats (Ok report) fed is receipts entries proved = record {
+    files = rw is (fed_with networks report.book.state.history readers files.items seats fed receipts);
+    entries = rw is (accepted_by _ files.items seats fed ∙ sym entries);
+    proved = proved;
+  }
+  reported networks readers files seats (Err fault) fed is receipts entries proved = tt

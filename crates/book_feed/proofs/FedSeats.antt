@@ -6,7 +6,7 @@ use Rattle.std.specs.Io.KnownBytes.{Consumes, Keeps}
 use Rattle.std.proofs.lemmas.List.{length-append}
 use Rattle.std.proofs.lemmas.List.Sums.{sum_by-cons}
 use Rattle.move_messages.specs.declared.fault.LineFault.{LineFault}
-use Rattle.line_engine.specs.Lines.{is_blank, lines_of, max_input_lines}
+use Rattle.line_engine.specs.Lines.{first_line, has_feed, is_blank, lines_of, max_input_lines, max_line_bytes}
 use Rattle.line_engine.specs.Replies.{Answering, RunningOut, AnswersLine, Replies, Responds}
 use Rattle.line_engine.specs.RunFault.{number_of}
 use Rattle.line_engine.specs.Runs.{Ends, Failures, IsLineOrNext, Run, StandsAt, Stops}
@@ -16,17 +16,15 @@ use Rattle.line_engine.specs.declared.run.RunFault.TheVariants.{OutOfMemory, Too
 use Rattle.line_network.specs.Network.{NetworkValue}
 use Rattle.move_messages.specs.Commands.{command_of}
 use Rattle.move_messages.specs.declared.command.Command.{Command}
-use Rattle.operating_db.specs.declared.event.Event.{Event}
-use Rattle.commit_book.specs.Requests.{request_of}
-use Rattle.commit_book.specs.declared.request.Request.{Request}
-use Rattle.commit_book.specs.declared.request.Request.TheVariants as request
+use Rattle.move_messages.specs.declared.command.Command.TheVariants as command
+use Rattle.move_messages.specs.declared.event.Event.{Event}
 use Rattle.commit_book.specs.declared.reply.Reply.{Reply}
 use Rattle.commit_book.specs.declared.reply.Reply.TheVariants as reply
 use Rattle.faults.specs.declared.faults.Refusal.{Refusal}
 use Rattle.sessions.specs.declared.receipt.Receipt.{Receipt}
 use Rattle.sessions.specs.Seat.{IsAnswered, SeatValue, count_of, new_seat}
 use Rattle.book_feed.specs.FedLines.{AreDone, AreTaken, IsLineTaken, IsReadIn, IsSeatFed, IsStoppedAt, IsSubmitted, IsTakenIn, IsTurnedAway, blank_line, counted_by, is_accepted, is_refused, is_repeated, no_line, one_line}
-use Rattle.book_feed.specs.FeedCounts.{IsStopNumber, is_counted, is_request_counted}
+use Rattle.book_feed.specs.FeedCounts.{IsStopNumber, is_counted, is_command_counted}
 use Rattle.book_feed.specs.inner.Fed.{stop_number}
 use Rattle.book_feed.specs.inner.FeedLines.{Adds, IsLineFed}
 use Rattle.book_feed.specs.declared.feed_lines.Counted.{Counted}
@@ -45,7 +43,7 @@ gains_by old new event (Ok (reply.Repeated n)) answered = omega (arith, ap count
 gains_by old new event (Err refusal) answered = omega (arith, ap count_of answered)
 
 submitted_gains : (old new : SeatValue) (event : Event) (counted : Counted) → IsSubmitted old new event counted → Gains old new counted
-submitted_gains old new event counted submitted = rw submitted.counts (gains_by old new event submitted.result submitted.seat)
+submitted_gains old new event counted submitted = rw submitted.counts (gains_by old new event submitted.result submitted.answered.seat)
 
 -- a line that leaves the seat as it was, and doesn't count as accepted
 same_gains : (old new : SeatValue) (counted : Counted) → new ≡ old → is_accepted counted ≡ false → Gains old new counted
@@ -54,29 +52,29 @@ same_gains old new counted same none = rw none (omega (arith, ap count_of same))
 away_gains : (old new : SeatValue) (counted : Counted) → IsTurnedAway old new counted → Gains old new counted
 away_gains old new counted away = same_gains old new counted away.0 (ap is_accepted away.1)
 
-taken_gains : (networks : List NetworkValue) (old new : SeatValue) (asked : Request) (counted : Counted) → IsTakenIn networks old new asked counted → Gains old new counted
-taken_gains networks old new (request.Event event) counted taken = submitted_gains old new event counted taken
-taken_gains networks old new (request.Begin at) counted taken =
+taken_gains : (networks : List NetworkValue) (old new : SeatValue) (asked : Command) (counted : Counted) → IsTakenIn networks old new asked counted → Gains old new counted
+taken_gains networks old new (command.Event event) counted taken = submitted_gains old new event counted taken
+taken_gains networks old new (command.Begin at) counted taken =
     same_gains old new counted taken.0 (elim taken.1 [
       | inl refused ↦ ap is_accepted refused
       | inr begun ↦ ap is_accepted begun.0
     ])
-taken_gains networks old new (request.Plan at) counted taken = elim taken [
+taken_gains networks old new (command.Plan at) counted taken = elim taken [
   | inl committed ↦ submitted_gains old new _ counted committed.submitted
   | inr away ↦ away_gains old new counted away
 ]
-taken_gains networks old new request.Sheet counted taken = same_gains old new counted taken.0 (ap is_accepted taken.1)
+taken_gains networks old new command.Sheet counted taken = same_gains old new counted taken.0 (ap is_accepted taken.1)
 
 read_gains : (networks : List NetworkValue) (old new : SeatValue) (read : Result Command LineFault) (counted : Counted) → IsReadIn networks old new read counted → Gains old new counted
-read_gains networks old new (Ok command) counted is = elim is [
-  | inl taken ↦ taken_gains networks old new (request_of command) counted taken
+read_gains networks old new (Ok asked) counted is = elim is [
+  | inl taken ↦ taken_gains networks old new asked counted taken
   | inr away ↦ away_gains old new counted away
 ]
 read_gains networks old new (Err fault) counted away = away_gains old new counted away
 
 -- a line that isn't read may be any
 pub turned_away : (networks : List NetworkValue) (seat : SeatValue) (read : Result Command LineFault) → IsReadIn networks seat seat read Refused
-turned_away networks seat (Ok command) = inr (refl, refl)
+turned_away networks seat (Ok asked) = inr (refl, refl)
 turned_away networks seat (Err fault) = (refl, refl)
 
 -- ---- lines that must count
@@ -93,18 +91,18 @@ away_counts : (old new : SeatValue) (counted : Counted) → IsTurnedAway old new
 away_counts old new counted away nowhere = let both : Refused ≡ Nowhere = sym away.1 ∙ nowhere in cc
 
 -- what counts nowhere is a begin or a sheet
-taken_nowhere : (networks : List NetworkValue) (old new : SeatValue) (asked : Request) (counted : Counted) → IsTakenIn networks old new asked counted → counted ≡ Nowhere → is_request_counted asked ≡ false
-taken_nowhere networks old new (request.Event event) counted taken nowhere = absurd (submitted_counts old new event counted taken nowhere)
-taken_nowhere networks old new (request.Begin at) counted taken nowhere = refl
-taken_nowhere networks old new (request.Plan at) counted taken nowhere = elim taken [
+taken_nowhere : (networks : List NetworkValue) (old new : SeatValue) (asked : Command) (counted : Counted) → IsTakenIn networks old new asked counted → counted ≡ Nowhere → is_command_counted asked ≡ false
+taken_nowhere networks old new (command.Event event) counted taken nowhere = absurd (submitted_counts old new event counted taken nowhere)
+taken_nowhere networks old new (command.Begin at) counted taken nowhere = refl
+taken_nowhere networks old new (command.Plan at) counted taken nowhere = elim taken [
   | inl committed ↦ absurd (submitted_counts old new _ counted committed.submitted nowhere)
   | inr away ↦ absurd (away_counts old new counted away nowhere)
 ]
-taken_nowhere networks old new request.Sheet counted taken nowhere = refl
+taken_nowhere networks old new command.Sheet counted taken nowhere = refl
 
 pub read_nowhere : (networks : List NetworkValue) (old new : SeatValue) (read : Result Command LineFault) (counted : Counted) → IsReadIn networks old new read counted → counted ≡ Nowhere → is_counted read ≡ false
-read_nowhere networks old new (Ok command) counted is nowhere = elim is [
-  | inl taken ↦ taken_nowhere networks old new (request_of command) counted taken nowhere
+read_nowhere networks old new (Ok asked) counted is nowhere = elim is [
+  | inl taken ↦ taken_nowhere networks old new asked counted taken nowhere
   | inr away ↦ absurd (away_counts old new counted away nowhere)
 ]
 read_nowhere networks old new (Err fault) counted away nowhere = absurd (away_counts old new counted away nowhere)
@@ -239,6 +237,12 @@ module _ {L : Type 0} (networks : List NetworkValue) (run : Run (FileSeat L)) (f
       fed_by (Some code) at.lines (record { read = at.input; consumed = at.consumed; which = stopped; few = omega (arith, few, at.number) })
       (lines_fed networks 1 run.old run.new at.lines at.output at.refusals over at.replies)
 
+  -- a stop behind some lines, by what each number says of it
+  stopped_at : (n code : ℕ) (at : StandsAt Answers NeverOut run n) → 1 < code → (code ≡ 91 → (length at.lines ≡ max_input_lines) × (0 < length at.rest)) → (code ≡ 92 → max_line_bytes < length (first_line at.rest))
+      → (code ≡ 93 → has_feed at.rest ≡ false) → n ≤ max_input_lines + 1 → Fed (Some code)
+  stopped_at n code at later many long unread few =
+      fed_to_stop n code at (record { rest = at.rest; begins = at.begins; memory = λ e. absurd (omega (arith, later, e)); many = many; long = long; unread = unread }) few
+
   few_by : (n : ℕ) (rest : List ℕ) → IsLineOrNext n rest → n ≤ max_input_lines + 1
   few_by n rest (inl line) = omega (arith, line)
   few_by n rest (inr next) = omega (arith, next.0)
@@ -260,35 +264,11 @@ module _ {L : Type 0} (networks : List NetworkValue) (run : Run (FileSeat L)) (f
       })
       (nothing_fed networks run.old run.new stops.2)
   fed_until (TooManyLines n) quiet stops =
-      let at = stops.0 in
-      fed_to_stop n 91 at (record {
-        rest = at.rest;
-        begins = at.begins;
-        memory = λ e. absurd (omega arith);
-        many = λ e. (omega (arith, at.number, stops.1), stops.2);
-        long = λ e. absurd (omega arith);
-        unread = λ e. absurd (omega arith);
-      }) (omega (arith, stops.1))
+      stopped_at n 91 stops.0 (omega arith) (λ e. (omega (arith, stops.0.number, stops.1), stops.2)) (λ e. absurd (omega arith)) (λ e. absurd (omega arith)) (omega (arith, stops.1))
   fed_until (LineTooLong n) quiet stops =
-      let at = stops.0 in
-      fed_to_stop n 92 at (record {
-        rest = at.rest;
-        begins = at.begins;
-        memory = λ e. absurd (omega arith);
-        many = λ e. absurd (omega arith);
-        long = λ e. stops.2;
-        unread = λ e. absurd (omega arith);
-      }) (omega (arith, stops.1))
+      stopped_at n 92 stops.0 (omega arith) (λ e. absurd (omega arith)) (λ e. stops.2) (λ e. absurd (omega arith)) (omega (arith, stops.1))
   fed_until (ReadFailed n) quiet stops =
-      let at = stops.0 in
-      fed_to_stop n 93 at (record {
-        rest = at.rest;
-        begins = at.begins;
-        memory = λ e. absurd (omega arith);
-        many = λ e. absurd (omega arith);
-        long = λ e. absurd (omega arith);
-        unread = λ e. stops.2;
-      }) (few_by n at.rest stops.1)
+      stopped_at n 93 stops.0 (omega arith) (λ e. absurd (omega arith)) (λ e. absurd (omega arith)) (λ e. stops.2) (few_by n stops.0.rest stops.1)
   fed_until (WriteFailed n) quiet stops = absurd (let wrote : failed.writer ≡ true = stops.5 in cc)
 
   stop_is : (fault : RunFault) → failed.writer ≡ false → Stops Answers NeverOut run failed fault → IsStopNumber (number_of fault)

@@ -7,19 +7,18 @@ use Rattle.line_engine.specs.Lines.{BeginsWith, first_line, has_feed, is_blank, 
 use Rattle.line_network.specs.Network.{NetworkValue}
 use Rattle.move_messages.specs.Commands.{command_of}
 use Rattle.move_messages.specs.declared.command.Command.{Command}
+use Rattle.move_messages.specs.declared.command.Command.TheVariants as command
 use Rattle.move_messages.specs.declared.commit_text.CommitText.{CommitText}
-use Rattle.operating_db.specs.declared.event.Event.{Event}
-use Rattle.operating_db.specs.declared.event.Event.TheVariants as event
-use Rattle.commit_book.specs.Requests.{call_of, request_of}
+use Rattle.move_messages.specs.declared.event.Event.{Event}
+use Rattle.move_messages.specs.declared.event.Event.TheVariants as event
 use Rattle.commit_book.specs.Snap.{SnapValue, named_pair}
-use Rattle.commit_book.specs.declared.request.Request.{Request}
-use Rattle.commit_book.specs.declared.request.Request.TheVariants as request
 use Rattle.faults.specs.declared.faults.Refusal.{Refusal}
 use Rattle.commit_book.specs.declared.reply.Reply.{Reply}
 use Rattle.commit_book.specs.declared.reply.Reply.TheVariants as reply
-use Rattle.sessions.specs.AnyBook.{IsBooksAnswer, IsSnapAt}
+use Rattle.sessions.specs.AnyBook.{IsSnapAt}
 use Rattle.sessions.specs.Planning.{IsPlanned}
-use Rattle.sessions.specs.Seat.{IsAnswered, SeatValue, count_of, new_seat}
+use Rattle.sessions.specs.Seat.{SeatValue, count_of, new_seat}
+use Rattle.sessions.specs.Submitted as session
 use Rattle.book_feed.specs.declared.feed_lines.Counted.{Counted}
 use Rattle.book_feed.specs.declared.feed_lines.Counted.TheVariants.{Accepted, Repeated, Refused, Nowhere}
 
@@ -49,14 +48,13 @@ is_refused Repeated = false
 is_refused Refused = true
 is_refused Nowhere = false
 
--- ---- what is asked for
+-- ---- commands
 
 -- an event brought to a seat: some book answers the call for this event, the seat has what that answer gives it, and the line
 -- counts as that answer
 pub record IsSubmitted (old new : SeatValue) (event : Event) (counted : Counted) : Type 0 where
   pub result : Result Reply Refusal
-  pub seat : IsAnswered old new event result
-  pub book : IsBooksAnswer (count_of old) (call_of event) result
+  pub answered : session.IsSubmitted old new event result
   pub counts : counted ≡ counted_by result
 
 -- the commit of a certificate of a snapshot's problem, over the network of its version
@@ -87,19 +85,19 @@ IsPlannedIn networks old new at counted = IsCommitted networks old new at counte
 abbrev pub IsBegunIn : (old new : SeatValue) → (at : ℕ) → Counted → Type 0
 IsBegunIn old new at counted = (new ≡ old) × ((counted ≡ Refused) ⊎ ((counted ≡ Nowhere) × (snap : SnapValue) × IsSnapAt (count_of old) at snap))
 
--- what is done at a seat where this is asked for, and what the line counts as; a sheet counts nowhere
-abbrev pub IsTakenIn : List NetworkValue → (old new : SeatValue) → Request → Counted → Type 0
-IsTakenIn networks old new (request.Event event) counted = IsSubmitted old new event counted
-IsTakenIn networks old new (request.Begin at) counted = IsBegunIn old new at counted
-IsTakenIn networks old new (request.Plan at) counted = IsPlannedIn networks old new at counted
-IsTakenIn networks old new request.Sheet counted = (new ≡ old) × (counted ≡ Nowhere)
+-- what a command does at a seat, and what its line counts as; a sheet counts nowhere
+abbrev pub IsTakenIn : List NetworkValue → (old new : SeatValue) → Command → Counted → Type 0
+IsTakenIn networks old new (command.Event event) counted = IsSubmitted old new event counted
+IsTakenIn networks old new (command.Begin at) counted = IsBegunIn old new at counted
+IsTakenIn networks old new (command.Plan at) counted = IsPlannedIn networks old new at counted
+IsTakenIn networks old new command.Sheet counted = (new ≡ old) × (counted ≡ Nowhere)
 
 -- ---- lines
 
 -- A line that is read so: what its command asks for is taken in. A line that is no command is turned away, and so is one
 -- for whose reading memory is refused, which may be any.
 abbrev pub IsReadIn : List NetworkValue → (old new : SeatValue) → Result Command LineFault → Counted → Type 0
-IsReadIn networks old new (Ok command) counted = IsTakenIn networks old new (request_of command) counted ⊎ IsTurnedAway old new counted
+IsReadIn networks old new (Ok asked) counted = IsTakenIn networks old new asked counted ⊎ IsTurnedAway old new counted
 IsReadIn networks old new (Err fault) counted = IsTurnedAway old new counted
 
 -- what a line that isn't blank does at a seat, and what it counts as

@@ -7,25 +7,23 @@ use Rattle.line_engine.specs.Lines.{is_blank, lines_of, max_input_lines, max_lin
 use Rattle.line_network.specs.Network.{NetworkValue}
 use Rattle.move_messages.specs.Commands.{command_of}
 use Rattle.move_messages.specs.declared.command.Command.{Command}
-use Rattle.operating_db.specs.declared.event.Event.{Event}
-use Rattle.commit_book.specs.Requests.{request_of}
-use Rattle.commit_book.specs.declared.request.Request.{Request}
-use Rattle.commit_book.specs.declared.request.Request.TheVariants as request
+use Rattle.move_messages.specs.declared.command.Command.TheVariants as command
+use Rattle.move_messages.specs.declared.event.Event.{Event}
 use Rattle.sessions.specs.Closing.{HasEntries}
 use Rattle.sessions.specs.Seat.{SeatValue, count_of}
 use Rattle.book_feed.specs.FedLines.{IsSeatFed}
 use Rattle.dispatch_sheet.specs.declared.feed_report.FileCount.{FileCount}
 
--- whether what is asked for must be counted: an event and a plan, but no begin and no sheet
-abbrev pub is_request_counted : Request → Bool
-is_request_counted (request.Event event) = true
-is_request_counted (request.Plan at) = true
-is_request_counted (request.Begin at) = false
-is_request_counted request.Sheet = false
+-- whether a command must be counted: an event and a plan, but no begin and no sheet
+abbrev pub is_command_counted : Command → Bool
+is_command_counted (command.Event event) = true
+is_command_counted (command.Plan at) = true
+is_command_counted (command.Begin at) = false
+is_command_counted command.Sheet = false
 
 -- the same of a line that is read so; one that is no command must be counted
 abbrev pub is_counted : Result Command LineFault → Bool
-is_counted (Ok command) = is_request_counted (request_of command)
+is_counted (Ok asked) = is_command_counted asked
 is_counted (Err fault) = true
 
 -- a line that is neither blank nor a begin nor a sheet

@@ -1,3 +1,4 @@
 pub mod FedLines
 pub mod FeedCounts
+pub mod FeedReports
 pub mod inner

@@ -6,7 +6,7 @@ ghost use Rattle.book_feed.specs.inner.Fed.{IsFedFile, stop_number};
 use crate::feed_lines::{FeedLines, FileSeat, NoReplies};
 use line_engine::{RunCount, RunFault, Source, run_lines};
 use line_network::Networks;
-use sessions::{Office, Seat};
+use sessions::{Seat, SharedBook};
 use std::alloc::Global;
 use std::snapshot::Snapshot;
 use std::sync::Wait;
@@ -50,7 +50,7 @@ fn stop_of(run: Result<RunCount, RunFault>) -> Option<u32>
 pub(crate) fn fed_file<W: Wait, L: Ledger, R: Source>(
     rt: &W,
     alloc: Global,
-    office: &Office<L>,
+    shared: &SharedBook<L>,
     networks: &Networks,
     seat: Seat<L>,
     reader: R,
@@ -66,7 +66,7 @@ pub(crate) fn fed_file<W: Wait, L: Ledger, R: Source>(
         repeated: 0,
         refused: 0,
     };
-    let lines = FeedLines { rt, office };
+    let lines = FeedLines { rt, shared };
     let run = run_lines(alloc, &mut reader, &mut NoReplies, &lines, &mut file);
     let failed = stop_of(run);
     let FileSeat {

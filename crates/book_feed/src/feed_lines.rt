@@ -3,13 +3,12 @@ ghost use Rattle.std.specs.Prelude.{◌≡◌, IfSome, None, Some, false};
 ghost use Rattle.book_feed.specs.FedLines.{IsLineTaken, IsPlannedIn, IsPlansCommit, IsSubmitted, IsTakenIn, counted_by, is_refused, is_repeated};
 ghost use Rattle.book_feed.specs.inner.FeedLines.{Adds, IsLineFed};
 
-use commit_book::{Refusal, Reply, Request, Snap};
+use commit_book::{Refusal, Reply, Snap};
 use line_engine::{DeviceFailed, Handler, Outcome, ReplyText, Sink};
 use line_network::Networks;
-use move_messages::{CommitText, read_line};
-use operating_db::Event;
+use move_messages::{Command, CommitText, Event, read_line};
 use rail_codes::Moment;
-use sessions::{Office, Seat, work};
+use sessions::{Seat, SharedBook, work};
 use std::alloc::{AllocError, Global};
 use std::sync::Wait;
 use std::sync::ledger::Ledger;
@@ -59,15 +58,15 @@ fn counted_as(answer: Result<Reply, Refusal>) -> Counted
     }
 }
 
-/// Brings the lines of a file to an office that several files share. It gives no replies.
+/// Brings the lines of a file to a shared book that several files share. It gives no replies.
 pub(crate) struct FeedLines<'a, W: Wait, L: Ledger> {
     pub(crate) rt: &'a W,
-    pub(crate) office: &'a Office<L>,
+    pub(crate) shared: &'a SharedBook<L>,
 }
 
 impl<'a, W: Wait, L: Ledger> Drop for FeedLines<'a, W, L> {
     fn drop(self) {
-        let FeedLines { rt: _, office: _ } = self;
+        let FeedLines { rt: _, shared: _ } = self;
     }
 }
 
@@ -83,29 +82,29 @@ impl<'a, W: Wait, L: Ledger> FeedLines<'a, W, L> {
         ensures { IsLineTaken networks.now seat.old seat.new line.now result }
     {
         match read_line(alloc, line) {
-            Ok(command) => self.take_in(alloc, networks, seat, Request::from(command)),
+            Ok(command) => self.take_in(alloc, networks, seat, command),
             Err(_) => Counted::Refused,
         }
     }
 
-    /// Does at a seat what is asked for.
+    /// Does at a seat what a command asks for.
     fn take_in(
         &self,
         alloc: Global,
         networks: &Networks,
         seat: &mut Seat<L>,
-        request: Request,
+        command: Command,
     ) -> Counted
-        ensures { IsTakenIn networks.now seat.old seat.new request result }
+        ensures { IsTakenIn networks.now seat.old seat.new command result }
     {
-        match request {
-            Request::Event(event) => self.submit(alloc, seat, event),
-            Request::Begin(at) => match self.office.begin(self.rt, alloc, seat, at) {
+        match command {
+            Command::Event(event) => self.submit(alloc, seat, event),
+            Command::Begin(at) => match self.shared.begin(self.rt, alloc, seat, at) {
                 Ok(_) => Counted::Nowhere,
                 Err(_) => Counted::Refused,
             },
-            Request::Plan(at) => self.plan(alloc, networks, seat, at),
-            Request::Sheet => Counted::Nowhere,
+            Command::Plan(at) => self.plan(alloc, networks, seat, at),
+            Command::Sheet => Counted::Nowhere,
         }
     }
 
@@ -113,7 +112,7 @@ impl<'a, W: Wait, L: Ledger> FeedLines<'a, W, L> {
     fn submit(&self, alloc: Global, seat: &mut Seat<L>, event: Event) -> Counted
         ensures { IsSubmitted seat.old seat.new event result }
     {
-        counted_as(self.office.submit(self.rt, alloc, seat, event))
+        counted_as(self.shared.submit(self.rt, alloc, seat, event))
     }
 
     /// Begins at a moment, plans with no lock held, and commits what was planned. It counts as the commit's answer, or as
@@ -121,7 +120,7 @@ impl<'a, W: Wait, L: Ledger> FeedLines<'a, W, L> {
     fn plan(&self, alloc: Global, networks: &Networks, seat: &mut Seat<L>, at: Moment) -> Counted
         ensures { IsPlannedIn networks.now seat.old seat.new at result }
     {
-        let Ok(snap) = self.office.begin(self.rt, alloc, seat, at) else {
+        let Ok(snap) = self.shared.begin(self.rt, alloc, seat, at) else {
             return Counted::Refused;
         };
         match planned_commit(alloc, &snap, networks) {

@@ -1,19 +1,18 @@
 //! Several files, fed to one book by a thread each.
-ghost use Rattle.std.specs.Prelude.{◌≡◌, ◌+◌, ◌≤◌, [], All, IfOk, false, length, map, vec_len, vec_capacity};
-ghost use Rattle.std.specs.List.{AllZip, sum_by};
+ghost use Rattle.std.specs.Prelude.{◌≡◌, ◌≤◌, [], All, IfOk, false, length, map, vec_len, vec_capacity};
+ghost use Rattle.std.specs.List.{sum_by};
 ghost use Rattle.commit_book.specs.Headline.{IsProved};
 ghost use Rattle.sessions.specs.Closing.{HasEntries};
 ghost use Rattle.sessions.specs.Seat.{count_of};
-ghost use Rattle.book_feed.specs.FeedCounts.{IsFed};
-ghost use Rattle.line_engine.specs.Lines.{max_files};
-ghost use Rattle.book_feed.specs.inner.Fed.{AreFed, IsFedFile, handed_to, given_with};
+ghost use Rattle.book_feed.specs.FeedReports.{IsFeedReport, MayBeFed};
+ghost use Rattle.book_feed.specs.inner.Fed.{AreFed, AreToStart, HasRoom, IsFedFile, handed_to, given_with};
 
 use crate::fed_file::{FedFile, FileOf, fed_file};
 use crate::{FeedFault, FeedReport, FileCount};
 use commit_book::Book;
 use line_engine::Source;
 use line_network::Networks;
-use sessions::{CloseFault, Office, Seat, close, open};
+use sessions::{CloseFault, Seat, SharedBook, close, open};
 use std::alloc::{AllocError, Global};
 use std::marker::Brand;
 use std::snapshot::Snapshot;
@@ -31,6 +30,14 @@ struct Room<L: Ledger, R: Source> {
     running: Vec<Running<L, R>>,
     files: Vec<FileCount<R>>,
     seats: Vec<Seat<L>>,
+}
+
+/// What a thread brings lines to, and with what.
+struct Feeding<'e, L: Ledger, T> {
+    rt: &'e T,
+    alloc: Global,
+    shared: &'e SharedBook<L>,
+    networks: &'e Networks,
 }
 
 /// What came of the files: their counts, and their seats.
@@ -61,13 +68,8 @@ pub fn feed<T: Threads + Wait + Sync, R: Source + Send + Drop>(
     book: Book,
     networks: &Networks,
 ) -> Result<FeedReport<R>, FeedFault>
-    requires some { 1 ≤ vec_len readers }
-    requires few { vec_len readers ≤ max_files }
-    requires fresh { All (λ reader. R.has_failed reader ≡ false) readers.items }
-    requires no_entry { book.state.history ≡ [] }
-    ensures files { IfOk result (λ report. AllZip (IsFed networks.now report.book.state.history R.remaining R.has_failed) readers.items report.files.items) }
-    ensures entries { IfOk result (λ report. sum_by (λ file. file.accepted) report.files.items ≡ length report.book.state.history) }
-    ensures proved { IfOk result (λ report. IsProved report.book.setting report.book.state.history) }
+    requires given { MayBeFed R.has_failed readers book }
+    ensures report { IfOk result (IsFeedReport networks.now R.remaining R.has_failed readers.items) }
 {
     let blank = Blank::new(readers.len() as u64);
     feed_by::<Brand, T, R>(rt, alloc, blank, readers, book, networks)
@@ -85,23 +87,24 @@ fn feed_by<L: Ledger + Send + Sync, T: Threads + Wait + Sync, R: Source + Send +
     requires ledger { blank.name ≡ L.name }
     requires parts { blank.parts ≡ L.parts }
     requires one_each { blank.parts ≡ vec_len readers }
-    requires some { 1 ≤ vec_len readers }
-    requires few { vec_len readers ≤ max_files }
-    requires fresh { All (λ reader. R.has_failed reader ≡ false) readers.items }
-    requires no_entry { book.state.history ≡ [] }
-    ensures files { IfOk result (λ report. AllZip (IsFed networks.now report.book.state.history R.remaining R.has_failed) readers.items report.files.items) }
-    ensures entries { IfOk result (λ report. sum_by (λ file. file.accepted) report.files.items ≡ length report.book.state.history) }
-    ensures proved { IfOk result (λ report. IsProved report.book.setting report.book.state.history) }
+    requires given { MayBeFed R.has_failed readers book }
+    ensures report { IfOk result (IsFeedReport networks.now R.remaining R.has_failed readers.items) }
 {
     let count = readers.len();
     let Ok(room) = Room::new(alloc, count) else {
         return Err(FeedFault::OutOfMemory);
     };
-    let Ok((office, seats)) = open::<L>(alloc, blank, book, count as u32) else {
+    let Ok((shared, seats)) = open::<L>(alloc, blank, book, count as u32) else {
         return Err(FeedFault::OutOfMemory);
     };
-    match fed_in_threads(rt, alloc, &office, networks, readers, seats, room) {
-        Ok(fed) => closed(office, fed),
+    let feeding = Feeding {
+        rt,
+        alloc,
+        shared: &shared,
+        networks,
+    };
+    match fed_in_threads(feeding, readers, seats, room) {
+        Ok(fed) => closed(shared, fed),
         Err(fault) => Err(fault),
     }
 }
@@ -110,8 +113,7 @@ impl<L: Ledger, R: Source + Drop> Room<L, R> {
     /// Memory for so many files.
     fn new(alloc: Global, count: usize) -> Result<Room<L, R>, AllocError>
         ensures running { IfOk result (λ room. (room.running.items ≡ []) × (count ≤ vec_capacity room.running)) }
-        ensures files { IfOk result (λ room. (room.files.items ≡ []) × (count ≤ vec_capacity room.files)) }
-        ensures seats { IfOk result (λ room. (room.seats.items ≡ []) × (count ≤ vec_capacity room.seats)) }
+        ensures done { IfOk result (λ room. HasRoom count room.files room.seats) }
     {
         let running = Vec::with_capacity(alloc, count)?;
         let files = Vec::with_capacity(alloc, count)?;
@@ -126,44 +128,41 @@ impl<L: Ledger, R: Source + Drop> Room<L, R> {
 
 /// What came of all files, each brought to its seat by a thread of its own.
 fn fed_in_threads<L: Ledger + Send + Sync, T: Threads + Wait + Sync, R: Source + Send + Drop>(
-    rt: &T,
-    alloc: Global,
-    office: &Office<L>,
-    networks: &Networks,
+    feeding: Feeding<'_, L, T>,
     readers: Vec<R>,
     seats: Vec<Seat<L>>,
     room: Room<L, R>,
 ) -> Result<Fed<L, R>, FeedFault>
-    requires fresh { All (λ reader. R.has_failed reader ≡ false) readers.items }
-    requires new { All (λ seat. count_of seat ≡ 0) seats.items }
-    requires one_each { vec_len seats ≡ vec_len readers }
-    requires running { (room.running.items ≡ []) × (vec_len readers ≤ vec_capacity room.running) }
-    requires files { (room.files.items ≡ []) × (vec_len readers ≤ vec_capacity room.files) }
-    requires room { (room.seats.items ≡ []) × (vec_len readers ≤ vec_capacity room.seats) }
-    ensures files { IfOk result (λ fed. AreFed R.remaining R.has_failed (map (given_with networks.now) readers.items) fed.files.items fed.seats.items) }
-    ensures counts { IfOk result (λ fed. sum_by (λ file. file.accepted) fed.files.items ≡ sum_by count_of fed.seats.items) }
-    ensures seats { IfOk result (λ fed. vec_len fed.seats ≡ vec_len readers) }
+    requires ready { AreToStart R.has_failed readers seats room.running }
+    requires room { HasRoom (vec_len readers) room.files room.seats }
+    ensures { IfOk result (λ fed. AreFed R.remaining R.has_failed (map (given_with feeding.entry.networks.now) readers.items) fed.files.items fed.seats.items) }
 {
+    let Feeding {
+        rt,
+        alloc,
+        shared,
+        networks,
+    } = feeding;
     thread::scope(
         thread::scope_env(),
         rt,
         |scope| -> Result<Fed<L, R>, FeedFault>
-            requires fresh { All (λ reader. R.has_failed reader ≡ false) readers.items }
-            requires new { All (λ seat. count_of seat ≡ 0) seats.items }
-            requires one_each { vec_len seats ≡ vec_len readers }
-            requires running { (room.running.items ≡ []) × (vec_len readers ≤ vec_capacity room.running) }
-            requires files { (room.files.items ≡ []) × (vec_len readers ≤ vec_capacity room.files) }
-            requires room { (room.seats.items ≡ []) × (vec_len readers ≤ vec_capacity room.seats) }
-            ensures files { IfOk result (λ fed. AreFed R.remaining R.has_failed (map (given_with networks.entry.now) readers.items) fed.files.items fed.seats.items) }
-            ensures counts { IfOk result (λ fed. sum_by (λ file. file.accepted) fed.files.items ≡ sum_by count_of fed.seats.items) }
-            ensures seats { IfOk result (λ fed. vec_len fed.seats ≡ vec_len readers) }
+            requires ready { AreToStart R.has_failed readers seats room.running }
+            requires room { HasRoom (vec_len readers) room.files room.seats }
+            ensures { IfOk result (λ fed. AreFed R.remaining R.has_failed (map (given_with networks.entry.now) readers.items) fed.files.items fed.seats.items) }
         {
             let Room {
                 running,
                 files,
                 seats: done,
             } = room;
-            match started(scope, rt, alloc, office, networks, readers, seats, running) {
+            let feeding = Feeding {
+                rt,
+                alloc,
+                shared,
+                networks,
+            };
+            match started(scope, feeding, readers, seats, running) {
                 Ok(running) => Ok(gathered(rt, running, files, done)),
                 Err(running) => {
                     drop_all(rt, running);
@@ -183,21 +182,20 @@ fn started<
     R: Source + Send + Drop + 'e,
 >(
     scope: &'s Scope<'s, &'e ()>,
-    rt: &'e T,
-    alloc: Global,
-    office: &'e Office<L>,
-    networks: &'e Networks,
+    feeding: Feeding<'e, L, T>,
     readers: Vec<R>,
     seats: Vec<Seat<L>>,
     running: Vec<Running<L, R>>,
 ) -> Result<Vec<Running<L, R>>, Vec<Running<L, R>>>
-    requires fresh { All (λ reader. R.has_failed reader ≡ false) readers.items }
-    requires new { All (λ seat. count_of seat ≡ 0) seats.items }
-    requires one_each { vec_len seats ≡ vec_len readers }
-    requires none { running.items ≡ [] }
-    requires room { vec_len readers ≤ vec_capacity running }
-    ensures { IfOk result (λ running. map (λ handle. handed_to handle.promise) running.items ≡ map (given_with networks.now) readers.items) }
+    requires { AreToStart R.has_failed readers seats running }
+    ensures { IfOk result (λ running. map (λ handle. handed_to handle.promise) running.items ≡ map (given_with feeding.entry.networks.now) readers.items) }
 {
+    let Feeding {
+        rt,
+        alloc,
+        shared,
+        networks,
+    } = feeding;
     let mut running = running;
     let mut seats = seats.into_iter();
     for reader in readers {
@@ -212,7 +210,7 @@ fn started<
             requires fresh { R.has_failed reader ≡ false }
             requires new { count_of seat ≡ 0 }
             ensures { IsFedFile networks.entry.now R.remaining R.has_failed reader result }
-        { fed_file(rt, alloc, office, networks, seat, reader) };
+        { fed_file(rt, alloc, shared, networks, seat, reader) };
         match scope.spawn_with(before, work) {
             Ok(handle) => running.push_reserved(handle),
             Err(_) => return Err(running),
@@ -228,11 +226,8 @@ fn gathered<L: Ledger, T: Threads, R: Source + Drop>(
     files: Vec<FileCount<R>>,
     seats: Vec<Seat<L>>,
 ) -> Fed<L, R>
-    requires files { (files.items ≡ []) × (vec_len running ≤ vec_capacity files) }
-    requires seats { (seats.items ≡ []) × (vec_len running ≤ vec_capacity seats) }
-    ensures files { AreFed R.remaining R.has_failed (map (λ handle. handed_to handle.promise) running.items) result.files.items result.seats.items }
-    ensures counts { sum_by (λ file. file.accepted) result.files.items ≡ sum_by count_of result.seats.items }
-    ensures seats { vec_len result.seats ≡ vec_len running }
+    requires { HasRoom (vec_len running) files seats }
+    ensures { AreFed R.remaining R.has_failed (map (λ handle. handed_to handle.promise) running.items) result.files.items result.seats.items }
 {
     let mut files = files;
     let mut seats = seats;
@@ -264,20 +259,22 @@ fn drop_all<L: Ledger, T: Threads, R: Source + Drop>(rt: &T, running: Vec<Runnin
     }
 }
 
-/// The report, once the office is closed.
-fn closed<L: Ledger, R: Drop>(office: Office<L>, fed: Fed<L, R>) -> Result<FeedReport<R>, FeedFault>
-    requires ledger { office.seats ≡ L.parts }
-    requires all { office.seats ≤ vec_len fed.seats }
+/// The report, once the shared book is closed.
+fn closed<L: Ledger, R: Drop>(
+    shared: SharedBook<L>,
+    fed: Fed<L, R>,
+) -> Result<FeedReport<R>, FeedFault>
+    requires ledger { shared.seats ≡ L.parts }
+    requires all { shared.seats ≤ vec_len fed.seats }
     ensures files { IfOk result (λ report. report.files ≡ fed.files) }
     ensures receipts { IfOk result (λ report. All (HasEntries report.book.state.history) fed.seats.items) }
     ensures entries { IfOk result (λ report. length report.book.state.history ≡ sum_by count_of fed.seats.items) }
     ensures proved { IfOk result (λ report. IsProved report.book.setting report.book.state.history) }
 {
     let Fed { files, seats } = fed;
-    match close(office, seats) {
+    match close(shared, seats) {
         Ok(book) => {
-            // For the prover alone: the history is as the headline says.
-            let _state = book.state();
+            book.for_the_prover();
             Ok(FeedReport { files, book })
         }
         Err(CloseFault::ReceiptLost(seat, entry, _, _)) => {

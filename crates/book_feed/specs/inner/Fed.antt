@@ -1,5 +1,6 @@
 -- Files whose lines were brought to their seats.
-use Rattle.std.specs.Prelude.{◌≡◌, ◌+◌, ℕ, Bool, List, [], ◌∷◌, Option, Some, None, Result, Ok, Err}
+use Rattle.std.specs.Prelude.{◌≡◌, ◌+◌, ◌≤◌, ℕ, Bool, false, List, [], ◌∷◌, All, Option, Some, None, Result, Ok, Err, Vec, vec_capacity, vec_len}
+use Rattle.std.specs.declared.alloc.Global.{Global}
 use Rattle.line_engine.specs.RunFault.{number_of}
 use Rattle.line_engine.specs.declared.run.RunCount.{RunCount}
 use Rattle.line_engine.specs.declared.run.RunFault.{RunFault}
@@ -40,3 +41,20 @@ pub data AreFed {R : Type 0} (remaining : R → Option (List ℕ)) (has_failed :
   no_file : AreFed remaining has_failed [] [] []
   one_file : {given : List NetworkValue × R} {file : FileCount R} {seat : SeatValue} {others : List (List NetworkValue × R)} {files : List (FileCount R)} {seats : List SeatValue}
       → IsCountOf remaining has_failed given file seat → AreFed remaining has_failed others files seats → AreFed remaining has_failed (given ∷ others) (file ∷ files) (seat ∷ seats)
+
+-- ---- before the threads are started
+
+-- readers of which none has failed, a seat without a receipt for each, and room for a thread of each
+pub record AreToStart {R H : Type 0} (has_failed : R → Bool) (readers : Vec R Global) (seats : Vec SeatValue Global) (running : Vec H Global) : Type 0 where
+  pub fresh : All (λ reader. has_failed reader ≡ false) readers.items
+  pub new : All (λ seat. count_of seat ≡ 0) seats.items
+  pub one_each : vec_len seats ≡ vec_len readers
+  pub none : running.items ≡ []
+  pub room : vec_len readers ≤ vec_capacity running
+
+-- room for what comes of so many files
+pub record HasRoom {R : Type 0} (count : ℕ) (files : Vec (FileCount R) Global) (seats : Vec SeatValue Global) : Type 0 where
+  pub no_file : files.items ≡ []
+  pub file_room : count ≤ vec_capacity files
+  pub no_seat : seats.items ≡ []
+  pub seat_room : count ≤ vec_capacity seats

@@ -9,6 +9,8 @@ gathered-requires g c =
     let readers = c.captures.readers in
     let same = same_length (λ handle. handed_to handle.promise) (given_with c.captures.networks.now) running.items readers.items c.in-Ok.ensures in
     record {
-      files = (c.requires.files.0, omega (arith, same, running.ok.0, readers.ok.0, c.requires.files.1));
-      seats = (c.requires.room.0, omega (arith, same, running.ok.0, readers.ok.0, c.requires.room.1));
+      no_file = c.requires.room.no_file;
+      file_room = omega (arith, same, running.ok.0, readers.ok.0, c.requires.room.file_room);
+      no_seat = c.requires.room.no_seat;
+      seat_room = omega (arith, same, running.ok.0, readers.ok.0, c.requires.room.seat_room);
     }
