@@ -10,7 +10,7 @@ ghost use Rattle.commit_book.specs.inner.CommitTests.{IsAccepted, IsRefused};
 ghost use Rattle.commit_book.specs.Headline.{IsProved};
 ghost use Rattle.commit_book.specs.History.{IsTableAt, Owes, replay};
 ghost use Rattle.move_messages.specs.declared.event.Event.TheVariants as event;
-ghost use Rattle.commit_book.specs.inner.Kept.{IsInSpan, IsIndexOfKept, IsKeptAt, IsLasting, IsMade, IsMendable, begun_at, which_of};
+ghost use Rattle.commit_book.specs.inner.Kept.{IsInSpan, IsIndexOfKept, IsKeptAt, IsLasting, IsMade, IsChangeable, begun_at, which_of};
 ghost use Rattle.commit_book.specs.inner.Ledger.{IsMessageAt, IsNoMessage};
 ghost use Rattle.commit_book.specs.Snap.{IsVersionNumber, snap_of};
 ghost use Rattle.commit_book.specs.declared.answer.Answer.TheVariants.{Refused};
@@ -475,21 +475,21 @@ impl Book {
         ensures span { IfOk result (λ made. IsInSpan made.value problem.now.at) }
     {
         self.state().for_the_prover();
-        let made = match self.mendable(problem) {
-            Some(earlier) => earlier.mended(alloc, problem, self.tables())?,
+        let made = match self.changeable(problem) {
+            Some(earlier) => earlier.changed(alloc, problem, self.tables())?,
             None => MadeProblem::of(alloc, problem, self.state().network(), self.tables())?,
         };
         Ok(Arc::new(alloc, made)?)
     }
 
-    /// What was kept last, where its table can be mended to be that of a problem over the network in force.
-    fn mendable(&self, problem: &Problem) -> Option<&Arc<MadeProblem>>
+    /// What was kept last, where its table can be changed to be that of a problem over the network in force.
+    fn changeable(&self, problem: &Problem) -> Option<&Arc<MadeProblem>>
         ensures network { IfSome result (λ made. made.now.value.network ≡ (replay self.now.setting self.now.state.history).network) }
-        ensures mendable { IfSome result (λ made. IsMendable made.now.value problem.now) }
+        ensures changeable { IfSome result (λ made. IsChangeable made.now.value problem.now) }
         ensures lasting { IfSome result (λ made. IsLasting self.now.setting made.now.value) }
     {
         let last = self.kept.last()?;
-        if last.made.network == self.state().network() && last.made.is_mendable(problem) {
+        if last.made.network == self.state().network() && last.made.is_changeable(problem) {
             Some(&last.made)
         } else {
             None

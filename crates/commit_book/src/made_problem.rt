@@ -2,7 +2,7 @@
 ghost use Rattle.std.specs.Prelude.{◌≡◌, ◌≤◌, ◌↔◌, IfOk, IsTrue};
 ghost use Rattle.problem_table.specs.Lasting.{IsLastingTable};
 ghost use Rattle.commit_book.specs.inner.Indexed.{Ascend};
-ghost use Rattle.commit_book.specs.inner.Kept.{IsMadeOf, IsMendable, covers};
+ghost use Rattle.commit_book.specs.inner.Kept.{IsMadeOf, IsChangeable, covers};
 
 use crate::indexed_problem::IndexedProblem;
 use crate::same_orders::are_same_orders;
@@ -42,15 +42,15 @@ impl MadeProblem {
         })
     }
 
-    /// The same, over the network of this one; the table is mended.
-    pub fn mended(
+    /// The same, over the network of this one; the table is changed.
+    pub fn changed(
         &self,
         alloc: Global,
         problem: &Problem,
         tables: &Tables,
     ) -> Result<MadeProblem, AllocError>
         requires ascend { Ascend problem.now.wagons }
-        requires mendable { IsMendable self.now problem.now }
+        requires changeable { IsChangeable self.now problem.now }
         requires lasting { IsLastingTable tables.now self.now.problem self.now.timed.cells self.now.timed.lasts.items }
         ensures { IfOk result (IsMadeOf tables.now self.now.network problem.now) }
     {
@@ -63,10 +63,10 @@ impl MadeProblem {
         })
     }
 
-    /// Whether the table of a problem over the same network can be made by mending this one: at the same moment or a later
+    /// Whether the table of a problem over the same network can be made by changing this one: at the same moment or a later
     /// one the same orders wait.
-    pub fn is_mendable(&self, problem: &Problem) -> bool
-        ensures { IsTrue result ↔ IsMendable self.now problem.now }
+    pub fn is_changeable(&self, problem: &Problem) -> bool
+        ensures { IsTrue result ↔ IsChangeable self.now problem.now }
     {
         self.problem.at() <= problem.at()
             && are_same_orders(self.problem.problem().orders(), problem.orders())

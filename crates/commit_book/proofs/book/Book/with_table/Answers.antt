@@ -9,8 +9,8 @@ use Rattle.commit_book.proofs.Searches.{problem_ascends}
 use Rattle.commit_book.proofs.book.Book.with_table.Goals as goal
 use Rattle.commit_book.proofs.book.Book.with_table.Goals.{in-Some+in_ok-made-in-Some, in-None+in_ok-made-in-None}
 
-pub mended-requires-clause-ascend : goal.mended-requires-clause-ascend
-mended-requires-clause-ascend c =
+pub changed-requires-clause-ascend : goal.changed-requires-clause-ascend
+changed-requires-clause-ascend c =
     let rows = subst (λ (s : StateValue). IsWagonRows s.office.wagons) c.state.ensures.state c.for_the_prover.ensures.wagons in
     problem_ascends _ (replay c.args.self.now.setting c.args.self.now.state.history) c.args.problem.now.at c.requires rows
 
@@ -23,7 +23,7 @@ pub returns-clause-made : goal.returns-clause-made
 returns-clause-made c =
     let setting = c.args.self.now.setting in
     let history = c.args.self.now.state.history in
-    rw c.in_ok-new.ensures.ok (elim c.match-mendable.branch [
+    rw c.in_ok-new.ensures.ok (elim c.match-changeable.branch [
       | in-Some+in_ok-made-in-Some w ↦
           rw w.made-is (present_made setting history c.args.problem.now w.in_ok-made-in-Some.made w.tables.result.now c.requires w.tables.ensures
           (subst (λ (n : ℕ). IsMadeOf w.tables.result.now n c.args.problem.now w.in_ok-made-in-Some.made) (ap (λ (made : MadeProblem). made.network) w.deref.ensures ∙ w.in-Some.ensures.network) w.in_ok-made-in-Some.ensures))
