@@ -20,7 +20,7 @@ use sessions::work;
 use std::alloc::{AllocError, Global};
 use std::sync::{Arc, Wait};
 use std::thread::Threads;
-use table_solver::solve_line;
+use table_lines::solve_line;
 use test_samples::{NETWORK, ROSTER};
 use fleet_rows::Roster;
 

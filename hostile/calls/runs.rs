@@ -7,9 +7,10 @@ use crate::samples::book;
 use crate::trying::{must, prepared, say_refused, shown};
 use commit_book::Book;
 use line_engine::{DeviceFailed, RunCount, RunFault, Sink};
-use office::{check_run, run};
+use office::run;
 use std::alloc::Global;
 use std::str;
+use table_lines::check_run;
 use test_samples::MemorySource;
 
 const PLAN: &str = r#"{"type":"plan","at":"2026-03-01T01:00:00Z"}"#;

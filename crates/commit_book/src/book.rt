@@ -2,6 +2,7 @@
 ghost use Rattle.std.specs.Prelude.{◌≡◌, [], IfErr, IfNone, IfOk, IfSome, IsSome, OnErr, OnOk, Some, false, is_some, length, option_map, slice_get, true};
 ghost use Rattle.line_network.specs.Networks.{network_at};
 ghost use Rattle.operating_db.specs.Problem.{problem_of};
+ghost use Rattle.operating_db.specs.RosterOffice.{first_office};
 ghost use Rattle.operating_db.specs.Steps.{IsPromised};
 ghost use Rattle.commit_book.specs.BookStep.{IsCall, is_full, is_kept};
 ghost use Rattle.commit_book.specs.Books.{IsNoEntry, IsSetting, answer_of, begun_of, begun_with, entry_at, setting_with};

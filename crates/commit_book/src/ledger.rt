@@ -68,7 +68,9 @@ impl Ledger {
     /// Does nothing: for the prover alone, it says that a book may begin with the first office.
     pub fn for_the_prover(&self)
         ensures { IsFirstOffice self.now.networks self.now.first }
-    {}
+    {
+        let _ = &self.first;
+    }
 
     /// How many events there are.
     pub fn len(&self) -> usize

@@ -16,7 +16,7 @@ use Rattle.serde_json.proofs.Numbers.{number_of-decimal}
 use Rattle.rail_codes.specs.Moment.{moment_of}
 use Rattle.rail_codes.specs.OrderId.{order_id_of, IsOrderId}
 use Rattle.rail_codes.specs.WagonNumber.{IsWagonNumber}
-use Rattle.rail_codes.proofs.WagonNumbers.{wagon_number_of-IsWagonNumber}
+use Rattle.rail_codes.specs.inner.WagonTexts.{wagon_number_of-IsWagonNumber}
 use Rattle.move_messages.specs.Values.{code_from, list_of_each, number_within, text_of, moment_from, wagon_and_order}
 use Rattle.move_messages.specs.Written.{list_data, number_data, pair_data}
 use Rattle.move_messages.specs.Field.{field_name}

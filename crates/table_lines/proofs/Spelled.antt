@@ -8,9 +8,8 @@ use Rattle.serde_json.specs.Data.{Data, null, unsigned, number, string, array, I
 use Rattle.serde_json.specs.Read.{number_of, of_json, of_items, converted}
 use Rattle.table_lines.proofs.Turns.{converted-array, item_read, items_over, none_before}
 use Rattle.move_messages.specs.declared.fault.FieldFault.{FieldFault}
-use Rattle.move_messages.specs.Values.{code_from, text_of, number_within, wagon_number_from, order_id_from, list_of, each, list_of_each, wagon_and_order}
-use Rattle.rail_codes.specs.WagonNumber.{wagon_number_of}
-use Rattle.rail_codes.specs.OrderId.{order_id_of}
+use Rattle.move_messages.specs.Values.{text_of, code_from, number_within, wagon_number_from, order_id_from, list_of, each, list_of_each, wagon_and_order}
+use Rattle.rail_codes.specs.declared.code_fault.CodeFault.{CodeFault}
 use Rattle.cost_table.specs.TableLimits.{max_cost}
 use Rattle.std.specs.Prelude.{◌^◌, ◌==◌, SomeIff, IfSome, nat_le, nat_lt, slice_index, true, false}
 use Rattle.fast_float.specs.Text.{IsInteger, scan, digits_of}
@@ -29,13 +28,10 @@ number_spelled s rest n depth e = ap (converted of_json) (value_is depth (Token.
 null_spelled : (rest : List Token) (depth : ℕ) → converted of_json (value depth (Token.null ∷ rest)) ≡ Some (null, rest)
 null_spelled rest depth = ap (converted of_json) (value_is depth (Token.null ∷ rest))
 
-pub wagon_spelled : (ts rest : List Token) (s wagon : List ℕ) → ts ≡ Token.string s ∷ rest → wagon_number_of s ≡ Ok wagon → Spells 0 (λ d. wagon_number_from d ≡ Ok wagon) ts rest
+pub code_spelled : {A : Type 0} (read : List ℕ → Result A CodeFault) (ts rest : List Token) (s : List ℕ) (code : A) → ts ≡ Token.string s ∷ rest → read s ≡ Ok code
+    → Spells 0 (λ d. code_from read d ≡ Ok code) ts rest
 unfolding code_from text_of
-wagon_spelled ts rest s wagon e r = (string s, rw r refl, λ depth le. rw e (text_spelled s rest depth))
-
-pub order_spelled : (ts rest : List Token) (s id : List ℕ) → ts ≡ Token.string s ∷ rest → order_id_of s ≡ Ok id → Spells 0 (λ d. order_id_from d ≡ Ok id) ts rest
-unfolding code_from text_of
-order_spelled ts rest s id e r = (string s, rw r refl, λ depth le. rw e (text_spelled s rest depth))
+code_spelled read ts rest s code e r = (string s, rw r refl, λ depth le. rw e (text_spelled s rest depth))
 
 within_is : (high n : ℕ) → n ≤ high → number_within 0 high (number (unsigned n)) ≡ Ok n
 unfolding number_within

@@ -11,7 +11,7 @@ ghost use Rattle.table_lines.specs.inner.InOrder.{IsTable};
 
 use crate::table_line::TableLine;
 use crate::tokens::{
-    CellToken, NumberToken, OrderToken, PairToken, RowToken, TokenKind, WagonToken, take_list,
+    CellToken, NumberToken, ORDER, PairToken, RowToken, TokenKind, WAGON, take_list,
 };
 use cost_table::MAX_COST;
 use json::{Reader, Scratch, Token};
@@ -53,8 +53,8 @@ fn take_fields(alloc: Global, reader: &mut Reader<'_>) -> Option<TableLine>
 {
     let costs = NumberToken { high: MAX_COST };
     let prices = NumberToken { high: u64::MAX };
-    let wagons = take_member(alloc, reader, "wagons", &WagonToken)?;
-    let orders = take_member(alloc, reader, "orders", &OrderToken)?;
+    let wagons = take_member(alloc, reader, "wagons", &WAGON)?;
+    let orders = take_member(alloc, reader, "orders", &ORDER)?;
     let cells = take_member(alloc, reader, "cells", &RowToken)?;
     let penalties = take_member(alloc, reader, "penalties", &costs)?;
     let pairs = take_member(alloc, reader, "pairs", &PairToken)?;

@@ -11,8 +11,9 @@ ghost use Rattle.table_lines.specs.inner.Tokens.{IsListOf, Spells, SpellsItems};
 use cost_table::MAX_COST;
 use fast_float::Numeral;
 use json::{Reader, Token};
-use rail_codes::{OrderId, WagonNumber};
+use rail_codes::{FromText, OrderId, WagonNumber};
 use std::alloc::Global;
+use std::marker::PhantomData;
 
 /// Room for the items of a short list, so that its memory is asked for once.
 const FIRST_ROOM: usize = 8;
@@ -55,41 +56,27 @@ fn whole_number(text: &str) -> Option<u64>
     Numeral::scan(bytes).to_u64()
 }
 
-/// Wagon numbers.
-#[derive(Clone, Copy, Debug)]
-pub(crate) struct WagonToken;
-
-impl TokenKind for WagonToken {
-    type Item = WagonNumber;
-
-    ghost reads = { λ _ d number. values.wagon_number_from d ≡ Ok number };
-
-    ghost nests = { λ _. 0 };
-
-    fn take(&self, _alloc: Global, reader: &mut Reader<'_>) -> Option<WagonNumber> {
-        let text = take_text(reader)?;
-        match WagonNumber::read(text) {
-            Ok(number) => Some(number),
-            Err(_) => None,
-        }
-    }
+/// Codes of one type.
+pub(crate) struct CodeToken<C> {
+    code: PhantomData<C>,
 }
 
+/// Wagon numbers.
+pub(crate) const WAGON: CodeToken<WagonNumber> = CodeToken { code: PhantomData };
 /// Names of orders.
-#[derive(Clone, Copy, Debug)]
-pub(crate) struct OrderToken;
+pub(crate) const ORDER: CodeToken<OrderId> = CodeToken { code: PhantomData };
 
-impl TokenKind for OrderToken {
-    type Item = OrderId;
+impl<C: FromText> TokenKind for CodeToken<C> {
+    type Item = C;
 
-    ghost reads = { λ _ d id. values.order_id_from d ≡ Ok id };
+    ghost reads = { λ _ d code. values.code_from C.meaning d ≡ Ok code };
 
     ghost nests = { λ _. 0 };
 
-    fn take(&self, _alloc: Global, reader: &mut Reader<'_>) -> Option<OrderId> {
+    fn take(&self, _alloc: Global, reader: &mut Reader<'_>) -> Option<C> {
         let text = take_text(reader)?;
-        match OrderId::read(text) {
-            Ok(id) => Some(id),
+        match C::from_text(text) {
+            Ok(code) => Some(code),
             Err(_) => None,
         }
     }
@@ -161,8 +148,8 @@ impl TokenKind for PairToken {
 
     fn take(&self, alloc: Global, reader: &mut Reader<'_>) -> Option<(WagonNumber, OrderId)> {
         take_begin_array(reader)?;
-        let wagon = WagonToken.take(alloc, reader)?;
-        let order = OrderToken.take(alloc, reader)?;
+        let wagon = WAGON.take(alloc, reader)?;
+        let order = ORDER.take(alloc, reader)?;
         if !reader.take_end_array() {
             return None;
         }

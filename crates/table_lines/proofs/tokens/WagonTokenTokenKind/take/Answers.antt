@@ -1,9 +1,0 @@
-use Rattle.std.proofs.Common.{◌≡◌, ◌∷◌, sym, arith}
-use Rattle.json.specs.Token as token
-use Rattle.table_lines.proofs.Spelled.{wagon_spelled}
-use Rattle.table_lines.proofs.tokens.WagonTokenTokenKind.take.Goals as goal
-
-pub returns-in-Ok-clause-value : goal.returns-in-Ok-clause-value
-returns-in-Ok-clause-value c =
-    let first : c.args.reader.now ≡ token.string c.in_ok-text.text.now ∷ c.take_text.new.reader = grind arith in
-    wagon_spelled c.args.reader.now c.take_text.new.reader c.in_ok-text.text.now c.in-Ok.number first (sym c.in-Ok.ensures.meaning)
