@@ -31,7 +31,7 @@ REFUSED, MANY = 3000, 5000
 # Of each part: what it tries, and the calls that must have been refused memory in some case.
 PARTS = {
     "readings": ("calls that read lines and files, make tables and plans, and write texts", """WagonNumber::text
-        Place::text ClassCode::text Company::text OrderId::text Moment::text read_line CommitText::copy solve_line read_lines
+        Place::text ClassCode::text Company::text OrderId::text Moment::text read_line Event::copy solve_line read_lines
         Network::copy tables tables_by_workers Cells::from_rows plan Roster::read_rows Roster::copy Book::new OfficeState::new
         OfficeState::apply Problem::copy work cells Snap::commit_text plan_text certificate_line
         sheet_text map_text""".split()),

@@ -4,7 +4,7 @@
 use crate::samples::{book, command};
 use crate::trying::{must, prepared, say_refused, shown};
 use commit_book::{Answer, Book, Call, Refusal, Reply};
-use move_messages::Command;
+use move_messages::{Command, Event};
 use std::alloc::{AllocError, Global};
 
 const ORDER: &str =
@@ -111,12 +111,8 @@ pub(crate) fn day_calls(alloc: Global) -> Option<Vec<Call>> {
 /// A line as a call of a book.
 pub(crate) fn call_of(alloc: Global, line: &str) -> Option<Call> {
     match command(alloc, line)? {
-        Command::Message(message) => Some(Call::Message(message)),
-        Command::Place(text) => Some(Call::Place(text)),
-        Command::Withdraw(id) => Some(Call::Withdraw(id)),
+        Command::Event(event) => Some(Call::Event(event)),
         Command::Begin(at) => Some(Call::Begin(at)),
-        Command::Commit(commit) => Some(Call::Commit(commit)),
-        Command::Revise(network) => Some(Call::Revise(network)),
         _ => None,
     }
 }
@@ -124,11 +120,14 @@ pub(crate) fn call_of(alloc: Global, line: &str) -> Option<Call> {
 /// What the method of a call answers.
 fn answer(alloc: Global, book: &mut Book, call: &Call) -> Answer {
     let done = match call {
-        Call::Message(message) => book.message(alloc, message),
-        Call::Place(text) => book.place(alloc, text),
-        Call::Withdraw(id) => book.withdraw(alloc, *id),
-        Call::Commit(commit) => book.commit(alloc, commit),
-        Call::Revise(network) => book.revise(alloc, *network),
+        Call::Event(Event::Message(message)) => book.message(alloc, message),
+        Call::Event(Event::Place(text)) => book.place(alloc, text),
+        Call::Event(Event::Withdraw(id)) => book.withdraw(alloc, *id),
+        Call::Event(Event::Commit(commit)) => match commit.copy(alloc) {
+            Ok(commit) => book.commit(alloc, commit),
+            Err(AllocError) => return NO_MEMORY,
+        },
+        Call::Event(Event::Revise(network)) => book.revise(alloc, *network),
         Call::Begin(at) => {
             return match book.begin(alloc, *at) {
                 Ok(snap) => Answer::Begun(snap.version()),

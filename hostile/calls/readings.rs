@@ -11,8 +11,8 @@ use dispatch_sheet::{certificate_line, plan_text, sheet_text};
 use line_network::{Networks, OpenGate, Tables, tables, tables_by_workers};
 use dispatch_sheet::map_text;
 use line_network::{Network, read_lines};
-use move_messages::{Command, read_line};
-use operating_db::{Event, OfficeState};
+use move_messages::{Command, Event, read_line};
+use operating_db::OfficeState;
 use price_checker::Prices;
 use problem_table::cells;
 use rail_codes::{ClassCode, Company, Moment, OrderId, Place, WagonNumber};
@@ -45,7 +45,7 @@ impl Start {
         let first = vec![in alloc; Some(10u64), Some(20)].ok()?;
         let second = vec![in alloc; Some(15u64), None].ok()?;
         let mut book = book(alloc, 2)?;
-        let Command::Place(text) = command(alloc, DAY[0].1)? else {
+        let Command::Event(Event::Place(text)) = command(alloc, DAY[0].1)? else {
             return None;
         };
         book.place(alloc, &text).ok()?;
@@ -102,13 +102,13 @@ fn codes(rt: &HostRuntime, alloc: Global) -> Option<()> {
     Some(())
 }
 
-/// Lines of each kind, and copies of commits.
+/// Lines of each kind, and copies of events.
 fn lines(rt: &HostRuntime, alloc: Global) -> Option<()> {
     for (_name, line, _wanted) in DAY {
         let read = tried_fault!(rt, "read_line", read_line(alloc, line.as_bytes()));
         must(println!(rt; "{read:?}").is_ok());
-        if let Command::Commit(commit) = read {
-            must(tried!(rt, "CommitText::copy", commit.copy(alloc)) == commit);
+        if let Command::Event(event) = read {
+            must(tried!(rt, "Event::copy", event.copy(alloc)) == event);
         }
     }
     for line in [
@@ -212,15 +212,9 @@ fn offices(rt: &HostRuntime, alloc: Global, start: &Start) -> Option<()> {
 fn events(alloc: Global) -> Option<Vec<Event>> {
     let mut events = Vec::new(alloc);
     for (_name, line, _wanted) in DAY {
-        let event = match command(alloc, line)? {
-            Command::Message(message) => Event::Message(message),
-            Command::Place(text) => Event::Place(text),
-            Command::Withdraw(id) => Event::Withdraw(id),
-            Command::Commit(commit) => Event::Commit(commit),
-            Command::Revise(network) => Event::Revise(network),
-            _ => continue,
-        };
-        events.push(event).ok()?;
+        if let Command::Event(event) = command(alloc, line)? {
+            events.push(event).ok()?;
+        }
     }
     Some(events)
 }

@@ -5,7 +5,8 @@ use crate::books::{DAY, NO_MEMORY, day_calls};
 use crate::samples::book;
 use crate::trying::{must, prepared, say_refused, shown};
 use commit_book::{Answer, Book, Call, Reply};
-use sessions::{Office, OpenFault, Seat, close, open};
+use move_messages::Event;
+use sessions::{SharedBook, OpenFault, Seat, close, open};
 use std::alloc::{AllocError, Global};
 use std::marker::Brand;
 use std::sync::Wait;
@@ -23,7 +24,7 @@ pub(crate) fn all<T: Wait>(
     opened::<Brand, T>(rt, threads, alloc, &calls, Blank::new(2), book)
 }
 
-/// An office of two seats is opened, has its day, and is closed.
+/// A shared book of two seats is opened, has its day, and is closed.
 fn opened<L: Ledger, T: Wait>(
     rt: &HostRuntime,
     threads: &T,
@@ -33,7 +34,7 @@ fn opened<L: Ledger, T: Wait>(
     book: Book,
 ) -> Option<()> {
     let before = shown(alloc, &book)?;
-    let (office, mut seats) = match open::<L>(alloc, blank, book, 2) {
+    let (shared, mut seats) = match open::<L>(alloc, blank, book, 2) {
         Ok(opened) => opened,
         Err(OpenFault { blank, book }) => {
             say_refused(rt, "open");
@@ -44,18 +45,18 @@ fn opened<L: Ledger, T: Wait>(
             }
         }
     };
-    day(rt, threads, alloc, calls, &office, &mut seats)?;
-    closed(rt, alloc, office, seats)
+    day(rt, threads, alloc, calls, &shared, &mut seats)?;
+    closed(rt, alloc, shared, seats)
 }
 
 /// Closing asks for no memory: each request before the last ones is told of, and it tells of none.
 fn closed<L: Ledger>(
     rt: &HostRuntime,
     alloc: Global,
-    office: Office<L>,
+    shared: SharedBook<L>,
     seats: Vec<Seat<L>>,
 ) -> Option<()> {
-    match close(office, seats) {
+    match close(shared, seats) {
         Ok(book) => {
             let len = book.len();
             must(len == 17);
@@ -74,7 +75,7 @@ fn day<L: Ledger, T: Wait>(
     threads: &T,
     alloc: Global,
     calls: &[Call],
-    office: &Office<L>,
+    shared: &SharedBook<L>,
     seats: &mut [Seat<L>],
 ) -> Option<()> {
     for (k, (name, _line, wanted)) in DAY.iter().enumerate() {
@@ -82,12 +83,12 @@ fn day<L: Ledger, T: Wait>(
         let seat = &mut seats[k % 2];
         let count = seat.count();
         let receipts = format!(in alloc; "{:?}", seat.receipts()).ok()?;
-        let mut answered = answer(threads, alloc, office, seat, call);
+        let mut answered = answer(threads, alloc, shared, seat, call);
         if answered == NO_MEMORY {
             say_refused(rt, name);
             let after = format!(in alloc; "{:?}", seat.receipts()).unwrap();
             must(seat.count() == count && after.as_str() == receipts.as_str());
-            answered = answer(threads, alloc, office, seat, call);
+            answered = answer(threads, alloc, shared, seat, call);
         }
         must(answered == *wanted);
         let added = u64::from(matches!(answered, Answer::Done(Reply::Accepted(_))));
@@ -101,18 +102,21 @@ fn day<L: Ledger, T: Wait>(
 fn answer<L: Ledger, T: Wait>(
     rt: &T,
     alloc: Global,
-    office: &Office<L>,
+    shared: &SharedBook<L>,
     seat: &mut Seat<L>,
     call: &Call,
 ) -> Answer {
     let done = match call {
-        Call::Message(message) => office.send(rt, alloc, seat, message),
-        Call::Place(text) => office.place(rt, alloc, seat, text),
-        Call::Withdraw(id) => office.withdraw(rt, alloc, seat, *id),
-        Call::Commit(commit) => office.commit(rt, alloc, seat, commit),
-        Call::Revise(network) => office.revise(rt, alloc, seat, *network),
+        Call::Event(Event::Message(message)) => shared.send(rt, alloc, seat, message),
+        Call::Event(Event::Place(text)) => shared.place(rt, alloc, seat, text),
+        Call::Event(Event::Withdraw(id)) => shared.withdraw(rt, alloc, seat, *id),
+        Call::Event(Event::Commit(commit)) => match commit.copy(alloc) {
+            Ok(commit) => shared.commit(rt, alloc, seat, commit),
+            Err(AllocError) => return NO_MEMORY,
+        },
+        Call::Event(Event::Revise(network)) => shared.revise(rt, alloc, seat, *network),
         Call::Begin(at) => {
-            return match office.begin(rt, alloc, seat, *at) {
+            return match shared.begin(rt, alloc, seat, *at) {
                 Ok(snap) => Answer::Begun(snap.version()),
                 Err(AllocError) => NO_MEMORY,
             };
