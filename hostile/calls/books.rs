@@ -119,25 +119,29 @@ pub(crate) fn call_of(alloc: Global, line: &str) -> Option<Call> {
 
 /// What the method of a call answers.
 fn answer(alloc: Global, book: &mut Book, call: &Call) -> Answer {
-    let done = match call {
-        Call::Event(Event::Message(message)) => book.message(alloc, message),
-        Call::Event(Event::Place(text)) => book.place(alloc, text),
-        Call::Event(Event::Withdraw(id)) => book.withdraw(alloc, *id),
-        Call::Event(Event::Commit(commit)) => match commit.copy(alloc) {
-            Ok(commit) => book.commit(alloc, commit),
-            Err(AllocError) => return NO_MEMORY,
+    match call {
+        Call::Event(event) => match submitted(alloc, book, event) {
+            Ok(reply) => Answer::Done(reply),
+            Err(refusal) => Answer::Refused(refusal),
         },
-        Call::Event(Event::Revise(network)) => book.revise(alloc, *network),
-        Call::Begin(at) => {
-            return match book.begin(alloc, *at) {
-                Ok(snap) => Answer::Begun(snap.version()),
-                Err(AllocError) => NO_MEMORY,
-            };
-        }
-    };
-    match done {
-        Ok(reply) => Answer::Done(reply),
-        Err(refusal) => Answer::Refused(refusal),
+        Call::Begin(at) => match book.begin(alloc, *at) {
+            Ok(snap) => Answer::Begun(snap.version()),
+            Err(AllocError) => NO_MEMORY,
+        },
+    }
+}
+
+/// What the method of an event answers, given a copy of a commit.
+fn submitted(alloc: Global, book: &mut Book, event: &Event) -> Result<Reply, Refusal> {
+    match event {
+        Event::Message(message) => book.message(alloc, message),
+        Event::Place(text) => book.place(alloc, text),
+        Event::Withdraw(id) => book.withdraw(alloc, *id),
+        Event::Commit(commit) => match commit.copy(alloc) {
+            Ok(commit) => book.commit(alloc, commit),
+            Err(AllocError) => book.answer_without_memory(event),
+        },
+        Event::Revise(network) => book.revise(alloc, *network),
     }
 }
 

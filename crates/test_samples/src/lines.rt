@@ -138,12 +138,8 @@ pub fn script(alloc: Global, lines: &[Line<'_>]) -> Result<String, AllocError> {
 pub fn call(alloc: Global, line: Line<'_>) -> Result<Call, Fail> {
     let text = line.text(alloc)?;
     match read_line(alloc, text.as_bytes())? {
-        Command::Message(message) => Ok(Call::Message(message)),
-        Command::Place(text) => Ok(Call::Place(text)),
-        Command::Withdraw(id) => Ok(Call::Withdraw(id)),
+        Command::Event(event) => Ok(Call::Event(event)),
         Command::Begin(at) => Ok(Call::Begin(at)),
-        Command::Commit(commit) => Ok(Call::Commit(commit)),
-        Command::Revise(network) => Ok(Call::Revise(network)),
         Command::Plan(_) | Command::Sheet => Err(Fail::new("no call of a book")),
     }
 }

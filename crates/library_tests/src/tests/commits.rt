@@ -1,6 +1,6 @@
 //! The copy of a commit, which no reply of the program shows, and its lists taken out of it, which no word of the program does.
 
-use move_messages::{Command, CommitText, Pairs, PriceList, read_line};
+use move_messages::{Command, CommitText, Event, Pairs, PriceList, read_line};
 use std::alloc::Global;
 use std::test::Fail;
 use test_samples::{NEAR, moment, order_id, wagon};
@@ -8,7 +8,7 @@ use test_samples::{NEAR, moment, order_id, wagon};
 /// The commit that a line gives.
 fn commit(alloc: Global, line: &str) -> Result<Option<CommitText>, Fail> {
     match read_line(alloc, line.as_bytes())? {
-        Command::Commit(commit) => Ok(Some(commit)),
+        Command::Event(Event::Commit(commit)) => Ok(Some(commit)),
         _ => Ok(None),
     }
 }

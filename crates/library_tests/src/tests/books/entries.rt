@@ -2,7 +2,7 @@
 
 use super::runs::book_after;
 use commit_book::{Book, Call};
-use operating_db::Event;
+use move_messages::Event;
 use std::alloc::Global;
 use std::test::Fail;
 use test_samples::{BEGIN, COMMIT, Line, ORDER, call};
@@ -31,14 +31,14 @@ fn entries_are_counted_from_1(rt: HostRuntime) -> Result<(), Fail> {
     Ok(())
 }
 
-/// Whether the entry of a number is the event of a line's commit, and of that commit's copy.
+/// Whether the entry of a number is the event of a line, and that event's copy.
 fn is_entry(alloc: Global, book: &Book, n: u64, line: Line<'_>) -> Result<bool, Fail> {
     let entry = book.entry(n).ok_or("no entry")?;
-    let Call::Commit(commit) = call(alloc, line)? else {
-        return Err(Fail::new("no commit"));
+    let Call::Event(event) = call(alloc, line)? else {
+        return Err(Fail::new("no event"));
     };
-    let copy = commit.copy(alloc)?;
-    Ok(*entry == Event::Commit(commit) && *entry == Event::Commit(copy))
+    let copy = event.copy(alloc)?;
+    Ok(*entry == event && *entry == copy)
 }
 
 #[test]

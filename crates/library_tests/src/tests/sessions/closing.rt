@@ -2,68 +2,68 @@
 ghost use Rattle.std.specs.Prelude.{◌≡◌, IfOk, IfSome};
 
 use commit_book::Book;
-use sessions::{CloseFault, Office, Seat, close};
+use sessions::{CloseFault, SharedBook, Seat, close};
 use std::alloc::Global;
 use std::sync::ledger::Ledger;
 use std::test::Fail;
 
-/// Closes an office that lacks seats, and takes what is handed back.
+/// Closes a shared book that lacks seats, and takes what is handed back.
 fn handed_back<L: Ledger>(
-    office: Office<L>,
+    shared: SharedBook<L>,
     seats: Vec<Seat<L>>,
-) -> Option<(Office<L>, Vec<Seat<L>>)>
-    requires { office.seats ≡ L.parts }
-    ensures { IfSome result (λ back. (back.0 ≡ office) × (back.1 ≡ seats)) }
+) -> Option<(SharedBook<L>, Vec<Seat<L>>)>
+    requires { shared.seats ≡ L.parts }
+    ensures { IfSome result (λ back. (back.0 ≡ shared) × (back.1 ≡ seats)) }
 {
-    match close(office, seats) {
-        Err(CloseFault::SeatsMissing(office, seats)) => Some((office, seats)),
+    match close(shared, seats) {
+        Err(CloseFault::SeatsMissing(shared, seats)) => Some((shared, seats)),
         _ => None,
     }
 }
 
-/// The office, which is not closed with no seat.
-fn open_with_none<L: Ledger>(alloc: Global, office: Office<L>) -> Result<Office<L>, Fail>
-    requires { office.seats ≡ L.parts }
-    ensures { IfOk result (λ back. back ≡ office) }
+/// The shared book, which is not closed with no seat.
+fn open_with_none<L: Ledger>(alloc: Global, shared: SharedBook<L>) -> Result<SharedBook<L>, Fail>
+    requires { shared.seats ≡ L.parts }
+    ensures { IfOk result (λ back. back ≡ shared) }
 {
-    match handed_back(office, Vec::new(alloc)) {
-        Some((office, _none)) => Ok(office),
+    match handed_back(shared, Vec::new(alloc)) {
+        Some((shared, _none)) => Ok(shared),
         None => Err(Fail::new("closed with no seat")),
     }
 }
 
-/// The office and its seats; it is not closed with all but one.
+/// The shared book and its seats; it is not closed with all but one.
 fn open_without_last<L: Ledger>(
-    office: Office<L>,
+    shared: SharedBook<L>,
     seats: Vec<Seat<L>>,
-) -> Result<(Office<L>, Vec<Seat<L>>), Fail>
-    requires { office.seats ≡ L.parts }
-    ensures { IfOk result (λ back. back.0 ≡ office) }
+) -> Result<(SharedBook<L>, Vec<Seat<L>>), Fail>
+    requires { shared.seats ≡ L.parts }
+    ensures { IfOk result (λ back. back.0 ≡ shared) }
 {
     let mut seats = seats;
     let Some(last) = seats.pop() else {
         return Err(Fail::new("no seat"));
     };
-    let Some((office, mut seats)) = handed_back(office, seats) else {
+    let Some((shared, mut seats)) = handed_back(shared, seats) else {
         return Err(Fail::new("closed without a seat"));
     };
     match seats.push(last) {
-        Ok(()) => Ok((office, seats)),
+        Ok(()) => Ok((shared, seats)),
         Err(_) => Err(Fail::new("no memory")),
     }
 }
 
-/// The book of an office that is closed with no seat, with all but one, and with all: the last of these closes it.
+/// The book of a shared book that is closed with no seat, with all but one, and with all: the last of these closes it.
 pub(crate) fn closed<L: Ledger>(
     alloc: Global,
-    office: Office<L>,
+    shared: SharedBook<L>,
     seats: Vec<Seat<L>>,
 ) -> Result<Book, Fail>
-    requires { office.seats ≡ L.parts }
+    requires { shared.seats ≡ L.parts }
 {
-    let office = open_with_none(alloc, office)?;
-    let (office, seats) = open_without_last(office, seats)?;
-    match close(office, seats) {
+    let shared = open_with_none(alloc, shared)?;
+    let (shared, seats) = open_without_last(shared, seats)?;
+    match close(shared, seats) {
         Ok(book) => Ok(book),
         Err(_) => Err(Fail::new("not closed")),
     }

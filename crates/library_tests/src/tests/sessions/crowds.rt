@@ -5,7 +5,7 @@ use super::scenes::{Action, played};
 use commit_book::Reply;
 use move_messages::{Message, MessageKind};
 use rail_codes::{Company, MessageId, Moment, Place, WagonNumber};
-use sessions::{Office, Seat};
+use sessions::{SharedBook, Seat};
 use std::alloc::Global;
 use std::sync::Wait;
 use std::sync::ledger::Ledger;
@@ -56,7 +56,7 @@ fn hold(codes: &Codes, number: u32, wagon: WagonNumber) -> Message {
 /// Whether a begin answers a version not below the seat's count.
 fn begins<L: Ledger, R: Wait>(desk: &Desk<'_, L, R>, seat: &mut Seat<L>, at: Moment) -> bool {
     let count = seat.count();
-    match desk.office.begin(desk.rt, desk.alloc, seat, at) {
+    match desk.shared.begin(desk.rt, desk.alloc, seat, at) {
         Ok(snap) => snap.version() >= count,
         Err(_) => false,
     }
@@ -79,7 +79,7 @@ fn calls<L: Ledger, R: Wait>(
     } else {
         hold(codes, number, codes.near)
     };
-    match desk.office.send(desk.rt, desk.alloc, seat, &message) {
+    match desk.shared.send(desk.rt, desk.alloc, seat, &message) {
         Ok(Reply::Accepted(_)) => k % 4 == 0,
         Ok(Reply::Repeated(_)) => k % 4 == 1,
         Err(refusal) => k % 4 == 3 && refusal.number() == 73,
@@ -90,13 +90,13 @@ fn calls<L: Ledger, R: Wait>(
 fn all_calls<L: Ledger, R: Wait>(
     rt: &R,
     alloc: Global,
-    office: &Office<L>,
+    shared: &SharedBook<L>,
     seats: Vec<Seat<L>>,
     codes: &Codes,
 ) -> (Vec<Seat<L>>, bool) {
     let mut seats = seats;
     let mut are_right = true;
-    let desk = Desk { rt, alloc, office };
+    let desk = Desk { rt, alloc, shared };
     for seat in seats.iter_mut() {
         for k in 0..CALLS {
             are_right = calls(&desk, seat, codes, k) && are_right;
@@ -138,13 +138,13 @@ pub(crate) fn add_up<L: Ledger + Send + Sync, R: Threads + Wait + Sync>(
     desk: &Desk<'_, L, R>,
     seats: &mut Vec<Seat<L>>,
 ) -> Result<bool, Fail> {
-    let (rt, alloc, office) = (desk.rt, desk.alloc, desk.office);
+    let (rt, alloc, shared) = (desk.rt, desk.alloc, desk.shared);
     let groups = dealt(alloc, seats).ok_or("too few seats")?;
     let codes = &read_codes()?;
     let done = map_vec(
         rt,
         groups,
-        &|group| { all_calls(rt, alloc, office, group, codes) },
+        &|group| { all_calls(rt, alloc, shared, group, codes) },
     )?;
     Ok(gathered(seats, done).ok_or("another answer")? == 832)
 }

@@ -1,23 +1,24 @@
-//! Desks, where the seats of an office call and are told.
+//! Desks, where the seats of a shared book call and are told.
 
 use commit_book::{Call, Refusal, Reply};
-use sessions::{Office, Seat};
+use move_messages::Event;
+use sessions::{SharedBook, Seat};
 use std::alloc::{AllocError, Global};
 use std::sync::Wait;
 use std::sync::ledger::Ledger;
 use std::test::Fail;
 use test_samples::{Line, call, reply_text};
 
-/// An open office, and what the calls of its seats need.
+/// An open shared book, and what the calls of its seats need.
 pub(crate) struct Desk<'a, L: Ledger, R: Wait> {
     pub(crate) rt: &'a R,
     pub(crate) alloc: Global,
-    pub(crate) office: &'a Office<L>,
+    pub(crate) shared: &'a SharedBook<L>,
 }
 
 impl<'a, L: Ledger, R: Wait> Drop for Desk<'a, L, R> {
     fn drop(self) {
-        let Self { rt, alloc, office } = self;
+        let Self { rt, alloc, shared } = self;
     }
 }
 
@@ -31,18 +32,26 @@ impl<'a, L: Ledger, R: Wait> Desk<'a, L, R> {
     /// What a seat is told on a call: `accepted 2`, `repeated 1`, `begun 1 network 1`, or `refused` with the number and the
     /// wagon or the order that has changed.
     pub(crate) fn answer(&self, seat: &mut Seat<L>, call: Call) -> Result<String, AllocError> {
-        let (rt, alloc, office) = (self.rt, self.alloc, self.office);
+        let (rt, alloc, shared) = (self.rt, self.alloc, self.shared);
         match call {
-            Call::Message(message) => text_of(alloc, office.send(rt, alloc, seat, &message)),
-            Call::Place(text) => text_of(alloc, office.place(rt, alloc, seat, &text)),
-            Call::Withdraw(id) => text_of(alloc, office.withdraw(rt, alloc, seat, id)),
-            Call::Revise(network) => text_of(alloc, office.revise(rt, alloc, seat, network)),
-            Call::Commit(commit) => text_of(alloc, office.commit(rt, alloc, seat, &commit)),
+            Call::Event(event) => self.submit(seat, event),
             Call::Begin(at) => {
-                let snap = office.begin(rt, alloc, seat, at)?;
+                let snap = shared.begin(rt, alloc, seat, at)?;
                 let (version, network) = (snap.version(), snap.network());
                 format!(in alloc; "begun {version} network {network}")
             }
+        }
+    }
+
+    /// What a seat is told on an event, by the call of its kind.
+    fn submit(&self, seat: &mut Seat<L>, event: Event) -> Result<String, AllocError> {
+        let (rt, alloc, shared) = (self.rt, self.alloc, self.shared);
+        match event {
+            Event::Message(message) => text_of(alloc, shared.send(rt, alloc, seat, &message)),
+            Event::Place(text) => text_of(alloc, shared.place(rt, alloc, seat, &text)),
+            Event::Withdraw(id) => text_of(alloc, shared.withdraw(rt, alloc, seat, id)),
+            Event::Commit(commit) => text_of(alloc, shared.commit(rt, alloc, seat, commit)),
+            Event::Revise(network) => text_of(alloc, shared.revise(rt, alloc, seat, network)),
         }
     }
 }

@@ -41,7 +41,7 @@ fn is_nearest(commit: &CommitText) -> Result<bool, Fail> {
 /// Begins at one o'clock.
 fn begun<L: Ledger, R: Wait>(desk: &Desk<'_, L, R>, seat: &mut Seat<L>) -> Result<Snap, Fail> {
     let at = time(desk.alloc, "01:00")?;
-    Ok(desk.office.begin(desk.rt, desk.alloc, seat, at)?)
+    Ok(desk.shared.begin(desk.rt, desk.alloc, seat, at)?)
 }
 
 /// Whether a plan gives the first wagon to the first order, at 50 km.
@@ -71,9 +71,10 @@ fn commits<L: Ledger, R: Wait>(
 ) -> Result<bool, Fail> {
     let networks = networks_of(desk.alloc, SAMPLE.networks)?;
     let (commit, is_least) = planned(desk.alloc, snap, &networks)?;
-    let reply = desk.office.commit(desk.rt, desk.alloc, seat, &commit);
+    let is_nearest = is_nearest(&commit)?;
+    let reply = desk.shared.commit(desk.rt, desk.alloc, seat, commit);
     let told = text_of(desk.alloc, reply)?;
-    Ok(is_least && told.as_str() == "accepted 2" && is_nearest(&commit)?)
+    Ok(is_least && told.as_str() == "accepted 2" && is_nearest)
 }
 
 /// Whether a seat begins, has the nearer wagon planned for the sample's order, and commits that.

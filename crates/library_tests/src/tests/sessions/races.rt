@@ -3,7 +3,7 @@
 use super::desks::Desk;
 use super::scenes::{Action, played};
 use commit_book::Call;
-use sessions::{Office, Seat};
+use sessions::{SharedBook, Seat};
 use std::alloc::Global;
 use std::sync::Wait;
 use std::sync::ledger::Ledger;
@@ -15,12 +15,12 @@ use test_samples::{BEGIN, COMMIT, Line, ORDER, SAMPLE, call};
 fn calls<L: Ledger, R: Wait>(
     rt: &R,
     alloc: Global,
-    office: &Office<L>,
+    shared: &SharedBook<L>,
     seat: Seat<L>,
     call: Call,
 ) -> (Seat<L>, Option<String>) {
     let mut seat = seat;
-    let desk = Desk { rt, alloc, office };
+    let desk = Desk { rt, alloc, shared };
     let told = desk.answer(&mut seat, call).ok();
     (seat, told)
 }
@@ -38,11 +38,11 @@ fn call_at_once<L: Ledger + Send + Sync, R: Threads + Wait + Sync>(
     (first, second): (Seat<L>, Seat<L>),
     (one, other): (Call, Call),
 ) -> ((Seat<L>, Option<String>), (Seat<L>, Option<String>)) {
-    let (rt, alloc, office) = (desk.rt, desk.alloc, desk.office);
+    let (rt, alloc, shared) = (desk.rt, desk.alloc, desk.shared);
     join(
         rt,
-        move || calls(rt, alloc, office, first, one),
-        move || calls(rt, alloc, office, second, other),
+        move || calls(rt, alloc, shared, first, one),
+        move || calls(rt, alloc, shared, second, other),
     )
 }
 

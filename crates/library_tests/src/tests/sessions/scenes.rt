@@ -1,4 +1,4 @@
-//! Scenes of an office: what happens between its opening and its closing.
+//! Scenes of a shared book: what happens between its opening and its closing.
 ghost use Rattle.std.specs.Prelude.{◌≡◌};
 ghost use Rattle.sessions.specs.Seat.{IsSeatCount};
 
@@ -19,7 +19,7 @@ use std::test::Fail;
 use std::thread::Threads;
 use test_samples::{Start, book_of};
 
-/// What happens at an office.
+/// What happens at a shared book.
 #[derive(Clone, Copy)]
 pub(crate) enum Action {
     /// The seats have these turns, of the case of this name.
@@ -52,7 +52,7 @@ fn happens<L: Ledger + Send + Sync, R: Threads + Wait + Sync>(
     }
 }
 
-/// The book of an office that is opened so and closed when an action has gone as it must.
+/// The book of a shared book that is opened so and closed when an action has gone as it must.
 fn book_after<L: Ledger + Send + Sync, R: Threads + Wait + Sync>(
     rt: &R,
     alloc: Global,
@@ -67,14 +67,14 @@ fn book_after<L: Ledger + Send + Sync, R: Threads + Wait + Sync>(
     requires count { IsSeatCount seats }
 {
     let book = book_of(alloc, start)?;
-    let Ok((office, mut seats)) = open::<L>(alloc, blank, book, seats) else {
-        return Err(Fail::new("no office"));
+    let Ok((shared, mut seats)) = open::<L>(alloc, blank, book, seats) else {
+        return Err(Fail::new("no shared"));
     };
     let goes = {
-        let office = &office;
-        happens(&Desk { rt, alloc, office }, &mut seats, action)?
+        let shared = &shared;
+        happens(&Desk { rt, alloc, shared }, &mut seats, action)?
     };
-    let book = closed(alloc, office, seats)?;
+    let book = closed(alloc, shared, seats)?;
     if !goes {
         return Err(Fail::new("it goes otherwise"));
     }

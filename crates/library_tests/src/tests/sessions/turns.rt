@@ -3,7 +3,7 @@
 use super::desks::Desk;
 use super::scenes::{Action, played};
 use commit_book::{Book, Call};
-use operating_db::Event;
+use move_messages::Event;
 use sessions::Seat;
 use std::alloc::Global;
 use std::sync::Wait;
@@ -27,11 +27,7 @@ fn entry_told(told: &str) -> Option<u64> {
 /// Whether an event is a line's.
 fn is_of(alloc: Global, event: &Event, line: Line<'_>) -> Result<bool, Fail> {
     match call(alloc, line)? {
-        Call::Message(message) => Ok(*event == Event::Message(message)),
-        Call::Place(text) => Ok(*event == Event::Place(text)),
-        Call::Withdraw(id) => Ok(*event == Event::Withdraw(id)),
-        Call::Commit(commit) => Ok(*event == Event::Commit(commit)),
-        Call::Revise(network) => Ok(*event == Event::Revise(network)),
+        Call::Event(its_event) => Ok(*event == its_event),
         Call::Begin(_) => Ok(false),
     }
 }
@@ -113,7 +109,7 @@ fn has_entries(alloc: Global, book: &Book, turns: &[Turn]) -> Result<bool, Fail>
 /// A name, a book that starts so, and the turns of its seats.
 pub(crate) type Case = (&'static str, Start<'static>, &'static [Turn]);
 
-/// Whether a case's turns go so, and the book has their entries when the office is closed. It has as many seats as the
+/// Whether a case's turns go so, and the book has their entries when the shared book is closed. It has as many seats as the
 /// highest number says.
 fn goes_so<R: Threads + Wait + Sync>(rt: &R, alloc: Global, case: &Case) -> Result<bool, Fail> {
     let (name, start, turns) = *case;
