@@ -26,18 +26,18 @@ after_numbers networks office event (Ok new) is promised agree = (step_kept netw
 after_numbers networks office event (Err fault) is promised agree = refl
 
 next_numbers : (setting : Setting) (history : List Event) → IsFirstOffice (length setting.networks) setting.first → IsLegal setting history → (n : ℕ) (o : Option Event) → slice_get history n ≡ o → numbers_of (replay setting (take n history ++ option_to_list o)) ≡ numbers_of (version setting history n)
-next_numbers setting history roster legal n None is = ap (λ (entries : List Event). numbers_of (replay setting entries)) (append-nil (take n history))
-next_numbers setting history roster legal n (Some event) is =
+next_numbers setting history first legal n None is = ap (λ (entries : List Event). numbers_of (replay setting entries)) (append-nil (take n history))
+next_numbers setting history first legal n (Some event) is =
     let now = version setting history n in
     let pushed = after_push (length setting.networks) setting.first (take n history) event in
     ap numbers_of pushed ∙ after_numbers (length setting.networks) now event (after_call (length setting.networks) now event) refl (legal.entries n event is).promised (versions_agree setting first history legal n)
 
 -- each version has the wagons of the first office
 numbers_kept : (setting : Setting) (history : List Event) → IsFirstOffice (length setting.networks) setting.first → IsLegal setting history → (n : ℕ) → numbers_of (version setting history n) ≡ numbers_of setting.first
-numbers_kept setting history roster legal zero = refl
-numbers_kept setting history roster legal (suc n) =
+numbers_kept setting history first legal zero = refl
+numbers_kept setting history first legal (suc n) =
     ap (λ (entries : List Event). numbers_of (replay setting entries)) (take_next history n (slice_get history n) refl)
-    ∙ (next_numbers setting history roster legal n (slice_get history n) refl ∙ numbers_kept setting history roster legal n)
+    ∙ (next_numbers setting history first legal n (slice_get history n) refl ∙ numbers_kept setting history first legal n)
 
 abbrev pub same : List ℕ → List ℕ → Bool
 same a b = pointwise nat_eq a b
@@ -48,9 +48,9 @@ pub record IsNamedOnce (office : Office) : Type 0 where
   pub orders : IsDistinct same (map (λ row. row.text.id) office.orders)
 
 pub named_once : (setting : Setting) (history : List Event) → IsFirstOffice (length setting.networks) setting.first → IsLegal setting history → IsNamedOnce (replay setting history)
-named_once setting history roster legal =
+named_once setting history first legal =
     let last = last_version setting history in
-    let numbers : numbers_of (replay setting history) ≡ numbers_of setting.first = ap numbers_of (sym last) ∙ numbers_kept setting history roster legal (length history) in
+    let numbers : numbers_of (replay setting history) ≡ numbers_of setting.first = ap numbers_of (sym last) ∙ numbers_kept setting history first legal (length history) in
     record {
       wagons = subst (λ (ns : List (List ℕ)). IsDistinct same ns) (sym numbers) (numbers_distinct setting.first.wagons first.wagons.ascending);
       orders = (subst PromisesAgree last (versions_agree setting first history legal (length history))).names;
