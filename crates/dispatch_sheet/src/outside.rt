@@ -1,7 +1,7 @@
 //! Places that the network in force doesn't have.
-ghost use Rattle.std.specs.Prelude.{◌≡◌, ℕ, List, IfOk, OnOk};
-ghost use Rattle.std.specs.List.{fold};
-ghost use Rattle.line_network.specs.Network.{NetworkValue};
+ghost use Rattle.std.specs.Prelude.{◌≡◌, ℕ, List, IfOk, OnOk, is_some};
+ghost use Rattle.std.specs.List.{fold, list_any};
+ghost use Rattle.line_network.specs.Network.{NetworkValue, are_one_place, place_index};
 ghost use Rattle.dispatch_sheet.specs.MapOutside.{is_drawn, outside_places, with_order_place, with_outside, with_wagon_place};
 
 use line_network::Network;
@@ -73,11 +73,25 @@ fn note_rows<T: Placed>(
 fn note_outside(places: &mut Vec<Place>, network: &Network, place: Place) -> Result<(), AllocError>
     ensures { OnOk result (places.new.items ≡ with_outside network.now places.old.items place) }
 {
-    if network.index_of(place).is_some() || places.contains(&place) {
+    if has_place(network, place) || is_among(places, place) {
         return Ok(());
     }
     places.push(place)?;
     Ok(())
+}
+
+/// Whether a network has a place.
+fn has_place(network: &Network, place: Place) -> bool
+    ensures { result ≡ is_some (place_index network.now.places place) }
+{
+    network.index_of(place).is_some()
+}
+
+/// Whether a place is among these.
+fn is_among(places: &[Place], place: Place) -> bool
+    ensures { result ≡ list_any (are_one_place place) places.now }
+{
+    places.iter().any(|other| place == *other)
 }
 
 /// Whether an order is on the map: it waits, or wagons are promised to it.
