@@ -32,7 +32,7 @@ use std::alloc::{AllocError, Global};
 use std::marker::Model;
 use std::sync::Arc;
 
-/// A history of events from an office on, which is legal whatever is called; the office after it; and the problems that
+/// A history of events from a roster on, which is legal whatever is called; the office after it; and the problems that
 /// commits may name. Each `Book` method is one step of such a run, so any `Book` value has a history for which the
 /// headline holds. A contract sees what the book was given, its history, and which problems it keeps.
 #[derive(Drop)]
@@ -65,28 +65,14 @@ impl Book {
         ensures setting { IfOk result (λ book. book.setting ≡ setting_with (first_office roster) networks.value limits) }
         ensures state { IfOk result (λ book. book.state ≡ record { history = []; kept = [] }) }
     {
-        let office = OfficeState::new(alloc, &roster, networks.count())?;
-        Ok(Book::from_office(alloc, office, networks, limits))
-    }
-
-    /// A book with no entry and no kept problem, which begins with this office. There must be as many networks as the
-    /// office knows.
-    pub fn from_office(
-        alloc: Global,
-        office: OfficeState,
-        networks: Arc<Networks>,
-        limits: Limits,
-    ) -> Book
-        requires { office.networks ≡ length networks.value }
-        ensures setting { result.setting ≡ setting_with office.office networks.value limits }
-        ensures state { result.state ≡ record { history = []; kept = [] } }
-    {
-        Book {
-            ledger: Ledger::new(alloc, office),
+        let count = networks.count();
+        let ledger = Ledger::new(alloc, roster, count)?;
+        Ok(Book {
+            ledger,
             networks,
             limits,
             kept: Vec::new(alloc),
-        }
+        })
     }
 
     /// How many entries there are, at most 1,000,000. Takes no memory.
@@ -122,7 +108,7 @@ impl Book {
         ensures proved { IsProved self.now.setting self.now.state.history }
         ensures setting { IsSetting self.now.setting }
     {
-        self.ledger.for_the_prover();
+        let _rows = self.ledger.roster().rows();
         let _count = self.networks.count();
         self.limits.for_the_prover();
     }

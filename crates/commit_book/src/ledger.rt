@@ -2,7 +2,7 @@
 ghost use Rattle.std.specs.Prelude.{◌≡◌, ◌<◌, ◌≤◌, ◌++◌, ◌∷◌, [], IfErr, IfNone, IfOk, IfSome, IsOk, IsSome, OnErr, OnOk, cond, length, option_map, slice_get, vec_capacity, vec_len};
 ghost use Rattle.operating_db.specs.After.{after_call};
 ghost use Rattle.operating_db.specs.ApplyFault.{IsRefusal};
-ghost use Rattle.operating_db.specs.FirstOffice.{IsFirstOffice};
+ghost use Rattle.line_network.specs.NetworkCount.{max_networks};
 ghost use Rattle.operating_db.specs.Steps.{IsPromised};
 ghost use Rattle.commit_book.specs.History.{IsFresh};
 ghost use Rattle.commit_book.specs.inner.Ledger.{IsAdmitted, IsIndexOf, IsMessageAt, IsMessageEntry, IsNoMessage, IsNoted, compare_ids, message_after, office_of, state_of};
@@ -10,13 +10,13 @@ ghost use Rattle.std.specs.BTreeMap.{get};
 ghost use Rattle.std.specs.Ordering.{is_eq};
 ghost use Rattle.rail_codes.specs.declared.message_id.MessageId.{MessageId};
 
+use fleet_rows::Roster;
 use move_messages::{Event, Message};
 use operating_db::{ApplyFault, OfficeState};
 use rail_codes::MessageId;
 use std::alloc::{AllocError, Global};
 use std::collections::BTreeMap;
 use std::marker::Model;
-use std::snapshot::Snapshot;
 
 /// What came of a message that was to be entered.
 #[derive(Clone, Copy, Debug, PartialEq, Eq)]
@@ -27,12 +27,11 @@ pub(crate) enum MessageEntry {
     Known(usize),
 }
 
-/// The accepted events in their order, and the office after them. A contract sees the office that they began with, how
-/// many networks there are, and the list of the events.
-#[derive(Drop)]
+/// The accepted events in their order, and the office after them. A contract sees the roster, how many networks there
+/// are, and the list of the events.
+#[derive(Debug, Drop)]
 pub(crate) struct Ledger {
-    // For the prover alone; it takes no memory.
-    first: Snapshot<OfficeState>,
+    roster: Roster,
     events: Vec<Event>,
     // The index of each message among the events, by its id. Senders choose the ids, so the map is an ordered one: a
     // look-up in it is short for all ids.
@@ -46,30 +45,32 @@ impl Model for Ledger {
 
     ghost Value = { LedgerValue };
 
-    ghost view = { λ ledger. record { first = ledger.first.value.office; networks = ledger.state.networks; events = ledger.events.items } };
+    ghost view = { λ ledger. record { roster = ledger.roster; networks = ledger.state.networks; events = ledger.events.items } };
 
-    ghost invariant = { λ ledger. IsLedger ledger.first.value.office ledger.events.items (get compare_ids ledger.ids) ledger.state };
+    ghost invariant = { λ ledger. IsLedger ledger.roster ledger.events.items (get compare_ids ledger.ids) ledger.state };
 }
 
 impl Ledger {
-    /// No event, from this office on.
-    pub fn new(alloc: Global, state: OfficeState) -> Ledger
-        ensures { result ≡ record { first = state.office; networks = state.networks; events = [] } }
+    /// No event, where there are so many networks.
+    pub fn new(alloc: Global, roster: Roster, networks: u32) -> Result<Ledger, AllocError>
+        requires from_one { 1 ≤ networks }
+        requires few { networks ≤ max_networks }
+        ensures { IfOk result (λ ledger. ledger ≡ record { roster = roster; networks = networks; events = [] }) }
     {
-        state.for_the_prover();
-        Ledger {
-            first: Snapshot::of(&state),
+        let state = OfficeState::new(alloc, &roster, networks)?;
+        Ok(Ledger {
+            roster,
             events: Vec::new(alloc),
             ids: BTreeMap::new(alloc),
             state,
-        }
+        })
     }
 
-    /// Does nothing: for the prover alone, it says that a book may begin with the first office.
-    pub fn for_the_prover(&self)
-        ensures { IsFirstOffice self.now.networks self.now.first }
+    /// The roster that it began with.
+    pub fn roster(&self) -> &Roster
+        ensures { result.now ≡ self.now.roster }
     {
-        let _ = &self.first;
+        &self.roster
     }
 
     /// How many events there are.
