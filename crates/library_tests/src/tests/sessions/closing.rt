@@ -2,7 +2,7 @@
 ghost use Rattle.std.specs.Prelude.{◌≡◌, IfOk, IfSome};
 
 use commit_book::Book;
-use sessions::{CloseFault, SharedBook, Seat, close};
+use sessions::{CloseFault, Seat, SharedBook, close};
 use std::alloc::Global;
 use std::sync::ledger::Ledger;
 use std::test::Fail;

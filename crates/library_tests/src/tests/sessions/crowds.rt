@@ -5,7 +5,7 @@ use super::scenes::{Action, played};
 use commit_book::Reply;
 use move_messages::{Message, MessageKind};
 use rail_codes::{Company, MessageId, Moment, Place, WagonNumber};
-use sessions::{SharedBook, Seat};
+use sessions::{Seat, SharedBook};
 use std::alloc::Global;
 use std::sync::Wait;
 use std::sync::ledger::Ledger;

@@ -2,7 +2,7 @@
 
 use commit_book::{Call, Refusal, Reply};
 use move_messages::Event;
-use sessions::{SharedBook, Seat};
+use sessions::{Seat, SharedBook};
 use std::alloc::{AllocError, Global};
 use std::sync::Wait;
 use std::sync::ledger::Ledger;

@@ -3,7 +3,7 @@
 use super::desks::Desk;
 use super::scenes::{Action, played};
 use commit_book::Call;
-use sessions::{SharedBook, Seat};
+use sessions::{Seat, SharedBook};
 use std::alloc::Global;
 use std::sync::Wait;
 use std::sync::ledger::Ledger;
