@@ -9,6 +9,6 @@ mod networks;
 mod orders;
 mod problems;
 mod rosters;
-mod sessions;
+mod seats;
 mod small_tables;
 mod tables;
