@@ -14,7 +14,6 @@ use Rattle.problem_table.specs.Allowed.{IsTableOf}
 use Rattle.cost_table.specs.Problem.{ProblemValue}
 use Rattle.operating_db.specs.After.{after_call}
 use Rattle.operating_db.specs.Office.{Office}
-use Rattle.operating_db.specs.RosterOffice.{first_office}
 use Rattle.operating_db.specs.Problem.{problem_of}
 use Rattle.operating_db.specs.Steps.{IsPromised}
 use Rattle.move_messages.specs.declared.event.Event.{Event}
@@ -31,7 +30,7 @@ use Rattle.commit_book.proofs.Runs.{IsLegalEntry, room_of}
 
 -- the office of a ledger is the replay
 pub office_is : (ledger : LedgerValue) (networks : List NetworkValue) (limits : LimitNumbers) → ledger.networks ≡ length networks → office_of ledger ≡ replay (setting_of ledger networks limits) ledger.events
-office_is ledger networks limits h = ap (λ (n : ℕ). after_all n (first_office ledger.roster) ledger.events) h
+office_is ledger networks limits h = ap (λ (n : ℕ). after_all n ledger.first ledger.events) h
 
 pub parts_pushed : (ledger : LedgerValue) (networks : List NetworkValue) (limits : LimitNumbers) (kept : List KeptProblem) (event : Event) → IsBookOf ledger networks limits kept
     → IsPromised (replay (setting_of ledger networks limits) ledger.events) event → Owes (setting_of ledger networks limits) ledger.events event → is_full (setting_of ledger networks limits) ledger.events ≡ false

@@ -32,7 +32,7 @@ use std::alloc::{AllocError, Global};
 use std::marker::Model;
 use std::sync::Arc;
 
-/// A history of events from a roster on, which is legal whatever is called; the office after it; and the problems that
+/// A history of events from an office on, which is legal whatever is called; the office after it; and the problems that
 /// commits may name. Each `Book` method is one step of such a run, so any `Book` value has a history for which the
 /// headline holds. A contract sees what the book was given, its history, and which problems it keeps.
 #[derive(Drop)]
@@ -65,8 +65,23 @@ impl Book {
         ensures setting { IfOk result (λ book. book.setting ≡ setting_with (first_office roster) networks.value limits) }
         ensures state { IfOk result (λ book. book.state ≡ record { history = []; kept = [] }) }
     {
-        let count = networks.count();
-        let ledger = Ledger::new(alloc, roster, count)?;
+        let first = OfficeState::new(alloc, &roster, networks.count())?;
+        Book::from_office(alloc, first, networks, limits)
+    }
+
+    /// A book with no entry and no kept problem, which begins with this office. It must be one where there are as many
+    /// networks.
+    pub fn from_office(
+        alloc: Global,
+        first: OfficeState,
+        networks: Arc<Networks>,
+        limits: Limits,
+    ) -> Result<Book, AllocError>
+        requires { first.networks ≡ length networks.value }
+        ensures setting { IfOk result (λ book. book.setting ≡ setting_with first.office networks.value limits) }
+        ensures state { IfOk result (λ book. book.state ≡ record { history = []; kept = [] }) }
+    {
+        let ledger = Ledger::new(alloc, first)?;
         Ok(Book {
             ledger,
             networks,
@@ -108,7 +123,7 @@ impl Book {
         ensures proved { IsProved self.now.setting self.now.state.history }
         ensures setting { IsSetting self.now.setting }
     {
-        let _rows = self.ledger.roster().rows();
+        self.ledger.first().for_the_prover();
         let _count = self.networks.count();
         self.limits.for_the_prover();
     }

@@ -1,8 +1,7 @@
 //! The accepted events, and the office after them.
-ghost use Rattle.std.specs.Prelude.{◌≡◌, ◌<◌, ◌≤◌, ◌++◌, ◌∷◌, [], IfErr, IfNone, IfOk, IfSome, IsOk, IsSome, OnErr, OnOk, cond, length, option_map, slice_get, vec_capacity, vec_len};
+ghost use Rattle.std.specs.Prelude.{◌≡◌, ◌<◌, ◌++◌, ◌∷◌, [], IfErr, IfNone, IfOk, IfSome, IsOk, IsSome, OnErr, OnOk, cond, length, option_map, slice_get, vec_capacity, vec_len};
 ghost use Rattle.operating_db.specs.After.{after_call};
 ghost use Rattle.operating_db.specs.ApplyFault.{IsRefusal};
-ghost use Rattle.line_network.specs.NetworkCount.{max_networks};
 ghost use Rattle.operating_db.specs.Steps.{IsPromised};
 ghost use Rattle.commit_book.specs.History.{IsFresh};
 ghost use Rattle.commit_book.specs.inner.Ledger.{IsAdmitted, IsIndexOf, IsMessageAt, IsMessageEntry, IsNoMessage, IsNoted, compare_ids, message_after, office_of, state_of};
@@ -10,7 +9,6 @@ ghost use Rattle.std.specs.BTreeMap.{get};
 ghost use Rattle.std.specs.Ordering.{is_eq};
 ghost use Rattle.rail_codes.specs.declared.message_id.MessageId.{MessageId};
 
-use fleet_rows::Roster;
 use move_messages::{Event, Message};
 use operating_db::{ApplyFault, OfficeState};
 use rail_codes::MessageId;
@@ -27,11 +25,11 @@ pub(crate) enum MessageEntry {
     Known(usize),
 }
 
-/// The accepted events in their order, and the office after them. A contract sees the roster, how many networks there
-/// are, and the list of the events.
+/// The accepted events in their order, and the office after them. A contract sees the office that it began with, how many
+/// networks there are, and the list of the events.
 #[derive(Debug, Drop)]
 pub(crate) struct Ledger {
-    roster: Roster,
+    first: OfficeState,
     events: Vec<Event>,
     // The index of each message among the events, by its id. Senders choose the ids, so the map is an ordered one: a
     // look-up in it is short for all ids.
@@ -45,32 +43,30 @@ impl Model for Ledger {
 
     ghost Value = { LedgerValue };
 
-    ghost view = { λ ledger. record { roster = ledger.roster; networks = ledger.state.networks; events = ledger.events.items } };
+    ghost view = { λ ledger. record { first = ledger.first.office; networks = ledger.state.networks; events = ledger.events.items } };
 
-    ghost invariant = { λ ledger. IsLedger ledger.roster ledger.events.items (get compare_ids ledger.ids) ledger.state };
+    ghost invariant = { λ ledger. IsLedger ledger.first ledger.events.items (get compare_ids ledger.ids) ledger.state };
 }
 
 impl Ledger {
-    /// No event, where there are so many networks.
-    pub fn new(alloc: Global, roster: Roster, networks: u32) -> Result<Ledger, AllocError>
-        requires from_one { 1 ≤ networks }
-        requires few { networks ≤ max_networks }
-        ensures { IfOk result (λ ledger. ledger ≡ record { roster = roster; networks = networks; events = [] }) }
+    /// No event since this office.
+    pub fn new(alloc: Global, first: OfficeState) -> Result<Ledger, AllocError>
+        ensures { IfOk result (λ ledger. ledger ≡ record { first = first.office; networks = first.networks; events = [] }) }
     {
-        let state = OfficeState::new(alloc, &roster, networks)?;
+        let state = first.copy(alloc)?;
         Ok(Ledger {
-            roster,
+            first,
             events: Vec::new(alloc),
             ids: BTreeMap::new(alloc),
             state,
         })
     }
 
-    /// The roster that it began with.
-    pub fn roster(&self) -> &Roster
-        ensures { result.now ≡ self.now.roster }
+    /// The office that it began with.
+    pub fn first(&self) -> &OfficeState
+        ensures { result.now ≡ record { office = self.now.first; networks = self.now.networks } }
     {
-        &self.roster
+        &self.first
     }
 
     /// How many events there are.

@@ -25,7 +25,7 @@ preface =
     ++ codes "`wagons: 41 17`. Where an entry doesn't say otherwise, nothing has changed. The\n"
     ++ codes "manual of lines, replies and files is FORMATS.md.\n\n"
     ++ codes "`wagons explain` prints this page, and `wagons explain 25` one entry of it. What\n"
-    ++ codes "is said of `run` holds of `map` too, but that `map` prints no replies.\n"
+    ++ codes "is said of `run` holds of `map` and `save` too, but that they print no replies.\n"
 
 -- a text: the preface, and then an entry of each of these refusals, in their order, each behind an empty line
 pub record HasEntries (listed : List (ℕ × List ℕ)) (text : List ℕ) : Type 0 where

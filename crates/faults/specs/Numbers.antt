@@ -24,6 +24,8 @@ use Rattle.faults.specs.declared.faults.PlanFault.{PlanFault}
 use Rattle.faults.specs.declared.faults.PlanFault.TheVariants as plan_fault
 use Rattle.faults.specs.declared.faults.FeedFault.{FeedFault}
 use Rattle.faults.specs.declared.faults.FeedFault.TheVariants as feed_fault
+use Rattle.faults.specs.declared.faults.CheckpointFault.{CheckpointFault}
+use Rattle.faults.specs.declared.faults.CheckpointFault.TheVariants as checkpoint_fault
 
 -- why a movement message does not fit the row of its wagon
 abbrev pub step_fault_number : StepFault → ℕ
@@ -51,6 +53,29 @@ roster_fault_number (roster_fault.DuplicateWagon number) = 51
 roster_fault_number roster_fault.TooLarge = 53
 roster_fault_number (roster_fault.BadRosterRow n) = 78
 roster_fault_number roster_fault.ReadFailed = 93
+
+-- why lines are no checkpoint, and the number of the line
+abbrev pub checkpoint_fault_number : CheckpointFault → ℕ
+checkpoint_fault_number (checkpoint_fault.WagonTwice n) = 51
+checkpoint_fault_number (checkpoint_fault.OrderTwice n) = 52
+checkpoint_fault_number (checkpoint_fault.TooManyWagons n) = 53
+checkpoint_fault_number (checkpoint_fault.TooManyOpen n) = 75
+checkpoint_fault_number (checkpoint_fault.UnknownNetwork n) = 79
+checkpoint_fault_number (checkpoint_fault.BadLine n) = 85
+checkpoint_fault_number (checkpoint_fault.OneSidedPromise n) = 86
+checkpoint_fault_number (checkpoint_fault.OrderFull n) = 87
+checkpoint_fault_number (checkpoint_fault.Cut n) = 88
+
+abbrev pub checkpoint_fault_line : CheckpointFault → ℕ
+checkpoint_fault_line (checkpoint_fault.WagonTwice n) = n
+checkpoint_fault_line (checkpoint_fault.OrderTwice n) = n
+checkpoint_fault_line (checkpoint_fault.TooManyWagons n) = n
+checkpoint_fault_line (checkpoint_fault.TooManyOpen n) = n
+checkpoint_fault_line (checkpoint_fault.UnknownNetwork n) = n
+checkpoint_fault_line (checkpoint_fault.BadLine n) = n
+checkpoint_fault_line (checkpoint_fault.OneSidedPromise n) = n
+checkpoint_fault_line (checkpoint_fault.OrderFull n) = n
+checkpoint_fault_line (checkpoint_fault.Cut n) = n
 
 -- why workers made no tables
 abbrev pub work_fault_number : WorkFault → ℕ

@@ -3,6 +3,7 @@ ghost use Rattle.std.specs.Prelude.{◌≡◌, true};
 ghost use Rattle.faults.specs.RefusalNumbers.{refusals};
 ghost use Rattle.faults.specs.inner.Entries.{are_entries};
 
+mod checkpoints;
 mod codes;
 mod events;
 mod lines;
@@ -62,6 +63,10 @@ const ENTRIES: &[(u32, &str)] = &[
     (82, events::WAGON_CHANGED),
     (83, events::ORDER_CHANGED),
     (84, events::NOT_IN_PROBLEM),
+    (85, checkpoints::BAD_CHECKPOINT_LINE),
+    (86, checkpoints::ONE_SIDED_PROMISE),
+    (87, checkpoints::ORDER_FULL),
+    (88, checkpoints::CHECKPOINT_CUT),
     (91, runs::TOO_MANY_INPUT_LINES),
     (92, runs::LINE_TOO_LONG),
     (93, runs::READ_FAILED),

@@ -1,6 +1,6 @@
 //! Why calls of the libraries are refused: each type of fault above those of codes and of lines, with its numbers, in one place.
 ghost use Rattle.std.specs.Prelude.{◌≡◌};
-ghost use Rattle.faults.specs.Numbers.{step_fault_number, record_fault_number, network_fault_number, roster_fault_number, work_fault_number, table_fault_number, check_fault_number, named_fault_number, apply_fault_number, refusal_number, plan_fault_number, feed_fault_number};
+ghost use Rattle.faults.specs.Numbers.{step_fault_number, record_fault_number, network_fault_number, roster_fault_number, checkpoint_fault_number, checkpoint_fault_line, work_fault_number, table_fault_number, check_fault_number, named_fault_number, apply_fault_number, refusal_number, plan_fault_number, feed_fault_number};
 ghost use Rattle.faults.specs.ReadingFaults.{network_fault_of, roster_fault_of};
 ghost use Rattle.faults.specs.Conversions.{refusal_of, refusal_of_fault};
 ghost use Rattle.faults.specs.declared.faults.NetworkFault.TheVariants as network_fault;
@@ -186,6 +186,74 @@ impl From<RecordFault> for RosterFault {
         match failure {
             RecordFault::OutOfMemory => RosterFault::OutOfMemory,
             RecordFault::ReadFailed => RosterFault::ReadFailed,
+        }
+    }
+}
+
+/// Why the lines of a checkpoint are none, each with the number of the line. The message is the fault's name.
+#[derive(Clone, Copy, Debug, PartialEq, Eq, Error)]
+pub enum CheckpointFault {
+    /// An earlier line has this wagon (51).
+    #[error("DuplicateWagon")]
+    WagonTwice(u64),
+    /// An earlier line has this order (52).
+    #[error("DuplicateOrder")]
+    OrderTwice(u64),
+    /// It is the 1,001st wagon (53).
+    #[error("TooLarge")]
+    TooManyWagons(u64),
+    /// With this one the open orders want over 500 wagons in all (75).
+    #[error("TooManyOpen")]
+    TooManyOpen(u64),
+    /// The network in force is none of those that there are (79).
+    #[error("UnknownNetwork")]
+    UnknownNetwork(u64),
+    /// The line isn't what must stand there (85).
+    #[error("BadCheckpointLine")]
+    BadLine(u64),
+    /// A promise stands with the wagon alone or with the order alone (86).
+    #[error("OneSidedPromise")]
+    OneSidedPromise(u64),
+    /// The order has more wagons than it wants, or all were delivered (87).
+    #[error("OrderFull")]
+    OrderFull(u64),
+    /// The last line is missing, or counts other lines than there are (88).
+    #[error("CheckpointCut")]
+    Cut(u64),
+}
+
+impl CheckpointFault {
+    /// The number that stands for the fault: 51 to 53, 75, 79, or 85 to 88.
+    pub fn number(self) -> u32
+        ensures { result ≡ checkpoint_fault_number self }
+    {
+        match self {
+            CheckpointFault::WagonTwice(_) => 51,
+            CheckpointFault::OrderTwice(_) => 52,
+            CheckpointFault::TooManyWagons(_) => 53,
+            CheckpointFault::TooManyOpen(_) => 75,
+            CheckpointFault::UnknownNetwork(_) => 79,
+            CheckpointFault::BadLine(_) => 85,
+            CheckpointFault::OneSidedPromise(_) => 86,
+            CheckpointFault::OrderFull(_) => 87,
+            CheckpointFault::Cut(_) => 88,
+        }
+    }
+
+    /// The number of the line, counted from 1.
+    pub fn line(self) -> u64
+        ensures { result ≡ checkpoint_fault_line self }
+    {
+        match self {
+            CheckpointFault::WagonTwice(line)
+            | CheckpointFault::OrderTwice(line)
+            | CheckpointFault::TooManyWagons(line)
+            | CheckpointFault::TooManyOpen(line)
+            | CheckpointFault::UnknownNetwork(line)
+            | CheckpointFault::BadLine(line)
+            | CheckpointFault::OneSidedPromise(line)
+            | CheckpointFault::OrderFull(line)
+            | CheckpointFault::Cut(line) => line,
         }
     }
 }

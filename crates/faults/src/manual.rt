@@ -15,7 +15,7 @@ Each refusal has a number. A reply has it behind the line's number, as
 manual of lines, replies and files is FORMATS.md.
 
 `wagons explain` prints this page, and `wagons explain 25` one entry of it. What
-is said of `run` holds of `map` too, but that `map` prints no replies.
+is said of `run` holds of `map` and `save` too, but that they print no replies.
 ";
 
 /// The manual's entry of a refusal number; none where no refusal has this number. It is Markdown, in lines of at most 80

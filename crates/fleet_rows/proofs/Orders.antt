@@ -1,13 +1,13 @@
 -- The rows of the orders.
-use Rattle.std.proofs.Common.{◌≡◌, ◌∙◌, ℕ, ◌+◌, ◌-◌, ◌<◌, ◌≤◌, Bool, true, false, not, cond, ◌&&◌, nat_lt, if◌then◌else◌, List, [], ◌∷◌, ◌++◌, length, get_or, Option, Some, None, IfSome, IsSome, option_map, position, refl, ap, sym, subst, inl, inr, arith, length-append, zero-add}
+use Rattle.std.proofs.Common.{◌≡◌, ◌∙◌, ℕ, ◌+◌, ◌-◌, ◌<◌, ◌≤◌, Bool, true, false, not, cond, ◌&&◌, ◌||◌, zero, suc, take, absurd, nat_lt, if◌then◌else◌, List, [], ◌∷◌, ◌++◌, length, get_or, Option, Some, None, IfSome, IsSome, option_map, position, refl, ap, sym, subst, inl, inr, arith, length-append, zero-add}
 use Rattle.std.specs.BTreeMap.{BTreeMap, get}
 use Rattle.std.specs.Cmp.Lexicographic.{bytes_decides, slice_cmp, texts_ties}
 use Rattle.std.specs.List.{IsDistinct, list_any, slice_get, slice_set}
 use Rattle.std.specs.Ordering.{is_eq, nat_cmp}
 use Rattle.std.proofs.lemmas.Bool.{cases_Bool, cases_lt, le-ltb, lt-ltb}
 use Rattle.std.proofs.lemmas.List.Elements.{All-append, All-cons, All-nil, All-set}
-use Rattle.std.proofs.lemmas.List.{map-append}
-use Rattle.std.proofs.lemmas.List.Sums.{sum_by-append, sum_by-set}
+use Rattle.std.proofs.lemmas.List.{map-append, take_more}
+use Rattle.std.proofs.lemmas.List.Sums.{sum_by-append, sum_by-cons, sum_by-set}
 use Rattle.std.proofs.lemmas.Map.Keys.{IsDistinct-push}
 use Rattle.std.proofs.lemmas.Option.{slice_get-get_or}
 use Rattle.std.proofs.Math.Seq.{map-set_same}
@@ -163,7 +163,13 @@ wanted_within rows index n id k row h at =
     subst (λ r. open_wagons (slice_set rows k gone) + wanted_open r ≡ open_wagons rows + wanted_open gone) is (sum_by-set wanted_open rows k gone row at.within) in
     omega (arith, h.counted)
 
--- ---- an order just placed
+-- ---- one more row
+
+pub open_wagons-cons : (row : OrderRowValue) (rows : List OrderRowValue) → open_wagons (row ∷ rows) ≡ wanted_open row + open_wagons rows
+open_wagons-cons row rows = sum_by-cons wanted_open row rows
+
+pub open_wagons-push : (rows : List OrderRowValue) (row : OrderRowValue) → open_wagons (rows ++ row ∷ []) ≡ open_wagons rows + wanted_open row
+open_wagons-push rows row = sum_by-append wanted_open rows (row ∷ []) ∙ ap (λ n. open_wagons rows + n) (zero-add (wanted_open row))
 
 pub indexed_new : (rows : List OrderRowValue) (places : BTreeMap (List ℕ) ℕ) → rows ≡ [] → places.entries ≡ [] → IsIndexed rows (get (slice_cmp nat_cmp) places) 0
 unfolding IsDistinct
@@ -173,38 +179,75 @@ indexed_new rows places none empty = record {
   counted = rw none refl;
 }
 
-pub indexed_push : (rows : List OrderRowValue) (index index' : List ℕ → Option ℕ) (n : ℕ) (text : Order) → IsIndexed rows index n → order_in rows text.id ≡ None → n + text.wagons ≤ max_open_wagons
-    → ((q : List ℕ) → index' q ≡ cond (is_eq (slice_cmp nat_cmp text.id q)) (Some (length rows)) (index q))
-    → IsIndexed (rows ++ placed_row text ∷ []) index' (n + text.wagons)
-indexed_push rows index index' n text h new few with_text =
-    let others : list_any (is_same text.id) (names_of rows) ≡ false = nothing_named (λ (row : OrderRowValue). row.text.id) text.id rows new in
-    let added : names_of (rows ++ placed_row text ∷ []) ≡ names_of rows ++ text.id ∷ [] = map-append (λ (row : OrderRowValue). row.text.id) rows (placed_row text ∷ []) in
-    let sum : open_wagons (rows ++ placed_row text ∷ []) ≡ open_wagons rows + wanted_open (placed_row text) =
-    sum_by-append wanted_open rows (placed_row text ∷ []) ∙ ap (λ n. open_wagons rows + n) (zero-add (wanted_open (placed_row text))) in
-    let total : n + text.wagons ≡ open_wagons (rows ++ placed_row text ∷ []) = counted_all n text.wagons (open_wagons rows) (wanted_open (placed_row text)) _ h.counted (wanted-placed text) sum in
+pub indexed_push : (rows : List OrderRowValue) (index index' : List ℕ → Option ℕ) (n : ℕ) (row : OrderRowValue) → IsIndexed rows index n → order_in rows row.text.id ≡ None → IsOrderRow row → n + wanted_open row ≤ max_open_wagons
+    → ((q : List ℕ) → index' q ≡ cond (is_eq (slice_cmp nat_cmp row.text.id q)) (Some (length rows)) (index q))
+    → IsIndexed (rows ++ row ∷ []) index' (n + wanted_open row)
+indexed_push rows index index' n row h new valid few with_row =
+    let others : list_any (is_same row.text.id) (names_of rows) ≡ false = nothing_named (λ (row : OrderRowValue). row.text.id) row.text.id rows new in
+    let added : names_of (rows ++ row ∷ []) ≡ names_of rows ++ row.text.id ∷ [] = map-append (λ (row : OrderRowValue). row.text.id) rows (row ∷ []) in
+    let total : n + wanted_open row ≡ open_wagons (rows ++ row ∷ []) = counted_all n (open_wagons rows) (wanted_open row) _ h.counted (open_wagons-push rows row) in
     record {
       kept = record {
-        distinct = subst (IsDistinct is_same) (sym added) (IsDistinct-push same_name (names_of rows) text.id h.kept.distinct others);
-        each = All-append IsOrderRow rows (placed_row text ∷ []) h.kept.each (All-cons IsOrderRow (placed_row text) [] (row_placed text) (All-nil IsOrderRow));
+        distinct = subst (IsDistinct is_same) (sym added) (IsDistinct-push same_name (names_of rows) row.text.id h.kept.distinct others);
+        each = All-append IsOrderRow rows (row ∷ []) h.kept.each (All-cons IsOrderRow row [] valid (All-nil IsOrderRow));
         few_open = subst (λ m. m ≤ max_open_wagons) total few;
       };
-      indexed = λ q. with_text q ∙ place_in q (is_same q text.id) refl;
+      indexed = λ q. with_row q ∙ place_in q (is_same q row.text.id) refl;
       counted = total;
     }
   where
-    counted_all : (n w b v a : ℕ) → n ≡ b → v ≡ w → a ≡ b + v → n + w ≡ a
-    counted_all n w b v a p q r = omega arith
+    counted_all : (n b v a : ℕ) → n ≡ b → a ≡ b + v → n + v ≡ a
+    counted_all n b v a p r = omega arith
 
     -- the name is the new one, or it is not
-    place_in : (q : List ℕ) (b : Bool) → is_same q text.id ≡ b → cond (is_eq (slice_cmp nat_cmp text.id q)) (Some (length rows)) (index q) ≡ position (is_order q) (rows ++ placed_row text ∷ [])
+    place_in : (q : List ℕ) (b : Bool) → is_same q row.text.id ≡ b → cond (is_eq (slice_cmp nat_cmp row.text.id q)) (Some (length rows)) (index q) ≡ position (is_order q) (rows ++ row ∷ [])
     place_in q true is =
-        let equal : q ≡ text.id = (bytes_decides q text.id).0 is in
-        let here : is_eq (slice_cmp nat_cmp text.id q) ≡ true = sym (texts_ties text.id q) ∙ (same_name.symm text.id q ∙ is) in
+        let equal : q ≡ row.text.id = (bytes_decides q row.text.id).0 is in
+        let here : is_eq (slice_cmp nat_cmp row.text.id q) ≡ true = sym (texts_ties row.text.id q) ∙ (same_name.symm row.text.id q ∙ is) in
         let none : position (is_order q) rows ≡ None = no_place (is_order q) rows (ap (order_in rows) equal ∙ new) in
-        rw here (sym (position-new (is_order q) rows (placed_row text) is none))
+        rw here (sym (position-new (is_order q) rows row is none))
     place_in q false is =
-        let other : is_eq (slice_cmp nat_cmp text.id q) ≡ false = sym (texts_ties text.id q) ∙ (same_name.symm text.id q ∙ is) in
-        rw other (h.indexed q ∙ sym (position-push (is_order q) rows (placed_row text) is))
+        let other : is_eq (slice_cmp nat_cmp row.text.id q) ≡ false = sym (texts_ties row.text.id q) ∙ (same_name.symm row.text.id q ∙ is) in
+        rw other (h.indexed q ∙ sym (position-push (is_order q) rows row is))
+
+-- ---- copies, row by row
+
+-- the open orders of the first rows want no more than all of them
+taken_wants : (rows : List OrderRowValue) (k : ℕ) (d : OrderRowValue) → k < length rows → open_wagons (take k rows) + wanted_open (get_or rows k d) ≤ open_wagons rows
+taken_wants rows k d within =
+    let more : open_wagons (take (k + 1) rows) ≡ open_wagons (take k rows) + wanted_open (get_or rows k d) = ap open_wagons (sym (take_more rows k d within)) ∙ open_wagons-push (take k rows) (get_or rows k d) in
+    omega (arith, more, taken_fewer rows (k + 1))
+  where
+    taken_fewer : (rows : List OrderRowValue) (n : ℕ) → open_wagons (take n rows) ≤ open_wagons rows
+    taken_fewer rows zero = omega arith
+    taken_fewer [] (suc n) = omega arith
+    taken_fewer (row ∷ rows) (suc n) = omega (arith, taken_fewer rows n, open_wagons-cons row rows, open_wagons-cons row (take n rows))
+
+-- what a row at an index needs to be added behind those before it
+pub record MayFollow (rows : List OrderRowValue) (k : ℕ) (d : OrderRowValue) : Type 0 where
+  pub new : order_in (take k rows) (get_or rows k d).text.id ≡ None
+  pub few_open : open_wagons (take k rows) + wanted_open (get_or rows k d) ≤ max_open_wagons
+
+pub may_follow : (rows : List OrderRowValue) (k : ℕ) (d : OrderRowValue) → IsOrderRows rows → k < length rows → MayFollow rows k d
+may_follow rows k d h within = record {
+  new = none_before rows k d h.distinct within;
+  few_open = omega (arith, taken_wants rows k d within, h.few_open);
+}
+  where
+    none_before : (rows : List OrderRowValue) (k : ℕ) (d : OrderRowValue) → IsDistinct is_same (names_of rows) → k < length rows → order_in (take k rows) (get_or rows k d).text.id ≡ None
+    unfolding IsDistinct
+    none_before rows zero d distinct within = refl
+    none_before [] (suc k) d distinct within = absurd (omega arith)
+    none_before (row ∷ rows) (suc k) d distinct within = rw (other_name row rows k d distinct.0 (omega arith)) (none_before rows k d distinct.1 (omega arith))
+
+    other_name : (row : OrderRowValue) (rows : List OrderRowValue) (k : ℕ) (d : OrderRowValue) → list_any (is_same row.text.id) (names_of rows) ≡ false → k < length rows → is_same (get_or rows k d).text.id row.text.id ≡ false
+    other_name row [] k d apart within = absurd (omega arith)
+    other_name row (next ∷ rows) zero d apart within = same_name.symm next.text.id row.text.id ∙ (or_false _ _ apart).0
+    other_name row (next ∷ rows) (suc k) d apart within = other_name row rows k d (or_false _ _ apart).1 (omega arith)
+
+    or_false : (a b : Bool) → a || b ≡ false → (a ≡ false) × (b ≡ false)
+    or_false true b h = cc h
+    or_false false b h = (refl, h)
 
 -- the count less what an order wants no more
 pub less_wanted : (n before after old new : ℕ) → before ≡ old → after ≡ new → new ≤ old → old ≤ n → n - (before - after) + old ≡ n + new

@@ -1,5 +1,5 @@
 -- The rows of the wagons.
-use Rattle.std.proofs.Common.{◌≡◌, ◌∙◌, ℕ, Bool, true, false, cond, if◌then◌else◌, List, [], ◌∷◌, length, map, get_or, Option, Some, None, Result, Ok, Err, IfSome, IfNone, option_map, refl, ap, sym, subst, inl, inr, arith}
+use Rattle.std.proofs.Common.{◌≡◌, ◌∙◌, ◌≤◌, ℕ, Bool, true, false, cond, if◌then◌else◌, List, [], ◌∷◌, length, map, get_or, Option, Some, None, Result, Ok, Err, IfSome, IfNone, option_map, refl, ap, sym, subst, inl, inr, arith}
 use Rattle.std.specs.Cmp.Lexicographic.{bytes_decides, slice_cmp, texts_ties}
 use Rattle.std.specs.List.{AllByRecursion, IsDistinct, slice_get, slice_set}
 use Rattle.std.specs.List.Sorted.{IsBinarySearchResult, IsSearchInRange, IsStrictlySortedBy}
@@ -8,9 +8,12 @@ use Rattle.std.specs.Result.{result_ok}
 use Rattle.std.specs.declared.cmp.Ordering.TheVariants.{Less, Equal}
 use Rattle.std.proofs.lemmas.Bool.{cases_Bool}
 use Rattle.std.proofs.lemmas.List.{length-set}
+use Rattle.std.proofs.lemmas.List.Elements.{All-set}
 use Rattle.std.proofs.lemmas.Map.Keys.{IsDistinct-from_sorted}
-use Rattle.std.proofs.lemmas.Option.{get_or_from_slice_get, slice_get-get_or}
+use Rattle.std.proofs.lemmas.Option.{get_or_from_slice_get, slice_get-get_or, slice_get_within}
 use Rattle.std.proofs.Math.Seq.{map-set_same}
+use Rattle.move_messages.specs.OrderLimits.{max_load}
+use Rattle.fleet_rows.specs.Roster.{IsRoster}
 use Rattle.fleet_rows.specs.SameWagons.{has_wagon}
 use Rattle.fleet_rows.proofs.RosterLemmas.{none_at_gap, searched}
 use Rattle.wagons_and_orders.specs.declared.wagon_row.WagonRow.{WagonRow}
@@ -122,15 +125,25 @@ pub put_is : (rows : List WagonRow) (k : ℕ) (old new : WagonRow) → IsStrictl
 put_is rows k old new h e same =
     changed_at (λ (row : WagonRow). row.number) (λ _. new) rows k old (numbers_distinct rows h) e ∙ ap (λ number. at_wagon number (λ _. new) rows) same
 
-pub rows_with : (rows : List WagonRow) (k : ℕ) (old new : WagonRow) → IsWagonRows rows → slice_get rows k ≡ Some old → old.number ≡ new.number → IsWagonRows (slice_set rows k new)
-rows_with rows k old new h e same =
+pub rows_with : (rows : List WagonRow) (k : ℕ) (old new : WagonRow) → IsWagonRows rows → slice_get rows k ≡ Some old → old.number ≡ new.number → new.load_limit ≤ max_load → IsWagonRows (slice_set rows k new)
+rows_with rows k old new h e same light =
     let at : get_or rows k new ≡ old = get_or_from_slice_get rows k old new e in
     let numbers : numbers_of (slice_set rows k new) ≡ numbers_of rows =
     map-set_same (λ (row : WagonRow). row.number) rows k new new (sym same ∙ sym (ap (λ (row : WagonRow). row.number) at)) in
     record {
       few = omega (arith, length-set rows k new, h.few);
       ascending = rows_ascend (slice_set rows k new) (subst (IsStrictlySortedBy (slice_cmp nat_cmp)) (sym numbers) (numbers_ascend rows h.ascending));
+      few_kg = All-set (λ (row : WagonRow). row.load_limit ≤ max_load) rows k new light h.few_kg;
     }
+
+-- what the wagon of a row carries
+pub light_at : (rows : List WagonRow) (k : ℕ) (row : WagonRow) → IsWagonRows rows → slice_get rows k ≡ Some row → row.load_limit ≤ max_load
+light_at rows k row h there =
+    subst (λ (row : WagonRow). row.load_limit ≤ max_load) (get_or_from_slice_get rows k row row there) (h.few_kg k row (slice_get_within rows k row there))
+
+-- the rows of a roster
+pub IsWagonRows-roster : (roster : List WagonRow) → IsRoster roster → IsWagonRows roster
+IsWagonRows-roster roster h = record { few = h.few; ascending = h.ascending; few_kg = λ k d within. (h.each k d within).few_kg }
 
 -- what is read at the place of a row
 pub found_in : (rows : List WagonRow) (place : ℕ) (row : WagonRow) (number : List ℕ) (r : Option WagonRow) → IsStrictlySortedBy by_number rows → slice_get rows place ≡ Some row → row.number ≡ number

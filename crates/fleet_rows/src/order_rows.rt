@@ -117,14 +117,35 @@ impl OrderRows {
         ensures refused { OnErr result (self.new ≡ self.old) }
     {
         let row = OrderRow::new(alloc, text)?;
+        self.push_row(alloc, row)
+    }
+
+    /// Adds a row. Where memory is out, nothing changes.
+    pub fn push_row(&mut self, alloc: Global, row: OrderRow) -> Result<(), AllocError>
+        requires new { order_in self.old row.text.id ≡ None }
+        requires few_open { open_wagons self.old + wanted_open row ≤ max_open_wagons }
+        ensures added { OnOk result (self.new ≡ self.old ++ row ∷ []) }
+        ensures refused { OnErr result (self.new ≡ self.old) }
+    {
         self.rows.reserve(1)?;
         self.waiting.reserve(MAX_OPEN_WAGONS as usize + 1)?;
         let index = self.rows.len();
-        self.indexes.insert(text.id(), index)?;
+        self.indexes.insert(row.text().id(), index)?;
         note(&mut self.waiting, index, row.is_waiting());
+        self.open_wagons += wanted_open(&row);
         self.rows.push(row).unwrap();
-        self.open_wagons += text.wagons();
         Ok(())
+    }
+
+    /// The same rows once more.
+    pub fn copy(&self, alloc: Global) -> Result<OrderRows, AllocError>
+        ensures { IfOk result (λ orders. orders ≡ self.now) }
+    {
+        let mut copy = OrderRows::new(alloc);
+        for row in &self.rows {
+            copy.push_row(alloc, row.copy(alloc)?)?;
+        }
+        Ok(copy)
     }
 
     /// Promises a wagon to an order that lacks one. Takes no memory.

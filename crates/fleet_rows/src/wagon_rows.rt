@@ -1,13 +1,13 @@
 //! The rows of the wagons.
-ghost use Rattle.std.specs.Prelude.{◌≡◌, IfNone, IfOk, IfSome, None, OnErr, OnOk, Some, count_by, option_copied, option_map, slice_get};
+ghost use Rattle.std.specs.Prelude.{◌≡◌, ◌≤◌, IfNone, IfOk, IfSome, None, OnErr, OnOk, Some, count_by, option_copied, option_map, slice_get};
 ghost use Rattle.std.specs.List.Sorted.{IsStrictlySortedBy};
 ghost use Rattle.fleet_rows.specs.EmptyWagons.{IsNewStand, is_free_at, stand_in, stand_of};
 ghost use Rattle.fleet_rows.specs.Rows.{at_wagon, wagon_in, with_promise};
 ghost use Rattle.fleet_rows.specs.inner.Standings.{is_unpromised};
 ghost use Rattle.fleet_rows.specs.Kept.{by_number};
+ghost use Rattle.move_messages.specs.OrderLimits.{max_load};
 ghost use Rattle.wagons_and_orders.specs.declared.wagon_row.WagonRow.{WagonRow};
 
-use crate::Roster;
 use crate::standing::{Standing, replace, standing_of, standings_of};
 use rail_codes::{ClassCode, OrderId, Place, WagonNumber};
 use std::alloc::{AllocError, Global};
@@ -41,11 +41,12 @@ impl Model for WagonRows {
 impl WagonRows {
     ghost use Rattle.fleet_rows.specs.Kept.{IsWagonRows};
 
-    /// The rows of a roster.
-    pub fn from_roster(alloc: Global, roster: &Roster) -> Result<WagonRows, AllocError>
-        ensures { IfOk result (λ wagons. wagons ≡ roster.now) }
+    /// A copy of these rows: at most 1,000, ascending by number, none of which carries over 200,000 kg.
+    pub fn from_rows(alloc: Global, rows: &[WagonRow]) -> Result<WagonRows, AllocError>
+        requires { IsWagonRows rows.now }
+        ensures { IfOk result (λ wagons. wagons ≡ rows.now) }
     {
-        let rows = Vec::from_slice(alloc, roster.rows())?;
+        let rows = Vec::from_slice(alloc, rows)?;
         let empty = standings_of(alloc, &rows)?;
         Ok(WagonRows { rows, empty })
     }
@@ -101,7 +102,8 @@ impl WagonRows {
     /// Puts a row in place of the one that its wagon has, which stands at this index. Memory is wanted only where the
     /// wagon is then empty and not held at a place where it wasn't so before; where memory is out, nothing changes.
     pub fn put(&mut self, index: usize, row: WagonRow) -> Result<(), AllocError>
-        requires { (old : WagonRow) × (slice_get self.old index ≡ Some old) × (old.number ≡ row.number) }
+        requires its_index { (old : WagonRow) × (slice_get self.old index ≡ Some old) × (old.number ≡ row.number) }
+        requires few_kg { row.load_limit ≤ max_load }
         ensures put { OnOk result (self.new ≡ at_wagon row.number (λ _. row) self.old) }
         ensures refused { OnErr result (self.new ≡ self.old) }
         ensures memory { OnErr result (IsNewStand (stand_in self.old row.number) (stand_of row)) }

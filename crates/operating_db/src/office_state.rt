@@ -13,7 +13,9 @@ ghost use Rattle.operating_db.specs.FreeCount.{free_count};
 ghost use Rattle.operating_db.specs.Problem.{problem_of};
 ghost use Rattle.operating_db.specs.Promises.{PromisesAgree};
 ghost use Rattle.line_network.specs.NetworkCount.{max_networks};
-ghost use Rattle.operating_db.specs.State.{IsState};
+ghost use Rattle.operating_db.specs.FirstOffice.{IsFirstOffice};
+ghost use Rattle.operating_db.specs.State.{IsState, state_of};
+ghost use Rattle.move_messages.specs.OrderLimits.{max_load};
 ghost use Rattle.operating_db.specs.Steps.{IsPromised};
 
 use crate::ApplyFault;
@@ -57,13 +59,42 @@ impl OfficeState {
         requires few { networks ≤ max_networks }
         ensures { IfOk result (λ state. state ≡ record { office = first_office roster.now; networks = networks }) }
     {
-        // For the prover alone: no number stands twice in a roster.
-        let _rows = roster.rows();
         Ok(OfficeState {
-            wagons: WagonRows::from_roster(alloc, roster)?,
+            wagons: WagonRows::from_rows(alloc, roster.rows())?,
             orders: OrderRows::new(alloc),
             network: 1,
             networks,
+        })
+    }
+
+    /// The office of these rows, with a network in force, where there are so many networks. The promises of the wagons and
+    /// those of the orders must agree.
+    pub fn from_rows(
+        wagons: WagonRows,
+        orders: OrderRows,
+        network: u32,
+        networks: u32,
+    ) -> OfficeState
+        requires { IsState (state_of wagons orders network networks) }
+        ensures { result ≡ state_of wagons orders network networks }
+    {
+        OfficeState {
+            wagons,
+            orders,
+            network,
+            networks,
+        }
+    }
+
+    /// The same office once more.
+    pub fn copy(&self, alloc: Global) -> Result<OfficeState, AllocError>
+        ensures { IfOk result (λ state. state ≡ self.now) }
+    {
+        Ok(OfficeState {
+            wagons: WagonRows::from_rows(alloc, self.wagons.as_slice())?,
+            orders: self.orders.copy(alloc)?,
+            network: self.network,
+            networks: self.networks,
         })
     }
 
@@ -111,6 +142,7 @@ impl OfficeState {
         ensures wagons { IsWagonRows self.now.office.wagons }
         ensures orders { IsOrderRows self.now.office.orders }
         ensures valid { IsState self.now }
+        ensures first { IsFirstOffice self.now.networks self.now.office }
     {
         let _wagons = self.wagon_rows();
         let _orders = self.order_rows();
@@ -242,9 +274,12 @@ impl OfficeState {
     fn change_by(&self, message: &Message) -> Result<(usize, Change, Option<OrderId>), ApplyFault>
         ensures change { IfOk result (λ found. IsChange self.now.office message.now found.1 found.2) }
         ensures index { IfOk result (λ found. IsRowAt self.now.office.wagons found.0 found.1.row.number) }
+        ensures few_kg { IfOk result (λ found. found.1.row.load_limit ≤ max_load) }
         ensures refused { IfErr result (λ fault. after_message self.now.office message.now ≡ Err fault) }
         ensures memory { IfErr result (λ fault. ¬ (fault ≡ ApplyFault.OutOfMemory)) }
     {
+        // For the prover alone: no wagon carries over 200,000 kg.
+        let _rows = self.wagons.as_slice();
         let Some((index, row)) = self.wagons.find(message.wagon) else {
             return Err(ApplyFault::UnknownWagon);
         };

@@ -6,6 +6,7 @@ pub mod States
 pub mod Numbers
 pub mod NumberChanges
 pub mod OrderRow
+pub mod RowParts
 pub mod Suits
 pub mod Listed
 pub mod Wanted

@@ -1,9 +1,10 @@
 //! What the office knows of an order.
 ghost use Rattle.std.specs.Prelude.{◌≡◌, ◌<◌, ◌↔◌, IsTrue, true, [], ◌∷◌, ◌++◌, IfOk};
 ghost use Rattle.std.specs.List.{Contains};
+ghost use Rattle.wagons_and_orders.specs.RowParts.{row_of_parts};
 
 use crate::OrderState;
-use crate::numbers::{count_below, take_off};
+use crate::numbers::{are_ascending, copy_with_room, count_below, take_off};
 use move_messages::OrderText;
 use rail_codes::WagonNumber;
 use std::alloc::{AllocError, Global};
@@ -50,6 +51,42 @@ impl OrderRow {
             promised: Vec::with_capacity(alloc, room)?,
             filled: Vec::with_capacity(alloc, room)?,
             withdrawn: false,
+        })
+    }
+
+    /// The row of an order with these wagons promised to it, and these that filled it, as delivered; none where they are
+    /// more than it wants, or the promised ones don't ascend by number.
+    pub fn from_parts(
+        alloc: Global,
+        text: OrderText,
+        promised: &[WagonNumber],
+        filled: &[WagonNumber],
+    ) -> Result<Option<OrderRow>, AllocError>
+        ensures { IfOk result (λ row. row ≡ row_of_parts text promised.now filled.now) }
+    {
+        let room = text.wagons() as usize;
+        if room < promised.len() || room - promised.len() < filled.len() || !are_ascending(promised)
+        {
+            return Ok(None);
+        }
+        Ok(Some(OrderRow {
+            text,
+            promised: copy_with_room(alloc, promised, room)?,
+            filled: copy_with_room(alloc, filled, room)?,
+            withdrawn: false,
+        }))
+    }
+
+    /// The same row once more.
+    pub fn copy(&self, alloc: Global) -> Result<OrderRow, AllocError>
+        ensures { IfOk result (λ row. row ≡ self.now) }
+    {
+        let room = self.text.wagons() as usize;
+        Ok(OrderRow {
+            text: self.text,
+            promised: copy_with_room(alloc, &self.promised, room)?,
+            filled: copy_with_room(alloc, &self.filled, room)?,
+            withdrawn: self.withdrawn,
         })
     }
 
@@ -114,6 +151,7 @@ impl OrderRow {
     /// Whether it lacks a wagon.
     pub fn is_waiting(&self) -> bool
         ensures value { result ≡ is_waiting self.now }
+        ensures valid { IsOrderRow self.now }
         ensures by_state { IsTrue result ↔ (state_of self.now ≡ OrderState.Waiting) }
     {
         self.lack() > 0

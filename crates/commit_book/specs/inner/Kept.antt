@@ -6,7 +6,6 @@ use Rattle.problem_table.specs.Allowed.{IsTableOf}
 use Rattle.problem_table.specs.Lasting.{IsLastingTable}
 use Rattle.cost_table.specs.Problem.{ProblemValue}
 use Rattle.move_messages.specs.declared.event.Event.{Event}
-use Rattle.operating_db.specs.RosterOffice.{first_office}
 use Rattle.commit_book.specs.BookStep.{BookState, is_kept, kept_after}
 use Rattle.commit_book.specs.Books.{BookValue, setting_with}
 use Rattle.commit_book.specs.History.{IsLegal, IsTableAt, problem_at}
@@ -73,7 +72,7 @@ pub record IsBook (setting : Setting) (history : List Event) (kept : List KeptPr
 
 -- what a book was given
 abbrev pub setting_of : LedgerValue → List NetworkValue → LimitNumbers → Setting
-setting_of ledger networks limits = setting_with (first_office ledger.roster) networks limits
+setting_of ledger networks limits = setting_with ledger.first networks limits
 
 abbrev pub book_of : LedgerValue → List NetworkValue → LimitNumbers → List KeptProblem → BookValue
 book_of ledger networks limits kept = record {

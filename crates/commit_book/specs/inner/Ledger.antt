@@ -6,11 +6,9 @@ use Rattle.std.specs.declared.cmp.Ordering.{Ordering}
 use Rattle.std.specs.declared.alloc.AllocError.{AllocError}
 use Rattle.rail_codes.specs.declared.message_id.MessageId.{MessageId}
 use Rattle.move_messages.specs.declared.message.Message as movement
-use Rattle.wagons_and_orders.specs.declared.wagon_row.WagonRow.{WagonRow}
 use Rattle.operating_db.specs.After.{after_call}
 use Rattle.operating_db.specs.ApplyFault.{IsRefusal}
 use Rattle.operating_db.specs.Office.{Office}
-use Rattle.operating_db.specs.RosterOffice.{first_office}
 use Rattle.operating_db.specs.State.{StateValue}
 use Rattle.faults.specs.declared.faults.ApplyFault.{ApplyFault}
 use Rattle.move_messages.specs.declared.event.Event.{Event}
@@ -19,15 +17,15 @@ use Rattle.commit_book.specs.History.{IsFresh, after_all}
 use Rattle.commit_book.specs.declared.ledger.MessageEntry.{MessageEntry}
 use Rattle.commit_book.specs.declared.ledger.MessageEntry.TheVariants.{Entered, Known}
 
--- the roster, how many networks there are, and the events since
+-- the office that it began with, how many networks there are, and the events since
 pub record LedgerValue : Type 0 where
-  pub roster : List WagonRow
+  pub first : Office
   pub networks : ℕ
   pub events : List Event
 
 -- the office after all events
 abbrev pub office_of : LedgerValue → Office
-office_of ledger = after_all ledger.networks (first_office ledger.roster) ledger.events
+office_of ledger = after_all ledger.networks ledger.first ledger.events
 
 abbrev pub state_of : LedgerValue → StateValue
 state_of ledger = record { office = office_of ledger; networks = ledger.networks }
@@ -66,9 +64,10 @@ IsNoMessage (Commit commit) = Unit {0}
 IsNoMessage (Revise network) = Unit {0}
 
 -- the map of ids has the messages, and the state is the office after all events
-pub record IsLedger (roster : List WagonRow) (events : List Event) (ids : MessageId → Option ℕ) (state : StateValue) : Type 0 where
+pub record IsLedger (first : StateValue) (events : List Event) (ids : MessageId → Option ℕ) (state : StateValue) : Type 0 where
   pub indexed : IsIndexOf events ids
-  pub replayed : state.office ≡ after_all state.networks (first_office roster) events
+  pub counted : first.networks ≡ state.networks
+  pub replayed : state.office ≡ after_all state.networks first.office events
 
 -- ---- a message that is entered
 

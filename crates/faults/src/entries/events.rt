@@ -17,8 +17,9 @@ The book has as many entries as `--entries` allows.
 
 - Where: messages, `order`, `withdraw`, `commit`, `network`: `run`, `feed`.
 - Cause: a day that was longer than planned.
-- Remedy: start again with the same lines and more `--entries` (at most
-  1,000,000), or make a roster of the sheet and begin a new journal with it.
+- Remedy: save a checkpoint of the journal (`wagons save`) and begin a new
+  journal with it, or start again with the same lines and more `--entries` (at
+  most 1,000,000).
 ";
 
 pub(crate) const UNKNOWN_WAGON: &str = "## 73 UnknownWagon
@@ -45,7 +46,8 @@ pub(crate) const TOO_MANY_OPEN: &str = "## 75 TooManyOpen
 
 The open orders and this one want over 500 wagons in all.
 
-- Where: `order` lines: `run`, `feed`.
+- Where: `order` lines: `run`, `feed`. For a checkpoint on standard error with
+  the number of its line, as `wagons: 75 17`.
 - Cause: orders that nobody wants any more are still open.
 - Remedy: withdraw those, or place the order once others are filled.
 ";
@@ -86,11 +88,13 @@ pub(crate) const UNKNOWN_NETWORK: &str = "## 79 UnknownNetwork
 
 There is no network of this number.
 
-- Where: `network` lines: `run`, `feed`. Also in the library call `work`, where
-  its networks aren't those of the book.
-- Cause: fewer `--network` files were given than the lines count with. They are
-  numbered from 1, in the order in which they are given.
-- Remedy: start again with the same lines and all networks.
+- Where: `network` lines: `run`, `feed`. For a checkpoint on standard error with
+  the number of its line, as `wagons: 79 1`. Also in the library call `work`,
+  where its networks aren't those of the book.
+- Cause: fewer `--network` files were given than the lines or the checkpoint
+  count with. They are numbered from 1, in the order in which they are given.
+- Remedy: start again with all networks. A new one goes behind the others: save
+  a checkpoint, and begin a new journal with it and with all networks.
 ";
 
 pub(crate) const SAME_NETWORK: &str = "## 80 SameNetwork

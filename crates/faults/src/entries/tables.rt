@@ -5,7 +5,8 @@ pub(crate) const DUPLICATE_WAGON: &str = "## 51 DuplicateWagon
 A wagon stands twice. The reply names it.
 
 - Where: table lines: `check`, `solve`. For a roster on standard error, as
-  `wagons: 51 338447961008`: `run`, `feed`.
+  `wagons: 51 338447961008`: `run`, `feed`; for a checkpoint with the number of
+  its line, as `wagons: 51 17`.
 - Cause: the same number in two spellings (spaces and hyphens don't count), or
   lists or files that were joined.
 - Remedy: take one of the two out.
@@ -15,7 +16,8 @@ pub(crate) const DUPLICATE_ORDER: &str = "## 52 DuplicateOrder
 
 An order stands twice. The reply names it.
 
-- Where: table lines: `check`, `solve`.
+- Where: table lines: `check`, `solve`. For a checkpoint on standard error with
+  the number of its line, as `wagons: 52 17`.
 - Cause: lists that were joined, or an order for several wagons that was written
   once for each.
 - Remedy: take one of the two out. An order for several wagons stands once, with
@@ -25,10 +27,11 @@ An order stands twice. The reply names it.
 pub(crate) const TOO_LARGE: &str = "## 53 TooLarge
 
 A table has over 1,000 wagons, over 500 orders, or orders that lack over 500
-wagons in all; or a roster has over 1,000 wagons.
+wagons in all; or a roster or a checkpoint has over 1,000 wagons.
 
 - Where: table lines: `check`, `solve`. For a roster on standard error, as
-  `wagons: 53`: `run`, `feed`.
+  `wagons: 53`: `run`, `feed`; for a checkpoint with the number of its line, as
+  `wagons: 53 1003`.
 - Cause: a fleet larger than the office is made for.
 - Remedy: split the fleet by what doesn't exchange wagons anyway, as by class.
 ";

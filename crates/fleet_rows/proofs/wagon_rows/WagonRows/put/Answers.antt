@@ -10,7 +10,7 @@ use Rattle.fleet_rows.proofs.wagon_rows.WagonRows.put.Goals as goal
 
 pub returns-in_err-replace-clause-memory : goal.returns-in_err-replace-clause-memory
 returns-in_err-replace-clause-memory c =
-    let (at, named) = read_row c.self.inside.rows.items c.args.index c.args.row.number c.index.result.now (rw (← c.self.view_is) at c.requires) c.index.ensures in
+    let (at, named) = read_row c.self.inside.rows.items c.args.index c.args.row.number c.index.result.now (rw (← c.self.view_is) at c.requires.its_index) c.index.ensures in
     let stood : stand_in c.self.inside.rows.items c.args.row.number ≡ stand_of c.index.result.now =
     ap (option_and_then stand_of) (ap (wagon_in c.self.inside.rows.items) (sym named) ∙ wagon_in-there c.self.inside.rows.items c.args.index c.index.result.now c.self.invariant.kept.ascending at) in
     let stands = new_stand c.self.inside.rows.items c.args.index c.index.result.now (contains compare_standings c.self.inside.empty) (stand_of c.args.row) at c.self.invariant.standings
@@ -19,9 +19,9 @@ returns-in_err-replace-clause-memory c =
 
 pub invariant_of-self-2 : goal.invariant_of-self-2
 invariant_of-self-2 c =
-    let (at, named) = read_row c.self.inside.rows.items c.args.index c.args.row.number c.index.result.now (rw (← c.self.view_is) at c.requires) c.index.ensures in
+    let (at, named) = read_row c.self.inside.rows.items c.args.index c.args.row.number c.index.result.now (rw (← c.self.view_is) at c.requires.its_index) c.index.ensures in
     record {
-      kept = rows_with c.self.inside.rows.items c.args.index c.index.result.now c.args.row c.self.invariant.kept at named;
+      kept = rows_with c.self.inside.rows.items c.args.index c.index.result.now c.args.row c.self.invariant.kept at named c.requires.few_kg;
       standings =
           put_standings c.self.inside.rows.items c.args.index c.index.result.now c.args.row (contains compare_standings c.self.inside.empty) (contains compare_standings c.replace.new.standings) at c.self.invariant.standings
           (rw (c.standing_of-before.ensures, c.standing_of.ensures) at c.in_ok-replace.ensures.replaced);
@@ -29,5 +29,5 @@ invariant_of-self-2 c =
 
 pub returns-clause-put : goal.returns-clause-put
 returns-clause-put c =
-    let (at, named) = read_row c.self.inside.rows.items c.args.index c.args.row.number c.index.result.now (rw (← c.self.view_is) at c.requires) c.index.ensures in
+    let (at, named) = read_row c.self.inside.rows.items c.args.index c.args.row.number c.index.result.now (rw (← c.self.view_is) at c.requires.its_index) c.index.ensures in
     rw (← c.self.view_is) (put_is c.self.inside.rows.items c.args.index c.index.result.now c.args.row c.self.invariant.kept.ascending at named)
