@@ -26,6 +26,8 @@ use Rattle.faults.specs.declared.faults.FeedFault.{FeedFault}
 use Rattle.faults.specs.declared.faults.FeedFault.TheVariants as feed_fault
 use Rattle.faults.specs.declared.faults.CheckpointFault.{CheckpointFault}
 use Rattle.faults.specs.declared.faults.CheckpointFault.TheVariants as checkpoint_fault
+use Rattle.faults.specs.declared.faults.FleetFault.{FleetFault}
+use Rattle.faults.specs.declared.faults.FleetFault.TheVariants as fleet_fault
 
 -- why a movement message does not fit the row of its wagon
 abbrev pub step_fault_number : StepFault → ℕ
@@ -76,6 +78,13 @@ checkpoint_fault_line (checkpoint_fault.BadLine n) = n
 checkpoint_fault_line (checkpoint_fault.OneSidedPromise n) = n
 checkpoint_fault_line (checkpoint_fault.OrderFull n) = n
 checkpoint_fault_line (checkpoint_fault.Cut n) = n
+
+-- why a fleet isn't changed
+abbrev pub fleet_fault_number : FleetFault → ℕ
+fleet_fault_number fleet_fault.OutOfMemory = 1
+fleet_fault_number fleet_fault.TooLarge = 53
+fleet_fault_number (fleet_fault.UnknownWagon number) = 73
+fleet_fault_number (fleet_fault.WagonPromised number) = 89
 
 -- why workers made no tables
 abbrev pub work_fault_number : WorkFault → ℕ

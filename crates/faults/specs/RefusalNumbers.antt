@@ -58,6 +58,7 @@ refusals =
     ∷ (86, codes "OneSidedPromise")
     ∷ (87, codes "OrderFull")
     ∷ (88, codes "CheckpointCut")
+    ∷ (89, codes "WagonPromised")
     ∷ (91, codes "TooManyLines")
     ∷ (92, codes "LineTooLong")
     ∷ (93, codes "ReadFailed")

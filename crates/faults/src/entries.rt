@@ -67,6 +67,7 @@ const ENTRIES: &[(u32, &str)] = &[
     (86, checkpoints::ONE_SIDED_PROMISE),
     (87, checkpoints::ORDER_FULL),
     (88, checkpoints::CHECKPOINT_CUT),
+    (89, checkpoints::WAGON_PROMISED),
     (91, runs::TOO_MANY_INPUT_LINES),
     (92, runs::LINE_TOO_LONG),
     (93, runs::READ_FAILED),

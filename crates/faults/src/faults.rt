@@ -1,10 +1,11 @@
 //! Why calls of the libraries are refused: each type of fault above those of codes and of lines, with its numbers, in one place.
 ghost use Rattle.std.specs.Prelude.{◌≡◌};
-ghost use Rattle.faults.specs.Numbers.{step_fault_number, record_fault_number, network_fault_number, roster_fault_number, checkpoint_fault_number, checkpoint_fault_line, work_fault_number, table_fault_number, check_fault_number, named_fault_number, apply_fault_number, refusal_number, plan_fault_number, feed_fault_number};
+ghost use Rattle.faults.specs.Numbers.{step_fault_number, record_fault_number, network_fault_number, roster_fault_number, checkpoint_fault_number, checkpoint_fault_line, fleet_fault_number, work_fault_number, table_fault_number, check_fault_number, named_fault_number, apply_fault_number, refusal_number, plan_fault_number, feed_fault_number};
 ghost use Rattle.faults.specs.ReadingFaults.{network_fault_of, roster_fault_of};
 ghost use Rattle.faults.specs.Conversions.{refusal_of, refusal_of_fault};
 ghost use Rattle.faults.specs.declared.faults.NetworkFault.TheVariants as network_fault;
 ghost use Rattle.faults.specs.declared.faults.RosterFault.TheVariants as roster_fault;
+ghost use Rattle.faults.specs.declared.faults.FleetFault.TheVariants as fleet_fault;
 ghost use Rattle.faults.specs.declared.faults.WorkFault.TheVariants as work_fault;
 ghost use Rattle.faults.specs.declared.faults.TableFault.TheVariants as table_fault;
 ghost use Rattle.faults.specs.declared.faults.NamedFault.TheVariants as named_fault;
@@ -255,6 +256,45 @@ impl CheckpointFault {
             | CheckpointFault::OrderFull(line)
             | CheckpointFault::Cut(line) => line,
         }
+    }
+}
+
+/// Why a fleet isn't changed. The message is the fault's name.
+#[derive(Clone, Copy, Debug, PartialEq, Eq, Error)]
+pub enum FleetFault {
+    /// Out of memory (1).
+    #[error("OutOfMemory")]
+    OutOfMemory,
+    /// There would be over 1,000 wagons (53).
+    #[error("TooLarge")]
+    TooLarge,
+    /// A wagon that is to leave isn't there (73).
+    #[error("UnknownWagon")]
+    UnknownWagon(WagonNumber),
+    /// A wagon that is to leave or to be replaced is promised (89).
+    #[error("WagonPromised")]
+    WagonPromised(WagonNumber),
+}
+
+impl FleetFault {
+    /// The number that stands for the fault: 1, 53, 73 or 89.
+    pub fn number(self) -> u32
+        ensures { result ≡ fleet_fault_number self }
+    {
+        match self {
+            FleetFault::OutOfMemory => 1,
+            FleetFault::TooLarge => 53,
+            FleetFault::UnknownWagon(_) => 73,
+            FleetFault::WagonPromised(_) => 89,
+        }
+    }
+}
+
+impl From<AllocError> for FleetFault {
+    ghost from_gives = { λ _ fault. fault ≡ fleet_fault.OutOfMemory };
+
+    fn from(_error: AllocError) -> FleetFault {
+        FleetFault::OutOfMemory
     }
 }
 

@@ -9,7 +9,7 @@ mod faults;
 mod manual;
 
 pub use faults::{
-    ApplyFault, CheckFault, CheckpointFault, FeedFault, NamedFault, NetworkFault, PlanFault,
-    RecordFault, Refusal, RosterFault, StepFault, TableFault, WorkFault,
+    ApplyFault, CheckFault, CheckpointFault, FeedFault, FleetFault, NamedFault, NetworkFault,
+    PlanFault, RecordFault, Refusal, RosterFault, StepFault, TableFault, WorkFault,
 };
 pub use manual::{entry_text, manual_text};

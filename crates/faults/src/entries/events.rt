@@ -24,12 +24,13 @@ The book has as many entries as `--entries` allows.
 
 pub(crate) const UNKNOWN_WAGON: &str = "## 73 UnknownWagon
 
-The roster has no wagon of this number.
+The fleet has no wagon of this number.
 
-- Where: movement messages: `run`, `feed`.
+- Where: movement messages: `run`, `feed`. For a wagon behind `--without` on
+  standard error, as `wagons: 73 338447961008`: `save`.
 - Cause: a wagon of another keeper, or one that joined the fleet since.
-- Remedy: leave such messages out, or add the wagon to the roster and start
-  again with the same lines.
+- Remedy: leave such messages out, or save a checkpoint `--with` a roster of the
+  new wagons, and begin a new journal with it.
 ";
 
 pub(crate) const ORDER_KNOWN: &str = "## 74 OrderKnown

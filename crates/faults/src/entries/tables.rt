@@ -30,8 +30,8 @@ A table has over 1,000 wagons, over 500 orders, or orders that lack over 500
 wagons in all; or a roster or a checkpoint has over 1,000 wagons.
 
 - Where: table lines: `check`, `solve`. For a roster on standard error, as
-  `wagons: 53`: `run`, `feed`; for a checkpoint with the number of its line, as
-  `wagons: 53 1003`.
+  `wagons: 53`: `run`, `feed`, `save`; for a checkpoint with the number of its
+  line, as `wagons: 53 1003`.
 - Cause: a fleet larger than the office is made for.
 - Remedy: split the fleet by what doesn't exchange wagons anyway, as by class.
 ";
