@@ -49,9 +49,9 @@ pub(crate) const WAGON_PROMISED: &str = "## 89 WagonPromised
 A wagon that is to leave the fleet, or whose row is to be replaced, is promised
 to an order. The number behind it is the wagon's.
 
-- Where: on standard error, as `wagons: 89 338447961008`: `save` with `--with` or
-  `--without`.
+- Where: on standard error, as `wagons: 89 338447961008`: `save` with `--with`
+  or `--without`.
 - Cause: the wagon is on its way to the order, or about to be.
-- Remedy: wait until it is delivered, hold it by an `exception` line, or withdraw
-  the order; then save again.
+- Remedy: wait until it is delivered, hold it by an `exception` line, or
+  withdraw the order; then save again.
 ";
