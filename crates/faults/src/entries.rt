@@ -12,8 +12,11 @@ mod networks;
 mod runs;
 mod tables;
 
+/// How many refusals there are.
+const COUNT: usize = 60;
+
 /// The number and the entry of each refusal, ascending by number.
-const ENTRIES: &[(u32, &str)] = &[
+const ENTRIES: [(u32, &str); COUNT] = [
     (1, lines::OUT_OF_MEMORY),
     (11, codes::NOT_TWELVE_DIGITS),
     (12, codes::CHECK_DIGIT),
@@ -77,8 +80,8 @@ const ENTRIES: &[(u32, &str)] = &[
 ];
 
 /// The table. A proof goes over its texts here, and nowhere else.
-pub(crate) fn entries() -> &'static [(u32, &'static str)]
-    ensures { are_entries refusals result.now ≡ true }
+pub(crate) fn entries() -> [(u32, &'static str); COUNT]
+    ensures { are_entries refusals result ≡ true }
 {
     ENTRIES
 }

@@ -25,7 +25,8 @@ pub fn entry_text(number: u32) -> Option<&'static str>
     ensures known { is_some result ≡ is_refusal_number number }
     ensures named { IfSome result (λ entry. IsEntryFor number entry.now) }
 {
-    let (_, text) = entries().iter().find(|(known, _)| number == *known)?;
+    let entries = entries();
+    let (_, text) = entries.iter().find(|(known, _)| number == *known)?;
     Some(text)
 }
 
@@ -35,7 +36,8 @@ pub fn manual_text(alloc: Global) -> Result<String, AllocError>
     ensures { IfOk result (λ text. IsManual (string_bytes text)) }
 {
     let mut text = String::from_str(alloc, ABOVE)?;
-    for (_, entry) in entries() {
+    let entries = entries();
+    for (_, entry) in &entries {
         text.push_str("\n")?;
         text.push_str(entry)?;
     }
