@@ -26,6 +26,8 @@ pub(crate) enum Arguments {
     Office,
     /// The options of an office, and files.
     OfficeAndFiles,
+    /// The options of an office, up to which line, and what changes of the fleet.
+    OfficeAndFleet,
 }
 
 /// What the program is.
@@ -113,6 +115,22 @@ pub(crate) const MAP: WordHelp = WordHelp {
     arguments: Arguments::Office,
 };
 
+/// The help of `save`.
+pub(crate) const SAVE: WordHelp = WordHelp {
+    name: "save",
+    about: "Saves a fleet: commands in, a checkpoint out",
+    long_about: "Reads the fleet and the network from files, then commands from standard input\n\
+     as `run` does, without a reply. At the end prints the office as a checkpoint,\n\
+     JSON lines from which a new journal goes on with `--from`: each wagon with its\n\
+     hold and promise, each open order with its wagons, and the network in force.\n\
+     Exits with 0, with 1 where a line was refused, with 2 where it could not run or\n\
+     stopped; then there is no checkpoint.",
+    example: "Example:\n  \
+     wagons save --roster roster.csv --network network.csv < day.jsonl > night.jsonl\n  \
+     wagons run --from night.jsonl --network network.csv < next.jsonl",
+    arguments: Arguments::OfficeAndFleet,
+};
+
 /// The help of `explain`.
 pub(crate) const EXPLAIN: WordHelp = WordHelp {
     name: "explain",
@@ -134,8 +152,26 @@ pub(crate) const FILES_LONG: &str =
      opened stops the program before it begins; one that fails while it is\n\
      read doesn't stop the others";
 
+/// What the options of `save` are.
+pub(crate) const UPTO: &str = "Only the first N lines are read, 1 to 1000000";
+
+pub(crate) const WITH: &str = "Wagons that are added or changed, a CSV file";
+
+pub(crate) const WITH_LONG: &str =
+    "Wagons that are added: a CSV file in the form of `--roster`. The row of a\n\
+     wagon that is there already takes the place of the old one. A wagon that\n\
+     is promised is refused";
+
+pub(crate) const WITHOUT: &str = "A wagon that leaves; may stand several times";
+
+pub(crate) const WITHOUT_LONG: &str =
+    "A wagon that leaves the fleet; may stand several times. A wagon that is\n\
+     promised is refused";
+
 /// What each option is, on a line.
 pub(crate) const ROSTER: &str = "The wagons and where they are at the start, a CSV file";
+
+pub(crate) const FROM: &str = "The office at the start, a checkpoint of `save`";
 
 pub(crate) const NETWORK: &str = "The lines between places, a CSV file; up to 8 times";
 
@@ -148,7 +184,12 @@ pub(crate) const WORKERS: &str = "Threads that work out distances, 1 to 64";
 /// What each option is.
 pub(crate) const ROSTER_LONG: &str =
     "The wagons and where they are at the start: a CSV file with the header\n\
-     `wagon,class,load,status,place,moment`";
+     `wagon,class,load,status,place,moment`. Either this or `--from`";
+
+pub(crate) const FROM_LONG: &str =
+    "The office at the start: a checkpoint that `wagons save` printed, with\n\
+     its wagons, holds, promises, open orders and network in force. Either\n\
+     this or `--roster`";
 
 pub(crate) const NETWORK_LONG: &str = "The lines between places: a CSV file with the header\n\
      `from,to,km,minutes,way`. May stand up to 8 times: the networks are\n\

@@ -3,17 +3,28 @@ ghost use Rattle.std.specs.Prelude.{◌≤◌};
 
 use crate::help;
 use clap::builder::ValueParser;
-use clap::{Arg, ArgAction, ArgMatches, Command};
+use clap::error::ErrorKind;
+use clap::{Arg, ArgAction, ArgGroup, ArgMatches, Command, Error};
 use commit_book::{Limits, MAX_ENTRIES, MAX_KEPT_PROBLEMS};
-use line_engine::MAX_FILES;
+use line_engine::{MAX_FILES, MAX_INPUT_LINES};
 use line_network::MAX_WORKERS;
+use rail_codes::WagonNumber;
 use std::alloc::{AllocError, Global};
+
+/// The file that an office begins with.
+#[derive(Clone, Copy, Debug)]
+pub enum Start<'a> {
+    /// A roster: no order, the first network.
+    Roster(&'a str),
+    /// A checkpoint: the office that it says.
+    Checkpoint(&'a str),
+}
 
 /// What an office is opened with.
 #[derive(Debug, Drop)]
 pub struct OfficeOptions<'a> {
-    /// The file of the roster.
-    pub roster: &'a str,
+    /// The file that the office begins with.
+    pub start: Start<'a>,
     /// The files of the networks, in their order.
     pub networks: Vec<&'a str>,
     /// How large the book may grow.
@@ -23,8 +34,8 @@ pub struct OfficeOptions<'a> {
 }
 
 impl<'a> OfficeOptions<'a> {
-    /// The options that were given, and the defaults of the others. `clap` has refused words without a roster or a
-    /// network before.
+    /// The options that were given, and the defaults of the others. `clap` has refused words without a network before, and
+    /// those without a roster or a checkpoint, or with both.
     pub(crate) fn read(
         alloc: Global,
         matches: &ArgMatches<'a>,
@@ -33,11 +44,19 @@ impl<'a> OfficeOptions<'a> {
         let entries = number_of(matches, "entries", MAX_ENTRIES);
         let kept = number_of(matches, "kept", MAX_KEPT_PROBLEMS as u64);
         Ok(OfficeOptions {
-            roster: matches.get_str("roster").unwrap_or(""),
+            start: start_of(matches),
             networks: Vec::from_slice(alloc, networks)?,
             limits: Limits::new(entries, kept as u32).unwrap(),
             workers: number_of(matches, "workers", MAX_WORKERS as u64) as usize,
         })
+    }
+}
+
+/// The file that the office begins with.
+fn start_of<'a>(matches: &ArgMatches<'a>) -> Start<'a> {
+    match matches.get_str("from") {
+        Some(path) => Start::Checkpoint(path),
+        None => Start::Roster(matches.get_str("roster").unwrap_or("")),
     }
 }
 
@@ -62,6 +81,83 @@ impl<'a> FeedOptions<'a> {
             files: Vec::from_slice(alloc, files)?,
         })
     }
+}
+
+/// What `save` is asked to do.
+#[derive(Debug, Drop)]
+pub struct SaveOptions<'a> {
+    /// What the office is opened with.
+    pub office: OfficeOptions<'a>,
+    /// How many lines are read, 1 to 1,000,000; none where all are.
+    pub upto: Option<u64>,
+    /// The roster whose rows are added.
+    pub with: Option<&'a str>,
+    /// The wagons that leave.
+    pub without: Vec<WagonNumber>,
+}
+
+impl<'a> SaveOptions<'a> {
+    /// The options that were given. A wagon that is no wagon number is a fault of the arguments.
+    pub(crate) fn read(alloc: Global, matches: &ArgMatches<'a>) -> Result<SaveOptions<'a>, Error> {
+        let texts = matches.get_strs("without").unwrap_or(&[]);
+        let mut without = Vec::with_capacity(alloc, texts.len())?;
+        for text in texts {
+            without.push(number_from(alloc, text)?)?;
+        }
+        Ok(SaveOptions {
+            office: OfficeOptions::read(alloc, matches)?,
+            upto: matches.get_one::<u64>("upto"),
+            with: matches.get_str("with"),
+            without,
+        })
+    }
+}
+
+/// The wagon number that a value of `--without` is.
+fn number_from(alloc: Global, text: &str) -> Result<WagonNumber, Error> {
+    match WagonNumber::read(text) {
+        Ok(number) => Ok(number),
+        Err(fault) => {
+            let code = fault.number();
+            let reason = format!(in alloc;
+                "invalid value '{text}' for '--without <NUMBER>': `wagons explain {code}` says why"
+            )?;
+            let mut command = Command::new(alloc, "save").bin_name("wagons save")?;
+            Err(command.error(ErrorKind::InvalidValue, reason.as_str())?)
+        }
+    }
+}
+
+/// A word that may read a part of its input alone, and change the fleet.
+pub(crate) fn with_save_options<'a>(
+    alloc: Global,
+    word: Command<'a>,
+) -> Result<Command<'a>, AllocError> {
+    word.args(vec![in alloc;
+        upto_option(alloc),
+        file_option(alloc, "with").help(help::WITH).long_help(help::WITH_LONG),
+        without_option(alloc),
+    ]?)
+}
+
+/// The option of how many lines are read.
+fn upto_option<'a>(alloc: Global) -> Arg<'a> {
+    Arg::new(alloc, "upto")
+        .long("upto")
+        .value_name("N")
+        .value_parser(ValueParser::unsigned(1, MAX_INPUT_LINES))
+        .action(ArgAction::Set)
+        .help(help::UPTO)
+}
+
+/// The option of a wagon that leaves, which may stand several times.
+fn without_option<'a>(alloc: Global) -> Arg<'a> {
+    Arg::new(alloc, "without")
+        .long("without")
+        .value_name("NUMBER")
+        .action(ArgAction::Append)
+        .help(help::WITHOUT)
+        .long_help(help::WITHOUT_LONG)
 }
 
 /// A word with 1 to 16 files.
@@ -94,13 +190,16 @@ pub(crate) fn with_office_options<'a>(
     alloc: Global,
     word: Command<'a>,
 ) -> Result<Command<'a>, AllocError> {
-    word.args(vec![in alloc;
+    let starts = ArgGroup::new(alloc, "start").args(&["roster", "from"])?;
+    let word = word.args(vec![in alloc;
         roster_option(alloc),
+        from_option(alloc),
         network_option(alloc),
         entries_option(alloc),
         kept_option(alloc),
         workers_option(alloc),
-    ]?)
+    ]?)?;
+    word.group(starts.required(true))
 }
 
 /// The option of the roster's file.
@@ -108,6 +207,13 @@ fn roster_option<'a>(alloc: Global) -> Arg<'a> {
     file_option(alloc, "roster")
         .help(help::ROSTER)
         .long_help(help::ROSTER_LONG)
+}
+
+/// The option of the checkpoint's file.
+fn from_option<'a>(alloc: Global) -> Arg<'a> {
+    file_option(alloc, "from")
+        .help(help::FROM)
+        .long_help(help::FROM_LONG)
 }
 
 /// The option of how many entries a book may have.
@@ -134,17 +240,17 @@ fn workers_option<'a>(alloc: Global) -> Arg<'a> {
 /// The option of a network's file, which may stand several times.
 fn network_option<'a>(alloc: Global) -> Arg<'a> {
     file_option(alloc, "network")
+        .required(true)
         .action(ArgAction::Append)
         .help(help::NETWORK)
         .long_help(help::NETWORK_LONG)
 }
 
-/// An option that names a file and must be given.
+/// An option that names a file.
 fn file_option<'a>(alloc: Global, name: &'a str) -> Arg<'a> {
     Arg::new(alloc, name)
         .long(name)
         .value_name("FILE")
-        .required(true)
         .action(ArgAction::Set)
 }
 

@@ -1,9 +1,11 @@
 -- What a row of an order keeps through each change.
-use Rattle.std.proofs.Common.{◌≡◌, ◌∙◌, ℕ, ◌+◌, ◌<◌, ◌≤◌, Bool, true, false, cond, not, List, [], ◌∷◌, ◌++◌, length, refl, sym, inl, inr, arith, count_by, length-append, zero, suc}
-use Rattle.std.specs.List.{filter, list_any, Contains, slice_index_or}
+use Rattle.std.proofs.Common.{◌≡◌, ◌∙◌, ℕ, ◌+◌, ◌<◌, ◌≤◌, Bool, true, false, cond, not, ◌&&◌, List, [], ◌∷◌, ◌++◌, length, refl, sym, inl, inr, arith, count_by, length-append, zero, suc}
+use Rattle.std.specs.List.{filter, list_all, list_any, AllByRecursion, Contains, slice_index_or}
 use Rattle.std.specs.List.Sorted.{IsStrictlySortedBy}
 use Rattle.std.specs.Cmp.Lexicographic.{bytes_decides, slice_cmp, nat_list_cmp_total}
-use Rattle.std.specs.Ordering.{eq_by_cmp, nat_cmp}
+use Rattle.std.specs.Ordering.{eq_by_cmp, is_lt, nat_cmp}
+use Rattle.std.specs.declared.cmp.Ordering.{Ordering}
+use Rattle.std.specs.declared.cmp.Ordering.TheVariants.{Less, Equal, Greater}
 use Rattle.std.proofs.lemmas.Bool.{cases_Bool}
 use Rattle.std.proofs.lemmas.List.Edits.{length-insert}
 use Rattle.std.proofs.lemmas.List.Filters.{length-filter_both}
@@ -15,6 +17,7 @@ use Rattle.move_messages.specs.Order.{Order}
 use Rattle.wagons_and_orders.specs.Lack.{lack_of}
 use Rattle.wagons_and_orders.specs.Numbers.{IsAscending, is_below, is_number, with_number, without_number}
 use Rattle.wagons_and_orders.specs.OrderRow.{OrderRowValue, IsOrderRow, placed_row}
+use Rattle.wagons_and_orders.specs.RowParts.{is_ascending}
 use Rattle.wagons_and_orders.proofs.Ascending.{sorted-insert}
 
 -- ---- a number more, a number less
@@ -102,3 +105,27 @@ row_filled row number there h = record {
 pub row_withdrawn : (row : OrderRowValue) → IsOrderRow row → IsOrderRow (record row { promised = []; withdrawn = true })
 unfolding IsStrictlySortedBy
 row_withdrawn row h = record { no_more = omega arith; ascending = tt; withdrawn = λ gone. refl }
+
+-- ---- a row of parts
+
+less_is : (o : Ordering) → is_lt o ≡ true → o ≡ Less
+less_is Less h = refl
+less_is Equal h = cc h
+less_is Greater h = cc h
+
+both_true : (a b : Bool) → a && b ≡ true → (a ≡ true) × (b ≡ true)
+both_true true b h = (refl, h)
+both_true false b h = cc h
+
+all_above : (number : List ℕ) (numbers : List (List ℕ)) → list_all (λ other. is_below other number) numbers ≡ true → AllByRecursion (λ other. slice_cmp nat_cmp number other ≡ Less) numbers
+all_above number [] h = tt
+all_above number (other ∷ numbers) h = let both = both_true _ _ h in (less_is _ both.0, all_above number numbers both.1)
+
+ascending-is : (numbers : List (List ℕ)) → is_ascending numbers ≡ true → IsAscending numbers
+unfolding IsStrictlySortedBy
+ascending-is [] h = tt
+ascending-is (number ∷ numbers) h = let both = both_true _ _ h in (all_above number numbers both.0, ascending-is numbers both.1)
+
+pub row_of : (text : Order) (promised filled : List (List ℕ)) → length promised + length filled ≤ text.wagons → is_ascending promised ≡ true
+    → IsOrderRow (record { text = text; promised = promised; filled = filled; withdrawn = false })
+row_of text promised filled few ascending = record { no_more = few; ascending = ascending-is promised ascending; withdrawn = λ h. cc h }

@@ -1,10 +1,10 @@
 //! Ascending lists of wagon numbers.
-ghost use Rattle.std.specs.Prelude.{◌≡◌, ◌≤◌, IfOk, count_by, length, vec_len, vec_capacity};
+ghost use Rattle.std.specs.Prelude.{◌≡◌, count_by, vec_len, vec_capacity};
+ghost use Rattle.std.specs.List.{list_all};
 ghost use Rattle.wagons_and_orders.specs.Numbers.{is_below, is_number, without_number};
 ghost use Rattle.wagons_and_orders.specs.RowParts.{is_ascending};
 
 use rail_codes::WagonNumber;
-use std::alloc::{AllocError, Global};
 
 /// How many of the numbers are below one.
 pub(crate) fn count_below(numbers: &[WagonNumber], number: WagonNumber) -> usize
@@ -37,23 +37,13 @@ pub(crate) fn are_ascending(numbers: &[WagonNumber]) -> bool
 {
     match numbers.split_first() {
         None => true,
-        Some((first, rest)) => {
-            rest.iter().all(|other| is_below(*other, *first)) && are_ascending(rest)
-        }
+        Some((first, rest)) => is_below_all(*first, rest) && are_ascending(rest),
     }
 }
 
-/// The numbers once more, with room for so many.
-pub(crate) fn copy_with_room(
-    alloc: Global,
-    numbers: &[WagonNumber],
-    room: usize,
-) -> Result<Vec<WagonNumber>, AllocError>
-    requires { length numbers.now ≤ room }
-    ensures items { IfOk result (λ copy. copy.items ≡ numbers.now) }
-    ensures room { IfOk result (λ copy. room ≤ vec_capacity copy) }
+/// Whether a number is below all of these.
+fn is_below_all(number: WagonNumber, others: &[WagonNumber]) -> bool
+    ensures { result ≡ list_all (λ other. is_below other number) others.now }
 {
-    let mut copy = Vec::with_capacity(alloc, room)?;
-    copy.extend_from_slice(numbers)?;
-    Ok(copy)
+    others.iter().all(|other| is_below(*other, number))
 }

@@ -4,7 +4,7 @@ ghost use Rattle.std.specs.List.{Contains};
 ghost use Rattle.wagons_and_orders.specs.RowParts.{row_of_parts};
 
 use crate::OrderState;
-use crate::numbers::{are_ascending, copy_with_room, count_below, take_off};
+use crate::numbers::{are_ascending, count_below, take_off};
 use move_messages::OrderText;
 use rail_codes::WagonNumber;
 use std::alloc::{AllocError, Global};
@@ -65,29 +65,27 @@ impl OrderRow {
         ensures { IfOk result (λ row. row ≡ row_of_parts text promised.now filled.now) }
     {
         let room = text.wagons() as usize;
-        if room < promised.len() || room - promised.len() < filled.len() || !are_ascending(promised)
+        if room < promised.len()
+            || room - promised.len() < filled.len()
+            || !are_ascending(promised)
         {
             return Ok(None);
         }
-        Ok(Some(OrderRow {
-            text,
-            promised: copy_with_room(alloc, promised, room)?,
-            filled: copy_with_room(alloc, filled, room)?,
-            withdrawn: false,
-        }))
+        let mut row = OrderRow::new(alloc, text)?;
+        row.promised.extend_from_slice(promised)?;
+        row.filled.extend_from_slice(filled)?;
+        Ok(Some(row))
     }
 
     /// The same row once more.
     pub fn copy(&self, alloc: Global) -> Result<OrderRow, AllocError>
         ensures { IfOk result (λ row. row ≡ self.now) }
     {
-        let room = self.text.wagons() as usize;
-        Ok(OrderRow {
-            text: self.text,
-            promised: copy_with_room(alloc, &self.promised, room)?,
-            filled: copy_with_room(alloc, &self.filled, room)?,
-            withdrawn: self.withdrawn,
-        })
+        let mut row = OrderRow::new(alloc, self.text)?;
+        row.promised.extend_from_slice(&self.promised)?;
+        row.filled.extend_from_slice(&self.filled)?;
+        row.withdrawn = self.withdrawn;
+        Ok(row)
     }
 
     /// What the order asks for.

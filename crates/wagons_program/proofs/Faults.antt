@@ -10,6 +10,8 @@ use Rattle.move_messages.specs.declared.fault.LineFault.TheVariants as line
 use Rattle.faults.specs.declared.faults.StepFault.TheVariants as step
 use Rattle.faults.specs.declared.faults.RecordFault.TheVariants as records
 use Rattle.faults.specs.declared.faults.RosterFault.TheVariants as roster
+use Rattle.faults.specs.declared.faults.CheckpointFault.TheVariants as checkpoint
+use Rattle.faults.specs.declared.faults.FleetFault.TheVariants as fleet
 use Rattle.line_engine.specs.declared.run.RunFault.TheVariants as run
 use Rattle.faults.specs.declared.faults.NetworkFault.TheVariants as network
 use Rattle.faults.specs.declared.faults.WorkFault.TheVariants as work
@@ -22,7 +24,7 @@ use Rattle.faults.specs.declared.faults.Refusal.TheVariants as call
 use Rattle.faults.specs.declared.faults.PlanFault.TheVariants as plan
 use Rattle.sessions.specs.declared.close_fault.CloseFault.TheVariants as close
 use Rattle.faults.specs.declared.faults.FeedFault.TheVariants as feed
-use Rattle.wagons_program.specs.Laws.{AnyFault, of_code, of_field, of_line, of_step, of_record, of_roster, of_run, of_network, of_networks, of_work, of_table, of_check, of_named, of_table_line, of_event, of_call, of_plan, of_closing, of_feed, EachFaultIsListed, EachNumberIsAFaults, AreFaults, number_of}
+use Rattle.wagons_program.specs.Laws.{AnyFault, of_code, of_field, of_line, of_step, of_record, of_roster, of_checkpoint, of_fleet, of_run, of_network, of_networks, of_work, of_table, of_check, of_named, of_table_line, of_event, of_call, of_plan, of_closing, of_feed, EachFaultIsListed, EachNumberIsAFaults, AreFaults, number_of}
 
 -- each computes: a case of each type, and at the end one that stands for all others
 pub listed : (L : Type 0) → EachFaultIsListed L
@@ -33,6 +35,8 @@ listed L (of_line line.OutOfMemory) = refl
 listed L (of_step step.Earlier) = refl
 listed L (of_record records.OutOfMemory) = refl
 listed L (of_roster roster.OutOfMemory) = refl
+listed L (of_checkpoint (checkpoint.BadLine n)) = refl
+listed L (of_fleet fleet.OutOfMemory) = refl
 listed L (of_run run.OutOfMemory) = refl
 listed L (of_network network.OutOfMemory) = refl
 listed L (of_work work.OutOfMemory) = refl
@@ -108,6 +112,11 @@ examples L seats =
     ∷ of_call (call.WagonChanged a_wagon)
     ∷ of_call (call.OrderChanged an_order)
     ∷ of_named (named.NotInProblem a_wagon an_order)
+    ∷ of_checkpoint (checkpoint.BadLine 1)
+    ∷ of_checkpoint (checkpoint.OneSidedPromise 1)
+    ∷ of_checkpoint (checkpoint.OrderFull 1)
+    ∷ of_checkpoint (checkpoint.Cut 1)
+    ∷ of_fleet (fleet.WagonPromised a_wagon)
     ∷ of_run (run.TooManyLines 1)
     ∷ of_run (run.LineTooLong 1)
     ∷ of_run (run.ReadFailed 1)

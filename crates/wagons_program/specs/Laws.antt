@@ -3,13 +3,15 @@ use Rattle.std.specs.Prelude.{◌≡◌, ℕ, List, IsTrue, All, Vec}
 use Rattle.std.specs.declared.alloc.Global.{Global}
 use Rattle.rail_codes.specs.declared.code_fault.CodeFault.{CodeFault}
 use Rattle.rail_codes.specs.CodeFault as code
-use Rattle.faults.specs.Numbers.{step_fault_number, record_fault_number, roster_fault_number, network_fault_number, work_fault_number, table_fault_number, check_fault_number, named_fault_number, apply_fault_number, refusal_number, plan_fault_number, feed_fault_number}
+use Rattle.faults.specs.Numbers.{step_fault_number, record_fault_number, roster_fault_number, checkpoint_fault_number, fleet_fault_number, network_fault_number, work_fault_number, table_fault_number, check_fault_number, named_fault_number, apply_fault_number, refusal_number, plan_fault_number, feed_fault_number}
 use Rattle.move_messages.specs.declared.fault.FieldFault.{FieldFault}
 use Rattle.move_messages.specs.declared.fault.LineFault.{LineFault}
 use Rattle.move_messages.specs.Faults.{field_fault_number, line_fault_number}
 use Rattle.faults.specs.declared.faults.StepFault.{StepFault}
 use Rattle.faults.specs.declared.faults.RecordFault.{RecordFault}
 use Rattle.faults.specs.declared.faults.RosterFault.{RosterFault}
+use Rattle.faults.specs.declared.faults.CheckpointFault.{CheckpointFault}
+use Rattle.faults.specs.declared.faults.FleetFault.{FleetFault}
 use Rattle.line_engine.specs.declared.run.RunFault.{RunFault}
 use Rattle.line_engine.specs.RunFault as run
 use Rattle.faults.specs.declared.faults.NetworkFault.{NetworkFault}
@@ -38,6 +40,8 @@ pub data AnyFault (L : Type 0) : Type 0 where
   of_step : StepFault → AnyFault L
   of_record : RecordFault → AnyFault L
   of_roster : RosterFault → AnyFault L
+  of_checkpoint : CheckpointFault → AnyFault L
+  of_fleet : FleetFault → AnyFault L
   of_run : RunFault → AnyFault L
   of_network : NetworkFault → AnyFault L
   of_networks : NetworksFault → AnyFault L
@@ -61,6 +65,8 @@ number_of (of_line fault) = line_fault_number fault
 number_of (of_step fault) = step_fault_number fault
 number_of (of_record fault) = record_fault_number fault
 number_of (of_roster fault) = roster_fault_number fault
+number_of (of_checkpoint fault) = checkpoint_fault_number fault
+number_of (of_fleet fault) = fleet_fault_number fault
 number_of (of_run fault) = run.number_of fault
 number_of (of_network fault) = network_fault_number fault
 number_of (of_networks fault) = 47

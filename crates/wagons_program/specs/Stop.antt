@@ -1,15 +1,18 @@
 -- The number of each reason why the program could not run or stopped.
 use Rattle.std.specs.Prelude.{ℕ}
-use Rattle.faults.specs.Numbers.{feed_fault_number, network_fault_number, roster_fault_number, work_fault_number}
+use Rattle.faults.specs.Numbers.{feed_fault_number, fleet_fault_number, network_fault_number, roster_fault_number, work_fault_number}
 use Rattle.line_engine.specs.RunFault.{number_of}
+use Rattle.checkpoint.specs.ReadFault.{read_fault_number}
 use Rattle.wagons_program.specs.declared.stop.Stop.{Stop}
-use Rattle.wagons_program.specs.declared.stop.Stop.TheVariants.{OutOfMemory, Networks, OpenFailed, Roster, Network, Tables, WriteFailed, Run, Feed}
+use Rattle.wagons_program.specs.declared.stop.Stop.TheVariants.{OutOfMemory, Networks, OpenFailed, Roster, Checkpoint, Fleet, Network, Tables, WriteFailed, Run, Feed}
 
 abbrev pub stop_number : Stop → ℕ
 stop_number OutOfMemory = 1
 stop_number (Networks fault) = 47
 stop_number OpenFailed = 93
 stop_number (Roster fault) = roster_fault_number fault
+stop_number (Checkpoint fault) = read_fault_number fault
+stop_number (Fleet fault) = fleet_fault_number fault
 stop_number (Network fault) = network_fault_number fault
 stop_number (Tables fault) = work_fault_number fault
 stop_number WriteFailed = 94

@@ -1,9 +1,9 @@
 //! An office that is opened, and the command lines of an input brought to it.
-ghost use Rattle.std.specs.Prelude.{IfErr, IfOk, List};
+ghost use Rattle.std.specs.Prelude.{IfErr, IfOk};
 ghost use Rattle.commit_book.specs.Books.{BookValue};
-ghost use Rattle.wagons_and_orders.specs.declared.wagon_row.WagonRow.{WagonRow};
+ghost use Rattle.operating_db.specs.Office.{Office};
 ghost use Rattle.wagons_program.specs.Brought.{AreAnswered, AreStopped, ToCommands, lines_over};
-ghost use Rattle.wagons_program.specs.FirstBook.{IsFirstBook};
+ghost use Rattle.wagons_program.specs.FirstBook.{BeginsWith, IsFirstBook};
 
 use crate::new_book::{OfficeFiles, new_book, read_files};
 use crate::status::status_of_run;
@@ -35,11 +35,12 @@ pub(crate) fn bring<R: Files + Threads + Wait + AllocGlobal, I: Read + Drop, O: 
     input: I,
     output: O,
 ) -> Result<Brought, Stop>
-    ensures { IfOk result (λ brought. (roster : List WagonRow) × (first : BookValue) × IsFirstBook roster brought.networks.items options.now.limits first
+    ensures { IfOk result (λ brought. (office : Office) × (first : BookValue) × BeginsWith options.now.start office
+        × IsFirstBook office brought.networks.items options.now.limits first
         × AreAnswered ToCommands (lines_over (I.remaining input) (O.contents output) first brought.book) brought.status) }
 {
-    let OfficeFiles { roster, networks } = read_files(rt, options)?;
-    let mut book = new_book(rt, options, roster, &networks)?.book;
+    let OfficeFiles { first, networks } = read_files(rt, options)?;
+    let mut book = new_book(rt, options, first, &networks)?.book;
     let status = bring_lines(rt.alloc(), input, output, &mut book)?;
     Ok(Brought {
         book,

@@ -16,8 +16,8 @@ use std::sync::Wait;
 use std::thread::Threads;
 
 /// Opens an office, brings the command lines of all files to it at once, and prints what became of each file and the sheet:
-/// status 0, 1 where a line was refused, 2 where a file failed. What is wrong is found in this order: the roster, the
-/// networks, the files as each is opened, the distances.
+/// status 0, 1 where a line was refused, 2 where a file failed. What is wrong is found in this order: the roster or
+/// the checkpoint, the networks, the files as each is opened, the distances.
 pub(crate) fn feed<R: Print + Files + Threads + Wait + AllocGlobal + Sync>(
     rt: &R,
     options: &FeedOptions<'_>,
@@ -25,9 +25,9 @@ pub(crate) fn feed<R: Print + Files + Threads + Wait + AllocGlobal + Sync>(
 where
     R::File: Send,
 {
-    let OfficeFiles { roster, networks } = read_files(rt, &options.office)?;
+    let OfficeFiles { first, networks } = read_files(rt, &options.office)?;
     let readers = open_files(rt, &options.files)?;
-    let NewBook { book, networks } = new_book(rt, &options.office, roster, &networks)?;
+    let NewBook { book, networks } = new_book(rt, &options.office, first, &networks)?;
     // The command line lets 1 to 16 files through.
     if readers.is_empty() || readers.len() > MAX_FILES {
         return Err(Stop::OpenFailed);

@@ -1,23 +1,27 @@
 //! A new book from the files that the options name.
-ghost use Rattle.std.specs.Prelude.{◌≡◌, IfOk};
-ghost use Rattle.wagons_program.specs.FirstBook.{IsFirstBook};
+ghost use Rattle.std.specs.Prelude.{◌≡◌, ◌≤◌, IfOk, length};
+ghost use Rattle.line_network.specs.NetworkCount.{max_networks};
+ghost use Rattle.wagons_program.specs.FirstBook.{BeginsWith, IsFirstBook};
 
 use crate::stop::Stop;
-use command_line::OfficeOptions;
+use checkpoint::read_checkpoint;
+use command_line::{OfficeOptions, Start};
 use commit_book::Book;
 use fleet_rows::Roster;
+use line_engine::StdDevice;
 use line_network::{
     MAX_NETWORKS, Network, Networks, NetworksFault, OpenGate, Tables, read_lines, tables_by_workers,
 };
+use operating_db::OfficeState;
 use std::fs;
 use std::rt::Files;
 use std::sync::{Arc, Wait};
 use std::thread::Threads;
 
-/// A roster and networks, as files say them.
+/// The office to begin with and the networks, as files say them.
 #[derive(Drop)]
 pub(crate) struct OfficeFiles {
-    pub(crate) roster: Roster,
+    pub(crate) first: OfficeState,
     pub(crate) networks: Vec<Network>,
 }
 
@@ -28,28 +32,56 @@ pub(crate) struct NewBook {
     pub(crate) networks: Arc<Networks>,
 }
 
-/// The roster and the networks that the options name. What is wrong is found in this order: too many networks, the roster,
-/// the networks in their order.
+/// The office to begin with and the networks that the options name. What is wrong is found in this order: too many
+/// networks, the roster or the checkpoint, the networks in their order.
 pub(crate) fn read_files<R: Files + AllocGlobal>(
     rt: &R,
     options: &OfficeOptions<'_>,
-) -> Result<OfficeFiles, Stop> {
-    if options.networks.len() > MAX_NETWORKS as usize {
+) -> Result<OfficeFiles, Stop>
+    ensures begins { IfOk result (λ files. BeginsWith options.now.start files.first.office) }
+    ensures counted { IfOk result (λ files. files.first.networks ≡ length files.networks.items) }
+{
+    let count = options.networks.len();
+    if count == 0 || count > MAX_NETWORKS as usize {
         return Err(Stop::Networks(NetworksFault::BadNetworkCount));
     }
-    let roster = read_roster(rt, options.roster)?;
+    let first = read_start(rt, options.start, count as u32)?;
     let networks = read_networks(rt, &options.networks)?;
-    Ok(OfficeFiles { roster, networks })
+    Ok(OfficeFiles { first, networks })
 }
 
-/// A book without entries over this roster and these networks, whose distances are worked out here.
+/// The office that a file says, where there are so many networks.
+fn read_start<R: Files + AllocGlobal>(
+    rt: &R,
+    start: Start<'_>,
+    networks: u32,
+) -> Result<OfficeState, Stop>
+    requires from_one { 1 ≤ networks }
+    requires few { networks ≤ max_networks }
+    ensures begins { IfOk result (λ first. BeginsWith start first.office) }
+    ensures counted { IfOk result (λ first. first.networks ≡ networks) }
+{
+    match start {
+        Start::Roster(path) => {
+            let roster = read_roster(rt, path)?;
+            Ok(OfficeState::new(rt.alloc(), &roster, networks)?)
+        }
+        Start::Checkpoint(path) => {
+            let mut reader = StdDevice::new(open(rt, path)?);
+            read_checkpoint(rt.alloc(), &mut reader, networks).map_err(Stop::Checkpoint)
+        }
+    }
+}
+
+/// A book without entries over this office and these networks, whose distances are worked out here.
 pub(crate) fn new_book<R: Threads + Wait + AllocGlobal>(
     rt: &R,
     options: &OfficeOptions<'_>,
-    roster: Roster,
+    first: OfficeState,
     networks: &[Network],
 ) -> Result<NewBook, Stop>
-    ensures book { IfOk result (λ new. IsFirstBook roster networks.now options.now.limits new.book) }
+    requires { first.networks ≡ length networks.now }
+    ensures book { IfOk result (λ new. IsFirstBook first.office networks.now options.now.limits new.book) }
     ensures networks { IfOk result (λ new. new.networks.value ≡ networks.now) }
 {
     let tables = make_tables(rt, networks, options.workers)?;
@@ -57,17 +89,19 @@ pub(crate) fn new_book<R: Threads + Wait + AllocGlobal>(
         Ok(networks) => Arc::new(rt.alloc(), networks)?,
         Err(fault) => return Err(Stop::Networks(fault)),
     };
-    let book = Book::new(rt.alloc(), roster, networks.clone()?, options.limits)?;
+    let book = Book::from_office(rt.alloc(), first, networks.clone()?, options.limits)?;
     Ok(NewBook { book, networks })
 }
 
 /// The roster that a file says.
-fn read_roster<R: Files + AllocGlobal>(rt: &R, path: &str) -> Result<Roster, Stop> {
+pub(crate) fn read_roster<R: Files + AllocGlobal>(rt: &R, path: &str) -> Result<Roster, Stop> {
     Roster::read_rows(rt.alloc(), open(rt, path)?).map_err(Stop::Roster)
 }
 
 /// The networks that files say, in their order.
-fn read_networks<R: Files + AllocGlobal>(rt: &R, paths: &[&str]) -> Result<Vec<Network>, Stop> {
+fn read_networks<R: Files + AllocGlobal>(rt: &R, paths: &[&str]) -> Result<Vec<Network>, Stop>
+    ensures { IfOk result (λ networks. length networks.items ≡ length paths.now) }
+{
     let mut networks = Vec::with_capacity(rt.alloc(), paths.len())?;
     for path in paths {
         networks.push(read_network(rt, path)?)?;

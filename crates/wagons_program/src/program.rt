@@ -7,6 +7,7 @@ use crate::explain::explain;
 use crate::feed::feed;
 use crate::map::map;
 use crate::run::run;
+use crate::save::save;
 use crate::solve::solve;
 use crate::status::{DONE, STOPPED};
 use crate::stop::Stop;
@@ -50,6 +51,7 @@ where
         Ok(Word::Feed(options)) => feed(rt, &options),
         Ok(Word::Solve) => solve(rt, input),
         Ok(Word::Map(options)) => map(rt, &options, input),
+        Ok(Word::Save(options)) => save(rt, &options, input),
         Ok(Word::Explain(entry)) => explain(rt, entry),
         Err(error) => print_text(rt, &error),
     };

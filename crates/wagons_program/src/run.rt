@@ -1,10 +1,10 @@
 //! The word `run`.
 ghost use Rattle.std.specs.Prelude.{◌≡◌, IfOk, List};
+ghost use Rattle.operating_db.specs.Office.{Office};
 ghost use Rattle.commit_book.specs.Books.{BookValue};
 ghost use Rattle.line_network.specs.Network.{NetworkValue};
-ghost use Rattle.wagons_and_orders.specs.declared.wagon_row.WagonRow.{WagonRow};
 ghost use Rattle.wagons_program.specs.Brought.{AreAnswered, Lines, ToCommands};
-ghost use Rattle.wagons_program.specs.FirstBook.{IsFirstBook};
+ghost use Rattle.wagons_program.specs.FirstBook.{BeginsWith, IsFirstBook};
 
 use crate::bringing::{Brought, bring, leave};
 use crate::stop::Stop;
@@ -21,8 +21,8 @@ pub(crate) fn run<R: Print + Files + Threads + Wait + AllocGlobal, I: Read + Dro
     options: &OfficeOptions<'_>,
     input: I,
 ) -> Result<u8, Stop>
-    ensures { IfOk result (λ status. (roster : List WagonRow) × (networks : List NetworkValue) × (lines : Lines BookValue) × (lines.input ≡ I.remaining input)
-        × IsFirstBook roster networks options.now.limits lines.old × AreAnswered ToCommands lines status) }
+    ensures { IfOk result (λ status. (office : Office) × (networks : List NetworkValue) × (lines : Lines BookValue) × (lines.input ≡ I.remaining input)
+        × BeginsWith options.now.start office × IsFirstBook office networks options.now.limits lines.old × AreAnswered ToCommands lines status) }
 {
     let Brought {
         book,

@@ -4,9 +4,12 @@ ghost use Rattle.std.specs.Str.{IsAscii};
 ghost use Rattle.wagons_program.specs.Stop.{stop_number};
 
 use book_feed::FeedFault;
+use checkpoint::ReadFault;
+use faults::FleetFault;
 use fleet_rows::RosterFault;
 use line_network::{NetworkFault, NetworksFault, WorkFault};
 use office::RunFault;
+use rail_codes::WagonNumber;
 use std::alloc::{AllocError, AllocFailed};
 use std::fmt;
 use std::fmt::{Display, Formatter};
@@ -23,6 +26,10 @@ pub enum Stop {
     OpenFailed,
     /// The roster could not be read (1, 51, 53, 78 or 93).
     Roster(RosterFault),
+    /// The checkpoint could not be read (1, 51 to 53, 75, 79, 85 to 88, or 91 to 93).
+    Checkpoint(ReadFault),
+    /// The fleet could not be changed (1, 53, 73 or 89).
+    Fleet(FleetFault),
     /// A network could not be read (1, 41 to 43 or 93).
     Network(NetworkFault),
     /// The distances could not be worked out (1 or 46).
@@ -45,6 +52,8 @@ impl Stop {
             Stop::Networks(fault) => fault.number(),
             Stop::OpenFailed => 93,
             Stop::Roster(fault) => fault.number(),
+            Stop::Checkpoint(fault) => fault.number(),
+            Stop::Fleet(fault) => fault.number(),
             Stop::Network(fault) => fault.number(),
             Stop::Tables(fault) => fault.number(),
             Stop::WriteFailed => 94,
@@ -58,7 +67,21 @@ impl Stop {
         match self {
             Stop::Roster(RosterFault::BadRosterRow(record)) => Some(u64::from(record)),
             Stop::Network(NetworkFault::BadRow(record)) => Some(u64::from(record)),
+            Stop::Checkpoint(fault) => fault.line(),
             Stop::Run(fault) => fault.line(),
+            _ => None,
+        }
+    }
+}
+
+impl Stop {
+    /// The wagon that is wrong.
+    fn wagon(self) -> Option<WagonNumber> {
+        match self {
+            Stop::Roster(RosterFault::DuplicateWagon(wagon))
+            | Stop::Fleet(FleetFault::UnknownWagon(wagon) | FleetFault::WagonPromised(wagon)) => {
+                Some(wagon)
+            }
             _ => None,
         }
     }
@@ -67,7 +90,7 @@ impl Stop {
 impl Display for Stop {
     fn fmt<W: fmt::Write>(&self, f: &mut Formatter<W>) -> fmt::Result {
         write!(f, "wagons: {}", self.number())?;
-        if let Stop::Roster(RosterFault::DuplicateWagon(wagon)) = self {
+        if let Some(wagon) = self.wagon() {
             return write_ascii(f, wagon.digits());
         }
         if let Stop::Feed(FeedFault::ReceiptLost(seat, entry)) = self {

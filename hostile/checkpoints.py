@@ -1,0 +1,255 @@
+#!/usr/bin/env python3
+"""Checkpoints: random histories cut at random and gone on with both ways, a checkpoint cut after every byte and with every
+byte replaced. The model of office.py says what a checkpoint must be, and what each line does to it."""
+
+import json
+import os
+import random
+import subprocess
+import tempfile
+
+import office
+from memory import KEPT, new_office
+from program import NETWORKS, PROGRAM, Table, office_words, run
+
+HISTORIES = int(os.environ.get("HOSTILE_HISTORIES", 10_000))
+ENTRIES = 1000
+PLACES = ["DE00001", "DE00002", "DE00003", "DE00004", "CZ00001"]
+CLASSES = ["Eanos", "Falns", "Habbins"]
+NEXT = {"loading": "release", "unloading": "release", "ready": "departure", "empty": "departure", "journey_loaded": "arrival",
+        "journey_empty": "arrival", "yard_loaded": "yard_departure", "yard_empty": "yard_departure", "arrived_loaded": "delivery",
+        "arrived_empty": "delivery"}
+
+
+def checkpoint_of(state):
+    """The checkpoint of an office, as FORMATS.md says it."""
+    head = {"type": "checkpoint", "format": 1, "network": state.network}
+    if state.wagons:
+        head["newest"] = office.moment_text(max(wagon.last for wagon in state.wagons.values()))
+    lines = [head]
+    for number, wagon in sorted(state.wagons.items()):
+        line = {"type": "wagon", "wagon": number, "class": wagon.kind, "load": wagon.load, "status": wagon.status, "place": wagon.place}
+        if wagon.status == "empty":
+            line["ready"] = office.moment_text(wagon.ready)
+        line |= {"last": office.moment_text(wagon.last), "held": wagon.held}
+        lines.append(line | ({"promise": wagon.promise} if wagon.promise else {}))
+    for order in state.orders.values():
+        if order.is_open():
+            fields = order.fields | {"latest": office.moment_text(order.fields["latest"])}
+            lines.append({"type": "order"} | {name: fields[name] for name in ("order", "place", "classes", "load", "latest", "penalty", "wagons")}
+                         | {"promised": sorted(order.promised), "filled": order.filled})
+    lines.append({"type": "end", "lines": len(lines)})
+    return "".join(json.dumps(line, separators=(",", ":")) + "\n" for line in lines)
+
+
+class History:
+    """The lines of a run that is under way, its replies, and the model's office after them."""
+
+    def __init__(self, seed):
+        self.random = random.Random(seed)
+        self.state, self.now = new_office(ENTRIES), 1_772_409_600
+        self.lines, self.replies, self.number = [], [], 0
+        self.program = subprocess.Popen([PROGRAM, *office_words("run", ENTRIES, KEPT)], stdin=subprocess.PIPE, stdout=subprocess.PIPE)
+
+    def send(self, line):
+        """Sends a line, and keeps its reply and that of the model where it has one."""
+        self.lines.append(line)
+        self.program.stdin.write(json.dumps(line).encode() + b"\n")
+        self.program.stdin.flush()
+        reply = [self.read()]
+        word = reply[0].split()[1]
+        while word == "plan" and not reply[-1].startswith("{") or word == "sheet" and not reply[-1].startswith("network"):
+            reply.append(self.read())
+        self.replies.append(reply)
+        if line["type"] != "plan":
+            try:
+                self.state.do(*office.read_command(json.dumps(line).encode()))
+            except office.Refused:
+                pass
+            return None
+        self.state.begin({"at": office.moment_of(line["at"])})
+        return json.loads(reply[-1])
+
+    def read(self):
+        return self.program.stdout.readline().decode().rstrip("\n")
+
+    def message(self, kind, wagon, **more):
+        self.number += 1
+        self.now += self.random.choice([0, 60, 600])
+        at = self.now - self.random.choice([0, 0, 0, 0, 90_000])
+        place = wagon.place if self.random.random() < 0.7 else self.random.choice(PLACES)
+        if kind == "delivery" and wagon.promise and self.random.random() < 0.8:
+            place = self.state.orders[wagon.promise].fields["place"]
+        return {"type": kind, "company": "0080", "number": self.number, "wagon": wagon.number, "place": place, "moment": office.moment_text(at)} | more
+
+    def step(self):
+        """One line, or a plan and its commit."""
+        pick, state = self.random, self.state
+        what = pick.choices(["move", "hold", "order", "withdraw", "plan", "network", "sheet", "again"], [50, 8, 14, 4, 16, 2, 3, 3])[0]
+        wagon = pick.choice(list(state.wagons.values()))
+        if what == "move":
+            self.send(self.message(NEXT[wagon.status] if pick.random() < 0.9 else pick.choice(office.KINDS[:4]), wagon))
+        elif what == "hold":
+            self.send(self.message("exception", wagon, hold=pick.random() < 0.5))
+        elif what == "order":
+            self.send({"type": "order", "order": f"O{pick.randrange(12)}", "place": pick.choice(PLACES), "classes": pick.sample(CLASSES, pick.randint(1, 3)),
+                       "load": pick.choice([0, 50_000, 56_000]), "latest": office.moment_text(self.now + 60 * pick.randint(60, 900)),
+                       "penalty": pick.choice([0, 90, 1000]), "wagons": pick.randint(1, 3)})
+        elif what == "withdraw":
+            self.send({"type": "withdraw", "order": f"O{pick.randrange(12)}"})
+        elif what == "plan":
+            commit = self.send({"type": "plan", "at": office.moment_text(self.now)})
+            self.send(commit)
+        elif what == "network":
+            self.send({"type": "network", "revision": pick.randint(1, 3)})
+        elif what == "sheet":
+            self.send({"type": "sheet"})
+        elif self.lines:
+            line = pick.choice(self.lines)
+            self.send(line if line["type"] not in ("plan", "commit") else {"type": "sheet"})
+
+    def close(self):
+        self.program.stdin.close()
+        self.program.stdout.read()
+        self.program.wait()
+
+
+def names_before(line, state):
+    """Whether a line speaks of what a checkpoint doesn't have: a message of before, an order that was closed."""
+    if line["type"] in office.KINDS:
+        return (line["company"], line["number"]) in state.messages
+    order = state.orders.get(line.get("order", "")) if line["type"] in ("order", "withdraw") else None
+    return order is not None and not order.is_open()
+
+
+def shifted(reply, lines, entries, closed):
+    """The reply of the undivided run, as the run from the checkpoint gives it."""
+    first = reply[0].split(" ")
+    rest = [line for line in reply[1:] if not (line.startswith("order ") and line.split(" ")[1] in closed)]
+    first[0] = str(int(first[0]) - lines)
+    if first[1] in ("accepted", "repeated", "begun", "plan", "sheet"):
+        first[2] = str(int(first[2]) - entries)
+    if first[1] == "plan":
+        rest[-1] = json.dumps(json.loads(rest[-1]) | {"version": int(first[2])}, separators=(",", ":"))
+    return [" ".join(first), *rest]
+
+
+def divided(seed):
+    """A history, cut where it isn't between a plan and its commit."""
+    history = History(seed)
+    for _ in range(history.random.randint(5, 60)):
+        history.step()
+    history.close()
+    cuts = [k for k in range(len(history.lines) + 1) if k == len(history.lines) or history.lines[k]["type"] != "commit"]
+    cut = history.random.choice(cuts)
+    before = new_office(ENTRIES)
+    for line in history.lines[:cut]:
+        try:
+            if line["type"] == "plan":
+                before.begin({"at": office.moment_of(line["at"])})
+            else:
+                before.do(*office.read_command(json.dumps(line).encode()))
+        except office.Refused:
+            pass
+    given = "".join(json.dumps(line) + "\n" for line in history.lines).encode()
+    words = office_words("save", ENTRIES, KEPT)
+    saved = run(words + ["--upto", str(cut)], given) if cut else run(words, b"")
+    if saved.out.decode() != checkpoint_of(before):
+        return f"saved {saved.out!r} {saved.err!r} where {checkpoint_of(before)!r} is right"
+    return gone_on(history, cut, before, saved.out)
+
+
+def from_words(word, path):
+    words = [word, "--from", path, "--entries", str(ENTRIES), "--kept", str(KEPT), "--workers", "1"]
+    for network in NETWORKS:
+        words += ["--network", network]
+    return words
+
+
+def gone_on(history, cut, before, checkpoint):
+    """What differs between the rest of a history and the run from a checkpoint."""
+    closed = {name for name, order in before.orders.items() if not order.is_open()}
+    lines, wanted = [], []
+    for line, reply in zip(history.lines[cut:], history.replies[cut:]):
+        if names_before(line, before):
+            lines.append("")
+            continue
+        if line["type"] == "commit":
+            line = line | {"version": line["version"] - before.length}
+        lines.append(json.dumps(line))
+        wanted += shifted(reply, cut, before.length, closed)
+    with tempfile.NamedTemporaryFile() as file:
+        file.write(checkpoint)
+        file.flush()
+        given = "".join(line + "\n" for line in lines).encode()
+        went = run(from_words("run", file.name), given)
+        again = run(from_words("save", file.name))
+        last = run(from_words("save", file.name), given)
+    if went.out.decode().splitlines() != wanted:
+        return f"cut at {cut}: {went.out!r} {went.err!r} where {wanted!r} is right"
+    if again.out != checkpoint:
+        return f"saved again: {again.out!r}"
+    return None if last.out.decode() == checkpoint_of(history.state) else f"saved at the end: {last.out!r}"
+
+
+# One checkpoint, cut and with its bytes replaced.
+
+HOSTILE = [0x00, 0x09, 0x0A, 0x0D, 0x20, 0x22, 0x2C, 0x2D, 0x30, 0x39, 0x3A, 0x5B, 0x5C, 0x5D, 0x65, 0x7B, 0x7D, 0x7F, 0xC3, 0xFF]
+FAULTS = {51, 52, 53, 75, 79, 85, 86, 87, 88}
+
+
+def sample():
+    """A checkpoint with holds, promises, a filled wagon and an order with room."""
+    history = History(0)
+    while not (any(order.promised and order.filled for order in history.state.orders.values() if order.is_open())
+               and any(wagon.held for wagon in history.state.wagons.values())):
+        history.step()
+    history.close()
+    return checkpoint_of(history.state).encode()
+
+
+def read_from(text):
+    """A text as a checkpoint: refused with a code and a line of its own, or an office that is saved as itself."""
+    with tempfile.NamedTemporaryFile() as file:
+        file.write(text)
+        file.flush()
+        outcome = run(from_words("save", file.name))
+    if outcome.fault():
+        return outcome.fault(), None
+    if outcome.status == 2:
+        words = outcome.err.decode().split()
+        is_fault = len(words) == 3 and words[0] == "wagons:" and int(words[1]) in FAULTS and 1 <= int(words[2]) <= text.count(b"\n") + 2
+        return (None if is_fault and not outcome.out else f"{outcome.err!r}"), None
+    return None, outcome.out
+
+
+def cut_after(case):
+    text, length = case
+    fault, out = read_from(text[:length])
+    if length >= len(text) - 1:
+        return fault or (None if out == text else f"{out!r}")
+    return fault or (None if out is None else f"a checkpoint without its end is read: {out!r}")
+
+
+def byte_replaced(case):
+    text, at, byte = case
+    fault, out = read_from(text[:at] + bytes([byte]) + text[at + 1:])
+    if fault or out is None:
+        return fault
+    # What is read is saved in one form, and that form is read as itself.
+    again, same = read_from(out)
+    return again or (None if same == out else f"{out!r} is saved as {same!r}")
+
+
+def main():
+    table = Table()
+    table.try_all("histories cut at random, saved, and gone on with both ways", divided, range(HISTORIES))
+    text = sample()
+    table.try_all("a checkpoint cut after every byte", cut_after, [(text, length) for length in range(len(text) + 1)])
+    table.try_all("every byte of a checkpoint replaced by each of 20 bytes", byte_replaced,
+                  [(text, at, byte) for at in range(len(text)) for byte in HOSTILE if text[at] != byte])
+    table.end()
+
+
+if __name__ == "__main__":
+    main()
