@@ -1,8 +1,8 @@
 -- The rows of the orders.
-use Rattle.std.proofs.Common.{◌≡◌, ◌∙◌, ℕ, ◌+◌, ◌-◌, ◌<◌, ◌≤◌, Bool, true, false, not, cond, ◌&&◌, ◌||◌, zero, suc, take, absurd, nat_lt, if◌then◌else◌, List, [], ◌∷◌, ◌++◌, length, get_or, Option, Some, None, IfSome, IsSome, option_map, position, refl, ap, sym, subst, inl, inr, arith, length-append, zero-add}
+use Rattle.std.proofs.Common.{◌≡◌, ◌∙◌, ℕ, ◌+◌, ◌-◌, ◌<◌, ◌≤◌, Bool, true, false, not, cond, ◌&&◌, zero, suc, take, nat_lt, if◌then◌else◌, List, [], ◌∷◌, ◌++◌, length, get_or, Option, Some, None, IfSome, IsSome, option_map, position, refl, ap, sym, subst, inl, inr, arith, length-append, zero-add}
 use Rattle.std.specs.BTreeMap.{BTreeMap, get}
 use Rattle.std.specs.Cmp.Lexicographic.{bytes_decides, slice_cmp, texts_ties}
-use Rattle.std.specs.List.{IsDistinct, list_any, slice_get, slice_set}
+use Rattle.std.specs.List.{AllByRecursion, IsDistinct, list_any, slice_get, slice_set}
 use Rattle.std.specs.Ordering.{is_eq, nat_cmp}
 use Rattle.std.proofs.lemmas.Bool.{cases_Bool, cases_lt, le-ltb, lt-ltb}
 use Rattle.std.proofs.lemmas.List.Elements.{All-append, All-cons, All-nil, All-set}
@@ -13,7 +13,6 @@ use Rattle.std.proofs.lemmas.Option.{slice_get-get_or}
 use Rattle.std.proofs.Math.Seq.{map-set_same}
 use Rattle.move_messages.specs.Order.{Order}
 use Rattle.wagons_and_orders.specs.OrderRow.{IsOrderRow, OrderRowValue, placed_row}
-use Rattle.wagons_and_orders.proofs.Rows.{row_placed}
 use Rattle.fleet_rows.specs.KeptOrders.{IsOrderRows}
 use Rattle.fleet_rows.specs.Rows.{names_of, at_order, filled_by, is_order, max_open_wagons, open_wagons, order_in, taken_back, wanted_open}
 use Rattle.fleet_rows.specs.inner.Indexed.{IsIndexed}
@@ -215,13 +214,24 @@ indexed_push rows index index' n row h new valid few with_row =
 -- the open orders of the first rows want no more than all of them
 taken_wants : (rows : List OrderRowValue) (k : ℕ) (d : OrderRowValue) → k < length rows → open_wagons (take k rows) + wanted_open (get_or rows k d) ≤ open_wagons rows
 taken_wants rows k d within =
-    let more : open_wagons (take (k + 1) rows) ≡ open_wagons (take k rows) + wanted_open (get_or rows k d) = ap open_wagons (sym (take_more rows k d within)) ∙ open_wagons-push (take k rows) (get_or rows k d) in
+    let more : open_wagons (take (k + 1) rows) ≡ open_wagons (take k rows) + wanted_open (get_or rows k d) = ap open_wagons (take_more rows k d within) ∙ open_wagons-push (take k rows) (get_or rows k d) in
     omega (arith, more, taken_fewer rows (k + 1))
   where
     taken_fewer : (rows : List OrderRowValue) (n : ℕ) → open_wagons (take n rows) ≤ open_wagons rows
     taken_fewer rows zero = omega arith
     taken_fewer [] (suc n) = omega arith
     taken_fewer (row ∷ rows) (suc n) = omega (arith, taken_fewer rows n, open_wagons-cons row rows, open_wagons-cons row (take n rows))
+
+other_name : (row : OrderRowValue) (rows : List OrderRowValue) (k : ℕ) (d : OrderRowValue) → AllByRecursion (λ name. is_same row.text.id name ≡ false) (names_of rows) → k < length rows → is_same (get_or rows k d).text.id row.text.id ≡ false
+other_name row [] k d apart within = absurd (omega arith)
+other_name row (next ∷ rows) zero d apart within = same_name.symm next.text.id row.text.id ∙ apart.0
+other_name row (next ∷ rows) (suc k) d apart within = other_name row rows k d apart.1 (omega arith)
+
+none_before : (rows : List OrderRowValue) (k : ℕ) (d : OrderRowValue) → IsDistinct is_same (names_of rows) → k < length rows → order_in (take k rows) (get_or rows k d).text.id ≡ None
+unfolding IsDistinct
+none_before rows zero d distinct within = refl
+none_before [] (suc k) d distinct within = absurd (omega arith)
+none_before (row ∷ rows) (suc k) d distinct within = rw (other_name row rows k d distinct.0 (omega arith)) (none_before rows k d distinct.1 (omega arith))
 
 -- what a row at an index needs to be added behind those before it
 pub record MayFollow (rows : List OrderRowValue) (k : ℕ) (d : OrderRowValue) : Type 0 where
@@ -233,21 +243,6 @@ may_follow rows k d h within = record {
   new = none_before rows k d h.distinct within;
   few_open = omega (arith, taken_wants rows k d within, h.few_open);
 }
-  where
-    none_before : (rows : List OrderRowValue) (k : ℕ) (d : OrderRowValue) → IsDistinct is_same (names_of rows) → k < length rows → order_in (take k rows) (get_or rows k d).text.id ≡ None
-    unfolding IsDistinct
-    none_before rows zero d distinct within = refl
-    none_before [] (suc k) d distinct within = absurd (omega arith)
-    none_before (row ∷ rows) (suc k) d distinct within = rw (other_name row rows k d distinct.0 (omega arith)) (none_before rows k d distinct.1 (omega arith))
-
-    other_name : (row : OrderRowValue) (rows : List OrderRowValue) (k : ℕ) (d : OrderRowValue) → list_any (is_same row.text.id) (names_of rows) ≡ false → k < length rows → is_same (get_or rows k d).text.id row.text.id ≡ false
-    other_name row [] k d apart within = absurd (omega arith)
-    other_name row (next ∷ rows) zero d apart within = same_name.symm next.text.id row.text.id ∙ (or_false _ _ apart).0
-    other_name row (next ∷ rows) (suc k) d apart within = other_name row rows k d (or_false _ _ apart).1 (omega arith)
-
-    or_false : (a b : Bool) → a || b ≡ false → (a ≡ false) × (b ≡ false)
-    or_false true b h = cc h
-    or_false false b h = (refl, h)
 
 -- the count less what an order wants no more
 pub less_wanted : (n before after old new : ℕ) → before ≡ old → after ≡ new → new ≤ old → old ≤ n → n - (before - after) + old ≡ n + new

@@ -1,5 +1,5 @@
 -- Rows of wagons and of orders, by number and by name.
-use Rattle.std.specs.Prelude.{ℕ, ◌+◌, Bool, true, nat_eq, if◌then◌else◌, List, [], ◌∷◌, ◌++◌, map, Option}
+use Rattle.std.specs.Prelude.{ℕ, Bool, true, nat_eq, if◌then◌else◌, List, [], ◌∷◌, ◌++◌, map, Option}
 use Rattle.std.specs.Cmp.Lexicographic.{pointwise}
 use Rattle.std.specs.List.{find, sum_by}
 use Rattle.wagons_and_orders.specs.declared.wagon_row.WagonRow.{WagonRow}

@@ -1,5 +1,5 @@
 //! The rows of the orders.
-ghost use Rattle.std.specs.Prelude.{◌≡◌, ◌+◌, ◌<◌, ◌≤◌, ◌++◌, ◌∷◌, [], IfErr, IfSome, IsSome, None, OnErr, OnOk, count_by, length, nat_lt, option_map, position, slice_get, vec_capacity, Some};
+ghost use Rattle.std.specs.Prelude.{◌≡◌, ◌+◌, ◌<◌, ◌≤◌, ◌++◌, ◌∷◌, [], IfErr, IfOk, IfSome, IsSome, None, OnErr, OnOk, count_by, length, nat_lt, option_map, position, slice_get, vec_capacity, Some};
 ghost use Rattle.std.specs.List.{Contains};
 ghost use Rattle.wagons_and_orders.specs.Lack.{lack_of};
 ghost use Rattle.wagons_and_orders.specs.OrderRow.{placed_row};
