@@ -14,7 +14,7 @@ use Rattle.wagons_and_orders.specs.StatusTable.{step_of, fitted, change_by, prom
 use Rattle.fleet_rows.specs.Roster.{IsRoster, IsRosterRow}
 use Rattle.wagons_and_orders.specs.Lack.{is_open}
 use Rattle.wagons_and_orders.specs.OrderRow.{OrderRowValue, placed_row}
-use Rattle.fleet_rows.proofs.Wagons.{number-wagon_in}
+use Rattle.fleet_rows.proofs.Wagons.{IsWagonRows-roster, number-wagon_in}
 use Rattle.fleet_rows.specs.Rows.{wagon_in, order_in, at_wagon, at_order, max_open_wagons, open_wagons, filled_by, freed_of, taken_back, promised_to}
 use Rattle.faults.specs.declared.faults.ApplyFault.TheVariants.{OrderKnown, TooManyOpen, OrderClosed, UnknownNetwork, SameNetwork}
 use Rattle.move_messages.specs.declared.event.Event.{Event}
@@ -227,7 +227,7 @@ rosters_agree roster h = both_agree (first_office roster) (λ n id. ap (λ (p : 
 
 pub rosters_begin : RostersBegin
 rosters_begin roster h networks some = record {
-  wagons = record { few = h.few; ascending = h.ascending };
+  wagons = IsWagonRows-roster roster h;
   promises = rosters_agree roster h;
   few_open = omega arith;
   from_one = omega arith;

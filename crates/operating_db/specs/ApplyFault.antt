@@ -2,7 +2,7 @@
 use Rattle.std.specs.Prelude.{◌≡◌, ◌⊎◌, ℕ, List, Result, Ok, Err, IsOk}
 use Rattle.fleet_rows.specs.EmptyWagons.{IsNewStand, stand_in}
 use Rattle.faults.specs.declared.faults.ApplyFault.{ApplyFault}
-use Rattle.faults.specs.declared.faults.ApplyFault.TheVariants.{OutOfMemory, UnknownWagon, Step, OrderKnown, TooManyOpen, UnknownOrder, OrderClosed, UnknownNetwork, SameNetwork}
+use Rattle.faults.specs.declared.faults.ApplyFault.TheVariants.{OutOfMemory}
 use Rattle.move_messages.specs.declared.event.Event.{Event}
 use Rattle.move_messages.specs.declared.event.Event.TheVariants.{Message, Place}
 use Rattle.operating_db.specs.After.{after_call}

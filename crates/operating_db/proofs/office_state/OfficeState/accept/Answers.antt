@@ -3,8 +3,8 @@ use Rattle.operating_db.specs.Office.{Office}
 use Rattle.operating_db.proofs.States.{change_done, change_settles, change_state, change_wants, is_ok}
 use Rattle.operating_db.proofs.office_state.OfficeState.accept.Goals as goal
 
-pub put-requires : goal.put-requires
-put-requires c = rw (← c.self.view_is) at c.in-Ok.ensures.index
+pub put-requires-clause-its_index : goal.put-requires-clause-its_index
+put-requires-clause-its_index c = rw (← c.self.view_is) at c.in-Ok.ensures.index
 
 pub settle-requires : goal.settle-requires
 settle-requires c =
