@@ -6,3 +6,4 @@ pub mod Items
 pub mod Lines
 pub mod PlainTexts
 pub mod Writing
+pub mod WrittenTokens

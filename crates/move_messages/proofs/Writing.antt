@@ -5,14 +5,16 @@ use Rattle.std.specs.List.{AllByRecursion}
 use Rattle.std.proofs.lemmas.Bool.{le-leb}
 use Rattle.std.proofs.lemmas.List.{map-append, take_all, take_more}
 use Rattle.std.proofs.lemmas.List.Elements.{All-more, recursion_from_All}
-use Rattle.serde_json.specs.Data.{Data, array}
+use Rattle.serde_json.specs.Data.{Data, array, string}
 use Rattle.serde_json.specs.View.{view, items_of}
 use Rattle.serde_json.specs.declared.value.Value.{Value, Array}
 use Rattle.serde_json.proofs.Views.{view-Array}
 use Rattle.rail_codes.specs.WagonNumber.{wagon_number_of}
 use Rattle.rail_codes.specs.OrderId.{order_id_of}
+use Rattle.rail_codes.specs.Moment.{moment_of}
+use Rattle.rail_codes.specs.declared.code_fault.CodeFault.{CodeFault}
 use Rattle.move_messages.specs.declared.fault.FieldFault.{FieldFault}
-use Rattle.move_messages.specs.Values.{each, list_of, list_of_each, number_within, text_of, code_from, wagon_and_order}
+use Rattle.move_messages.specs.Values.{each, list_of, list_of_each, number_within, text_of, code_from, moment_from, wagon_and_order}
 use Rattle.move_messages.specs.Written.{list_data, number_data, pair_data}
 
 -- ---- numbers and pairs
@@ -24,6 +26,14 @@ number_reads low high n above below = rw (le-leb low n above, le-leb n high belo
 pub pair_reads : (wagon order : List ℕ) → wagon_number_of wagon ≡ Ok wagon → order_id_of order ≡ Ok order → wagon_and_order (pair_data (wagon, order)) ≡ Ok (wagon, order)
 unfolding wagon_and_order list_of code_from text_of
 pair_reads wagon order wagon_reads order_reads = rw (wagon_reads, order_reads) refl
+
+-- a code or a moment
+pub code-reads : {A : Type 0} (read : List ℕ → Result A CodeFault) (text : List ℕ) (x : A) → read text ≡ Ok x → code_from read (string text) ≡ Ok x
+unfolding code_from text_of
+code-reads read text x e = rw e refl
+
+pub moment-reads : (text : List ℕ) (moment : ℕ) → moment_of text ≡ Ok moment → moment_from (string text) ≡ Ok moment
+moment-reads text moment e = code-reads moment_of text moment e
 
 -- ---- lists
 

@@ -1,7 +1,7 @@
 -- The names of the members of a line.
 use Rattle.std.specs.Prelude.{ℕ, List, codes}
 use Rattle.move_messages.specs.declared.field.Field.{Field}
-use Rattle.move_messages.specs.declared.field.Field.TheVariants.{TypeName, Company, Number, Wagon, Place, Moment, Hold, Order, Classes, Load, Latest, Penalty, At, Version, Pairs, WagonPrices, OrderPrices, Revision, Wagons, Orders, Cells, Penalties, Lacks}
+use Rattle.move_messages.specs.declared.field.Field.TheVariants.{TypeName, Company, Number, Wagon, Place, Moment, Hold, Order, Classes, Load, Latest, Penalty, At, Version, Pairs, WagonPrices, OrderPrices, Revision, Wagons, Orders, Cells, Penalties, Lacks, Format, Network, Class, Status, Ready, Last, Held, Promise, Promised, Filled, Lines}
 
 -- the name as it stands in a line
 unfoldable pub field_name : Field → List ℕ
@@ -28,3 +28,14 @@ field_name Orders = codes "orders"
 field_name Cells = codes "cells"
 field_name Penalties = codes "penalties"
 field_name Lacks = codes "lacks"
+field_name Format = codes "format"
+field_name Network = codes "network"
+field_name Class = codes "class"
+field_name Status = codes "status"
+field_name Ready = codes "ready"
+field_name Last = codes "last"
+field_name Held = codes "held"
+field_name Promise = codes "promise"
+field_name Promised = codes "promised"
+field_name Filled = codes "filled"
+field_name Lines = codes "lines"

@@ -10,4 +10,5 @@ pub mod Values
 pub mod Fields
 pub mod Line
 pub mod Written
+pub mod WrittenTokens
 pub mod inner

@@ -97,9 +97,9 @@ fn exception_at(object: &Value) -> Result<Message, LineFault>
     })
 }
 
-/// An order.
+/// An order, as a line of its type has it.
 #[tactic(auto, unfolding(crate::specs::Commands::order_text_of))]
-fn order_at(object: &Value) -> Result<OrderText, LineFault>
+pub fn order_at(object: &Value) -> Result<OrderText, LineFault>
     ensures { result ≡ meaning.order_text_of (view object.now) }
 {
     let id = code_at(object, Field::Order)?;

@@ -1,6 +1,6 @@
 //! The names of the members of a line.
 
-/// A member's name in a command line or a table line.
+/// A member's name in a command line, a table line or a line of a checkpoint.
 #[derive(Clone, Copy, Debug, PartialEq, Eq, PartialOrd, Ord, Hash)]
 pub enum Field {
     /// `type`: what a command line is for.
@@ -49,6 +49,28 @@ pub enum Field {
     Penalties,
     /// `lacks`: how many wagons each order of a table lacks.
     Lacks,
+    /// `format`: the number of a checkpoint's format.
+    Format,
+    /// `network`: the number of the network in force.
+    Network,
+    /// `class`: the class of a wagon.
+    Class,
+    /// `status`: what a wagon is doing.
+    Status,
+    /// `ready`: since when an empty wagon has been ready.
+    Ready,
+    /// `last`: the moment of a wagon's last message.
+    Last,
+    /// `held`: whether a wagon is held.
+    Held,
+    /// `promise`: the order that a wagon is promised to.
+    Promise,
+    /// `promised`: the wagons promised to an order.
+    Promised,
+    /// `filled`: the wagons that filled an order.
+    Filled,
+    /// `lines`: how many other lines a checkpoint has.
+    Lines,
 }
 
 impl Field {
@@ -84,6 +106,17 @@ impl Field {
             Field::Cells => "cells",
             Field::Penalties => "penalties",
             Field::Lacks => "lacks",
+            Field::Format => "format",
+            Field::Network => "network",
+            Field::Class => "class",
+            Field::Status => "status",
+            Field::Ready => "ready",
+            Field::Last => "last",
+            Field::Held => "held",
+            Field::Promise => "promise",
+            Field::Promised => "promised",
+            Field::Filled => "filled",
+            Field::Lines => "lines",
         }
     }
 }

@@ -25,11 +25,12 @@ mod order_text;
 mod plain_message;
 mod plain_text;
 mod values;
+mod writer_text;
 mod written;
 
 pub use classes::Classes;
 pub use command::Command;
-pub use command_reading::read_line;
+pub use command_reading::{order_at, read_line};
 pub use commit_text::{CommitText, Pairs, PriceList};
 pub use event::{Event, is_same_event};
 pub use fault::{FieldFault, LineFault};
@@ -39,10 +40,12 @@ pub use limits::{MAX_CLASSES, MAX_LOAD, MAX_ORDER_WAGONS, MAX_PENALTY, MAX_REVIS
 pub use line::object_of;
 pub use lists::{codes_at, list_of_each, numbers_at, optional_list_at, pairs_at};
 pub use members::{
-    boolean_at, code_at, count_at, in_field, member, number_at, optional_count_at, text_at,
+    boolean_at, code_at, count_at, in_field, member, number_at, optional_code_at,
+    optional_count_at, text_at,
 };
 pub use message::{Message, MessageKind, is_same_message};
 pub use order_text::{OrderText, is_same_order};
 pub use plain_text::{number_after, quoted_after};
 pub use values::{code_from, list_of, list_within, number_within};
+pub use writer_text::{code_str, written_text};
 pub use written::{WrittenItem, list_value};

@@ -105,3 +105,17 @@ pub fn code_at<C: FromText>(object: &Value, field: Field) -> Result<C, LineFault
 {
     in_field(field, code_from(member(object, field)?))
 }
+
+/// A field that may be missing, and is else a code or a moment.
+#[tactic(auto, unfolding(crate::specs::Fields::optional_field_of))]
+pub fn optional_code_at<C: FromText>(object: &Value, field: Field) -> Result<Option<C>, LineFault>
+    ensures { result ≡ meaning.optional_field_of (values.code_from C.meaning) field (view object.now) }
+{
+    match optional_member(object, field) {
+        None => Ok(None),
+        Some(value) => {
+            let code = in_field(field, code_from(value))?;
+            Ok(Some(code))
+        }
+    }
+}

@@ -1,6 +1,7 @@
 pub mod Free
 pub mod Laws
 pub mod StatusTable
+pub mod StatusWords
 pub mod Lack
 pub mod States
 pub mod Numbers
