@@ -1,28 +1,24 @@
 -- The line of a commit: that it reads as the commit.
-use Rattle.std.proofs.Common.{◌≡◌, ℕ, ◌-◌, ◌^◌, ◌<◌, ◌≤◌, List, [], ◌∷◌, map, Some, Ok, refl, sym, ap, ◌∙◌, subst, append-nil, arith}
-use Rattle.std.specs.Prelude.{option_and_then, option_map}
+use Rattle.std.proofs.Common.{◌≡◌, ℕ, ◌-◌, ◌^◌, ◌<◌, ◌≤◌, List, [], ◌∷◌, map, Some, Ok, refl, ap, arith}
+use Rattle.std.specs.Prelude.{option_map}
 use Rattle.std.specs.List.{AllByRecursion}
 use Rattle.std.specs.Str.{IsUtf8}
 use Rattle.std.proofs.lemmas.List.Elements.{recursion_from_All}
-use Rattle.json.specs.Json as json
 use Rattle.json.specs.Lex.{tokens}
 use Rattle.json.specs.Tree as tree
-use Rattle.json.proofs.Printed.Trees.{value-json_tokens}
-use Rattle.serde_json.specs.Data.{Data, item, string}
+use Rattle.serde_json.specs.Data.{item}
 use Rattle.serde_json.specs.Read.{of_items, of_json, read, max_depth}
 use Rattle.serde_json.specs.View.{items_of}
 use Rattle.serde_json.specs.Written.{items_outline, outline}
 use Rattle.serde_json.proofs.Numbers.{number_of-decimal}
 use Rattle.rail_codes.specs.Moment.{moment_of}
-use Rattle.rail_codes.specs.OrderId.{order_id_of, IsOrderId}
-use Rattle.rail_codes.specs.WagonNumber.{IsWagonNumber}
-use Rattle.rail_codes.specs.inner.WagonTexts.{wagon_number_of-IsWagonNumber}
-use Rattle.move_messages.specs.Values.{code_from, list_of_each, number_within, text_of, moment_from, wagon_and_order}
+use Rattle.move_messages.specs.Values.{list_of_each, number_within, text_of, wagon_and_order}
 use Rattle.move_messages.specs.Written.{list_data, number_data, pair_data}
 use Rattle.move_messages.specs.Field.{field_name}
 use Rattle.move_messages.specs.Fields.{member, field_of}
 use Rattle.move_messages.proofs.Lines.{object_of-ok}
-use Rattle.move_messages.proofs.Writing.{list-reads, number_reads, pair_reads}
+use Rattle.move_messages.proofs.Writing.{list-reads, moment-reads, number_reads}
+use Rattle.move_messages.proofs.WrittenTokens.{read-tokens}
 use Rattle.move_messages.specs.declared.commit_text.CommitText.{CommitText}
 use Rattle.move_messages.specs.declared.command.Command.TheVariants.{Event}
 use Rattle.move_messages.specs.declared.event.Event.TheVariants.{Commit}
@@ -30,7 +26,7 @@ use Rattle.move_messages.specs.LineType.{line_type_of, type_name}
 use Rattle.move_messages.specs.Commands.{command_of, command_of_type, commit_text_of, max_version}
 use Rattle.dispatch_sheet.specs.Certificate.{commit_data}
 use Rattle.dispatch_sheet.specs.inner.Readable.{AreReadablePrices, IsReadable, IsReadablePair}
-use Rattle.dispatch_sheet.specs.inner.Tokens.{data_tokens}
+use Rattle.move_messages.specs.WrittenTokens.{data_tokens}
 
 -- ---- it nests little
 
@@ -64,24 +60,7 @@ commit_spells commit at readable =
     let small = λ (price : ℕ). price < 2 ^ 64 in
     rw (pairs_spell commit.pairs, prices_spell commit.u (recursion_from_All small commit.u readable.u), prices_spell commit.v (recursion_from_All small commit.v readable.v), number_of-decimal commit.version (omega (arith, readable.version))) refl
 
-read-tokens : (j : json.Json) (d : Data) (text : List ℕ) → tokens text ≡ tree.json_tokens j → tree.depth j ≤ max_depth → of_json j ≡ Some d → read text ≡ Some d
-read-tokens j d text same shallow is =
-    ap (λ ts. option_and_then of_json (option_and_then (λ p. json.if_last p.0 p.1) (json.value max_depth ts))) (same ∙ sym (append-nil (tree.json_tokens j)))
-    ∙ ap (λ o. option_and_then of_json (option_and_then (λ p. json.if_last p.0 p.1) o)) (value-json_tokens j max_depth [] shallow) ∙ is
-
 -- ---- the value reads as the commit
-
--- a wagon number and an order's name are read as themselves
-order-reads : (id : List ℕ) → IsOrderId id → order_id_of id ≡ Ok id
-order-reads id valid = rw valid refl
-
-pub pair-reads : (wagon order wagon_text order_text : List ℕ) → wagon_text ≡ wagon → IsWagonNumber wagon_text → order_text ≡ order → IsOrderId order_text → IsReadablePair (wagon, order)
-pair-reads wagon order wagon_text order_text wagon_same wagon_valid order_same order_valid =
-    pair_reads wagon order (wagon_number_of-IsWagonNumber wagon (subst IsWagonNumber wagon_same wagon_valid)) (order-reads order (subst IsOrderId order_same order_valid))
-
-moment-reads : (at : List ℕ) (moment : ℕ) → moment_of at ≡ Ok moment → moment_from (string at) ≡ Ok moment
-unfolding code_from text_of
-moment-reads at moment e = rw e refl
 
 prices-read : (prices : List ℕ) → AreReadablePrices prices → list_of_each (number_within 0 (2 ^ 64 - 1)) (list_data number_data prices) ≡ Ok prices
 prices-read prices fit = list-reads (number_within 0 (2 ^ 64 - 1)) number_data prices (λ k d lt. number_reads 0 (2 ^ 64 - 1) _ (omega arith) (omega (arith, fit k d lt)))

@@ -3,11 +3,9 @@
 use Rattle.std.specs.Prelude.{◌≡◌, ℕ, Bool, true, false, List, [], ◌∷◌, ◌++◌, length, map, Option, Some, None, nat_lt, if◌then◌else◌, codes, decimal}
 use Rattle.std.specs.List.{AllZip, concat, join_with_byte}
 use Rattle.rail_codes.specs.Moment.{IsMomentText}
-use Rattle.wagons_and_orders.specs.declared.load.Load.TheVariants.{Loaded, Unladen}
-use Rattle.wagons_and_orders.specs.declared.status.Status.{Status}
-use Rattle.wagons_and_orders.specs.declared.status.Status.TheVariants.{Empty, Loading, Ready, Journey, Yard, Arrived, Unloading}
 use Rattle.wagons_and_orders.specs.declared.wagon_row.WagonRow.{WagonRow}
 use Rattle.wagons_and_orders.specs.StatusTable.{place_of}
+use Rattle.wagons_and_orders.specs.StatusWords.{status_word}
 use Rattle.wagons_and_orders.specs.declared.order_state.OrderState.{OrderState}
 use Rattle.wagons_and_orders.specs.declared.order_state.OrderState.TheVariants.{Waiting, Promised, Filled, Withdrawn}
 use Rattle.wagons_and_orders.specs.States.{state_of}
@@ -18,19 +16,6 @@ use Rattle.commit_book.specs.History.{replay}
 use Rattle.dispatch_sheet.specs.Words.{next_word}
 
 -- ---- wagons
-
--- what a wagon is doing
-abbrev pub status_word : Status → List ℕ
-status_word (Empty place ready) = codes "empty"
-status_word (Loading place) = codes "loading"
-status_word (Ready place) = codes "ready"
-status_word (Journey Loaded place) = codes "journey_loaded"
-status_word (Journey Unladen place) = codes "journey_empty"
-status_word (Yard Loaded place) = codes "yard_loaded"
-status_word (Yard Unladen place) = codes "yard_empty"
-status_word (Arrived Loaded place) = codes "arrived_loaded"
-status_word (Arrived Unladen place) = codes "arrived_empty"
-status_word (Unloading place) = codes "unloading"
 
 -- whether a wagon is held
 abbrev pub hold_word : Bool → List ℕ

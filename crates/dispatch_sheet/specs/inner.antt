@@ -3,6 +3,4 @@ pub mod PairLines
 pub mod Parts
 pub mod Pushed
 pub mod Readable
-pub mod RosterWords
-pub mod Tokens
 pub mod PartsOf

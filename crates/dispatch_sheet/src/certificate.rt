@@ -1,7 +1,5 @@
 //! The line of a plan's certificate.
-ghost use Rattle.std.specs.Prelude.{◌≡◌, [], All, IfOk, Ok, string_bytes};
-ghost use Rattle.json.specs.Lex.{tokens};
-ghost use Rattle.json.specs.Print.{print};
+ghost use Rattle.std.specs.Prelude.{◌≡◌, All, IfOk, Ok, string_bytes};
 ghost use Rattle.move_messages.specs.Commands.{command_of};
 ghost use Rattle.move_messages.specs.declared.command.Command.TheVariants.{Event};
 ghost use Rattle.move_messages.specs.declared.event.Event.TheVariants.{Commit};
@@ -12,6 +10,7 @@ use crate::commit_tokens::write_commit;
 use commit_book::Snap;
 use cost_table::Plan;
 use json::Writer;
+use move_messages::written_text;
 use price_checker::Prices;
 use std::alloc::{AllocError, Global};
 
@@ -31,15 +30,4 @@ pub fn certificate_line(
     let mut out = Writer::new(Vec::new(alloc));
     write_commit(&mut out, snap, plan, prices, &at)?;
     Ok(written_text(out))
-}
-
-/// What was written, as text.
-fn written_text(out: Writer) -> String
-    requires { out.before ≡ [] }
-    ensures text { string_bytes result ≡ print out.tokens }
-    ensures tokens { tokens (string_bytes result) ≡ out.tokens }
-{
-    let bytes = out.into_inner();
-    // A writer's bytes are UTF-8, so nothing looks at them again.
-    unsafe { String::from_utf8_unchecked(bytes) }
 }

@@ -3,15 +3,15 @@ ghost use Rattle.std.specs.Prelude.{◌≡◌, ◌++◌, ◌∷◌, [], codes, m
 ghost use Rattle.json.specs.Token.{begin_object, end_object};
 ghost use Rattle.serde_json.specs.Data.{string};
 ghost use Rattle.move_messages.specs.Written.{list_data, number_data, pair_data};
+ghost use Rattle.move_messages.specs.WrittenTokens.{data_tokens, member_tokens};
 ghost use Rattle.commit_book.specs.Snap.{IsInRange, named_pair};
 ghost use Rattle.dispatch_sheet.specs.Certificate.{commit_data, commit_with, pairs_data};
 ghost use Rattle.dispatch_sheet.specs.inner.Readable.{AreReadablePrices, IsReadable, IsReadablePair};
-ghost use Rattle.dispatch_sheet.specs.inner.Tokens.{data_tokens, member_tokens};
 
-use crate::words::ascii_str;
 use commit_book::Snap;
 use cost_table::{Plan, Problem};
 use json::Writer;
+use move_messages::code_str;
 use price_checker::{Prices, order_name, wagon_name};
 use rail_codes::{OrderId, WagonNumber};
 use std::alloc::AllocError;
@@ -74,8 +74,8 @@ fn write_pair(out: &mut Writer, number: WagonNumber, id: OrderId) -> Result<(), 
     ensures readable { OnOk result (IsReadablePair (number, id)) }
 {
     out.begin_array()?;
-    out.string(ascii_str(number.digits()))?;
-    out.string(ascii_str(id.as_bytes()))?;
+    out.string(code_str(&number))?;
+    out.string(code_str(&id))?;
     out.end_array()
 }
 

@@ -1,10 +1,10 @@
 //! The lines of an office's wagons.
 ghost use Rattle.std.specs.Prelude.{◌≡◌, ◌++◌, OnOk, string_bytes};
 ghost use Rattle.wagons_and_orders.specs.StatusTable.{place_of};
-ghost use Rattle.dispatch_sheet.specs.Sheet.{hold_word, promise_word, status_word, IsWagonLine};
+ghost use Rattle.wagons_and_orders.specs.StatusWords.{status_word};
+ghost use Rattle.dispatch_sheet.specs.Sheet.{hold_word, promise_word, IsWagonLine};
 ghost use Rattle.dispatch_sheet.specs.Words.{next_word};
 ghost use Rattle.dispatch_sheet.specs.inner.Parts.{wagon_back, wagon_front};
-ghost use Rattle.dispatch_sheet.specs.inner.RosterWords.{IsRosterWord};
 
 use crate::row_lines::Lined;
 use crate::words::{push_code, push_moment, push_number, push_word};
@@ -47,24 +47,8 @@ fn push_wagon_back(text: &mut String, row: &WagonRow) -> Result<(), AllocError>
 fn push_status(text: &mut String, status: Status) -> Result<(), AllocError>
     ensures { OnOk result (string_bytes text.new ≡ string_bytes text.old ++ (next_word (status_word status) ++ next_word (place_of status))) }
 {
-    push_word(text, status_word(&status))?;
+    push_word(text, status.word())?;
     push_code(text, status.place().as_bytes())
-}
-
-/// The word of a status, which a roster has for it too.
-fn status_word(status: &Status) -> &'static str
-    ensures word { result.now ≡ status_word status.now }
-    ensures roster { IsRosterWord result.now status.now }
-{
-    match *status {
-        Status::Empty(_, _) => "empty",
-        Status::Loading(_) => "loading",
-        Status::Ready(_) => "ready",
-        Status::Journey(load, _) => load.word("journey_loaded", "journey_empty"),
-        Status::Yard(load, _) => load.word("yard_loaded", "yard_empty"),
-        Status::Arrived(load, _) => load.word("arrived_loaded", "arrived_empty"),
-        Status::Unloading(_) => "unloading",
-    }
 }
 
 /// The word for whether a wagon is held.

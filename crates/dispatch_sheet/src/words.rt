@@ -41,11 +41,3 @@ pub(crate) fn push_moment(text: &mut String, moment: Moment) -> Result<(), Alloc
     text.push_str(" ")?;
     moment.push_text(text)
 }
-
-/// ASCII characters as text, which nothing has to look at again.
-pub(crate) fn ascii_str(characters: &[u8]) -> &str
-    requires { IsAscii characters.now }
-    ensures { result.now ≡ characters.now }
-{
-    unsafe { str::from_utf8_unchecked(characters) }
-}

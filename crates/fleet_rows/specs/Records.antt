@@ -5,10 +5,8 @@ use Rattle.csv_records.specs.Fields.{Record, ◌>>=◌, is_text, place_in, text_
 use Rattle.rail_codes.specs.ClassCode.{class_code_of}
 use Rattle.rail_codes.specs.Moment.{moment_of}
 use Rattle.rail_codes.specs.WagonNumber.{wagon_number_of}
-use Rattle.wagons_and_orders.specs.declared.load.Load.TheVariants.{Loaded, Unladen}
-use Rattle.wagons_and_orders.specs.declared.status.Status.{Status}
-use Rattle.wagons_and_orders.specs.declared.status.Status.TheVariants.{Empty, Loading, Ready, Journey, Yard, Arrived, Unloading}
 use Rattle.wagons_and_orders.specs.declared.wagon_row.WagonRow.{WagonRow}
+use Rattle.wagons_and_orders.specs.StatusWords.{status_of_word}
 use Rattle.move_messages.specs.OrderLimits.{max_load}
 
 -- whether a record is the header
@@ -34,21 +32,6 @@ load_in field = whole_number_in field >>= within_limit
     within_limit : ℕ → Option ℕ
     within_limit number = if nat_lt max_load number then None else Some number
 
--- the status that a word says of a wagon at this place; an empty one has been ready since the moment
-abbrev pub status_in : (word place : List ℕ) → (moment : ℕ) → Option Status
-status_in word place moment =
-    if is_text (codes "empty") word then Some (Empty place moment)
-    else if is_text (codes "loading") word then Some (Loading place)
-    else if is_text (codes "ready") word then Some (Ready place)
-    else if is_text (codes "journey_loaded") word then Some (Journey Loaded place)
-    else if is_text (codes "journey_empty") word then Some (Journey Unladen place)
-    else if is_text (codes "yard_loaded") word then Some (Yard Loaded place)
-    else if is_text (codes "yard_empty") word then Some (Yard Unladen place)
-    else if is_text (codes "arrived_loaded") word then Some (Arrived Loaded place)
-    else if is_text (codes "arrived_empty") word then Some (Arrived Unladen place)
-    else if is_text (codes "unloading") word then Some (Unloading place)
-    else None
-
 -- the row of the wagon that six fields say, if each is as its rule asks: nobody holds it, and it is promised to nobody
 abbrev pub wagon_said : (wagon class load status place moment : List ℕ) → Option WagonRow
 wagon_said wagon class load status place moment = do
@@ -57,7 +40,7 @@ wagon_said wagon class load status place moment = do
   number ← number_in wagon
   kind ← class_in class
   limit ← load_in load
-  doing ← status_in status at last
+  doing ← status_of_word status at last
   Some (record { number = number; class = kind; load_limit = limit; status = doing; held = false; last = last; promise = None })
 
 -- what a record says, if it has six fields that say a wagon

@@ -1,15 +1,15 @@
 //! One record of a roster: the wagon that it says.
 ghost use Rattle.std.specs.Prelude.{◌≡◌, ◌≢◌, ◌≤◌, [], ◌∷◌, length, option_map, IfSome, IfNone};
 ghost use Rattle.csv.specs.Records.{fields_of};
-ghost use Rattle.fleet_rows.specs.Records.{is_header, load_in, status_in, wagon_record};
+ghost use Rattle.fleet_rows.specs.Records.{is_header, load_in, wagon_record};
 ghost use Rattle.move_messages.specs.OrderLimits.{max_load};
 ghost use Rattle.fleet_rows.specs.Roster.{IsRosterRow};
 
 use csv::ByteRecord;
 use csv_records::{is_text, place_of, text_of, whole_number};
 use move_messages::MAX_LOAD;
-use rail_codes::{ClassCode, Moment, Place, WagonNumber};
-use wagons_and_orders::{Load, Status, WagonRow};
+use rail_codes::{ClassCode, Moment, WagonNumber};
+use wagons_and_orders::{Status, WagonRow};
 
 /// The six fields of a record, in the header's order.
 #[derive(Clone, Copy)]
@@ -35,7 +35,7 @@ pub fn read_wagon(row: &ByteRecord) -> Option<WagonRow>
         number: WagonNumber::read(text_of(fields.wagon)?).ok()?,
         class: ClassCode::read(text_of(fields.class)?).ok()?,
         load_limit: read_load(fields.load)?,
-        status: read_status(fields.status, place, last)?,
+        status: Status::of_word(fields.status, place, last)?,
         held: false,
         last,
         promise: None,
@@ -87,34 +87,4 @@ fn read_load(field: &[u8]) -> Option<u32>
         return None;
     }
     Some(number)
-}
-
-/// The status that a word says of a wagon at this place. An empty one has been ready since the moment.
-fn read_status(word: &[u8], place: Place, moment: Moment) -> Option<Status>
-    ensures { result ≡ status_in word.now place moment }
-{
-    let status = if is_text("empty", word) {
-        Status::Empty(place, moment)
-    } else if is_text("loading", word) {
-        Status::Loading(place)
-    } else if is_text("ready", word) {
-        Status::Ready(place)
-    } else if is_text("journey_loaded", word) {
-        Status::Journey(Load::Loaded, place)
-    } else if is_text("journey_empty", word) {
-        Status::Journey(Load::Unladen, place)
-    } else if is_text("yard_loaded", word) {
-        Status::Yard(Load::Loaded, place)
-    } else if is_text("yard_empty", word) {
-        Status::Yard(Load::Unladen, place)
-    } else if is_text("arrived_loaded", word) {
-        Status::Arrived(Load::Loaded, place)
-    } else if is_text("arrived_empty", word) {
-        Status::Arrived(Load::Unladen, place)
-    } else if is_text("unloading", word) {
-        Status::Unloading(place)
-    } else {
-        return None;
-    };
-    Some(status)
 }

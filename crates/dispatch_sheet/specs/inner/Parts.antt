@@ -2,10 +2,11 @@
 use Rattle.std.specs.Prelude.{◌≡◌, ℕ, List, ◌∷◌, [], ◌++◌, codes, decimal}
 use Rattle.rail_codes.specs.Moment.{IsMomentText}
 use Rattle.wagons_and_orders.specs.StatusTable.{place_of}
+use Rattle.wagons_and_orders.specs.StatusWords.{status_word}
 use Rattle.wagons_and_orders.specs.declared.wagon_row.WagonRow.{WagonRow}
 use Rattle.wagons_and_orders.specs.States.{state_of}
 use Rattle.wagons_and_orders.specs.OrderRow.{OrderRowValue}
-use Rattle.dispatch_sheet.specs.Sheet.{hold_word, list_word, listed_wagons, promise_word, state_word, status_word}
+use Rattle.dispatch_sheet.specs.Sheet.{hold_word, list_word, listed_wagons, promise_word, state_word}
 use Rattle.dispatch_sheet.specs.Words.{next_word}
 
 -- a moment behind a space

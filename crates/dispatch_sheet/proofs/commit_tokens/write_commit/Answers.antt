@@ -6,7 +6,7 @@ use Rattle.move_messages.specs.Written.{list_data, number_data, pair_data}
 use Rattle.commit_book.specs.Snap.{named_pair}
 use Rattle.dispatch_sheet.specs.Certificate.{commit_of}
 use Rattle.dispatch_sheet.specs.inner.Readable.{AreReadablePrices, IsReadablePair}
-use Rattle.dispatch_sheet.specs.inner.Tokens.{member_tokens}
+use Rattle.move_messages.specs.WrittenTokens.{member_tokens}
 use Rattle.dispatch_sheet.proofs.CommitTokens.{commit-written}
 use Rattle.dispatch_sheet.proofs.commit_tokens.write_commit.Goals as goal
 

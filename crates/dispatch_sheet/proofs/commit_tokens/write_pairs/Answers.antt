@@ -6,8 +6,8 @@ use Rattle.move_messages.specs.Written.{list_data, pair_data}
 use Rattle.move_messages.proofs.Writing.{holds-whole}
 use Rattle.commit_book.specs.Snap.{named_pair}
 use Rattle.dispatch_sheet.specs.inner.Readable.{IsReadablePair}
-use Rattle.dispatch_sheet.specs.inner.Tokens.{data_tokens}
-use Rattle.dispatch_sheet.proofs.CommitTokens.{items-more, list-written, named_list-tokens}
+use Rattle.move_messages.specs.WrittenTokens.{data_tokens}
+use Rattle.move_messages.proofs.WrittenTokens.{items-more, list-written, named_list-tokens}
 use Rattle.dispatch_sheet.proofs.commit_tokens.write_pairs.Goals as goal
 
 pub loop-i-preserved : goal.loop-i-preserved

@@ -3,8 +3,8 @@ use Rattle.std.proofs.lemmas.Grind.{get_or_default_zero}
 use Rattle.std.proofs.lemmas.Result.{on_ok_weaker}
 use Rattle.json.specs.Token.{begin_array, key}
 use Rattle.move_messages.specs.Written.{list_data, number_data}
-use Rattle.dispatch_sheet.specs.inner.Tokens.{data_tokens}
-use Rattle.dispatch_sheet.proofs.CommitTokens.{list-tokens, list-written}
+use Rattle.move_messages.specs.WrittenTokens.{data_tokens}
+use Rattle.move_messages.proofs.WrittenTokens.{list-tokens, list-written}
 use Rattle.dispatch_sheet.proofs.commit_tokens.write_prices.Goals as goal
 
 pub returns-clause-tokens : goal.returns-clause-tokens
