@@ -1,7 +1,6 @@
 -- The head and the last line are read as what they were made of.
 use Rattle.std.proofs.Common.{◌≡◌, ◌≤◌, ℕ, List, Option, Some, None, Ok, codes, refl, arith}
 use Rattle.json.specs.Tree.{depth}
-use Rattle.serde_json.specs.Data.{Data, string, object, no_members, member}
 use Rattle.serde_json.specs.Read.{of_json, max_depth}
 use Rattle.serde_json.specs.Written.{outline}
 use Rattle.serde_json.proofs.Numbers.{number_of-decimal}
@@ -10,18 +9,12 @@ use Rattle.move_messages.specs.declared.field.Field.TheVariants as field
 use Rattle.move_messages.specs.Field.{field_name}
 use Rattle.move_messages.specs.Fields.{member, field_of}
 use Rattle.move_messages.specs.Values.{text_of}
-use Rattle.move_messages.specs.Written.{number_data}
 use Rattle.move_messages.proofs.Writing.{number_reads}
 use Rattle.checkpoint_lines.specs.Limits.{IsNetworkNumber, line_format, max_lines}
 use Rattle.checkpoint_lines.specs.declared.line.CheckpointLine.TheVariants.{End, Head}
 use Rattle.checkpoint_lines.specs.LineReading.{end_of, head_of, line_of_type}
-use Rattle.checkpoint_lines.specs.LineWriting.{end_data, head_data, text_if_there}
-
--- the members, ascending by name
-abbrev pub head_object : ℕ → Option (List ℕ) → Data
-head_object network newest =
-    object (member (codes "format") (number_data line_format) (member (codes "network") (number_data network)
-    (text_if_there (codes "newest") newest (member (codes "type") (string (codes "checkpoint")) no_members))))
+use Rattle.checkpoint_lines.specs.LineWriting.{end_data, head_data}
+use Rattle.checkpoint_lines.proofs.Objects.{end_object, head_object}
 
 pub head_spells : (network : ℕ) (newest : Option (List ℕ)) → network ≤ max_revision → of_json (outline (head_data network newest)) ≡ Some (head_object network newest)
 head_spells network None small = rw (number_of-decimal line_format (omega arith), number_of-decimal network (omega (arith, small))) refl
@@ -39,9 +32,6 @@ head-reads network (Some text) range =
     rw (number_reads line_format line_format line_format (omega arith) (omega arith), number_reads 1 max_revision network range.0 range.1) refl
 
 -- ---- the last line
-
-abbrev pub end_object : ℕ → Data
-end_object lines = object (member (codes "lines") (number_data lines) (member (codes "type") (string (codes "end")) no_members))
 
 pub end_spells : (lines : ℕ) → lines ≤ max_lines → of_json (outline (end_data lines)) ≡ Some (end_object lines)
 end_spells lines small = rw (number_of-decimal lines (omega (arith, small))) refl

@@ -1,4 +1,5 @@
-pub mod Tokens
+pub mod LineTokens
+pub mod Objects
 pub mod HeadReads
 pub mod WagonReads
 pub mod OrderReads

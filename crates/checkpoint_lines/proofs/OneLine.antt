@@ -4,7 +4,6 @@ use Rattle.std.specs.Prelude.{⊤}
 use Rattle.std.specs.Char.{digit_value}
 use Rattle.std.specs.Str.Parse.{AllDigits}
 use Rattle.std.proofs.lemmas.Bool.{and_parts, cases_lt, ne_eqb}
-use Rattle.std.proofs.lemmas.Bool.Decides.{nat_tests}
 use Rattle.std.proofs.lemmas.Fmt.{decimal_is_IsNumeral}
 use Rattle.json.specs.Print.{escape_byte, escape, quoted}
 use Rattle.json.proofs.Printed.Strings.{escape_byte_plain}
@@ -49,8 +48,8 @@ plain_byte x above = escape_byte_plain x (λ e. omega arith) (λ e. omega arith)
 
 byte_free : (x : ℕ) → has_feed (escape_byte x) ≡ false
 byte_free x = elim (cases_lt x 93) [
-    | inl below ↦ free_is (has_feed (escape_byte x)) (holds_below is_free 93 x escaped below)
-    | inr above ↦ ap has_feed (plain_byte x above) ∙ rw (ne_eqb x 10 (λ e. omega arith)) refl
+  | inl below ↦ free_is (has_feed (escape_byte x)) (holds_below is_free 93 x escaped below)
+  | inr above ↦ ap has_feed (plain_byte x above) ∙ rw (ne_eqb x 10 (λ e. omega arith)) refl
 ]
 
 escape_free : (s : List ℕ) → has_feed (escape s) ≡ false
@@ -115,9 +114,9 @@ mutual
       has_feed-append (comma_if later) (quoted k ++ 58 ∷ (compact_text d ++ members_text true ms)) (comma_free later)
       (has_feed-append (quoted k) (58 ∷ (compact_text d ++ members_text true ms)) (quoted_free k) value)
 
--- the text of an object
-pub one-line : (text : List ℕ) (ms : Members) → text ≡ compact_text (object ms) → MembersHaveFreeNumbers ms → IsOneLine text
-one-line text ms is free = (ap has_feed is ∙ members_free false ms free, ap is_blank is)
+-- a text that isn't blank
+one-line : (text : List ℕ) (d : Data) → text ≡ compact_text d → is_blank (compact_text d) ≡ false → HasFreeNumbers d → IsOneLine text
+one-line text d is some free = (ap has_feed is ∙ text_free d free, ap is_blank is ∙ some)
 
 -- ---- the parts of a line
 
@@ -131,20 +130,20 @@ texts_free (t ∷ texts) = (tt, texts_free texts)
 
 pub head_one : (network : ℕ) (newest : Option (List ℕ)) (text : List ℕ) → network ≤ max_revision → text ≡ compact_text (head_data network newest) → IsOneLine text
 head_one network newest text small is =
-    one-line text _ is (tt, (decimal_free line_format (omega arith), (decimal_free network (omega (arith, small)), if_there_free (codes "newest") newest no_members tt)))
+    one-line text (head_data network newest) is refl (tt, (decimal_free line_format (omega arith), (decimal_free network (omega (arith, small)), if_there_free (codes "newest") newest no_members tt)))
 
 pub wagon_one : (row : WagonRow) (ready : Option (List ℕ)) (last text : List ℕ) → row.load_limit ≤ max_load → text ≡ compact_text (wagon_data row ready last) → IsOneLine text
 wagon_one row ready last text small is =
     let promise = if_there_free (codes "promise") row.promise no_members tt in
     let back = if_there_free (codes "ready") ready (member (codes "last") (string last) (member (codes "held") (boolean row.held) (text_if_there (codes "promise") row.promise no_members))) (tt, (tt, promise)) in
-    one-line text _ is (tt, (tt, (tt, (decimal_free row.load_limit (omega (arith, small)), (tt, (tt, back))))))
+    one-line text (wagon_data row ready last) is refl (tt, (tt, (tt, (decimal_free row.load_limit (omega (arith, small)), (tt, (tt, back))))))
 
 pub order_one : (row : OrderRowValue) (latest text : List ℕ) → IsOrder row.text → text ≡ compact_text (order_data row latest) → IsOneLine text
 order_one row latest text limits is =
     let load = decimal_free row.text.load (omega (arith, limits.0)) in
     let penalty = decimal_free row.text.penalty (omega (arith, limits.1)) in
-    let wagons = decimal_free row.text.wagons (omega (arith, limits.2.1)) in
-    one-line text _ is (tt, (tt, (tt, (texts_free row.text.classes, (load, (tt, (penalty, (wagons, (texts_free row.promised, (texts_free row.filled, tt))))))))))
+    let wagons = decimal_free row.text.wagons (omega (arith, limits.3)) in
+    one-line text (order_data row latest) is refl (tt, (tt, (tt, (texts_free row.text.classes, (load, (tt, (penalty, (wagons, (texts_free row.promised, (texts_free row.filled, tt))))))))))
 
 pub end_one : (lines : ℕ) (text : List ℕ) → lines ≤ max_lines → text ≡ compact_text (end_data lines) → IsOneLine text
-end_one lines text small is = one-line text _ is (tt, (decimal_free lines (omega (arith, small)), tt))
+end_one lines text small is = one-line text (end_data lines) is refl (tt, (decimal_free lines (omega (arith, small)), tt))

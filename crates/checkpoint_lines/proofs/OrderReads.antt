@@ -1,9 +1,9 @@
 -- The line of an order is read as what its row says.
-use Rattle.std.proofs.Common.{◌≡◌, ◌≤◌, ℕ, List, [], ◌∷◌, map, length, suc, ◌+◌, Some, Ok, codes, refl, sym, ap, ◌∙◌, add-one, arith}
+use Rattle.std.proofs.Common.{◌≡◌, ◌≤◌, ℕ, List, [], ◌∷◌, map, length, suc, Some, Ok, codes, refl, ap, arith}
 use Rattle.std.specs.Prelude.{option_map}
 use Rattle.std.proofs.lemmas.Bool.{le-leb}
 use Rattle.json.specs.Tree.{depth}
-use Rattle.serde_json.specs.Data.{Data, item, string, object, no_members, member}
+use Rattle.serde_json.specs.Data.{item, string}
 use Rattle.serde_json.specs.Events.{items_len}
 use Rattle.serde_json.specs.Read.{of_items, of_json, max_depth}
 use Rattle.serde_json.specs.View.{items_of}
@@ -22,12 +22,13 @@ use Rattle.move_messages.specs.Fields.{member, field_of, optional_field_of}
 use Rattle.move_messages.specs.OrderLimits.{IsOrder, max_load, max_order_wagons, max_penalty}
 use Rattle.move_messages.specs.Values.{class_from, each, list_of, list_of_each, list_within, text_of, wagon_number_from}
 use Rattle.move_messages.proofs.Writing.{code-reads, list-reads, moment-reads, number_reads}
-use Rattle.move_messages.specs.Written.{list_data, number_data}
+use Rattle.move_messages.specs.Written.{list_data}
 use Rattle.wagons_and_orders.specs.OrderRow.{OrderRowValue}
 use Rattle.checkpoint_lines.specs.declared.line.CheckpointLine.TheVariants.{Order}
 use Rattle.checkpoint_lines.specs.LineReading.{line_of_type, order_line_of}
 use Rattle.checkpoint_lines.specs.LineWriting.{order_data}
 use Rattle.checkpoint_lines.specs.OrderLine.{line_of_row}
+use Rattle.checkpoint_lines.proofs.Objects.{order_object}
 use Rattle.checkpoint_lines.specs.inner.Readable.{AreClassesRead, AreNumbersRead, AreOrderCodes}
 
 -- ---- lists of codes
@@ -39,22 +40,6 @@ texts_nest (t ∷ texts) = let more = texts_nest texts in omega arith
 pub texts_spell : (texts : List (List ℕ)) → of_items (items_outline (items_of (map string texts))) ≡ Some (items_of (map string texts))
 texts_spell [] = refl
 texts_spell (t ∷ texts) = ap (option_map (item (string t))) (texts_spell texts)
-
--- ---- the order
-
--- the members, ascending by name
-abbrev pub order_object : OrderRowValue → (latest : List ℕ) → Data
-order_object row latest =
-    object (member (codes "classes") (list_data string row.text.classes)
-    (member (codes "filled") (list_data string row.filled)
-    (member (codes "latest") (string latest)
-    (member (codes "load") (number_data row.text.load)
-    (member (codes "order") (string row.text.id)
-    (member (codes "penalty") (number_data row.text.penalty)
-    (member (codes "place") (string row.text.place)
-    (member (codes "promised") (list_data string row.promised)
-    (member (codes "type") (string (codes "order"))
-    (member (codes "wagons") (number_data row.text.wagons) no_members))))))))))
 
 pub order_nests : (row : OrderRowValue) (latest : List ℕ) → depth (outline (order_data row latest)) ≤ max_depth
 order_nests row latest =
@@ -71,7 +56,7 @@ order_spells row latest limits =
       texts_spell row.filled,
       number_of-decimal row.text.load (omega (arith, limits.0)),
       number_of-decimal row.text.penalty (omega (arith, limits.1)),
-      number_of-decimal row.text.wagons (omega (arith, limits.2.1)),
+      number_of-decimal row.text.wagons (omega (arith, limits.3)),
     ) refl
 
 -- ---- its fields
@@ -79,7 +64,7 @@ order_spells row latest limits =
 -- so many texts
 texts_len : (texts : List (List ℕ)) → items_len (items_of (map string texts)) ≡ length texts
 texts_len [] = refl
-texts_len (t ∷ texts) = ap suc (texts_len texts) ∙ sym (add-one (length texts))
+texts_len (t ∷ texts) = ap suc (texts_len texts)
 
 numbers-read : (numbers : List (List ℕ)) → AreNumbersRead numbers → list_of_each wagon_number_from (list_data string numbers) ≡ Ok numbers
 numbers-read numbers read = list-reads wagon_number_from string numbers (λ k d lt. code-reads wagon_number_of _ _ (read k d lt))
@@ -103,7 +88,7 @@ text-reads row latest limits said moment =
       number_reads 0 max_load row.text.load (omega arith) limits.0,
       moment-reads latest row.text.latest moment,
       number_reads 0 max_penalty row.text.penalty (omega arith) limits.1,
-      number_reads 1 max_order_wagons row.text.wagons limits.2.0 limits.2.1,
+      number_reads 1 max_order_wagons row.text.wagons limits.2 limits.3,
     ) refl
 
 pub order-reads : (row : OrderRowValue) (latest : List ℕ) → IsOrder row.text → AreOrderCodes row → moment_of latest ≡ Ok row.text.latest → order_line_of (order_object row latest) ≡ Ok (line_of_row row)

@@ -2,7 +2,7 @@
 use Rattle.std.proofs.Common.{◌≡◌, ◌≤◌, ℕ, List, Option, Some, None, Ok, codes, refl, ap, arith}
 use Rattle.std.specs.Prelude.{option_map, unwrap_or}
 use Rattle.json.specs.Tree.{depth}
-use Rattle.serde_json.specs.Data.{Data, boolean, string, object, no_members, member}
+use Rattle.serde_json.specs.Data.{Data, string}
 use Rattle.serde_json.specs.Find.{get}
 use Rattle.serde_json.specs.Read.{of_json, max_depth}
 use Rattle.serde_json.specs.Written.{outline}
@@ -17,7 +17,6 @@ use Rattle.move_messages.specs.Field.{field_name}
 use Rattle.move_messages.specs.Fields.{member, field_of, optional_field_of}
 use Rattle.move_messages.specs.OrderLimits.{max_load}
 use Rattle.move_messages.specs.Values.{◌>>=◌, boolean_of, text_of}
-use Rattle.move_messages.specs.Written.{number_data}
 use Rattle.move_messages.proofs.Writing.{code-reads, moment-reads, number_reads}
 use Rattle.wagons_and_orders.specs.declared.load.Load.TheVariants.{Loaded, Unladen}
 use Rattle.wagons_and_orders.specs.declared.status.Status.{Status}
@@ -27,22 +26,9 @@ use Rattle.wagons_and_orders.specs.StatusTable.{place_of}
 use Rattle.wagons_and_orders.specs.StatusWords.{ready_moment, status_of_word, status_word}
 use Rattle.checkpoint_lines.specs.declared.line.CheckpointLine.TheVariants.{Wagon}
 use Rattle.checkpoint_lines.specs.LineReading.{known_status, line_of_type, ready_of, wagon_row_of}
-use Rattle.checkpoint_lines.specs.LineWriting.{text_if_there, wagon_data}
+use Rattle.checkpoint_lines.specs.LineWriting.{wagon_data}
+use Rattle.checkpoint_lines.proofs.Objects.{wagon_object}
 use Rattle.checkpoint_lines.specs.inner.Readable.{AreWagonCodes, IsReadableIfThere}
-
--- the members, ascending by name
-abbrev pub wagon_object : WagonRow → (ready : Option (List ℕ)) → (last : List ℕ) → Data
-wagon_object row ready last =
-    object (member (codes "class") (string row.class)
-    (member (codes "held") (boolean row.held)
-    (member (codes "last") (string last)
-    (member (codes "load") (number_data row.load_limit)
-    (member (codes "place") (string (place_of row.status))
-    (text_if_there (codes "promise") row.promise
-    (text_if_there (codes "ready") ready
-    (member (codes "status") (string (status_word row.status))
-    (member (codes "type") (string (codes "wagon"))
-    (member (codes "wagon") (string row.number) no_members))))))))))
 
 -- the row with another promise
 abbrev with_promise : WagonRow → Option (List ℕ) → WagonRow

@@ -2,9 +2,9 @@
 //! a last one. Each is read and written here, and what is written reads back as what it was made of.
 #![tactic(auto)]
 
-mod lines;
 mod limits;
 mod line;
+mod lines;
 mod order_tokens;
 mod reading;
 mod tokens;

@@ -21,11 +21,7 @@ use std::alloc::{AllocError, Global};
 use wagons_and_orders::{OrderRow, WagonRow};
 
 /// The first line: the number of the network in force (1 to 8), and the newest moment of all wagons, where there is one.
-pub fn head_line(
-    alloc: Global,
-    network: u32,
-    newest: Option<Moment>,
-) -> Result<String, AllocError>
+pub fn head_line(alloc: Global, network: u32, newest: Option<Moment>) -> Result<String, AllocError>
     requires { IsNetworkNumber network }
     ensures text { IfOk result (λ line. IsHeadLine network newest (string_bytes line)) }
     ensures reads { IfOk result (λ line. checkpoint_line_of (string_bytes line) ≡ Ok (Head network)) }
@@ -82,7 +78,7 @@ fn write_head(
     ensures before { out.new.before ≡ out.old.before }
 {
     begin_line(out, "checkpoint")?;
-    write_number(out, "format", u64::from(LINE_FORMAT))?;
+    write_number(out, "format", LINE_FORMAT)?;
     write_number(out, "network", u64::from(network))?;
     write_moment_if_there(alloc, out, "newest", newest)?;
     out.end_object()

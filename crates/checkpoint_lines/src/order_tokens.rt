@@ -8,11 +8,7 @@ use std::alloc::{AllocError, Global};
 use wagons_and_orders::OrderRow;
 
 /// Writes an order with its wagons.
-pub(crate) fn write_order(
-    alloc: Global,
-    out: &mut Writer,
-    row: &OrderRow,
-) -> Result<(), AllocError>
+pub(crate) fn write_order(alloc: Global, out: &mut Writer, row: &OrderRow) -> Result<(), AllocError>
     ensures tokens { OnOk result (AddsOrder row.now out.old.tokens out.new.tokens) }
     ensures before { out.new.before ≡ out.old.before }
 {

@@ -52,7 +52,7 @@ fn line_at(alloc: Global, name: &str, object: &Value) -> Result<CheckpointLine, 
 fn head_at(object: &Value) -> Result<u32, LineFault>
     ensures { result ≡ meaning.head_of (view object.now) }
 {
-    let _format = count_at(object, Field::Format, LINE_FORMAT, LINE_FORMAT)?;
+    let _format = number_at(object, Field::Format, LINE_FORMAT, LINE_FORMAT)?;
     count_at(object, Field::Network, 1, MAX_REVISION)
 }
 

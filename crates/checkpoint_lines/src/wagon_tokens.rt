@@ -11,11 +11,7 @@ use std::alloc::{AllocError, Global};
 use wagons_and_orders::WagonRow;
 
 /// Writes a wagon.
-pub(crate) fn write_wagon(
-    alloc: Global,
-    out: &mut Writer,
-    row: &WagonRow,
-) -> Result<(), AllocError>
+pub(crate) fn write_wagon(alloc: Global, out: &mut Writer, row: &WagonRow) -> Result<(), AllocError>
     ensures tokens { OnOk result (AddsWagon row.now out.old.tokens out.new.tokens) }
     ensures before { out.new.before ≡ out.old.before }
 {

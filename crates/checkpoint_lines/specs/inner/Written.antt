@@ -49,19 +49,19 @@ AddsEnd lines old new = new ≡ old ++ data_tokens (end_data lines)
 abbrev pub wagon_front : WagonRow → List Token
 wagon_front row =
     (begin_object ∷ member_tokens (codes "type") (string (codes "wagon")))
-    ++ member_tokens (codes "wagon") (string row.number)
-    ++ member_tokens (codes "class") (string row.class)
-    ++ member_tokens (codes "load") (number_data row.load_limit)
-    ++ member_tokens (codes "status") (string (status_word row.status))
-    ++ member_tokens (codes "place") (string (place_of row.status))
+    ++ (member_tokens (codes "wagon") (string row.number)
+    ++ (member_tokens (codes "class") (string row.class)
+    ++ (member_tokens (codes "load") (number_data row.load_limit)
+    ++ (member_tokens (codes "status") (string (status_word row.status))
+    ++ member_tokens (codes "place") (string (place_of row.status))))))
 
 abbrev pub wagon_back : WagonRow → (ready : Option (List ℕ)) → (last : List ℕ) → List Token
 wagon_back row ready last =
     tokens_if_there (codes "ready") ready
-    ++ member_tokens (codes "last") (string last)
-    ++ member_tokens (codes "held") (boolean row.held)
-    ++ tokens_if_there (codes "promise") row.promise
-    ++ end_object ∷ []
+    ++ (member_tokens (codes "last") (string last)
+    ++ (member_tokens (codes "held") (boolean row.held)
+    ++ (tokens_if_there (codes "promise") row.promise
+    ++ end_object ∷ [])))
 
 pub record AddsWagonFront (row : WagonRow) (old new : List Token) : Type 0 where
   pub number : wagon_number_of row.number ≡ Ok row.number
@@ -90,19 +90,19 @@ pub record AddsWagon (row : WagonRow) (old new : List Token) : Type 0 where
 abbrev pub order_front : OrderRowValue → List Token
 order_front row =
     (begin_object ∷ member_tokens (codes "type") (string (codes "order")))
-    ++ member_tokens (codes "order") (string row.text.id)
-    ++ member_tokens (codes "place") (string row.text.place)
-    ++ member_tokens (codes "classes") (list_data string row.text.classes)
-    ++ member_tokens (codes "load") (number_data row.text.load)
+    ++ (member_tokens (codes "order") (string row.text.id)
+    ++ (member_tokens (codes "place") (string row.text.place)
+    ++ (member_tokens (codes "classes") (list_data string row.text.classes)
+    ++ member_tokens (codes "load") (number_data row.text.load))))
 
 abbrev pub order_back : OrderRowValue → (latest : List ℕ) → List Token
 order_back row latest =
     member_tokens (codes "latest") (string latest)
-    ++ member_tokens (codes "penalty") (number_data row.text.penalty)
-    ++ member_tokens (codes "wagons") (number_data row.text.wagons)
-    ++ member_tokens (codes "promised") (list_data string row.promised)
-    ++ member_tokens (codes "filled") (list_data string row.filled)
-    ++ end_object ∷ []
+    ++ (member_tokens (codes "penalty") (number_data row.text.penalty)
+    ++ (member_tokens (codes "wagons") (number_data row.text.wagons)
+    ++ (member_tokens (codes "promised") (list_data string row.promised)
+    ++ (member_tokens (codes "filled") (list_data string row.filled)
+    ++ end_object ∷ []))))
 
 pub record AddsOrderFront (row : OrderRowValue) (old new : List Token) : Type 0 where
   pub id : order_id_of row.text.id ≡ Ok row.text.id

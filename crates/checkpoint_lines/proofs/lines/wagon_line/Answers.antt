@@ -1,14 +1,14 @@
-use Rattle.std.proofs.Common.{codes, ap, ◌∙◌, refl, string_bytes, Ok}
+use Rattle.std.proofs.Common.{codes, refl, string_bytes}
 use Rattle.std.proofs.lemmas.Str.{IsUtf8-string_bytes}
-use Rattle.checkpoint_lines.specs.LineReading.{line_of_type}
 use Rattle.checkpoint_lines.specs.LineWriting.{wagon_data}
 use Rattle.checkpoint_lines.specs.declared.line.CheckpointLine.TheVariants.{Wagon}
 use Rattle.checkpoint_lines.proofs.LineReads.{line-reads, printed, text_if_readable, IsPrinted}
 use Rattle.checkpoint_lines.proofs.OneLine.{wagon_one}
-use Rattle.checkpoint_lines.proofs.WagonReads.{wagon_kind, wagon_nests, wagon_object, wagon_spells, wagon_typed}
+use Rattle.checkpoint_lines.proofs.Objects.{wagon_object}
+use Rattle.checkpoint_lines.proofs.WagonReads.{wagon_kind, wagon_nests, wagon_spells, wagon_typed}
 use Rattle.checkpoint_lines.proofs.lines.wagon_line.Goals as goal
 
-written : (c : goal.After-drop-at-2) → IsPrinted (wagon_data c.args.row.now (c.in_ok-write_wagon.ensures {u = tt}).tokens.ready (c.in_ok-write_wagon.ensures {u = tt}).tokens.last) (string_bytes c.written_text.result)
+written : (c : goal.After-written_text) → IsPrinted (wagon_data c.args.row.now (c.in_ok-write_wagon.ensures {u = tt}).tokens.ready (c.in_ok-write_wagon.ensures {u = tt}).tokens.last) (string_bytes c.written_text.result)
 written c =
     let added = (c.in_ok-write_wagon.ensures {u = tt}).tokens in
     printed (wagon_data c.args.row.now added.ready added.last) c.new-out.result.tokens c.write_wagon.new.out.tokens (string_bytes c.written_text.result) c.new-out.ensures.tokens added.tokens c.written_text.ensures.text c.written_text.ensures.tokens
