@@ -33,7 +33,7 @@ ready_of word d = if is_word (codes "empty") word then (field_of moment_from fie
 abbrev pub known_status : Option Status → Result Status LineFault
 known_status status = ok_or status (BadField field.Status OutOfRange)
 
--- a wagon; the last moment stands where no `ready` does, and no status keeps it then
+-- a wagon; which status the word says is looked at last. Without a `ready` the last moment stands in, and no status keeps it.
 unfoldable pub wagon_row_of : Data → Result WagonRow LineFault
 wagon_row_of d = do
   number ← field_of wagon_number_from field.Wagon d

@@ -2,7 +2,6 @@
 //! out of memory.
 ghost use Rattle.std.specs.Prelude.{◌≡◌, ◌≤◌, IfOk, Ok, OnOk, string_bytes};
 ghost use Rattle.move_messages.specs.OrderLimits.{max_load};
-ghost use Rattle.wagons_and_orders.specs.OrderRow.{OrderRowValue};
 ghost use Rattle.checkpoint_lines.specs.Limits.{IsNetworkNumber, max_lines};
 ghost use Rattle.checkpoint_lines.specs.LineReading.{checkpoint_line_of};
 ghost use Rattle.checkpoint_lines.specs.LineWriting.{IsEndLine, IsHeadLine, IsOneLine, IsOrderLine, IsWagonLine};
