@@ -1,6 +1,7 @@
 pub mod After
 pub mod ApplyFault
 pub mod Commits
+pub mod Compact
 pub mod Laws
 pub mod Office
 pub mod Problem
