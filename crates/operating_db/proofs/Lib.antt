@@ -1,6 +1,10 @@
 pub mod Agree
 pub mod Changes
 pub mod Commits
+pub mod CompactEvents
+pub mod CompactOffices
+pub mod CompactRows
+pub mod CompactRuns
 pub mod Events
 pub mod FreeCounts
 pub mod KeptOrders

@@ -2,6 +2,7 @@ pub mod After
 pub mod ApplyFault
 pub mod Commits
 pub mod Compact
+pub mod CompactLaws
 pub mod Laws
 pub mod Office
 pub mod Problem

@@ -1,4 +1,7 @@
 //! What holds of every office.
+ghost use Rattle.operating_db.specs.CompactLaws.{
+    AlikeAnswerTheSame, AlikeShowTheSame, CompactAgrees, CompactBegins, CompactIsAlike, NoAnswerChanges, NothingIsLost,
+};
 ghost use Rattle.operating_db.specs.Laws.{EventsKeepOffices, RostersBegin};
 
 /// States the laws of an office; it does nothing.
@@ -9,4 +12,19 @@ ghost use Rattle.operating_db.specs.Laws.{EventsKeepOffices, RostersBegin};
 pub fn events_keep_offices()
     ensures rosters { RostersBegin }
     ensures events { EventsKeepOffices }
+{}
+
+/// States that nothing is lost where an office forgets its closed orders; it does nothing.
+///
+/// A book may begin with what is left of the office where it may begin with the office. Both show the same: wagons,
+/// network, open orders, the problem at each moment. Whatever events follow, each is answered alike, and the offices
+/// stay alike, as long as no event names an order that is closed in the office to which it happens.
+pub fn nothing_is_lost()
+    ensures agrees { CompactAgrees }
+    ensures begins { CompactBegins }
+    ensures alike { CompactIsAlike }
+    ensures shown { AlikeShowTheSame }
+    ensures answers { AlikeAnswerTheSame }
+    ensures runs { NothingIsLost }
+    ensures refused { NoAnswerChanges }
 {}

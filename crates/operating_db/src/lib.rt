@@ -9,6 +9,6 @@ mod promises;
 
 pub use faults::ApplyFault;
 pub use fleet_rows::{Roster, RosterFault};
-pub use laws::events_keep_offices;
+pub use laws::{events_keep_offices, nothing_is_lost};
 pub use office_state::OfficeState;
 pub use pair_counts::times_of_order;
