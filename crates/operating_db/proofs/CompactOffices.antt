@@ -1,6 +1,5 @@
 -- Offices that differ in closed orders alone: what they keep and show.
 use Rattle.std.proofs.Common.{◌≡◌, ◌∙◌, ℕ, ◌≤◌, true, List, refl, ap, sym, subst}
-use Rattle.std.specs.Prelude.{Option, IfSome, All}
 use Rattle.std.specs.List.{filter}
 use Rattle.std.proofs.lemmas.List.Elements.{All-filter, All-weaker}
 use Rattle.std.proofs.lemmas.Map.Entries.{option_filter}
@@ -16,7 +15,7 @@ use Rattle.operating_db.specs.Compact.{compact}
 use Rattle.operating_db.specs.CompactLaws.{AlikeShowTheSame, AreAlike, CompactAgrees, CompactBegins, CompactIsAlike, IsNoneClosed}
 use Rattle.operating_db.specs.FreeCount.{free_count}
 use Rattle.operating_db.specs.Office.{Office}
-use Rattle.operating_db.specs.Problem.{free_wagons, problem_of, waiting_orders}
+use Rattle.operating_db.specs.Problem.{free_wagons, waiting_orders}
 use Rattle.operating_db.specs.Promises.{KeepsPromises, PromisesAgree, is_among, promised_of}
 use Rattle.operating_db.proofs.CompactRows.{all_where_open, found_keeps, lacks_where_open, names_open, open_again, order_in_open, promised_where_open, waiting_open, wanted_of_open}
 

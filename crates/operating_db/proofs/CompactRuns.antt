@@ -1,7 +1,6 @@
 -- Runs of events from an office, and from the office without its closed orders.
-use Rattle.std.proofs.Common.{◌≡◌, ◌∙◌, ℕ, Bool, true, false, cond, List, [], ◌∷◌, ◌++◌, refl, ap, sym, subst}
+use Rattle.std.proofs.Common.{◌≡◌, ℕ, Bool, true, false, cond, List, [], ◌∷◌, ◌++◌, refl, ap, sym, subst}
 use Rattle.std.specs.Prelude.{Option, Some, None, option_map, IfSome, Result, Ok, Err}
-use Rattle.std.specs.List.{filter, fold}
 use Rattle.std.specs.Result.{result_err, result_unwrap_or}
 use Rattle.std.proofs.lemmas.Map.Entries.{option_filter}
 use Rattle.faults.specs.declared.faults.ApplyFault.{ApplyFault}
@@ -13,7 +12,7 @@ use Rattle.fleet_rows.specs.Rows.{at_order, order_in}
 use Rattle.fleet_rows.proofs.Orders.{order_in-push}
 use Rattle.operating_db.specs.After.{after_call}
 use Rattle.operating_db.specs.Compact.{compact}
-use Rattle.operating_db.specs.CompactLaws.{AreAlike, AreFit, EndTheSame, IsFit, IsNoneClosed, LeadsAlike, NamesNoneClosed, NeverNameClosed, NoAnswerChanges, NothingIsLost, after_event, after_events, refusals}
+use Rattle.operating_db.specs.CompactLaws.{AreAlike, AreFit, IsFit, IsNoneClosed, NamesNoneClosed, NeverNameClosed, NoAnswerChanges, NothingIsLost, after_event, after_events, refusals}
 use Rattle.operating_db.specs.Laws.{Leads, Steps}
 use Rattle.operating_db.specs.Office.{Office}
 use Rattle.operating_db.specs.Promises.{PromisesAgree}

@@ -1,6 +1,12 @@
 //! What holds of every office.
 ghost use Rattle.operating_db.specs.CompactLaws.{
-    AlikeAnswerTheSame, AlikeShowTheSame, CompactAgrees, CompactBegins, CompactIsAlike, NoAnswerChanges, NothingIsLost,
+  AlikeAnswerTheSame,
+  AlikeShowTheSame,
+  CompactAgrees,
+  CompactBegins,
+  CompactIsAlike,
+  NoAnswerChanges,
+  NothingIsLost,
 };
 ghost use Rattle.operating_db.specs.Laws.{EventsKeepOffices, RostersBegin};
 
