@@ -82,6 +82,12 @@ order_by office text known full = cond known (Err OrderKnown) (cond full (Err To
 abbrev revised_by : Office → (network : ℕ) → (unknown known : Bool) → Result Office ApplyFault
 revised_by office network unknown known = cond unknown (Err UnknownNetwork) (cond known (Err SameNetwork) (Ok (record office { network = network })))
 
+-- the order that an event names is the same in both
+abbrev pub FindTheSame : (one other : Office) → Event → Type 0
+FindTheSame one other (Place text) = order_in one.orders text.id ≡ order_in other.orders text.id
+FindTheSame one other (Withdraw id) = order_in one.orders id ≡ order_in other.orders id
+FindTheSame one other event = Unit {0}
+
 module _ (R : Office → Office → Type 0) (lasts : Lasts R) where
   -- ---- messages
 
@@ -116,16 +122,14 @@ module _ (R : Office → Office → Type 0) (lasts : Lasts R) where
   order_met one other text false true new = refl
   order_met one other text false false new = new refl
 
-  order_same : (one other : Office) (text : Order) → PromisesAgree one → PromisesAgree other → IsNoneClosed one text.id → IsNoneClosed other text.id → R one other
-      → GiveBy R (after_order one text) (after_order other text)
-  order_same one other text h g here there r =
-      let alike = lasts.alike one other r in
-      let found : order_in one.orders text.id ≡ order_in other.orders text.id = alike_order one other h g alike text.id here there in
+  order_same : (one other : Office) (text : Order) → order_in one.orders text.id ≡ order_in other.orders text.id → R one other → GiveBy R (after_order one text) (after_order other text)
+  order_same one other text found r =
       let known = is_some (order_in one.orders text.id) in
       let full = nat_lt max_open_wagons (open_wagons one.orders + text.wagons) in
       let full' = nat_lt max_open_wagons (open_wagons other.orders + text.wagons) in
       subst (λ (k : Bool). GiveBy R (order_by one text known full) (order_by other text k full')) (ap is_some found)
-      (subst (λ (f : Bool). GiveBy R (order_by one text known full) (order_by other text known f)) (ap (λ (n : ℕ). nat_lt max_open_wagons (n + text.wagons)) (alike_wanted one other alike))
+      (subst (λ (f : Bool). GiveBy R (order_by one text known full) (order_by other text known f))
+      (ap (λ (n : ℕ). nat_lt max_open_wagons (n + text.wagons)) (alike_wanted one other (lasts.alike one other r)))
       (order_met one other text known full (λ new.
       let none : order_in one.orders text.id ≡ None = not_there (order_in one.orders text.id) new in
       lasts.places one other text none (sym found ∙ none) r)))
@@ -158,19 +162,19 @@ module _ (R : Office → Office → Type 0) (lasts : Lasts R) where
 
   -- ---- each event
 
-  pub event_same : (networks : ℕ) (one other : Office) (event : Event) → PromisesAgree one → PromisesAgree other → NamesNoneClosed one event → NamesNoneClosed other event → R one other
+  pub event_same : (networks : ℕ) (one other : Office) (event : Event) → PromisesAgree one → PromisesAgree other → FindTheSame one other event → R one other
       → GiveBy R (after_call networks one event) (after_call networks other event)
   unfolding after_call
-  event_same networks one other (Message m) h g here there r =
+  event_same networks one other (Message m) h g found r =
       let row = wagon_in one.wagons m.wagon in
       let is : row ≡ wagon_in other.wagons m.wagon = ap (λ (rows : List WagonRow). wagon_in rows m.wagon) (alike_wagons one other (lasts.alike one other r)) in
       subst (λ (o : Option WagonRow). GiveBy R (message_to one m row) (message_to other m o)) is (message_same one other m row refl (sym is) h g r)
-  event_same networks one other (Place text) h g here there r = order_same one other text h g here there r
-  event_same networks one other (Withdraw id) h g here there r =
+  event_same networks one other (Place text) h g found r = order_same one other text found r
+  event_same networks one other (Withdraw id) h g found r =
       let row = order_in one.orders id in
-      subst (λ (o : Option OrderRowValue). GiveBy R (withdrawn_from one id row) (withdrawn_from other id o)) (alike_order one other h g (lasts.alike one other r) id here there) (withdrawn_same one other id row r)
-  event_same networks one other (Commit commit) h g here there r = pairs_last commit.pairs one other r
-  event_same networks one other (Revise network) h g here there r =
+      subst (λ (o : Option OrderRowValue). GiveBy R (withdrawn_from one id row) (withdrawn_from other id o)) found (withdrawn_same one other id row r)
+  event_same networks one other (Commit commit) h g found r = pairs_last commit.pairs one other r
+  event_same networks one other (Revise network) h g found r =
       let unknown = network == 0 || nat_lt networks network in
       let known = network == one.network in
       subst (λ (k : Bool). GiveBy R (revised_by one network unknown known) (revised_by other network unknown k)) (ap (λ (n : ℕ). network == n) (alike_network one other (lasts.alike one other r)))
@@ -184,6 +188,13 @@ promised_on one other (Withdraw id) h g alike can = tt
 promised_on one other (Commit commit) h g alike can = can_on one other commit.pairs h g alike can
 promised_on one other (Revise network) h g alike can = tt
 
+find_same : (one other : Office) (event : Event) → PromisesAgree one → PromisesAgree other → AreAlike one other → NamesNoneClosed one event → NamesNoneClosed other event → FindTheSame one other event
+find_same one other (Message m) h g alike here there = tt
+find_same one other (Place text) h g alike here there = alike_order one other h g alike text.id here there
+find_same one other (Withdraw id) h g alike here there = alike_order one other h g alike id here there
+find_same one other (Commit commit) h g alike here there = tt
+find_same one other (Revise network) h g alike here there = tt
+
 answers_agree : (first second : Result Office ApplyFault) → GiveBy AreAlike first second → AnswersAgree first second
 answers_agree (Ok one) (Ok other) h = h
 answers_agree (Err one) (Err other) h = h
@@ -193,5 +204,5 @@ answers_agree (Err one) (Ok other) h = h
 pub alike_answer : AlikeAnswerTheSame
 alike_answer networks one other event h g alike here there = record {
   promised = (promised_on one other event h g alike, promised_on other one event g h (sym alike));
-  answers = answers_agree (after_call networks one event) (after_call networks other event) (event_same AreAlike alike_lasts networks one other event h g here there alike);
+  answers = answers_agree (after_call networks one event) (after_call networks other event) (event_same AreAlike alike_lasts networks one other event h g (find_same one other event h g alike here there) alike);
 }

@@ -1,7 +1,10 @@
 -- Runs of events from an office, and from the office without its closed orders.
-use Rattle.std.proofs.Common.{◌≡◌, ℕ, Bool, true, false, cond, List, [], ◌∷◌, ◌++◌, refl, ap, sym, subst}
-use Rattle.std.specs.Prelude.{Option, Some, None, option_map, IfSome, Result, Ok, Err}
+use Rattle.std.proofs.Common.{◌≡◌, ◌∙◌, ℕ, Bool, true, false, cond, List, [], ◌∷◌, ◌++◌, refl, ap, sym, subst}
+use Rattle.std.specs.Prelude.{Option, Some, None, option_map, Result, Ok, Err, All}
+use Rattle.std.specs.Option.{IsSomeAnd}
+use Rattle.std.specs.List.{filter}
 use Rattle.std.specs.Result.{result_err, result_unwrap_or}
+use Rattle.std.proofs.lemmas.List.Elements.{All-head, All-tail}
 use Rattle.std.proofs.lemmas.Map.Entries.{option_filter}
 use Rattle.faults.specs.declared.faults.ApplyFault.{ApplyFault}
 use Rattle.move_messages.specs.declared.event.Event.{Event}
@@ -12,146 +15,107 @@ use Rattle.fleet_rows.specs.Rows.{at_order, order_in}
 use Rattle.fleet_rows.proofs.Orders.{order_in-push}
 use Rattle.operating_db.specs.After.{after_call}
 use Rattle.operating_db.specs.Compact.{compact}
-use Rattle.operating_db.specs.CompactLaws.{AreAlike, AreFit, IsFit, IsNoneClosed, NamesNoneClosed, NeverNameClosed, NoAnswerChanges, NothingIsLost, after_event, after_events, refusals}
+use Rattle.operating_db.specs.CompactLaws.{AreAlike, ArePromised, ClosedStayClosed, EndTheSame, IsClosed, IsNoneClosed, LeadsAlike, NamesNoneClosed, NoAnswerChanges, NothingIsLost, after_event, after_events, refusals}
 use Rattle.operating_db.specs.Laws.{Leads, Steps}
 use Rattle.operating_db.specs.Office.{Office}
 use Rattle.operating_db.specs.Promises.{PromisesAgree}
 use Rattle.operating_db.specs.Steps.{IsPromised}
-use Rattle.operating_db.proofs.CompactEvents.{GiveBy, Lasts, alike_lasts, event_same, promised_on}
+use Rattle.operating_db.proofs.CompactEvents.{FindTheSame, GiveBy, Lasts, alike_lasts, event_same, promised_on}
 use Rattle.operating_db.proofs.CompactOffices.{compact_agrees, compact_alike}
-use Rattle.operating_db.proofs.CompactRows.{order_in_open}
+use Rattle.operating_db.proofs.CompactRows.{KeepsClosed, all_where_open, order_in_open}
 use Rattle.operating_db.proofs.Events.{step_kept}
 use Rattle.operating_db.proofs.Lookups.{order_in-at}
-use Rattle.operating_db.proofs.Names.{same}
+use Rattle.operating_db.proofs.Names.{same, same_is}
 
--- ---- an office that has forgotten closed orders of another
+-- ---- an office that has forgotten the closed orders of the first one
 
--- each order of the other office is one of this one
-abbrev pub HasOrdersOf : (one other : Office) → Type 0
-HasOrdersOf one other = (id : List ℕ) → IfSome (order_in other.orders id) (λ row. order_in one.orders id ≡ Some row)
-
-pub record Forgets (one other : Office) : Type 0 where
+-- the one goes on from the first office with all its orders, the other without those closed there
+pub record Forgets (first one other : Office) : Type 0 where
   pub alike : AreAlike one other
-  pub orders : HasOrdersOf one other
+  pub others : (id : List ℕ) → IsNoneClosed first id → order_in one.orders id ≡ order_in other.orders id
 
-found_at : (b : Bool) (f : OrderRowValue → OrderRowValue) (there here : Option OrderRowValue) → IfSome there (λ row. here ≡ Some row) → IfSome (cond b (option_map f there) there) (λ row. cond b (option_map f here) here ≡ Some row)
-found_at true f None here h = tt
-found_at true f (Some row) here h = ap (option_map f) h
-found_at false f there here h = h
+at_same : (id q : List ℕ) (f : OrderRowValue → OrderRowValue) (rows others : List OrderRowValue) → ((row : OrderRowValue) → (f row).text.id ≡ row.text.id) → order_in rows q ≡ order_in others q
+    → order_in (at_order id f rows) q ≡ order_in (at_order id f others) q
+at_same id q f rows others names is =
+    order_in-at id f (λ row e. names row) rows q
+    ∙ (ap (λ (o : Option OrderRowValue). cond (same id q) (option_map f o) o) is ∙ sym (order_in-at id f (λ row e. names row) others q))
 
-orders_at : (one other : Office) (id : List ℕ) (f : OrderRowValue → OrderRowValue) → ((row : OrderRowValue) → (f row).text.id ≡ row.text.id) → HasOrdersOf one other
-    → HasOrdersOf (record one { orders = at_order id f one.orders }) (record other { orders = at_order id f other.orders })
-orders_at one other id f names h q =
-    let here = order_in one.orders q in
-    let there = order_in other.orders q in
-    let here' : order_in (at_order id f one.orders) q ≡ cond (same id q) (option_map f here) here = order_in-at id f (λ row e. names row) one.orders q in
-    let there' : order_in (at_order id f other.orders) q ≡ cond (same id q) (option_map f there) there = order_in-at id f (λ row e. names row) other.orders q in
-    subst (λ (o : Option OrderRowValue). IfSome o (λ row. order_in (at_order id f one.orders) q ≡ Some row)) (sym there')
-    (subst (λ (o : Option OrderRowValue). IfSome (cond (same id q) (option_map f there) there) (λ row. o ≡ Some row)) (sym here') (found_at (same id q) f there here (h q)))
+push_same : (q : List ℕ) (new : OrderRowValue) (rows others : List OrderRowValue) → order_in rows new.text.id ≡ None → order_in others new.text.id ≡ None → order_in rows q ≡ order_in others q
+    → order_in (rows ++ new ∷ []) q ≡ order_in (others ++ new ∷ []) q
+push_same q new rows others none none' is =
+    order_in-push rows new q none ∙ (ap (λ (o : Option OrderRowValue). cond (same q new.text.id) (Some new) o) is ∙ sym (order_in-push others new q none'))
 
-found_new : (b : Bool) (new : OrderRowValue) (there here : Option OrderRowValue) → IfSome there (λ row. here ≡ Some row) → IfSome (cond b (Some new) there) (λ row. cond b (Some new) here ≡ Some row)
-found_new true new there here h = refl
-found_new false new there here h = h
-
-orders_push : (one other : Office) (new : OrderRowValue) → order_in one.orders new.text.id ≡ None → order_in other.orders new.text.id ≡ None → HasOrdersOf one other
-    → HasOrdersOf (record one { orders = one.orders ++ new ∷ [] }) (record other { orders = other.orders ++ new ∷ [] })
-orders_push one other new none none' h q =
-    let here = order_in one.orders q in
-    let there = order_in other.orders q in
-    let here' : order_in (one.orders ++ new ∷ []) q ≡ cond (same q new.text.id) (Some new) here = order_in-push one.orders new q none in
-    let there' : order_in (other.orders ++ new ∷ []) q ≡ cond (same q new.text.id) (Some new) there = order_in-push other.orders new q none' in
-    subst (λ (o : Option OrderRowValue). IfSome o (λ row. order_in (one.orders ++ new ∷ []) q ≡ Some row)) (sym there')
-    (subst (λ (o : Option OrderRowValue). IfSome (cond (same q new.text.id) (Some new) there) (λ row. o ≡ Some row)) (sym here') (found_new (same q new.text.id) new there here (h q)))
-
-forgets_lasts : Lasts Forgets
-forgets_lasts = record {
+forgets_lasts : (first : Office) → Lasts (Forgets first)
+forgets_lasts first = record {
   alike = λ one other h. h.alike;
-  moves = λ one other f h. record { alike = alike_lasts.moves one other f h.alike; orders = h.orders };
-  changes = λ one other id f names keeps h. record { alike = alike_lasts.changes one other id f names keeps h.alike; orders = orders_at one other id f names h.orders };
-  places = λ one other text new new' h. record { alike = alike_lasts.places one other text new new' h.alike; orders = orders_push one other (placed_row text) new new' h.orders };
-  revises = λ one other network h. record { alike = alike_lasts.revises one other network h.alike; orders = h.orders };
+  moves = λ one other f h. record { alike = alike_lasts.moves one other f h.alike; others = h.others };
+  changes = λ one other id f names keeps h. record {
+    alike = alike_lasts.changes one other id f names keeps h.alike;
+    others = λ q none. at_same id q f one.orders other.orders names (h.others q none);
+  };
+  places = λ one other text new new' h. record {
+    alike = alike_lasts.places one other text new new' h.alike;
+    others = λ q none. push_same q (placed_row text) one.orders other.orders new new' (h.others q none);
+  };
+  revises = λ one other network h. record { alike = alike_lasts.revises one other network h.alike; others = h.others };
 }
 
--- ---- the office without its closed orders
-
-some_by : (b : Bool) (row : OrderRowValue) → IfSome (cond b (Some row) None) (λ found. Some row ≡ Some found)
-some_by true row = refl
-some_by false row = tt
-
-some_where_open : (o : Option OrderRowValue) → IfSome (option_filter is_open o) (λ row. o ≡ Some row)
-some_where_open None = tt
-some_where_open (Some row) = some_by (is_open row) row
-
-compact_forgets : (office : Office) → PromisesAgree office → Forgets office (compact office)
+compact_forgets : (office : Office) → PromisesAgree office → Forgets office office (compact office)
 compact_forgets office h = record {
   alike = (compact_alike office).0;
-  orders = λ q.
-      subst (λ (o : Option OrderRowValue). IfSome o (λ row. order_in office.orders q ≡ Some row)) (sym (order_in_open office.orders q h.names)) (some_where_open (order_in office.orders q));
+  others = λ id none. sym (order_in_open office.orders id h.names ∙ all_where_open (order_in office.orders id) none);
 }
 
--- ---- what is closed there is closed here
+find_others : (first one other : Office) (event : Event) → Forgets first one other → NamesNoneClosed first event → FindTheSame one other event
+find_others first one other (Message m) forgets names = tt
+find_others first one other (Place text) forgets names = forgets.others text.id names
+find_others first one other (Withdraw id) forgets names = forgets.others id names
+find_others first one other (Commit commit) forgets names = tt
+find_others first one other (Revise network) forgets names = tt
 
-open_by : (here : Option OrderRowValue) (row : OrderRowValue) → here ≡ Some row → IfSome here (λ order. is_open order ≡ true) → is_open row ≡ true
-open_by here row is h =
-    let found : IfSome (Some row) (λ order. is_open order ≡ true) = subst (λ (o : Option OrderRowValue). IfSome o (λ order. is_open order ≡ true)) is h in
-    found
-
-open_on : (there here : Option OrderRowValue) → IfSome there (λ row. here ≡ Some row) → IfSome here (λ order. is_open order ≡ true) → IfSome there (λ order. is_open order ≡ true)
-open_on None here is h = tt
-open_on (Some row) here is h = open_by here row is h
-
-none_closed : (one other : Office) (id : List ℕ) → Forgets one other → IsNoneClosed one id → IsNoneClosed other id
-none_closed one other id forgets h = open_on (order_in other.orders id) (order_in one.orders id) (forgets.orders id) h
-
-names_none : (one other : Office) (event : Event) → Forgets one other → NamesNoneClosed one event → NamesNoneClosed other event
-names_none one other (Message m) forgets h = tt
-names_none one other (Place text) forgets h = none_closed one other text.id forgets h
-names_none one other (Withdraw id) forgets h = none_closed one other id forgets h
-names_none one other (Commit commit) forgets h = tt
-names_none one other (Revise network) forgets h = tt
-
-both_answer : (networks : ℕ) (one other : Office) (event : Event) → PromisesAgree one → PromisesAgree other → NamesNoneClosed one event → Forgets one other → GiveBy Forgets (after_call networks one event) (after_call networks other event)
-both_answer networks one other event h g names forgets = event_same Forgets forgets_lasts networks one other event h g names (names_none one other event forgets names) forgets
+both_answer : (networks : ℕ) (first one other : Office) (event : Event) → PromisesAgree one → PromisesAgree other → NamesNoneClosed first event → Forgets first one other
+    → GiveBy (Forgets first) (after_call networks one event) (after_call networks other event)
+both_answer networks first one other event h g names forgets = event_same (Forgets first) (forgets_lasts first) networks one other event h g (find_others first one other event forgets names) forgets
 
 -- ---- events that are accepted
 
 -- where the one answers with an office, so does the other
-record IsOkToo (one : Office) (second : Result Office ApplyFault) : Type 0 where
+record IsOkToo (R : Office → Office → Type 0) (one : Office) (second : Result Office ApplyFault) : Type 0 where
   other : Office
   ok : second ≡ Ok other
-  forgets : Forgets one other
+  relates : R one other
 
-ok_too : (one : Office) (second : Result Office ApplyFault) → GiveBy Forgets (Ok one) second → IsOkToo one second
-ok_too one (Ok other) h = record { other = other; ok = refl; forgets = h }
-ok_too one (Err fault) h = absurd h
+ok_too : (R : Office → Office → Type 0) (one : Office) (second : Result Office ApplyFault) → GiveBy R (Ok one) second → IsOkToo R one second
+ok_too R one (Ok other) h = record { other = other; ok = refl; relates = h }
+ok_too R one (Err fault) h = absurd h
 
--- the other office, to which the same events lead
-record LeadsToo (networks : ℕ) (other : Office) (events : List Event) (after : Office) : Type 0 where
+-- the office to which the same events lead from the other one
+record LeadsToo (networks : ℕ) (first other : Office) (events : List Event) (after : Office) : Type 0 where
   last : Office
   leads : Leads networks other events last
-  forgets : Forgets after last
+  forgets : Forgets first after last
 
-leads_too : (networks : ℕ) (one other : Office) (events : List Event) (after : Office) → PromisesAgree one → PromisesAgree other → Forgets one other → Leads networks one events after → NeverNameClosed networks one events
-    → LeadsToo networks other events after
-leads_too networks one other [] after h g forgets leads never = record {
+leads_too : (networks : ℕ) (first one other : Office) (events : List Event) (after : Office) → PromisesAgree one → PromisesAgree other → Forgets first one other → All (NamesNoneClosed first) events → Leads networks one events after
+    → LeadsToo networks first other events after
+leads_too networks first one other [] after h g forgets names leads = record {
   last = other;
   leads = refl;
-  forgets = subst (λ (office : Office). Forgets office other) (sym leads) forgets;
+  forgets = subst (λ (office : Office). Forgets first office other) (sym leads) forgets;
 }
-leads_too networks one other (event ∷ events) after h g forgets leads never =
+leads_too networks first one other (event ∷ events) after h g forgets names leads =
     let next = leads.0 in
-    let names : NamesNoneClosed one event = never [] event events one refl refl in
-    let both : GiveBy Forgets (Ok next) (after_call networks other event) =
-    subst (λ (r : Result Office ApplyFault). GiveBy Forgets r (after_call networks other event)) leads.1.1 (both_answer networks one other event h g names forgets) in
-    let too = ok_too next (after_call networks other event) both in
+    let named : NamesNoneClosed first event = All-head (NamesNoneClosed first) event events names in
+    let both : GiveBy (Forgets first) (Ok next) (after_call networks other event) =
+    subst (λ (r : Result Office ApplyFault). GiveBy (Forgets first) r (after_call networks other event)) leads.1.1 (both_answer networks first one other event h g named forgets) in
+    let too = ok_too (Forgets first) next (after_call networks other event) both in
     let step : Steps networks other event too.other = (promised_on one other event h g forgets.alike leads.1.0, too.ok) in
-    let rest = leads_too networks next too.other events after (step_kept networks one event next leads.1 h).promises (step_kept networks other event too.other step g).promises too.forgets leads.2
-    (λ before later more there is led. never (event ∷ before) later more there (ap (λ (es : List Event). event ∷ es) is) (next, leads.1, led)) in
+    let rest = leads_too networks first next too.other events after (step_kept networks one event next leads.1 h).promises (step_kept networks other event too.other step g).promises too.relates
+    (All-tail (NamesNoneClosed first) event events names) leads.2 in
     record { last = rest.last; leads = (too.other, step, rest.leads); forgets = rest.forgets }
 
 pub nothing_lost : NothingIsLost
-nothing_lost networks office events after agree leads never =
-    let too = leads_too networks office (compact office) events after agree (compact_agrees office agree) (compact_forgets office agree) leads never in
+nothing_lost networks office events after agree names leads =
+    let too = leads_too networks office office (compact office) events after agree (compact_agrees office agree) (compact_forgets office agree) names leads in
     (too.last, too.leads, too.forgets.alike)
 
 -- ---- events of which some are refused
@@ -163,41 +127,103 @@ agree_by networks office event (Err fault) is can agree = agree
 agree_after : (networks : ℕ) (office : Office) (event : Event) → IsPromised office event → PromisesAgree office → PromisesAgree (after_event networks office event)
 agree_after networks office event can agree = agree_by networks office event (after_call networks office event) refl can agree
 
-next_by : (one other : Office) (first second : Result Office ApplyFault) → GiveBy Forgets first second → Forgets one other → Forgets (result_unwrap_or first one) (result_unwrap_or second other)
-next_by one other (Ok next) (Ok next') both forgets = both
-next_by one other (Err fault) (Err fault') both forgets = forgets
-next_by one other (Ok next) (Err fault) both forgets = absurd both
-next_by one other (Err fault) (Ok next) both forgets = absurd both
+next_by : (R : Office → Office → Type 0) (one other : Office) (first second : Result Office ApplyFault) → GiveBy R first second → R one other → R (result_unwrap_or first one) (result_unwrap_or second other)
+next_by R one other (Ok next) (Ok next') both h = both
+next_by R one other (Err fault) (Err fault') both h = h
+next_by R one other (Ok next) (Err fault) both h = absurd both
+next_by R one other (Err fault) (Ok next) both h = absurd both
 
-refused_by : (first second : Result Office ApplyFault) → GiveBy Forgets first second → result_err first ≡ result_err second
-refused_by (Ok next) (Ok next') both = refl
-refused_by (Err fault) (Err fault') both = ap Some both
-refused_by (Ok next) (Err fault) both = absurd both
-refused_by (Err fault) (Ok next) both = absurd both
-
-record EndToo (networks : ℕ) (one other : Office) (events : List Event) : Type 0 where
-  refused : refusals networks one events ≡ refusals networks other events
-  forgets : Forgets (after_events networks one events) (after_events networks other events)
+refused_by : (R : Office → Office → Type 0) (first second : Result Office ApplyFault) → GiveBy R first second → result_err first ≡ result_err second
+refused_by R (Ok next) (Ok next') both = refl
+refused_by R (Err fault) (Err fault') both = ap Some both
+refused_by R (Ok next) (Err fault) both = absurd both
+refused_by R (Err fault) (Ok next) both = absurd both
 
 cons_same : (first second : Option ApplyFault) (faults faults' : List (Option ApplyFault)) → first ≡ second → faults ≡ faults' → first ∷ faults ≡ second ∷ faults'
 cons_same first second faults faults' e f = cc
 
-end_too : (networks : ℕ) (one other : Office) (events : List Event) → PromisesAgree one → PromisesAgree other → Forgets one other → AreFit networks one events → EndToo networks one other events
-end_too networks one other [] h g forgets fit = record { refused = refl; forgets = forgets }
-end_too networks one other (event ∷ events) h g forgets fit =
-    let first : IsFit one event = fit [] event events refl in
-    let both = both_answer networks one other event h g first.none_closed forgets in
-    let can = promised_on one other event h g forgets.alike first.promised in
-    let next = next_by one other (after_call networks one event) (after_call networks other event) both forgets in
-    let rest = end_too networks (after_event networks one event) (after_event networks other event) events (agree_after networks one event first.promised h) (agree_after networks other event can g) next
-    (λ before later more is. fit (event ∷ before) later more (ap (λ (es : List Event). event ∷ es) is)) in
+record EndToo (networks : ℕ) (first one other : Office) (events : List Event) : Type 0 where
+  refused : refusals networks one events ≡ refusals networks other events
+  forgets : Forgets first (after_events networks one events) (after_events networks other events)
+
+end_too : (networks : ℕ) (first one other : Office) (events : List Event) → PromisesAgree one → PromisesAgree other → Forgets first one other → All (NamesNoneClosed first) events → ArePromised networks one events
+    → EndToo networks first one other events
+end_too networks first one other [] h g forgets names can = record { refused = refl; forgets = forgets }
+end_too networks first one other (event ∷ events) h g forgets names can =
+    let answer = after_call networks one event in
+    let answer' = after_call networks other event in
+    let named : NamesNoneClosed first event = All-head (NamesNoneClosed first) event events names in
+    let promised : IsPromised one event = can [] event events refl in
+    let both = both_answer networks first one other event h g named forgets in
+    let next = after_event networks one event in
+    let next' = after_event networks other event in
+    let rest = end_too networks first next next' events (agree_after networks one event promised h) (agree_after networks other event (promised_on one other event h g forgets.alike promised) g)
+    (next_by (Forgets first) one other answer answer' both forgets) (All-tail (NamesNoneClosed first) event events names)
+    (λ before later more is. can (event ∷ before) later more (ap (λ (es : List Event). event ∷ es) is)) in
     record {
-      refused = cons_same (result_err (after_call networks one event)) (result_err (after_call networks other event)) (refusals networks (after_event networks one event) events) (refusals networks (after_event networks other event) events)
-          (refused_by (after_call networks one event) (after_call networks other event) both) rest.refused;
+      refused = cons_same (result_err answer) (result_err answer') (refusals networks next events) (refusals networks next' events) (refused_by (Forgets first) answer answer' both) rest.refused;
       forgets = rest.forgets;
     }
 
 pub no_answer_changes : NoAnswerChanges
-no_answer_changes networks office events agree fit =
-    let too = end_too networks office (compact office) events agree (compact_agrees office agree) (compact_forgets office agree) fit in
+no_answer_changes networks office events agree names can =
+    let too = end_too networks office office (compact office) events agree (compact_agrees office agree) (compact_forgets office agree) names can in
     record { refused = too.refused; after = too.forgets.alike }
+
+-- ---- closed orders
+
+-- two offices that are alike, of which the one has a closed order of this name
+record HasClosed (id : List ℕ) (one other : Office) : Type 0 where
+  alike : AreAlike one other
+  closed : IsClosed one id
+
+closed_changed : (b : Bool) (f : OrderRowValue → OrderRowValue) (o : Option OrderRowValue) → KeepsClosed f → IsSomeAnd o (λ row. is_open row ≡ false) → IsSomeAnd (cond b (option_map f o) o) (λ row. is_open row ≡ false)
+closed_changed b f None keeps h = absurd h
+closed_changed true f (Some row) keeps h = keeps row h
+closed_changed false f (Some row) keeps h = h
+
+none_closed : (o : Option OrderRowValue) → o ≡ None → IsSomeAnd o (λ row. is_open row ≡ false) → ⊥
+none_closed None e h = h
+none_closed (Some row) e h = cc e
+
+closed_pushed : (id : List ℕ) (new : OrderRowValue) (rows : List OrderRowValue) (b : Bool) → same id new.text.id ≡ b → order_in rows new.text.id ≡ None → IsSomeAnd (order_in rows id) (λ row. is_open row ≡ false)
+    → IsSomeAnd (cond b (Some new) (order_in rows id)) (λ row. is_open row ≡ false)
+closed_pushed id new rows true is none h = absurd (none_closed (order_in rows id) (ap (order_in rows) (same_is id new.text.id is) ∙ none) h)
+closed_pushed id new rows false is none h = h
+
+closed_lasts : (id : List ℕ) → Lasts (HasClosed id)
+closed_lasts id = record {
+  alike = λ one other h. h.alike;
+  moves = λ one other f h. record { alike = alike_lasts.moves one other f h.alike; closed = h.closed };
+  changes = λ one other n f names keeps h. record {
+    alike = alike_lasts.changes one other n f names keeps h.alike;
+    closed = subst (λ (o : Option OrderRowValue). IsSomeAnd o (λ row. is_open row ≡ false)) (sym (order_in-at n f (λ row e. names row) one.orders id))
+        (closed_changed (same n id) f (order_in one.orders id) keeps h.closed);
+  };
+  places = λ one other text new new' h. record {
+    alike = alike_lasts.places one other text new new' h.alike;
+    closed = subst (λ (o : Option OrderRowValue). IsSomeAnd o (λ row. is_open row ≡ false)) (sym (order_in-push one.orders (placed_row text) id new))
+        (closed_pushed id (placed_row text) one.orders (same id text.id) refl new h.closed);
+  };
+  revises = λ one other network h. record { alike = alike_lasts.revises one other network h.alike; closed = h.closed };
+}
+
+find_itself : (office : Office) (event : Event) → FindTheSame office office event
+find_itself office (Message m) = tt
+find_itself office (Place text) = refl
+find_itself office (Withdraw id) = refl
+find_itself office (Commit commit) = tt
+find_itself office (Revise network) = tt
+
+closed_after : (networks : ℕ) (office : Office) (event : Event) (new : Office) (id : List ℕ) → Steps networks office event new → PromisesAgree office → IsClosed office id → IsClosed new id
+closed_after networks office event new id step agree closed =
+    let R = HasClosed id in
+    let both : GiveBy R (after_call networks office event) (after_call networks office event) =
+    event_same R (closed_lasts id) networks office office event agree agree (find_itself office event) (record { alike = refl; closed = closed }) in
+    let one : GiveBy R (Ok new) (after_call networks office event) = subst (λ (r : Result Office ApplyFault). GiveBy R r (after_call networks office event)) step.1 both in
+    (ok_too R new (after_call networks office event) one).relates.closed
+
+pub closed_stay : ClosedStayClosed
+closed_stay networks office [] after agree leads id closed = subst (λ (o : Office). IsClosed o id) (sym leads) closed
+closed_stay networks office (event ∷ events) after agree leads id closed =
+    closed_stay networks leads.0 events after (step_kept networks office event leads.0 leads.1 agree).promises leads.2 id (closed_after networks office event leads.0 id leads.1 agree closed)

@@ -1,5 +1,6 @@
 -- What an office keeps that forgets its closed orders: all that it shows, and every later answer.
-use Rattle.std.specs.Prelude.{◌≡◌, ◌↔◌, ℕ, true, List, [], ◌∷◌, ◌++◌, Option, Result, Ok, Err, IfSome}
+use Rattle.std.specs.Prelude.{◌≡◌, ◌↔◌, ℕ, true, false, List, [], ◌∷◌, ◌++◌, Option, Result, Ok, Err, IfSome, All}
+use Rattle.std.specs.Option.{IsSomeAnd}
 use Rattle.std.specs.List.{filter, fold}
 use Rattle.std.specs.Result.{result_err, result_unwrap_or}
 use Rattle.wagons_and_orders.specs.Lack.{is_open}
@@ -53,7 +54,10 @@ AlikeShowTheSame = (one other : Office) → PromisesAgree one → PromisesAgree 
 
 -- ---- what one event does to two offices
 
--- no closed order has this name
+-- the order of this name is closed; no closed order has it
+abbrev pub IsClosed : Office → (id : List ℕ) → Type 0
+IsClosed office id = IsSomeAnd (order_in office.orders id) (λ row. is_open row ≡ false)
+
 abbrev pub IsNoneClosed : Office → (id : List ℕ) → Type 0
 IsNoneClosed office id = IfSome (order_in office.orders id) (λ row. is_open row ≡ true)
 
@@ -81,19 +85,20 @@ AlikeAnswerTheSame =
 
 -- ---- events, one after the other
 
--- none of these events names an order that is closed in the office to which it happens
-abbrev pub NeverNameClosed : (networks : ℕ) → Office → List Event → Type 0
-NeverNameClosed networks office events =
-    (before : List Event) (event : Event) (later : List Event) (there : Office) → events ≡ before ++ event ∷ later → Leads networks office before there → NamesNoneClosed there event
+-- an order that is closed stays so, whatever happens
+abbrev pub ClosedStayClosed : Type 0
+ClosedStayClosed =
+    (networks : ℕ) (office : Office) (events : List Event) (after : Office) → PromisesAgree office → Leads networks office events after → (id : List ℕ) → IsClosed office id → IsClosed after id
 
 -- the events lead to an office that is like this one
 abbrev pub LeadsAlike : (networks : ℕ) → Office → List Event → Office → Type 0
 LeadsAlike networks office events after = (other : Office) × Leads networks office events other × AreAlike after other
 
--- where events lead to an office, they lead to one like it from the office without its closed orders
+-- Where events lead to an office, they lead to one like it from the office without its closed orders. They may name an
+-- order that is open now and closed by then, since both know it.
 abbrev pub NothingIsLost : Type 0
 NothingIsLost =
-    (networks : ℕ) (office : Office) (events : List Event) (after : Office) → PromisesAgree office → Leads networks office events after → NeverNameClosed networks office events
+    (networks : ℕ) (office : Office) (events : List Event) (after : Office) → PromisesAgree office → All (NamesNoneClosed office) events → Leads networks office events after
     → LeadsAlike networks (compact office) events after
 
 -- ---- the same, where some of the events are refused
@@ -110,15 +115,10 @@ abbrev pub refusals : (networks : ℕ) → Office → List Event → List (Optio
 refusals networks office [] = []
 refusals networks office (event ∷ events) = result_err (after_call networks office event) ∷ refusals networks (after_event networks office event) events
 
--- a commit can be promised, and no closed order is named
-pub record IsFit (office : Office) (event : Event) : Type 0 where
-  pub promised : IsPromised office event
-  pub none_closed : NamesNoneClosed office event
-
--- each of these events is so in the office to which it happens
-abbrev pub AreFit : (networks : ℕ) → Office → List Event → Type 0
-AreFit networks office events =
-    (before : List Event) (event : Event) (later : List Event) → events ≡ before ++ event ∷ later → IsFit (after_events networks office before) event
+-- each commit can be promised in the office to which it happens
+abbrev pub ArePromised : (networks : ℕ) → Office → List Event → Type 0
+ArePromised networks office events =
+    (before : List Event) (event : Event) (later : List Event) → events ≡ before ++ event ∷ later → IsPromised (after_events networks office before) event
 
 -- two offices refuse the same events for the same reasons, and are alike after them
 pub record EndTheSame (networks : ℕ) (one other : Office) (events : List Event) : Type 0 where
@@ -127,4 +127,5 @@ pub record EndTheSame (networks : ℕ) (one other : Office) (events : List Event
 
 abbrev pub NoAnswerChanges : Type 0
 NoAnswerChanges =
-    (networks : ℕ) (office : Office) (events : List Event) → PromisesAgree office → AreFit networks office events → EndTheSame networks office (compact office) events
+    (networks : ℕ) (office : Office) (events : List Event) → PromisesAgree office → All (NamesNoneClosed office) events → ArePromised networks office events
+    → EndTheSame networks office (compact office) events

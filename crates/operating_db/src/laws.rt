@@ -2,6 +2,7 @@
 ghost use Rattle.operating_db.specs.CompactLaws.{
   AlikeAnswerTheSame,
   AlikeShowTheSame,
+  ClosedStayClosed,
   CompactAgrees,
   CompactBegins,
   CompactIsAlike,
@@ -24,13 +25,14 @@ pub fn events_keep_offices()
 ///
 /// A book may begin with what is left of the office where it may begin with the office. Both show the same: wagons,
 /// network, open orders, the problem at each moment. Whatever events follow, each is answered alike, and the offices
-/// stay alike, as long as no event names an order that is closed in the office to which it happens.
+/// stay alike, as long as no event names an order that was left out. A closed order stays closed.
 pub fn nothing_is_lost()
     ensures agrees { CompactAgrees }
     ensures begins { CompactBegins }
     ensures alike { CompactIsAlike }
     ensures shown { AlikeShowTheSame }
     ensures answers { AlikeAnswerTheSame }
+    ensures closed { ClosedStayClosed }
     ensures runs { NothingIsLost }
     ensures refused { NoAnswerChanges }
 {}
