@@ -2,10 +2,8 @@
 use Rattle.std.proofs.Common.{◌≡◌, ◌∙◌, ℕ, Bool, true, false, cond, List, [], ◌∷◌, ◌++◌, refl, ap, sym, subst}
 use Rattle.std.specs.Prelude.{Option, Some, None, option_map, Result, Ok, Err, All}
 use Rattle.std.specs.Option.{IsSomeAnd}
-use Rattle.std.specs.List.{filter}
 use Rattle.std.specs.Result.{result_err, result_unwrap_or}
 use Rattle.std.proofs.lemmas.List.Elements.{All-head, All-tail}
-use Rattle.std.proofs.lemmas.Map.Entries.{option_filter}
 use Rattle.faults.specs.declared.faults.ApplyFault.{ApplyFault}
 use Rattle.move_messages.specs.declared.event.Event.{Event}
 use Rattle.move_messages.specs.declared.event.Event.TheVariants.{Message, Place, Withdraw, Commit, Revise}
@@ -15,7 +13,7 @@ use Rattle.fleet_rows.specs.Rows.{at_order, order_in}
 use Rattle.fleet_rows.proofs.Orders.{order_in-push}
 use Rattle.operating_db.specs.After.{after_call}
 use Rattle.operating_db.specs.Compact.{compact}
-use Rattle.operating_db.specs.CompactLaws.{AreAlike, ArePromised, ClosedStayClosed, EndTheSame, IsClosed, IsNoneClosed, LeadsAlike, NamesNoneClosed, NoAnswerChanges, NothingIsLost, after_event, after_events, refusals}
+use Rattle.operating_db.specs.CompactLaws.{AreAlike, ArePromised, ClosedStayClosed, IsClosed, IsNoneClosed, NamesNoneClosed, NoAnswerChanges, NothingIsAdded, NothingIsLost, after_event, after_events, refusals}
 use Rattle.operating_db.specs.Laws.{Leads, Steps}
 use Rattle.operating_db.specs.Office.{Office}
 use Rattle.operating_db.specs.Promises.{PromisesAgree}
@@ -27,9 +25,9 @@ use Rattle.operating_db.proofs.Events.{step_kept}
 use Rattle.operating_db.proofs.Lookups.{order_in-at}
 use Rattle.operating_db.proofs.Names.{same, same_is}
 
--- ---- an office that has forgotten the closed orders of the first one
+-- ---- offices that know the same orders, apart from the closed ones of a first office
 
--- the one goes on from the first office with all its orders, the other without those closed there
+-- two offices that are alike, and find the same order under each name that no closed order of the first one has
 pub record Forgets (first one other : Office) : Type 0 where
   pub alike : AreAlike one other
   pub others : (id : List ℕ) → IsNoneClosed first id → order_in one.orders id ≡ order_in other.orders id
@@ -65,6 +63,10 @@ compact_forgets office h = record {
   alike = (compact_alike office).0;
   others = λ id none. sym (order_in_open office.orders id h.names ∙ all_where_open (order_in office.orders id) none);
 }
+
+-- the same, seen from the other office
+turned : (office other : Office) → Forgets office office other → Forgets office other office
+turned office other h = record { alike = sym h.alike; others = λ id none. sym (h.others id none) }
 
 find_others : (first one other : Office) (event : Event) → Forgets first one other → NamesNoneClosed first event → FindTheSame one other event
 find_others first one other (Message m) forgets names = tt
@@ -116,6 +118,11 @@ leads_too networks first one other (event ∷ events) after h g forgets names le
 pub nothing_lost : NothingIsLost
 nothing_lost networks office events after agree names leads =
     let too = leads_too networks office office (compact office) events after agree (compact_agrees office agree) (compact_forgets office agree) names leads in
+    (too.last, too.leads, too.forgets.alike)
+
+pub nothing_added : NothingIsAdded
+nothing_added networks office events after agree names leads =
+    let too = leads_too networks office (compact office) office events after (compact_agrees office agree) agree (turned office (compact office) (compact_forgets office agree)) names leads in
     (too.last, too.leads, too.forgets.alike)
 
 -- ---- events of which some are refused

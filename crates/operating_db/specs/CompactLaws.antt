@@ -54,10 +54,11 @@ AlikeShowTheSame = (one other : Office) → PromisesAgree one → PromisesAgree 
 
 -- ---- what one event does to two offices
 
--- the order of this name is closed; no closed order has it
+-- the order of this name is closed
 abbrev pub IsClosed : Office → (id : List ℕ) → Type 0
 IsClosed office id = IsSomeAnd (order_in office.orders id) (λ row. is_open row ≡ false)
 
+-- no closed order has this name
 abbrev pub IsNoneClosed : Office → (id : List ℕ) → Type 0
 IsNoneClosed office id = IfSome (order_in office.orders id) (λ row. is_open row ≡ true)
 
@@ -80,15 +81,16 @@ pub record AnswerTheSame (networks : ℕ) (one other : Office) (event : Event) :
 
 abbrev pub AlikeAnswerTheSame : Type 0
 AlikeAnswerTheSame =
-    (networks : ℕ) (one other : Office) (event : Event) → PromisesAgree one → PromisesAgree other → AreAlike one other → NamesNoneClosed one event → NamesNoneClosed other event
-    → AnswerTheSame networks one other event
+    (networks : ℕ) (one other : Office) (event : Event) → PromisesAgree one → PromisesAgree other → AreAlike one other
+    → NamesNoneClosed one event → NamesNoneClosed other event → AnswerTheSame networks one other event
 
 -- ---- events, one after the other
 
 -- an order that is closed stays so, whatever happens
 abbrev pub ClosedStayClosed : Type 0
 ClosedStayClosed =
-    (networks : ℕ) (office : Office) (events : List Event) (after : Office) → PromisesAgree office → Leads networks office events after → (id : List ℕ) → IsClosed office id → IsClosed after id
+    (networks : ℕ) (office : Office) (events : List Event) (after : Office) → PromisesAgree office → Leads networks office events after
+    → (id : List ℕ) → IsClosed office id → IsClosed after id
 
 -- the events lead to an office that is like this one
 abbrev pub LeadsAlike : (networks : ℕ) → Office → List Event → Office → Type 0
@@ -98,8 +100,14 @@ LeadsAlike networks office events after = (other : Office) × Leads networks off
 -- order that is open now and closed by then, since both know it.
 abbrev pub NothingIsLost : Type 0
 NothingIsLost =
-    (networks : ℕ) (office : Office) (events : List Event) (after : Office) → PromisesAgree office → All (NamesNoneClosed office) events → Leads networks office events after
-    → LeadsAlike networks (compact office) events after
+    (networks : ℕ) (office : Office) (events : List Event) (after : Office) → PromisesAgree office → All (NamesNoneClosed office) events
+    → Leads networks office events after → LeadsAlike networks (compact office) events after
+
+-- the other way round: what happens to the office without its closed orders could have happened to the whole one
+abbrev pub NothingIsAdded : Type 0
+NothingIsAdded =
+    (networks : ℕ) (office : Office) (events : List Event) (after : Office) → PromisesAgree office → All (NamesNoneClosed office) events
+    → Leads networks (compact office) events after → LeadsAlike networks office events after
 
 -- ---- the same, where some of the events are refused
 
@@ -127,5 +135,5 @@ pub record EndTheSame (networks : ℕ) (one other : Office) (events : List Event
 
 abbrev pub NoAnswerChanges : Type 0
 NoAnswerChanges =
-    (networks : ℕ) (office : Office) (events : List Event) → PromisesAgree office → All (NamesNoneClosed office) events → ArePromised networks office events
-    → EndTheSame networks office (compact office) events
+    (networks : ℕ) (office : Office) (events : List Event) → PromisesAgree office → All (NamesNoneClosed office) events
+    → ArePromised networks office events → EndTheSame networks office (compact office) events

@@ -7,6 +7,7 @@ ghost use Rattle.operating_db.specs.CompactLaws.{
   CompactBegins,
   CompactIsAlike,
   NoAnswerChanges,
+  NothingIsAdded,
   NothingIsLost,
 };
 ghost use Rattle.operating_db.specs.Laws.{EventsKeepOffices, RostersBegin};
@@ -34,5 +35,6 @@ pub fn nothing_is_lost()
     ensures answers { AlikeAnswerTheSame }
     ensures closed { ClosedStayClosed }
     ensures runs { NothingIsLost }
+    ensures back { NothingIsAdded }
     ensures refused { NoAnswerChanges }
 {}
