@@ -28,7 +28,7 @@ use Rattle.operating_db.proofs.Names.{same, same_is}
 -- ---- offices that know the same orders, apart from the closed ones of a first office
 
 -- two offices that are alike, and find the same order under each name that no closed order of the first one has
-pub record Forgets (first one other : Office) : Type 0 where
+pub record KnowTheRest (first one other : Office) : Type 0 where
   pub alike : AreAlike one other
   pub others : (id : List ℕ) → IsNoneClosed first id → order_in one.orders id ≡ order_in other.orders id
 
@@ -43,8 +43,8 @@ push_same : (q : List ℕ) (new : OrderRowValue) (rows others : List OrderRowVal
 push_same q new rows others none none' is =
     order_in-push rows new q none ∙ (ap (λ (o : Option OrderRowValue). cond (same q new.text.id) (Some new) o) is ∙ sym (order_in-push others new q none'))
 
-forgets_lasts : (first : Office) → Lasts (Forgets first)
-forgets_lasts first = record {
+rest_lasts : (first : Office) → Lasts (KnowTheRest first)
+rest_lasts first = record {
   alike = λ one other h. h.alike;
   moves = λ one other f h. record { alike = alike_lasts.moves one other f h.alike; others = h.others };
   changes = λ one other id f names keeps h. record {
@@ -58,26 +58,26 @@ forgets_lasts first = record {
   revises = λ one other network h. record { alike = alike_lasts.revises one other network h.alike; others = h.others };
 }
 
-compact_forgets : (office : Office) → PromisesAgree office → Forgets office office (compact office)
-compact_forgets office h = record {
+compact_knows : (office : Office) → PromisesAgree office → KnowTheRest office office (compact office)
+compact_knows office h = record {
   alike = (compact_alike office).0;
   others = λ id none. sym (order_in_open office.orders id h.names ∙ all_where_open (order_in office.orders id) none);
 }
 
 -- the same, seen from the other office
-turned : (office other : Office) → Forgets office office other → Forgets office other office
+turned : (office other : Office) → KnowTheRest office office other → KnowTheRest office other office
 turned office other h = record { alike = sym h.alike; others = λ id none. sym (h.others id none) }
 
-find_others : (first one other : Office) (event : Event) → Forgets first one other → NamesNoneClosed first event → FindTheSame one other event
-find_others first one other (Message m) forgets names = tt
-find_others first one other (Place text) forgets names = forgets.others text.id names
-find_others first one other (Withdraw id) forgets names = forgets.others id names
-find_others first one other (Commit commit) forgets names = tt
-find_others first one other (Revise network) forgets names = tt
+find_others : (first one other : Office) (event : Event) → KnowTheRest first one other → NamesNoneClosed first event → FindTheSame one other event
+find_others first one other (Message m) known names = tt
+find_others first one other (Place text) known names = known.others text.id names
+find_others first one other (Withdraw id) known names = known.others id names
+find_others first one other (Commit commit) known names = tt
+find_others first one other (Revise network) known names = tt
 
-both_answer : (networks : ℕ) (first one other : Office) (event : Event) → PromisesAgree one → PromisesAgree other → NamesNoneClosed first event → Forgets first one other
-    → GiveBy (Forgets first) (after_call networks one event) (after_call networks other event)
-both_answer networks first one other event h g names forgets = event_same (Forgets first) (forgets_lasts first) networks one other event h g (find_others first one other event forgets names) forgets
+both_answer : (networks : ℕ) (first one other : Office) (event : Event) → PromisesAgree one → PromisesAgree other → NamesNoneClosed first event → KnowTheRest first one other
+    → GiveBy (KnowTheRest first) (after_call networks one event) (after_call networks other event)
+both_answer networks first one other event h g names known = event_same (KnowTheRest first) (rest_lasts first) networks one other event h g (find_others first one other event known names) known
 
 -- ---- events that are accepted
 
@@ -95,35 +95,35 @@ ok_too R one (Err fault) h = absurd h
 record LeadsToo (networks : ℕ) (first other : Office) (events : List Event) (after : Office) : Type 0 where
   last : Office
   leads : Leads networks other events last
-  forgets : Forgets first after last
+  known : KnowTheRest first after last
 
-leads_too : (networks : ℕ) (first one other : Office) (events : List Event) (after : Office) → PromisesAgree one → PromisesAgree other → Forgets first one other → All (NamesNoneClosed first) events → Leads networks one events after
+leads_too : (networks : ℕ) (first one other : Office) (events : List Event) (after : Office) → PromisesAgree one → PromisesAgree other → KnowTheRest first one other → All (NamesNoneClosed first) events → Leads networks one events after
     → LeadsToo networks first other events after
-leads_too networks first one other [] after h g forgets names leads = record {
+leads_too networks first one other [] after h g known names leads = record {
   last = other;
   leads = refl;
-  forgets = subst (λ (office : Office). Forgets first office other) (sym leads) forgets;
+  known = subst (λ (office : Office). KnowTheRest first office other) (sym leads) known;
 }
-leads_too networks first one other (event ∷ events) after h g forgets names leads =
+leads_too networks first one other (event ∷ events) after h g known names leads =
     let next = leads.0 in
     let named : NamesNoneClosed first event = All-head (NamesNoneClosed first) event events names in
-    let both : GiveBy (Forgets first) (Ok next) (after_call networks other event) =
-    subst (λ (r : Result Office ApplyFault). GiveBy (Forgets first) r (after_call networks other event)) leads.1.1 (both_answer networks first one other event h g named forgets) in
-    let too = ok_too (Forgets first) next (after_call networks other event) both in
-    let step : Steps networks other event too.other = (promised_on one other event h g forgets.alike leads.1.0, too.ok) in
+    let both : GiveBy (KnowTheRest first) (Ok next) (after_call networks other event) =
+    subst (λ (r : Result Office ApplyFault). GiveBy (KnowTheRest first) r (after_call networks other event)) leads.1.1 (both_answer networks first one other event h g named known) in
+    let too = ok_too (KnowTheRest first) next (after_call networks other event) both in
+    let step : Steps networks other event too.other = (promised_on one other event h g known.alike leads.1.0, too.ok) in
     let rest = leads_too networks first next too.other events after (step_kept networks one event next leads.1 h).promises (step_kept networks other event too.other step g).promises too.relates
     (All-tail (NamesNoneClosed first) event events names) leads.2 in
-    record { last = rest.last; leads = (too.other, step, rest.leads); forgets = rest.forgets }
+    record { last = rest.last; leads = (too.other, step, rest.leads); known = rest.known }
 
 pub nothing_lost : NothingIsLost
 nothing_lost networks office events after agree names leads =
-    let too = leads_too networks office office (compact office) events after agree (compact_agrees office agree) (compact_forgets office agree) names leads in
-    (too.last, too.leads, too.forgets.alike)
+    let too = leads_too networks office office (compact office) events after agree (compact_agrees office agree) (compact_knows office agree) names leads in
+    (too.last, too.leads, too.known.alike)
 
 pub nothing_added : NothingIsAdded
 nothing_added networks office events after agree names leads =
-    let too = leads_too networks office (compact office) office events after (compact_agrees office agree) agree (turned office (compact office) (compact_forgets office agree)) names leads in
-    (too.last, too.leads, too.forgets.alike)
+    let too = leads_too networks office (compact office) office events after (compact_agrees office agree) agree (turned office (compact office) (compact_knows office agree)) names leads in
+    (too.last, too.leads, too.known.alike)
 
 -- ---- events of which some are refused
 
@@ -151,31 +151,31 @@ cons_same first second faults faults' e f = cc
 
 record EndToo (networks : ℕ) (first one other : Office) (events : List Event) : Type 0 where
   refused : refusals networks one events ≡ refusals networks other events
-  forgets : Forgets first (after_events networks one events) (after_events networks other events)
+  known : KnowTheRest first (after_events networks one events) (after_events networks other events)
 
-end_too : (networks : ℕ) (first one other : Office) (events : List Event) → PromisesAgree one → PromisesAgree other → Forgets first one other → All (NamesNoneClosed first) events → ArePromised networks one events
+end_too : (networks : ℕ) (first one other : Office) (events : List Event) → PromisesAgree one → PromisesAgree other → KnowTheRest first one other → All (NamesNoneClosed first) events → ArePromised networks one events
     → EndToo networks first one other events
-end_too networks first one other [] h g forgets names can = record { refused = refl; forgets = forgets }
-end_too networks first one other (event ∷ events) h g forgets names can =
+end_too networks first one other [] h g known names can = record { refused = refl; known = known }
+end_too networks first one other (event ∷ events) h g known names can =
     let answer = after_call networks one event in
     let answer' = after_call networks other event in
     let named : NamesNoneClosed first event = All-head (NamesNoneClosed first) event events names in
     let promised : IsPromised one event = can [] event events refl in
-    let both = both_answer networks first one other event h g named forgets in
+    let both = both_answer networks first one other event h g named known in
     let next = after_event networks one event in
     let next' = after_event networks other event in
-    let rest = end_too networks first next next' events (agree_after networks one event promised h) (agree_after networks other event (promised_on one other event h g forgets.alike promised) g)
-    (next_by (Forgets first) one other answer answer' both forgets) (All-tail (NamesNoneClosed first) event events names)
+    let rest = end_too networks first next next' events (agree_after networks one event promised h) (agree_after networks other event (promised_on one other event h g known.alike promised) g)
+    (next_by (KnowTheRest first) one other answer answer' both known) (All-tail (NamesNoneClosed first) event events names)
     (λ before later more is. can (event ∷ before) later more (ap (λ (es : List Event). event ∷ es) is)) in
     record {
-      refused = cons_same (result_err answer) (result_err answer') (refusals networks next events) (refusals networks next' events) (refused_by (Forgets first) answer answer' both) rest.refused;
-      forgets = rest.forgets;
+      refused = cons_same (result_err answer) (result_err answer') (refusals networks next events) (refusals networks next' events) (refused_by (KnowTheRest first) answer answer' both) rest.refused;
+      known = rest.known;
     }
 
 pub no_answer_changes : NoAnswerChanges
 no_answer_changes networks office events agree names can =
-    let too = end_too networks office office (compact office) events agree (compact_agrees office agree) (compact_forgets office agree) names can in
-    record { refused = too.refused; after = too.forgets.alike }
+    let too = end_too networks office office (compact office) events agree (compact_agrees office agree) (compact_knows office agree) names can in
+    record { refused = too.refused; after = too.known.alike }
 
 -- ---- closed orders
 
