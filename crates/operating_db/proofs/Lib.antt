@@ -6,6 +6,7 @@ pub mod CompactOffices
 pub mod CompactRows
 pub mod CompactRuns
 pub mod Events
+pub mod FleetChange
 pub mod FreeCounts
 pub mod KeptOrders
 pub mod Lookups

@@ -7,6 +7,7 @@ pub mod Laws
 pub mod Office
 pub mod Problem
 pub mod FirstOffice
+pub mod FleetChange
 pub mod FreeCount
 pub mod Promises
 pub mod State

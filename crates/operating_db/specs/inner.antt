@@ -1,3 +1,4 @@
 -- What only the proofs and the private functions of this crate need.
 pub mod EventParts
 pub mod Walks
+pub mod FleetMaps

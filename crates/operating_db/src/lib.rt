@@ -1,13 +1,14 @@
 //! The operating database: what each event does to the office.
 #![tactic(auto)]
 
+mod fleet_change;
 mod laws;
 mod lists;
 mod office_state;
 mod pair_counts;
 mod promises;
 
-pub use faults::ApplyFault;
+pub use faults::{ApplyFault, FleetFault};
 pub use fleet_rows::{Roster, RosterFault};
 pub use laws::{events_keep_offices, nothing_is_lost};
 pub use office_state::OfficeState;

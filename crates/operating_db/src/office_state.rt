@@ -98,6 +98,24 @@ impl OfficeState {
         })
     }
 
+    /// The office with these rows of wagons in place of its own. The promises must still agree.
+    pub(crate) fn with_wagons(
+        &self,
+        alloc: Global,
+        rows: &[WagonRow],
+    ) -> Result<OfficeState, AllocError>
+        requires valid { IsWagonRows rows.now }
+        requires agree { PromisesAgree (record self.now.office { wagons = rows.now }) }
+        ensures { IfOk result (λ state. state ≡ record self.now { office = record self.now.office { wagons = rows.now } }) }
+    {
+        Ok(OfficeState {
+            wagons: WagonRows::from_rows(alloc, rows)?,
+            orders: self.orders.copy(alloc)?,
+            network: self.network,
+            networks: self.networks,
+        })
+    }
+
     /// The row of a wagon. Takes no memory.
     pub fn wagon(&self, number: WagonNumber) -> Option<&WagonRow>
         ensures { option_copied result ≡ wagon_in self.now.office.wagons number }
