@@ -112,7 +112,7 @@ fn leaving_fault(
 
 /// Whether a wagon of this row may leave: it is there, and not promised.
 fn may_leave(row: Option<&WagonRow>) -> bool
-    ensures { result ≡ may_leave (option_copied row) }
+    ensures { result ≡ may_leave (option_copied row.entry) }
 {
     match row {
         Some(row) => row.promise.is_none(),
