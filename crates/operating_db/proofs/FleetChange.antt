@@ -10,7 +10,7 @@ use Rattle.std.specs.Ordering.{is_eq, nat_cmp}
 use Rattle.std.specs.declared.cmp.Ordering.TheVariants.{Less}
 use Rattle.std.proofs.lemmas.Bool.{cases_Bool}
 use Rattle.std.proofs.lemmas.Cmp.{nat_list_cmp_total}
-use Rattle.std.proofs.lemmas.List.{take-append-drop, take_more}
+use Rattle.std.proofs.lemmas.List.{take-append-drop, take_all, take_more}
 use Rattle.std.proofs.lemmas.List.Elements.{All-tail}
 use Rattle.std.proofs.lemmas.List.Folds.{find-append, find_at, list_any_more}
 use Rattle.std.proofs.lemmas.Map.Views.{All-found}
@@ -22,7 +22,7 @@ use Rattle.fleet_rows.specs.Kept.{IsWagonRows, by_number, compare_numbers, max_r
 use Rattle.fleet_rows.specs.Roster.{IsRoster, IsRosterRow}
 use Rattle.fleet_rows.specs.Rows.{is_wagon, wagon_in}
 use Rattle.fleet_rows.proofs.Wagons.{IsWagonRows-roster, light_at, number-wagon_in, wagon_in-there}
-use Rattle.operating_db.specs.FleetChange.{AreRowsOf, IsFleetAfter, RowOf, adding_fault, fault_of_leaver, fleet_fault, is_promised, leaving_fault, may_leave, row_with, row_without}
+use Rattle.operating_db.specs.FleetChange.{AreRowsOf, IsFleetAfter, IsFleetRefusal, RowOf, adding_fault, fault_of_leaver, fleet_fault, is_promised, leaving_fault, may_leave, row_with, row_without}
 use Rattle.operating_db.specs.Office.{Office}
 use Rattle.operating_db.specs.Promises.{PromisesAgree, is_among, is_promise_to, promise_of}
 use Rattle.operating_db.specs.inner.FleetMaps.{AreOwnRows, ArePut}
@@ -254,3 +254,53 @@ fault_by row_of other (number ∷ leaving) same = rw (same number) (by_test (not
     by_test : (b : Bool) → leaving_fault row_of leaving ≡ leaving_fault other leaving → option_map (λ n. fault_of_leaver n (row_of n)) (cond b (Some number) (find (λ n. not (may_leave (row_of n))) leaving)) ≡ option_map (λ n. fault_of_leaver n (other n)) (cond b (Some number) (find (λ n. not (may_leave (other n))) leaving))
     by_test true rest = ap (λ o. Some (fault_of_leaver number o)) (same number)
     by_test false rest = rest
+
+-- ---- the whole change
+
+-- what is left of a map once the wagons have left
+pub left_rows : (fleet : BTreeMap (List ℕ) WagonRow) (start : RowOf) (leaving : List (List ℕ)) (k : ℕ) → length leaving ≤ k → IsOrdered compare_numbers fleet → AreOwnRows start
+    → ((number : List ℕ) → get compare_numbers fleet number ≡ row_without start (take k leaving) number) → AreRowsOf (row_without start leaving) (values fleet)
+left_rows fleet start leaving k done ordered own so =
+    let same : (number : List ℕ) → get compare_numbers fleet number ≡ row_without start leaving number = λ number. so number ∙ ap (λ gone. row_without start gone number) (take_all k leaving done) in
+    let owned : AreOwnRows (get compare_numbers fleet) = λ number. subst (λ (o : Option WagonRow). IfSome o (λ row. row.number ≡ number)) (sym (same number)) (own_without start leaving own number) in
+    same_rows (get compare_numbers fleet) (row_without start leaving) (values fleet) same (map_rows fleet ordered owned)
+
+pub own_by : (row_of : RowOf) (rows added : List WagonRow) → ((number : List ℕ) → row_of number ≡ row_with rows added number) → AreOwnRows row_of
+own_by row_of rows added same number = subst (λ (o : Option WagonRow). IfSome o (λ row. row.number ≡ number)) (sym (same number)) (own_rows rows added number)
+
+pub none_by : {X : Type 0} (o : Option X) → ((x : X) → o ≡ Some x → ⊥) → o ≡ None
+none_by None h = refl
+none_by (Some x) h = absurd (h x refl)
+
+pub record IsChanged (rows added : List WagonRow) (leaving : List (List ℕ)) (changed : List WagonRow) : Type 0 where
+  pub no_fault : fleet_fault rows added leaving ≡ None
+  pub fleet : IsFleetAfter rows added leaving changed
+
+none_first : {X : Type 0} (o p q : Option X) → o ≡ None → p ≡ q → option_or o p ≡ q
+none_first None p q h e = e
+none_first (Some x) p q h e = cc h
+
+pub changed_by : (rows added : List WagonRow) (leaving : List (List ℕ)) (row_of : RowOf) (changed : List WagonRow) → adding_fault rows added ≡ None → ((number : List ℕ) → row_of number ≡ row_with rows added number) → leaving_fault row_of leaving ≡ None
+    → AreRowsOf (row_without row_of leaving) changed → IsChanged rows added leaving changed
+changed_by rows added leaving row_of changed none same stays fleet = record {
+  no_fault = none_first (adding_fault rows added) (leaving_fault (row_with rows added) leaving) None none (sym (fault_by row_of (row_with rows added) leaving same) ∙ stays);
+  fleet = same_rows (row_without row_of leaving) (row_without (row_with rows added) leaving) changed (λ number. ap (λ o. cond (is_among number leaving) None o) (same number)) fleet;
+}
+
+leaver_refused : (rows added : List WagonRow) (leaving : List (List ℕ)) (number : List ℕ) (row : Option WagonRow) → fleet_fault rows added leaving ≡ Some (fault_of_leaver number row) → IsFleetRefusal rows added leaving (fault_of_leaver number row)
+leaver_refused rows added leaving number None h = h
+leaver_refused rows added leaving number (Some row) h = h
+
+refused_at : (rows added : List WagonRow) (leaving : List (List ℕ)) (row_of : RowOf) (found : Option (List ℕ)) (fault : FleetFault) → option_map (λ number. fault_of_leaver number (row_of number)) found ≡ Some fault → fleet_fault rows added leaving ≡ Some fault
+    → IsFleetRefusal rows added leaving fault
+refused_at rows added leaving row_of None fault h e = cc h
+refused_at rows added leaving row_of (Some number) fault h e =
+    let same : fault_of_leaver number (row_of number) ≡ fault = cc h in
+    subst (IsFleetRefusal rows added leaving) same (leaver_refused rows added leaving number (row_of number) (e ∙ ap Some (sym same)))
+
+-- a wagon that may not leave refuses the change
+pub leaving_refused : (rows added : List WagonRow) (leaving : List (List ℕ)) (row_of : RowOf) (fault : FleetFault) → adding_fault rows added ≡ None → ((number : List ℕ) → row_of number ≡ row_with rows added number) → leaving_fault row_of leaving ≡ Some fault
+    → IsFleetRefusal rows added leaving fault
+leaving_refused rows added leaving row_of fault none same h =
+    let first = none_first (adding_fault rows added) (leaving_fault (row_with rows added) leaving) (Some fault) none (sym (fault_by row_of (row_with rows added) leaving same) ∙ h) in
+    refused_at rows added leaving row_of _ fault h first

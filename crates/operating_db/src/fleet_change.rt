@@ -4,7 +4,7 @@ ghost use Rattle.std.specs.BTreeMap.{get};
 ghost use Rattle.fleet_rows.specs.Kept.{compare_numbers, IsWagonRows};
 ghost use Rattle.fleet_rows.specs.Roster.{IsRoster};
 ghost use Rattle.fleet_rows.specs.Rows.{wagon_in};
-ghost use Rattle.operating_db.specs.FleetChange.{AreRowsOf, IsFleetRefusal, IsWithFleet, adding_fault, is_promised, leaving_fault, may_leave, row_with, row_without};
+ghost use Rattle.operating_db.specs.FleetChange.{AreRowsOf, IsFleetRefusal, IsWithFleet, adding_fault, fault_of_leaver, is_promised, leaving_fault, may_leave, row_with, row_without};
 ghost use Rattle.operating_db.specs.inner.FleetMaps.{AreOwnRows, ArePut};
 
 use crate::{FleetFault, OfficeState};
@@ -101,22 +101,27 @@ fn leaving_fault(
 ) -> Option<FleetFault>
     ensures { result ≡ leaving_fault (get compare_numbers fleet.now) leaving.now }
 {
-    let number = *leaving
-        .iter()
-        .find(|number| !may_leave(fleet.get(*number)))?;
+    let number = leaving.iter().find(|number| !may_leave(fleet, **number))?;
+    Some(fault_of_leaver(*number, fleet.get(number)))
+}
+
+/// Whether a wagon may leave: it is there, and not promised.
+fn may_leave(fleet: &BTreeMap<WagonNumber, WagonRow>, number: WagonNumber) -> bool
+    ensures { result ≡ may_leave (get compare_numbers fleet.now number) }
+{
     match fleet.get(&number) {
-        Some(_) => Some(FleetFault::WagonPromised(number)),
-        None => Some(FleetFault::UnknownWagon(number)),
+        Some(row) => row.promise.is_none(),
+        None => false,
     }
 }
 
-/// Whether a wagon of this row may leave: it is there, and not promised.
-fn may_leave(row: Option<&WagonRow>) -> bool
-    ensures { result ≡ may_leave (option_copied row.entry) }
+/// Why a wagon of this row, which may not leave, is refused.
+fn fault_of_leaver(number: WagonNumber, row: Option<&WagonRow>) -> FleetFault
+    ensures { result ≡ fault_of_leaver number (option_copied row.entry) }
 {
     match row {
-        Some(row) => row.promise.is_none(),
-        None => false,
+        Some(_) => FleetFault::WagonPromised(number),
+        None => FleetFault::UnknownWagon(number),
     }
 }
 
