@@ -1,14 +1,12 @@
 -- What a change of the fleet keeps, and what a map of rows by number gives.
-use Rattle.std.proofs.Common.{◌≡◌, ◌∙◌, ℕ, zero, suc, ◌+◌, ◌<◌, ◌≤◌, Bool, true, false, cond, not, ◌||◌, is_some, is_none, List, [], ◌∷◌, ◌++◌, length, map, take, drop, get_or, Option, Some, None, IfSome, IsSome, option_map, refl, ap, sym, subst, arith}
-use Rattle.std.specs.BTreeMap.{BTreeMap, IsOrdered, get, is_at, keys, values}
-use Rattle.std.specs.Cmp.Lexicographic.{pointwise, texts_ties, slice_cmp}
-use Rattle.std.specs.List.{All, AllByRecursion, Contains, find, list_any, position_or_len, slice_get}
+use Rattle.std.proofs.Common.{◌≡◌, ◌∙◌, ℕ, zero, suc, ◌+◌, ◌<◌, ◌≤◌, Bool, true, false, cond, not, ◌||◌, is_some, is_none, List, [], ◌∷◌, ◌++◌, length, take, drop, get_or, Option, Some, None, IfSome, option_map, refl, ap, sym, subst, arith}
+use Rattle.std.specs.BTreeMap.{BTreeMap, IsOrdered, get, is_at, values}
+use Rattle.std.specs.Cmp.Lexicographic.{texts_ties}
+use Rattle.std.specs.List.{All, AllByRecursion, find, position_or_len, slice_get}
 use Rattle.std.specs.List.Sorted.{IsStrictlySortedBy}
 use Rattle.std.specs.Map.{keys_of, lookup, values_of}
 use Rattle.std.specs.Option.{option_or}
-use Rattle.std.specs.Ordering.{is_eq, nat_cmp}
 use Rattle.std.specs.declared.cmp.Ordering.TheVariants.{Less}
-use Rattle.std.proofs.lemmas.Bool.{cases_Bool}
 use Rattle.std.proofs.lemmas.Cmp.{nat_list_cmp_total}
 use Rattle.std.proofs.lemmas.List.{take-append-drop, take_all, take_more}
 use Rattle.std.proofs.lemmas.List.Elements.{All-tail}
@@ -21,7 +19,7 @@ use Rattle.wagons_and_orders.specs.declared.wagon_row.WagonRow.{WagonRow}
 use Rattle.fleet_rows.specs.Kept.{IsWagonRows, by_number, compare_numbers, max_roster_wagons}
 use Rattle.fleet_rows.specs.Roster.{IsRoster, IsRosterRow}
 use Rattle.fleet_rows.specs.Rows.{is_wagon, wagon_in}
-use Rattle.fleet_rows.proofs.Wagons.{IsWagonRows-roster, light_at, number-wagon_in, wagon_in-there}
+use Rattle.fleet_rows.proofs.Wagons.{number-wagon_in, wagon_in-there}
 use Rattle.operating_db.specs.FleetChange.{AreRowsOf, IsFleetAfter, IsFleetRefusal, RowOf, adding_fault, fault_of_leaver, fleet_fault, is_promised, leaving_fault, may_leave, row_with, row_without}
 use Rattle.operating_db.specs.Office.{Office}
 use Rattle.operating_db.specs.Promises.{PromisesAgree, is_among, is_promise_to, promise_of}

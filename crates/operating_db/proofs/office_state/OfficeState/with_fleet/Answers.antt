@@ -1,4 +1,4 @@
-use Rattle.std.proofs.Common.{◌≡◌, ◌∙◌, ◌≤◌, ap, arith, length, sym}
+use Rattle.std.proofs.Common.{◌∙◌, ◌≤◌, ap, arith, length, sym}
 use Rattle.std.specs.BTreeMap.{get}
 use Rattle.fleet_rows.specs.Kept.{compare_numbers, max_roster_wagons}
 use Rattle.fleet_rows.proofs.Wagons.{IsWagonRows-roster}
