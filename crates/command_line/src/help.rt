@@ -126,7 +126,8 @@ pub(crate) const SAVE: WordHelp = WordHelp {
      Exits with 0, with 1 where a line was refused, with 2 where it could not run or\n\
      stopped; then there is no checkpoint.",
     example: "Example:\n  \
-     wagons save --roster roster.csv --network network.csv < day.jsonl > night.jsonl\n  \
+     wagons save --roster roster.csv --network network.csv < day.jsonl \\\n    \
+     > night.jsonl\n  \
      wagons run --from night.jsonl --network network.csv < next.jsonl",
     arguments: Arguments::OfficeAndFleet,
 };
@@ -158,15 +159,15 @@ pub(crate) const UPTO: &str = "Only the first N lines are read, 1 to 1000000";
 pub(crate) const WITH: &str = "Wagons that are added or changed, a CSV file";
 
 pub(crate) const WITH_LONG: &str =
-    "Wagons that are added: a CSV file in the form of `--roster`. The row of a\n\
-     wagon that is there already takes the place of the old one. A wagon that\n\
-     is promised is refused";
+    "Wagons that are added: a CSV file in the form of `--roster`. The row\n\
+     of a wagon that is there already takes the place of the old one. A\n\
+     wagon that is promised is refused";
 
 pub(crate) const WITHOUT: &str = "A wagon that leaves; may stand several times";
 
 pub(crate) const WITHOUT_LONG: &str =
-    "A wagon that leaves the fleet; may stand several times. A wagon that is\n\
-     promised is refused";
+    "A wagon that leaves the fleet; may stand several times. A wagon that\n\
+     is promised is refused";
 
 /// What each option is, on a line.
 pub(crate) const ROSTER: &str = "The wagons and where they are at the start, a CSV file";
@@ -193,7 +194,8 @@ pub(crate) const FROM_LONG: &str =
 
 pub(crate) const NETWORK_LONG: &str = "The lines between places: a CSV file with the header\n\
      `from,to,km,minutes,way`. May stand up to 8 times: the networks are\n\
-     numbered from 1 in this order, and network 1 is the first in force";
+     numbered from 1 in this order; at first network 1 is in force, or the\n\
+     one that the checkpoint names";
 
 pub(crate) const ENTRIES_LONG: &str =
     "The most events that are accepted, 1 to 1000000: messages, orders,\n\
