@@ -76,6 +76,7 @@ bench:
 	@bench/distances/run
 	@bench/plan/run
 	@bench/book/run
+	@bench/save/run
 
 # Uses the program as nobody should, and prints what was tried, how often, and what was lost (see docs/HOSTILE.md).
 hostile:

@@ -19,7 +19,8 @@ use Rattle.move_messages.specs.Commands.{classes_from, order_text_of}
 use Rattle.move_messages.specs.declared.field.Field.TheVariants as field
 use Rattle.move_messages.specs.Field.{field_name}
 use Rattle.move_messages.specs.Fields.{member, field_of, optional_field_of}
-use Rattle.move_messages.specs.OrderLimits.{IsOrder, max_load, max_order_wagons, max_penalty}
+use Rattle.move_messages.specs.OrderLimits.{IsOrder, max_order_wagons, max_penalty}
+use Rattle.move_messages.specs.MaxLoad.{max_load}
 use Rattle.move_messages.specs.Values.{class_from, each, list_of, list_of_each, list_within, text_of, wagon_number_from}
 use Rattle.move_messages.proofs.Writing.{code-reads, list-reads, moment-reads, number_reads}
 use Rattle.move_messages.specs.Written.{list_data}

@@ -15,7 +15,7 @@ use Rattle.rail_codes.specs.WagonNumber.{wagon_number_of}
 use Rattle.move_messages.specs.declared.field.Field.TheVariants as field
 use Rattle.move_messages.specs.Field.{field_name}
 use Rattle.move_messages.specs.Fields.{member, field_of, optional_field_of}
-use Rattle.move_messages.specs.OrderLimits.{max_load}
+use Rattle.move_messages.specs.MaxLoad.{max_load}
 use Rattle.move_messages.specs.Values.{◌>>=◌, boolean_of, text_of}
 use Rattle.move_messages.proofs.Writing.{code-reads, moment-reads, number_reads}
 use Rattle.wagons_and_orders.specs.declared.load.Load.TheVariants.{Loaded, Unladen}

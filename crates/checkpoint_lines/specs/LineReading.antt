@@ -9,7 +9,7 @@ use Rattle.move_messages.specs.declared.fault.LineFault.TheVariants.{UnknownType
 use Rattle.move_messages.specs.Commands.{max_revision, order_text_of}
 use Rattle.move_messages.specs.Fields.{field_of, list_at, optional_field_of}
 use Rattle.move_messages.specs.Line.{object_of}
-use Rattle.move_messages.specs.OrderLimits.{max_load}
+use Rattle.move_messages.specs.MaxLoad.{max_load}
 use Rattle.move_messages.specs.Values.{◌>>=◌, boolean_of, class_from, moment_from, number_within, order_id_from, place_from, text_of, wagon_number_from}
 use Rattle.wagons_and_orders.specs.declared.status.Status.{Status}
 use Rattle.wagons_and_orders.specs.declared.wagon_row.WagonRow.{WagonRow}

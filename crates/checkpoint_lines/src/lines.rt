@@ -1,7 +1,7 @@
 //! The lines of a checkpoint, each without its line feed: compact JSON, which reads as what it was made of. `Err` only when
 //! out of memory.
 ghost use Rattle.std.specs.Prelude.{◌≡◌, ◌≤◌, IfOk, Ok, OnOk, string_bytes};
-ghost use Rattle.move_messages.specs.OrderLimits.{max_load};
+ghost use Rattle.move_messages.specs.MaxLoad.{max_load};
 ghost use Rattle.checkpoint_lines.specs.Limits.{IsNetworkNumber, max_lines};
 ghost use Rattle.checkpoint_lines.specs.LineReading.{checkpoint_line_of};
 ghost use Rattle.checkpoint_lines.specs.LineWriting.{IsEndLine, IsHeadLine, IsOneLine, IsOrderLine, IsWagonLine};

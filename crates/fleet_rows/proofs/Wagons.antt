@@ -12,7 +12,7 @@ use Rattle.std.proofs.lemmas.List.Elements.{All-set}
 use Rattle.std.proofs.lemmas.Map.Keys.{IsDistinct-from_sorted}
 use Rattle.std.proofs.lemmas.Option.{get_or_from_slice_get, slice_get-get_or, slice_get_within}
 use Rattle.std.proofs.Math.Seq.{map-set_same}
-use Rattle.move_messages.specs.OrderLimits.{max_load}
+use Rattle.move_messages.specs.MaxLoad.{max_load}
 use Rattle.fleet_rows.specs.Roster.{IsRoster}
 use Rattle.fleet_rows.specs.SameWagons.{has_wagon}
 use Rattle.fleet_rows.proofs.RosterLemmas.{none_at_gap, searched}

@@ -7,7 +7,7 @@ use Rattle.rail_codes.specs.Moment.{moment_of}
 use Rattle.rail_codes.specs.WagonNumber.{wagon_number_of}
 use Rattle.wagons_and_orders.specs.declared.wagon_row.WagonRow.{WagonRow}
 use Rattle.wagons_and_orders.specs.StatusWords.{status_of_word}
-use Rattle.move_messages.specs.OrderLimits.{max_load}
+use Rattle.move_messages.specs.MaxLoad.{max_load}
 
 -- whether a record is the header
 abbrev pub is_header : Record → Bool

@@ -1,7 +1,7 @@
 -- What a roster is.
 use Rattle.std.specs.Prelude.{◌≡◌, ℕ, ◌≤◌, false, List, length, None, All}
 use Rattle.std.specs.List.Sorted.{IsStrictlySortedBy}
-use Rattle.move_messages.specs.OrderLimits.{max_load}
+use Rattle.move_messages.specs.MaxLoad.{max_load}
 use Rattle.wagons_and_orders.specs.declared.status.Status.{Status}
 use Rattle.wagons_and_orders.specs.declared.status.Status.TheVariants.{Empty}
 use Rattle.wagons_and_orders.specs.declared.wagon_row.WagonRow.{WagonRow}

@@ -2,7 +2,7 @@
 ghost use Rattle.std.specs.Prelude.{◌≡◌, ◌≢◌, ◌≤◌, [], ◌∷◌, length, option_map, IfSome, IfNone};
 ghost use Rattle.csv.specs.Records.{fields_of};
 ghost use Rattle.fleet_rows.specs.Records.{is_header, load_in, wagon_record};
-ghost use Rattle.move_messages.specs.OrderLimits.{max_load};
+ghost use Rattle.move_messages.specs.MaxLoad.{max_load};
 ghost use Rattle.fleet_rows.specs.Roster.{IsRosterRow};
 
 use csv::ByteRecord;

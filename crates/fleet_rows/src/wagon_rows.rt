@@ -5,7 +5,7 @@ ghost use Rattle.fleet_rows.specs.EmptyWagons.{IsNewStand, is_free_at, stand_in,
 ghost use Rattle.fleet_rows.specs.Rows.{at_wagon, wagon_in, with_promise};
 ghost use Rattle.fleet_rows.specs.inner.Standings.{is_unpromised};
 ghost use Rattle.fleet_rows.specs.Kept.{by_number};
-ghost use Rattle.move_messages.specs.OrderLimits.{max_load};
+ghost use Rattle.move_messages.specs.MaxLoad.{max_load};
 ghost use Rattle.wagons_and_orders.specs.declared.wagon_row.WagonRow.{WagonRow};
 
 use crate::standing::{Standing, replace, standing_of, standings_of};

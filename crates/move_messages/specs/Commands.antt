@@ -15,7 +15,8 @@ use Rattle.move_messages.specs.declared.command.Command.TheVariants.{Event, Begi
 use Rattle.move_messages.specs.declared.event.Event.TheVariants.{Message, Place, Withdraw, Commit, Revise}
 use Rattle.move_messages.specs.Classes.{max_classes}
 use Rattle.move_messages.specs.Order.{Order}
-use Rattle.move_messages.specs.OrderLimits.{max_penalty, max_order_wagons, max_load}
+use Rattle.move_messages.specs.OrderLimits.{max_penalty, max_order_wagons}
+use Rattle.move_messages.specs.MaxLoad.{max_load}
 use Rattle.move_messages.specs.Values.{◌>>=◌, number_within, boolean_of, company_from, wagon_number_from, place_from, moment_from, order_id_from, class_from, list_within, each, text_of, wagon_and_order}
 use Rattle.move_messages.specs.Fields.{field_of, optional_field_of, list_at}
 use Rattle.move_messages.specs.Line.{object_of}

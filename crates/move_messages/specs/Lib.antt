@@ -1,4 +1,5 @@
 pub mod Classes
+pub mod MaxLoad
 pub mod Order
 pub mod OrderLimits
 pub mod Pairs

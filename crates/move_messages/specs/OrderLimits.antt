@@ -1,10 +1,7 @@
 -- The limits of an order's numbers.
 use Rattle.std.specs.Prelude.{ℕ, Bool, ◌≤◌, nat_le, ◌&&◌, if◌then◌else◌, Option, Some, None}
+use Rattle.move_messages.specs.MaxLoad.{max_load}
 use Rattle.move_messages.specs.Order.{Order}
-
--- the greatest load of a wagon, in kg
-abbrev pub max_load : ℕ
-max_load = 200_000
 
 -- the greatest penalty of a missing wagon, in km
 abbrev pub max_penalty : ℕ

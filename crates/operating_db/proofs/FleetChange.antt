@@ -14,7 +14,7 @@ use Rattle.std.proofs.lemmas.List.Folds.{find-append, find_at, list_any_more}
 use Rattle.std.proofs.lemmas.Map.Views.{All-found}
 use Rattle.std.proofs.lemmas.Option.{get_or_from_slice_get, slice_get-get_or, slice_get_within}
 use Rattle.faults.specs.declared.faults.FleetFault.{FleetFault}
-use Rattle.move_messages.specs.OrderLimits.{max_load}
+use Rattle.move_messages.specs.MaxLoad.{max_load}
 use Rattle.wagons_and_orders.specs.declared.wagon_row.WagonRow.{WagonRow}
 use Rattle.fleet_rows.specs.Kept.{IsWagonRows, by_number, compare_numbers, max_roster_wagons}
 use Rattle.fleet_rows.specs.Roster.{IsRoster, IsRosterRow}

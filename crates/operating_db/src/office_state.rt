@@ -15,7 +15,7 @@ ghost use Rattle.operating_db.specs.Promises.{PromisesAgree};
 ghost use Rattle.line_network.specs.NetworkCount.{max_networks};
 ghost use Rattle.operating_db.specs.FirstOffice.{IsFirstOffice};
 ghost use Rattle.operating_db.specs.State.{IsState, state_of};
-ghost use Rattle.move_messages.specs.OrderLimits.{max_load};
+ghost use Rattle.move_messages.specs.MaxLoad.{max_load};
 ghost use Rattle.operating_db.specs.Steps.{IsPromised};
 
 use crate::ApplyFault;
