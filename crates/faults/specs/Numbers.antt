@@ -58,26 +58,26 @@ roster_fault_number roster_fault.ReadFailed = 93
 
 -- why lines are no checkpoint, and the number of the line
 abbrev pub checkpoint_fault_number : CheckpointFault → ℕ
-checkpoint_fault_number (checkpoint_fault.WagonTwice n) = 51
-checkpoint_fault_number (checkpoint_fault.OrderTwice n) = 52
-checkpoint_fault_number (checkpoint_fault.TooManyWagons n) = 53
+checkpoint_fault_number (checkpoint_fault.DuplicateWagon n) = 51
+checkpoint_fault_number (checkpoint_fault.DuplicateOrder n) = 52
+checkpoint_fault_number (checkpoint_fault.TooLarge n) = 53
 checkpoint_fault_number (checkpoint_fault.TooManyOpen n) = 75
 checkpoint_fault_number (checkpoint_fault.UnknownNetwork n) = 79
-checkpoint_fault_number (checkpoint_fault.BadLine n) = 85
+checkpoint_fault_number (checkpoint_fault.BadCheckpointLine n) = 85
 checkpoint_fault_number (checkpoint_fault.OneSidedPromise n) = 86
 checkpoint_fault_number (checkpoint_fault.OrderFull n) = 87
-checkpoint_fault_number (checkpoint_fault.Cut n) = 88
+checkpoint_fault_number (checkpoint_fault.CheckpointCut n) = 88
 
 abbrev pub checkpoint_fault_line : CheckpointFault → ℕ
-checkpoint_fault_line (checkpoint_fault.WagonTwice n) = n
-checkpoint_fault_line (checkpoint_fault.OrderTwice n) = n
-checkpoint_fault_line (checkpoint_fault.TooManyWagons n) = n
+checkpoint_fault_line (checkpoint_fault.DuplicateWagon n) = n
+checkpoint_fault_line (checkpoint_fault.DuplicateOrder n) = n
+checkpoint_fault_line (checkpoint_fault.TooLarge n) = n
 checkpoint_fault_line (checkpoint_fault.TooManyOpen n) = n
 checkpoint_fault_line (checkpoint_fault.UnknownNetwork n) = n
-checkpoint_fault_line (checkpoint_fault.BadLine n) = n
+checkpoint_fault_line (checkpoint_fault.BadCheckpointLine n) = n
 checkpoint_fault_line (checkpoint_fault.OneSidedPromise n) = n
 checkpoint_fault_line (checkpoint_fault.OrderFull n) = n
-checkpoint_fault_line (checkpoint_fault.Cut n) = n
+checkpoint_fault_line (checkpoint_fault.CheckpointCut n) = n
 
 -- why a fleet isn't changed
 abbrev pub fleet_fault_number : FleetFault → ℕ

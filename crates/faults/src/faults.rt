@@ -196,13 +196,13 @@ impl From<RecordFault> for RosterFault {
 pub enum CheckpointFault {
     /// An earlier line has this wagon (51).
     #[error("DuplicateWagon")]
-    WagonTwice(u64),
+    DuplicateWagon(u64),
     /// An earlier line has this order (52).
     #[error("DuplicateOrder")]
-    OrderTwice(u64),
+    DuplicateOrder(u64),
     /// It is the 1,001st wagon (53).
     #[error("TooLarge")]
-    TooManyWagons(u64),
+    TooLarge(u64),
     /// With this one the open orders want over 500 wagons in all (75).
     #[error("TooManyOpen")]
     TooManyOpen(u64),
@@ -211,7 +211,7 @@ pub enum CheckpointFault {
     UnknownNetwork(u64),
     /// The line isn't what must stand there (85).
     #[error("BadCheckpointLine")]
-    BadLine(u64),
+    BadCheckpointLine(u64),
     /// A promise stands with the wagon alone or with the order alone (86).
     #[error("OneSidedPromise")]
     OneSidedPromise(u64),
@@ -220,7 +220,7 @@ pub enum CheckpointFault {
     OrderFull(u64),
     /// The last line is missing, or counts other lines than there are (88).
     #[error("CheckpointCut")]
-    Cut(u64),
+    CheckpointCut(u64),
 }
 
 impl CheckpointFault {
@@ -229,15 +229,15 @@ impl CheckpointFault {
         ensures { result ≡ checkpoint_fault_number self }
     {
         match self {
-            CheckpointFault::WagonTwice(_) => 51,
-            CheckpointFault::OrderTwice(_) => 52,
-            CheckpointFault::TooManyWagons(_) => 53,
+            CheckpointFault::DuplicateWagon(_) => 51,
+            CheckpointFault::DuplicateOrder(_) => 52,
+            CheckpointFault::TooLarge(_) => 53,
             CheckpointFault::TooManyOpen(_) => 75,
             CheckpointFault::UnknownNetwork(_) => 79,
-            CheckpointFault::BadLine(_) => 85,
+            CheckpointFault::BadCheckpointLine(_) => 85,
             CheckpointFault::OneSidedPromise(_) => 86,
             CheckpointFault::OrderFull(_) => 87,
-            CheckpointFault::Cut(_) => 88,
+            CheckpointFault::CheckpointCut(_) => 88,
         }
     }
 
@@ -246,15 +246,15 @@ impl CheckpointFault {
         ensures { result ≡ checkpoint_fault_line self }
     {
         match self {
-            CheckpointFault::WagonTwice(line)
-            | CheckpointFault::OrderTwice(line)
-            | CheckpointFault::TooManyWagons(line)
+            CheckpointFault::DuplicateWagon(line)
+            | CheckpointFault::DuplicateOrder(line)
+            | CheckpointFault::TooLarge(line)
             | CheckpointFault::TooManyOpen(line)
             | CheckpointFault::UnknownNetwork(line)
-            | CheckpointFault::BadLine(line)
+            | CheckpointFault::BadCheckpointLine(line)
             | CheckpointFault::OneSidedPromise(line)
             | CheckpointFault::OrderFull(line)
-            | CheckpointFault::Cut(line) => line,
+            | CheckpointFault::CheckpointCut(line) => line,
         }
     }
 }

@@ -35,7 +35,7 @@ listed L (of_line line.OutOfMemory) = refl
 listed L (of_step step.Earlier) = refl
 listed L (of_record records.OutOfMemory) = refl
 listed L (of_roster roster.OutOfMemory) = refl
-listed L (of_checkpoint (checkpoint.BadLine n)) = refl
+listed L (of_checkpoint (checkpoint.BadCheckpointLine n)) = refl
 listed L (of_fleet fleet.OutOfMemory) = refl
 listed L (of_run run.OutOfMemory) = refl
 listed L (of_network network.OutOfMemory) = refl
@@ -112,10 +112,10 @@ examples L seats =
     ∷ of_call (call.WagonChanged a_wagon)
     ∷ of_call (call.OrderChanged an_order)
     ∷ of_named (named.NotInProblem a_wagon an_order)
-    ∷ of_checkpoint (checkpoint.BadLine 1)
+    ∷ of_checkpoint (checkpoint.BadCheckpointLine 1)
     ∷ of_checkpoint (checkpoint.OneSidedPromise 1)
     ∷ of_checkpoint (checkpoint.OrderFull 1)
-    ∷ of_checkpoint (checkpoint.Cut 1)
+    ∷ of_checkpoint (checkpoint.CheckpointCut 1)
     ∷ of_fleet (fleet.WagonPromised a_wagon)
     ∷ of_run (run.TooManyLines 1)
     ∷ of_run (run.LineTooLong 1)

@@ -1,9 +1,11 @@
 //! Every fault with its name.
 
 use book_feed::FeedFault;
+use checkpoint::ReadFault;
 use commit_book::Refusal;
 use cost_table::TableFault;
 use csv_records::RecordFault;
+use faults::{CheckpointFault, FleetFault};
 use fleet_rows::RosterFault;
 use line_network::{NetworkFault, NetworksFault, WorkFault};
 use move_messages::{Field, FieldFault, LineFault};
@@ -63,6 +65,10 @@ fn faults_of_an_office(rt: HostRuntime) -> Result<(), Fail> {
     let (far, first) = (wagon(FAR)?, order_id("O1")?);
     assert_named!(rt, RosterFault: OutOfMemory, DuplicateWagon(far), TooLarge, BadRosterRow(2),
         ReadFailed);
+    assert_named!(rt, CheckpointFault: DuplicateWagon(3), DuplicateOrder(4), TooLarge(1002),
+        TooManyOpen(5), UnknownNetwork(1), BadCheckpointLine(2), OneSidedPromise(6), OrderFull(7),
+        CheckpointCut(8));
+    assert_named!(rt, FleetFault: OutOfMemory, TooLarge, UnknownWagon(far), WagonPromised(far));
     assert_named!(rt, StepFault: Earlier, WrongStatus, WrongPlace);
     assert_named!(rt, ApplyFault: OutOfMemory, UnknownWagon, OrderKnown, TooManyOpen,
         UnknownOrder, OrderClosed, UnknownNetwork, SameNetwork);
@@ -94,6 +100,14 @@ fn faults_around_another(rt: HostRuntime) -> Result<(), Fail> {
         (Refusal::Check(NamedFault::WrongLengths), "WrongLengths"),
     ];
     assert_eq!(rt; misnamed(alloc, &calls)?, None);
+    let checkpoints = [
+        (ReadFault::Run(RunFault::LineTooLong(7)), "LineTooLong"),
+        (
+            ReadFault::Line(CheckpointFault::OrderFull(7)),
+            "OrderFull",
+        ),
+    ];
+    assert_eq!(rt; misnamed(alloc, &checkpoints)?, None);
     let tables = [
         (TableRefusal::Line(LineFault::NotJson), "NotJson"),
         (TableRefusal::Table(TableFault::TooLarge), "TooLarge"),

@@ -2,6 +2,8 @@
 //! threads, devices that fail, and files that are too large for a script.
 
 use book_feed::FeedFault;
+use checkpoint::ReadFault;
+use faults::{CheckpointFault, FleetFault};
 use fleet_rows::RosterFault;
 use line_network::{NetworkFault, WorkFault};
 use office::RunFault;
@@ -14,6 +16,18 @@ fn stops_before_the_lines(rt: HostRuntime) -> Result<(), Fail> {
     let stops = [
         (Stop::OutOfMemory, "wagons: 1"),
         (Stop::Roster(RosterFault::OutOfMemory), "wagons: 1"),
+        (
+            Stop::Checkpoint(ReadFault::Run(RunFault::OutOfMemory)),
+            "wagons: 1",
+        ),
+        (
+            Stop::Checkpoint(ReadFault::Run(RunFault::ReadFailed(3))),
+            "wagons: 93 3",
+        ),
+        (
+            Stop::Checkpoint(ReadFault::Line(CheckpointFault::TooLarge(1002))),
+            "wagons: 53 1002",
+        ),
         (Stop::Network(NetworkFault::OutOfMemory), "wagons: 1"),
         (
             Stop::Network(NetworkFault::BadRow(20_001)),
@@ -38,6 +52,8 @@ fn stops_at_work(rt: HostRuntime) -> Result<(), Fail> {
         ),
         (Stop::Run(RunFault::ReadFailed(8)), "wagons: 93 8"),
         (Stop::Run(RunFault::WriteFailed(9)), "wagons: 94 9"),
+        (Stop::Fleet(FleetFault::OutOfMemory), "wagons: 1"),
+        (Stop::Fleet(FleetFault::TooLarge), "wagons: 53"),
         (Stop::Feed(FeedFault::OutOfMemory), "wagons: 1"),
         (Stop::Feed(FeedFault::NoThread), "wagons: 46"),
         (Stop::Feed(FeedFault::ReceiptLost(2, 17)), "wagons: 96 2 17"),
