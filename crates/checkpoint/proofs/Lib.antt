@@ -1,0 +1,9 @@
+pub mod Folding
+pub mod Tests
+pub mod RowParts
+pub mod Above
+pub mod Offices
+pub mod Sound
+pub mod Complete
+pub mod Writes
+pub mod Runs

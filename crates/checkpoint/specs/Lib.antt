@@ -1,0 +1,9 @@
+pub mod ReadFault
+pub mod Parts
+pub mod Taking
+pub mod OfficeOf
+pub mod Checkpoint
+pub mod Laws
+pub mod Reads
+pub mod Written
+pub mod inner

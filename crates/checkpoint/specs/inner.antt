@@ -1,0 +1,5 @@
+-- What only proofs and private functions need.
+pub mod Steps
+pub mod Runs
+pub mod IsParts
+pub mod Lines
