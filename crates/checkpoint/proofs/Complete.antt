@@ -8,7 +8,7 @@ use Rattle.std.proofs.lemmas.Bool.Decides.{nat_tests}
 use Rattle.std.proofs.lemmas.List.{append-nil}
 use Rattle.std.proofs.lemmas.List.Elements.{recursion_from_All}
 use Rattle.std.proofs.lemmas.List.Sums.{AllPass-from_list_all, sum_by-append, sum_by-cons}
-use Rattle.move_messages.specs.OrderLimits.{max_load}
+use Rattle.move_messages.specs.MaxLoad.{max_load}
 use Rattle.move_messages.specs.declared.fault.LineFault.{LineFault}
 use Rattle.line_engine.specs.Lines.{is_blank}
 use Rattle.wagons_and_orders.specs.declared.wagon_row.WagonRow.{WagonRow}
@@ -19,7 +19,7 @@ use Rattle.fleet_rows.specs.Kept.{by_number, max_roster_wagons}
 use Rattle.fleet_rows.specs.Rows.{max_open_wagons, names_of, open_wagons, order_in, wanted_open}
 use Rattle.fleet_rows.proofs.Named.{is_same, same_name}
 use Rattle.faults.specs.declared.faults.CheckpointFault.{CheckpointFault}
-use Rattle.faults.specs.declared.faults.CheckpointFault.TheVariants.{OrderFull, OrderTwice}
+use Rattle.faults.specs.declared.faults.CheckpointFault.TheVariants.{OrderFull, DuplicateOrder}
 use Rattle.operating_db.specs.FirstOffice.{IsFirstOffice}
 use Rattle.operating_db.specs.Office.{Office}
 use Rattle.checkpoint_lines.specs.LineReading.{checkpoint_line_of}
@@ -97,7 +97,7 @@ order_taken n network wagons orders row h new few =
     let full : is_full order ≡ false = rw (not_over, unfilled) refl in
     let within : nat_lt max_open_wagons (open_wagons orders + row.text.wagons) ≡ false = grind (arith, nat_tests) in
     let made : with_order n parts (Some row) ≡ Ok (stage network wagons (orders ++ row ∷ [])) = (let its = h.its_wagons in rw (within, its) refl) in
-    ap (λ (b : Bool). cond b (Err (OrderTwice n)) (cond (is_full order) (Err (OrderFull n)) (with_order n parts (row_of_parts row.text row.promised row.filled)))) fresh
+    ap (λ (b : Bool). cond b (Err (DuplicateOrder n)) (cond (is_full order) (Err (OrderFull n)) (with_order n parts (row_of_parts row.text row.promised row.filled)))) fresh
     ∙ (ap (λ (b : Bool). cond b (Err (OrderFull n)) (with_order n parts (row_of_parts row.text row.promised row.filled))) full
     ∙ (ap (λ (o : Option OrderRowValue). with_order n parts o) (parts_of row h.valid (stays row.withdrawn (nat_lt (length row.filled) row.text.wagons) h.opened)) ∙ made))
 

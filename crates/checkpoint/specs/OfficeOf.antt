@@ -1,7 +1,7 @@
 -- The office that the lines of a file say, or the first fault.
 use Rattle.std.specs.Prelude.{ℕ, ◌+◌, Bool, true, false, if◌then◌else◌, List, [], ◌∷◌, length, Option, Some, None, Result, Ok, Err}
 use Rattle.faults.specs.declared.faults.CheckpointFault.{CheckpointFault}
-use Rattle.faults.specs.declared.faults.CheckpointFault.TheVariants.{Cut}
+use Rattle.faults.specs.declared.faults.CheckpointFault.TheVariants.{CheckpointCut}
 use Rattle.line_engine.specs.Lines.{is_blank}
 use Rattle.operating_db.specs.Office.{Office}
 use Rattle.checkpoint.specs.Parts.{PartsValue, no_parts}
@@ -20,8 +20,8 @@ with_lines networks n taken (line ∷ lines) = with_lines networks (n + 1) (with
 -- the office of parts with a head and a last line; else the file is cut off before line n
 abbrev pub closed : (n : ℕ) → PartsValue → (network : Option ℕ) → (ended : Bool) → Result Office CheckpointFault
 closed n parts (Some network) true = Ok (record { wagons = parts.wagons; orders = parts.orders; network = network })
-closed n parts (Some network) false = Err (Cut n)
-closed n parts None ended = Err (Cut n)
+closed n parts (Some network) false = Err (CheckpointCut n)
+closed n parts None ended = Err (CheckpointCut n)
 
 abbrev pub office_of_taken : (n : ℕ) → Taken → Result Office CheckpointFault
 office_of_taken n (Err fault) = Err fault

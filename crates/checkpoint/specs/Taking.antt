@@ -3,8 +3,8 @@ use Rattle.std.specs.Prelude.{ℕ, ◌+◌, ◌-◌, ◌==◌, ◌||◌, nat_le,
 use Rattle.std.specs.List.{list_all}
 use Rattle.std.specs.Ordering.{is_lt}
 use Rattle.faults.specs.declared.faults.CheckpointFault.{CheckpointFault}
-use Rattle.faults.specs.declared.faults.CheckpointFault.TheVariants.{WagonTwice, OrderTwice, TooManyWagons, TooManyOpen, UnknownNetwork, BadLine, OneSidedPromise, OrderFull, Cut}
-use Rattle.move_messages.specs.OrderLimits.{max_load}
+use Rattle.faults.specs.declared.faults.CheckpointFault.TheVariants.{DuplicateWagon, DuplicateOrder, TooLarge, TooManyOpen, UnknownNetwork, BadCheckpointLine, OneSidedPromise, OrderFull, CheckpointCut}
+use Rattle.move_messages.specs.MaxLoad.{max_load}
 use Rattle.move_messages.specs.declared.fault.LineFault.{LineFault}
 use Rattle.wagons_and_orders.specs.declared.wagon_row.WagonRow.{WagonRow}
 use Rattle.wagons_and_orders.specs.OrderRow.{OrderRowValue}
@@ -47,11 +47,11 @@ stands_before (order ∷ orders) row = false
 -- one wagon more, above the one before
 unfoldable pub take_wagon : (n : ℕ) → PartsValue → WagonRow → Taken
 take_wagon n parts row =
-    if not (stands_before parts.orders row) then Err (BadLine n)
-    else if nat_le max_roster_wagons (length parts.wagons) then Err (TooManyWagons n)
+    if not (stands_before parts.orders row) then Err (BadCheckpointLine n)
+    else if nat_le max_roster_wagons (length parts.wagons) then Err (TooLarge n)
     else if is_above_last parts.wagons row.number then Ok (record parts { wagons = parts.wagons ++ row ∷ [] })
-    else if has_wagon parts.wagons row.number then Err (WagonTwice n)
-    else Err (BadLine n)
+    else if has_wagon parts.wagons row.number then Err (DuplicateWagon n)
+    else Err (BadCheckpointLine n)
 
 -- ---- orders
 
@@ -66,7 +66,7 @@ is_full order = nat_lt order.text.wagons (length order.promised + length order.f
 -- one order more, where its promised wagons ascend, the open orders want few enough wagons with it, and each wagon promised to
 -- it is so by its own row
 abbrev pub with_order : (n : ℕ) → PartsValue → Option OrderRowValue → Taken
-with_order n parts None = Err (BadLine n)
+with_order n parts None = Err (BadCheckpointLine n)
 with_order n parts (Some row) =
     if nat_lt max_open_wagons (open_wagons parts.orders + row.text.wagons) then Err (TooManyOpen n)
     else if list_all (is_promised_by parts.wagons row.text.id) row.promised then Ok (record parts { orders = parts.orders ++ row ∷ [] })
@@ -74,7 +74,7 @@ with_order n parts (Some row) =
 
 unfoldable pub take_order : (n : ℕ) → PartsValue → OrderLineValue → Taken
 take_order n parts order =
-    if is_some (order_in parts.orders order.text.id) then Err (OrderTwice n)
+    if is_some (order_in parts.orders order.text.id) then Err (DuplicateOrder n)
     else if is_full order then Err (OrderFull n)
     else with_order n parts (row_of_parts order.text order.promised order.filled)
 
@@ -95,7 +95,7 @@ lines_before_last wagons orders = 1 + length wagons + length orders
 -- it counts them, and each wagon's promise is known to its order
 unfoldable pub take_end : (n : ℕ) → PartsValue → (lines : ℕ) → Taken
 take_end n parts lines =
-    if not (lines == lines_before_last parts.wagons parts.orders) then Err (Cut n)
+    if not (lines == lines_before_last parts.wagons parts.orders) then Err (CheckpointCut n)
     else if list_all (is_kept_by parts.orders) parts.wagons then Ok (record parts { ended = true })
     else Err (OneSidedPromise n)
 
@@ -104,21 +104,21 @@ take_end n parts lines =
 -- the head comes first and once
 abbrev pub take_said : (networks n : ℕ) → PartsValue → (network : Option ℕ) → CheckpointLine → Taken
 take_said networks n parts None (Head network) = take_head networks n parts network
-take_said networks n parts None (Wagon row) = Err (BadLine n)
-take_said networks n parts None (Order order) = Err (BadLine n)
-take_said networks n parts None (End lines) = Err (BadLine n)
-take_said networks n parts (Some known) (Head network) = Err (BadLine n)
+take_said networks n parts None (Wagon row) = Err (BadCheckpointLine n)
+take_said networks n parts None (Order order) = Err (BadCheckpointLine n)
+take_said networks n parts None (End lines) = Err (BadCheckpointLine n)
+take_said networks n parts (Some known) (Head network) = Err (BadCheckpointLine n)
 take_said networks n parts (Some known) (Wagon row) = take_wagon n parts row
 take_said networks n parts (Some known) (Order order) = take_order n parts order
 take_said networks n parts (Some known) (End lines) = take_end n parts lines
 
 -- nothing comes behind the last line
 abbrev pub take_next : (networks n : ℕ) → PartsValue → (ended : Bool) → CheckpointLine → Taken
-take_next networks n parts true said = Err (BadLine n)
+take_next networks n parts true said = Err (BadCheckpointLine n)
 take_next networks n parts false said = take_said networks n parts parts.network said
 
 abbrev pub take_read : (networks n : ℕ) → PartsValue → Result CheckpointLine LineFault → Taken
-take_read networks n parts (Err fault) = Err (BadLine n)
+take_read networks n parts (Err fault) = Err (BadCheckpointLine n)
 take_read networks n parts (Ok said) = take_next networks n parts parts.ended said
 
 -- what a line makes of the parts before it, where there are so many networks

@@ -35,7 +35,7 @@ impl Parts {
         match read_line(alloc, line) {
             Ok(said) => self.take_next(alloc, networks, number, said),
             Err(LineFault::OutOfMemory) => Err(ReadFault::Run(RunFault::OutOfMemory)),
-            Err(_) => Err(ReadFault::Line(CheckpointFault::BadLine(number))),
+            Err(_) => Err(ReadFault::Line(CheckpointFault::BadCheckpointLine(number))),
         }
     }
 
@@ -51,14 +51,14 @@ impl Parts {
         ensures refused { IfErr result (IsFaultOf (take_next networks number self.old self.old.ended said)) }
     {
         if self.ended {
-            return Err(ReadFault::Line(CheckpointFault::BadLine(number)));
+            return Err(ReadFault::Line(CheckpointFault::BadCheckpointLine(number)));
         }
         match (self.network.is_some(), said) {
             (false, CheckpointLine::Head(network)) => self.take_head(networks, number, network),
             (true, CheckpointLine::Wagon(row)) => self.take_wagon(number, row),
             (true, CheckpointLine::Order(order)) => self.take_order(alloc, number, order),
             (true, CheckpointLine::End(lines)) => self.take_end(number, lines),
-            _ => Err(ReadFault::Line(CheckpointFault::BadLine(number))),
+            _ => Err(ReadFault::Line(CheckpointFault::BadCheckpointLine(number))),
         }
     }
 
@@ -81,19 +81,19 @@ impl Parts {
         ensures refused { IfErr result (IsFaultOf (take_wagon number self.old row)) }
     {
         if !stands_before(self.orders.as_slice(), &row) {
-            return Err(ReadFault::Line(CheckpointFault::BadLine(number)));
+            return Err(ReadFault::Line(CheckpointFault::BadCheckpointLine(number)));
         }
         if self.wagons.len() >= MAX_ROSTER_WAGONS as usize {
-            return Err(ReadFault::Line(CheckpointFault::TooManyWagons(number)));
+            return Err(ReadFault::Line(CheckpointFault::TooLarge(number)));
         }
         if is_above_last(&self.wagons, row.number) {
             self.wagons.push(row)?;
             return Ok(());
         }
         if has_wagon(&self.wagons, row.number) {
-            return Err(ReadFault::Line(CheckpointFault::WagonTwice(number)));
+            return Err(ReadFault::Line(CheckpointFault::DuplicateWagon(number)));
         }
-        Err(ReadFault::Line(CheckpointFault::BadLine(number)))
+        Err(ReadFault::Line(CheckpointFault::BadCheckpointLine(number)))
     }
 
     /// Takes an order.
@@ -108,14 +108,14 @@ impl Parts {
         ensures refused { IfErr result (IsFaultOf (take_order number self.old order)) }
     {
         if self.orders.get(order.text().id()).is_some() {
-            return Err(ReadFault::Line(CheckpointFault::OrderTwice(number)));
+            return Err(ReadFault::Line(CheckpointFault::DuplicateOrder(number)));
         }
         if is_full(&order) {
             return Err(ReadFault::Line(CheckpointFault::OrderFull(number)));
         }
         let Some(row) = OrderRow::from_parts(alloc, *order.text(), order.promised(), order.filled())?
         else {
-            return Err(ReadFault::Line(CheckpointFault::BadLine(number)));
+            return Err(ReadFault::Line(CheckpointFault::BadCheckpointLine(number)));
         };
         self.take_row(alloc, number, row)
     }
@@ -145,7 +145,7 @@ impl Parts {
     {
         let before = 1 + self.wagons.len() + self.orders.as_slice().len();
         if lines != before as u64 {
-            return Err(ReadFault::Line(CheckpointFault::Cut(number)));
+            return Err(ReadFault::Line(CheckpointFault::CheckpointCut(number)));
         }
         if !are_kept_by(&self.orders, &self.wagons) {
             return Err(ReadFault::Line(CheckpointFault::OneSidedPromise(number)));
