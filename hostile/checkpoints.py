@@ -1,6 +1,7 @@
 #!/usr/bin/env python3
-"""Checkpoints: random histories cut at random and gone on with both ways, a checkpoint cut after every byte and with every
-byte replaced. The model of office.py says what a checkpoint must be, and what each line does to it."""
+"""Checkpoints: random histories cut at random and gone on with both ways; a checkpoint cut after every byte, with every byte
+replaced, and read and written where memory is refused. The model of office.py says what a checkpoint must be, and what each
+line does to it."""
 
 import json
 import os
@@ -9,7 +10,7 @@ import subprocess
 import tempfile
 
 import office
-from memory import KEPT, new_office
+from memory import ALL, KEPT, STARTS, new_office
 from program import NETWORKS, PROGRAM, Table, office_words, run
 
 HISTORIES = int(os.environ.get("HOSTILE_HISTORIES", 10_000))
@@ -241,6 +242,28 @@ def byte_replaced(case):
     return again or (None if same == out else f"{out!r} is saved as {same!r}")
 
 
+def without_memory(case):
+    """A checkpoint read and saved again, or `wagons: 1` and nothing else."""
+    text, refusals = case
+    with tempfile.NamedTemporaryFile() as file:
+        file.write(text)
+        file.flush()
+        outcome = run(from_words("save", file.name), b"", **refusals)
+    if outcome.fault():
+        return outcome.fault()
+    if outcome.status == 2:
+        return None if outcome.err in STARTS and not outcome.out else f"{outcome.err!r} and {outcome.out!r}"
+    return None if outcome.status == 0 and outcome.out == text else f"status {outcome.status} and {outcome.out!r}"
+
+
+def requests(text):
+    """How many requests for memory there are where none is refused."""
+    with tempfile.NamedTemporaryFile() as file:
+        file.write(text)
+        file.flush()
+        return run(from_words("save", file.name), b"", refuse_from=ALL).counts[0]
+
+
 def main():
     table = Table()
     table.try_all("histories cut at random, saved, and gone on with both ways", divided, range(HISTORIES))
@@ -248,6 +271,9 @@ def main():
     table.try_all("a checkpoint cut after every byte", cut_after, [(text, length) for length in range(len(text) + 1)])
     table.try_all("every byte of a checkpoint replaced by each of 20 bytes", byte_replaced,
                   [(text, at, byte) for at in range(len(text)) for byte in HOSTILE if text[at] != byte])
+    most = requests(text) + 5
+    table.try_all("`save` of a checkpoint: one request for memory refused", without_memory, [(text, {"refuse_from": n, "refuse_count": 1}) for n in range(1, most)])
+    table.try_all("`save` of a checkpoint: all requests from one on refused", without_memory, [(text, {"refuse_from": n, "refuse_count": ALL}) for n in range(1, most)])
     table.end()
 
 
