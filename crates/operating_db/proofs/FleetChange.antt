@@ -1,16 +1,21 @@
 -- What a change of the fleet keeps, and what a map of rows by number gives.
-use Rattle.std.proofs.Common.{◌≡◌, ◌∙◌, ℕ, zero, suc, ◌+◌, ◌<◌, ◌≤◌, Bool, true, false, cond, not, ◌||◌, is_some, is_none, List, [], ◌∷◌, ◌++◌, length, take, drop, get_or, Option, Some, None, IfSome, option_map, refl, ap, sym, subst, arith}
+use Rattle.std.proofs.Common.{◌≡◌, ◌∙◌, ℕ, zero, suc, ◌+◌, ◌<◌, ◌≤◌, Bool, true, false, cond, not, ◌||◌, is_some, is_none, List, [], ◌∷◌, ◌++◌, length, take, drop, get_or, Option, Some, None, IfSome, option_map, refl, ap, sym, subst, inl, inr, arith}
 use Rattle.std.specs.BTreeMap.{BTreeMap, IsOrdered, get, is_at, values}
 use Rattle.std.specs.Cmp.Lexicographic.{texts_ties}
 use Rattle.std.specs.List.{All, AllByRecursion, find, position_or_len, slice_get}
 use Rattle.std.specs.List.Sorted.{IsStrictlySortedBy}
 use Rattle.std.specs.Map.{keys_of, lookup, values_of}
 use Rattle.std.specs.Option.{option_or}
-use Rattle.std.specs.declared.cmp.Ordering.TheVariants.{Less}
+use Rattle.std.specs.Ordering.{is_eq, ordering_reverse}
+use Rattle.std.specs.declared.cmp.Ordering.{Ordering}
+use Rattle.std.specs.declared.cmp.Ordering.TheVariants.{Less, Equal, Greater}
+use Rattle.std.proofs.lemmas.Bool.{cases_Bool}
 use Rattle.std.proofs.lemmas.Cmp.{nat_list_cmp_total}
 use Rattle.std.proofs.lemmas.List.{take-append-drop, take_all, take_more}
 use Rattle.std.proofs.lemmas.List.Elements.{All-tail}
 use Rattle.std.proofs.lemmas.List.Folds.{find-append, find_at, list_any_more}
+use Rattle.std.proofs.lemmas.Map.Keys.{sorted_head, sorted_tail}
+use Rattle.std.proofs.lemmas.Map.Lookups.{exact_bytes}
 use Rattle.std.proofs.lemmas.Map.Views.{All-found}
 use Rattle.std.proofs.lemmas.Option.{get_or_from_slice_get, slice_get-get_or, slice_get_within}
 use Rattle.faults.specs.declared.faults.FleetFault.{FleetFault}
@@ -24,7 +29,7 @@ use Rattle.operating_db.specs.FleetChange.{AreRowsOf, IsFleetAfter, IsFleetRefus
 use Rattle.operating_db.specs.Office.{Office}
 use Rattle.operating_db.specs.Promises.{PromisesAgree, is_among, is_promise_to, promise_of}
 use Rattle.operating_db.specs.inner.FleetMaps.{AreOwnRows, ArePut}
-use Rattle.operating_db.proofs.Names.{among_contains, same, same_is, same_sym}
+use Rattle.operating_db.proofs.Names.{among_contains, same, same_is, same_self, same_sym}
 
 -- ---- what a search finds
 
@@ -302,3 +307,62 @@ pub leaving_refused : (rows added : List WagonRow) (leaving : List (List ℕ)) (
 leaving_refused rows added leaving row_of fault none same h =
     let first = none_first (adding_fault rows added) (leaving_fault (row_with rows added) leaving) (Some fault) none (sym (fault_by row_of (row_with rows added) leaving same) ∙ h) in
     refused_at rows added leaving row_of _ fault h first
+
+-- ---- ascending rows are told by what is found in them
+
+none_above : (number : List ℕ) (rows : List WagonRow) → AllByRecursion (λ (row : WagonRow). compare_numbers number row.number ≡ Less) rows → wagon_in rows number ≡ None
+none_above number [] all = refl
+none_above number (row ∷ rows) all =
+    let other : is_wagon number row ≡ false = texts_ties number row.number ∙ ap is_eq all.0 in
+    rw other (none_above number rows all.1)
+
+above_too : (low number : List ℕ) (rows : List WagonRow) → compare_numbers low number ≡ Less → AllByRecursion (λ (row : WagonRow). compare_numbers number row.number ≡ Less) rows → AllByRecursion (λ (row : WagonRow). compare_numbers low row.number ≡ Less) rows
+above_too low number [] less all = tt
+above_too low number (row ∷ rows) less all = (nat_list_cmp_total.trans low number row.number less all.0, above_too low number rows less all.1)
+
+at_head : (row : WagonRow) (rows : List WagonRow) → wagon_in (row ∷ rows) row.number ≡ Some row
+at_head row rows = rw (same_self row.number) refl
+
+none_before : (number : List ℕ) (row : WagonRow) (rows : List WagonRow) → compare_numbers number row.number ≡ Less → IsStrictlySortedBy by_number (row ∷ rows) → wagon_in (row ∷ rows) number ≡ None
+unfolding IsStrictlySortedBy
+none_before number row rows less h = none_above number (row ∷ rows) (less, above_too number row.number rows less h.0)
+
+same_head : (x y : WagonRow) (xs ys : List WagonRow) (r : Ordering) → compare_numbers x.number y.number ≡ r → IsStrictlySortedBy by_number (x ∷ xs) → IsStrictlySortedBy by_number (y ∷ ys)
+    → ((number : List ℕ) → wagon_in (x ∷ xs) number ≡ wagon_in (y ∷ ys) number) → x ≡ y
+same_head x y xs ys Less e up vp alike =
+    let both : Some x ≡ None = sym (at_head x xs) ∙ alike x.number ∙ none_before x.number y ys e vp in
+    cc both
+same_head x y xs ys Equal e up vp alike =
+    let named : x.number ≡ y.number = exact_bytes x.number y.number e in
+    let both : Some x ≡ Some y = sym (at_head x xs) ∙ alike x.number ∙ ap (wagon_in (y ∷ ys)) named ∙ at_head y ys in
+    cc both
+same_head x y xs ys Greater e up vp alike =
+    let less : compare_numbers y.number x.number ≡ Less = nat_list_cmp_total.antisymm y.number x.number ∙ ap ordering_reverse e in
+    let both : Some y ≡ None = sym (at_head y ys) ∙ sym (alike y.number) ∙ none_before y.number x xs less up in
+    cc both
+
+same_tails : (x : WagonRow) (xs ys : List WagonRow) → IsStrictlySortedBy by_number (x ∷ xs) → IsStrictlySortedBy by_number (x ∷ ys) → ((number : List ℕ) → wagon_in (x ∷ xs) number ≡ wagon_in (x ∷ ys) number)
+    → (number : List ℕ) → wagon_in xs number ≡ wagon_in ys number
+same_tails x xs ys up vp alike number = elim (cases_Bool (is_wagon number x)) [
+  | inl here ↦
+      let named : x.number ≡ number = sym (same_is number x.number here) in
+      subst (λ n. wagon_in xs n ≡ wagon_in ys n) named (none_above x.number xs (sorted_head by_number x xs up) ∙ sym (none_above x.number ys (sorted_head by_number x ys vp)))
+  | inr other ↦
+      let both = alike number in
+      rw other at both
+]
+
+pub same_by_lookups : (xs ys : List WagonRow) → IsStrictlySortedBy by_number xs → IsStrictlySortedBy by_number ys → ((number : List ℕ) → wagon_in xs number ≡ wagon_in ys number) → xs ≡ ys
+same_by_lookups [] [] up vp alike = refl
+same_by_lookups [] (y ∷ ys) up vp alike =
+    let both : None ≡ Some y = alike y.number ∙ at_head y ys in
+    cc both
+same_by_lookups (x ∷ xs) [] up vp alike =
+    let both : Some x ≡ None = sym (at_head x xs) ∙ alike x.number in
+    cc both
+same_by_lookups (x ∷ xs) (y ∷ ys) up vp alike =
+    let head : x ≡ y = same_head x y xs ys (compare_numbers x.number y.number) refl up vp alike in
+    let vp' : IsStrictlySortedBy by_number (x ∷ ys) = subst (λ z. IsStrictlySortedBy by_number (z ∷ ys)) (sym head) vp in
+    let alike' : (number : List ℕ) → wagon_in (x ∷ xs) number ≡ wagon_in (x ∷ ys) number = λ number. subst (λ z. wagon_in (x ∷ xs) number ≡ wagon_in (z ∷ ys) number) (sym head) (alike number) in
+    let rest : xs ≡ ys = same_by_lookups xs ys (sorted_tail by_number x xs up) (sorted_tail by_number y ys vp) (same_tails x xs ys up vp' alike') in
+    cc (head, rest)

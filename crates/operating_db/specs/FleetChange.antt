@@ -69,7 +69,7 @@ IsFleetRefusal rows added leaving OutOfMemory = Unit {0}
 IsFleetRefusal rows added leaving TooLarge = (fleet_fault rows added leaving ≡ None) × IsTooLarge rows added leaving
 IsFleetRefusal rows added leaving fault = fleet_fault rows added leaving ≡ Some fault
 
--- an office whose fleet is changed: nothing refuses the change, and no more than the rows of its wagons is other than before
+-- An office whose fleet is changed: nothing refuses the change, and but for the rows of its wagons all is as before.
 pub record IsWithFleet (old : StateValue) (added : List WagonRow) (leaving : List (List ℕ)) (new : StateValue) : Type 0 where
   pub no_fault : fleet_fault old.office.wagons added leaving ≡ None
   pub fleet : IsFleetAfter old.office.wagons added leaving new.office.wagons
@@ -77,3 +77,7 @@ pub record IsWithFleet (old : StateValue) (added : List WagonRow) (leaving : Lis
   pub orders : new.office.orders ≡ old.office.orders
   pub network : new.office.network ≡ old.office.network
   pub networks : new.networks ≡ old.networks
+
+-- the row of each wagon determines the rows, so a changed fleet has one list of them
+abbrev pub ChangedFleetIsUnique : Type 0
+ChangedFleetIsUnique = (row_of : RowOf) (rows other : List WagonRow) → AreRowsOf row_of rows → AreRowsOf row_of other → rows ≡ other

@@ -4,7 +4,7 @@ ghost use Rattle.std.specs.BTreeMap.{get};
 ghost use Rattle.fleet_rows.specs.Kept.{compare_numbers, IsWagonRows};
 ghost use Rattle.fleet_rows.specs.Roster.{IsRoster};
 ghost use Rattle.fleet_rows.specs.Rows.{wagon_in};
-ghost use Rattle.operating_db.specs.FleetChange.{AreRowsOf, IsFleetRefusal, IsWithFleet, adding_fault, fault_of_leaver, is_promised, leaving_fault, may_leave, row_with, row_without};
+ghost use Rattle.operating_db.specs.FleetChange.{AreRowsOf, ChangedFleetIsUnique, IsFleetRefusal, IsWithFleet, adding_fault, fault_of_leaver, is_promised, leaving_fault, may_leave, row_with, row_without};
 ghost use Rattle.operating_db.specs.inner.FleetMaps.{AreOwnRows, ArePut};
 
 use crate::{FleetFault, OfficeState};
@@ -18,9 +18,9 @@ impl OfficeState {
     /// The office with the rows of a roster added, each in place of the one that its wagon has, and then without these
     /// wagons. Its orders and the network in force are the same. A wagon that stands twice among `leaving` leaves once.
     ///
-    /// Refused with the first that holds: with `WagonPromised` (89) for the first row whose wagon is promised; for the
-    /// first of `leaving` with `UnknownWagon` (73) where it is neither there nor added, or with `WagonPromised` (89);
-    /// with `TooLarge` (53) where over 1,000 wagons would be there. `OutOfMemory` (1) may come in place of any answer.
+    /// Refused with the first that holds: the first row whose wagon is promised, with `WagonPromised` (89); the first of
+    /// `leaving` that then isn't there or is promised, with `UnknownWagon` (73) or `WagonPromised` (89); over 1,000
+    /// wagons, with `TooLarge` (53). `OutOfMemory` (1) may come in place of any answer.
     pub fn with_fleet(
         &self,
         alloc: Global,
@@ -139,3 +139,10 @@ fn rows_without(
     }
     fleet.values().copied().collect(alloc)
 }
+
+/// States a law of changed fleets; it does nothing.
+///
+/// The row that each wagon has determines the rows, so no two lists of rows are those of one changed fleet.
+pub fn changed_fleet_is_unique()
+    ensures { ChangedFleetIsUnique }
+{}

@@ -9,6 +9,7 @@ mod pair_counts;
 mod promises;
 
 pub use faults::{ApplyFault, FleetFault};
+pub use fleet_change::changed_fleet_is_unique;
 pub use fleet_rows::{Roster, RosterFault};
 pub use laws::{events_keep_offices, nothing_is_lost};
 pub use office_state::OfficeState;
