@@ -1,5 +1,5 @@
 -- A wagon's number above that of the last row.
-use Rattle.std.proofs.Common.{◌≡◌, ◌∙◌, ℕ, zero, suc, ◌+◌, ◌-◌, Bool, true, false, List, [], ◌∷◌, ◌++◌, length, refl, sym, ap, subst, arith, Option, Some, None}
+use Rattle.std.proofs.Common.{◌≡◌, ◌∙◌, ℕ, suc, ◌-◌, true, List, [], ◌∷◌, ◌++◌, length, refl, sym, ap, arith, Option}
 use Rattle.std.specs.Cmp.Lexicographic.{nat_list_cmp_total}
 use Rattle.std.specs.List.{AllByRecursion, slice_get}
 use Rattle.std.specs.List.Sorted.{IsStrictlySortedBy}
@@ -42,9 +42,10 @@ pub ascending_push : (rows : List WagonRow) (row : WagonRow) → IsStrictlySorte
 unfolding IsStrictlySortedBy
 ascending_push [] row sorted above = (tt, tt)
 ascending_push (first ∷ []) row sorted above = ((above_first first [] row.number sorted above, tt), (tt, tt))
-ascending_push (first ∷ next ∷ rows) row sorted above =
-    (all_push (λ (other : WagonRow). by_number first other ≡ Less) (next ∷ rows) row sorted.0 (above_first first (next ∷ rows) row.number sorted above),
-    ascending_push (next ∷ rows) row sorted.1 (sym (above_later first next rows row.number) ∙ above))
+ascending_push (first ∷ next ∷ rows) row sorted above = (
+  all_push (λ (other : WagonRow). by_number first other ≡ Less) (next ∷ rows) row sorted.0 (above_first first (next ∷ rows) row.number sorted above),
+  ascending_push (next ∷ rows) row sorted.1 (sym (above_later first next rows row.number) ∙ above),
+)
 
 -- each row is above those before it
 pub above_before : (front : List WagonRow) (row : WagonRow) (back : List WagonRow) → IsStrictlySortedBy by_number (front ++ row ∷ back) → is_above_last front row.number ≡ true

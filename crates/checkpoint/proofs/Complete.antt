@@ -1,5 +1,5 @@
 -- The lines of an office are taken, and say that office; and no others do.
-use Rattle.std.proofs.Common.{◌≡◌, ◌∙◌, ℕ, ◌+◌, ◌<◌, ◌≤◌, Bool, true, false, cond, not, ◌&&◌, ◌||◌, nat_eq, nat_lt, List, [], ◌∷◌, ◌++◌, length, map, get_or, refl, sym, ap, subst, Option, Some, None, is_some, Result, Ok, Err, arith, inl, inr, append_assoc, length-append}
+use Rattle.std.proofs.Common.{◌≡◌, ◌∙◌, ℕ, ◌+◌, ◌≤◌, Bool, true, false, cond, not, ◌&&◌, nat_lt, List, [], ◌∷◌, ◌++◌, length, map, refl, sym, ap, subst, Option, Some, None, is_some, Result, Ok, Err, arith, inl, inr, append_assoc, length-append}
 use Rattle.std.specs.Prelude.{◌==◌, nat_le, All}
 use Rattle.std.specs.List.{AllByRecursion, IsDistinct, list_all}
 use Rattle.std.specs.List.Sorted.{IsStrictlySortedBy}
@@ -18,24 +18,23 @@ use Rattle.wagons_and_orders.specs.RowParts.{row_of_parts}
 use Rattle.fleet_rows.specs.Kept.{by_number, max_roster_wagons}
 use Rattle.fleet_rows.specs.Rows.{max_open_wagons, names_of, open_wagons, order_in, wanted_open}
 use Rattle.fleet_rows.proofs.Named.{is_same, same_name}
-use Rattle.faults.specs.declared.faults.CheckpointFault.{CheckpointFault}
 use Rattle.faults.specs.declared.faults.CheckpointFault.TheVariants.{OrderFull, DuplicateOrder}
 use Rattle.operating_db.specs.FirstOffice.{IsFirstOffice}
 use Rattle.operating_db.specs.Office.{Office}
 use Rattle.checkpoint_lines.specs.LineReading.{checkpoint_line_of}
 use Rattle.checkpoint_lines.specs.OrderLine.{OrderLineValue, line_of_row}
 use Rattle.checkpoint_lines.specs.declared.line.CheckpointLine.{CheckpointLine}
-use Rattle.checkpoint_lines.specs.declared.line.CheckpointLine.TheVariants.{Head, Wagon, Order, End}
+use Rattle.checkpoint_lines.specs.declared.line.CheckpointLine.TheVariants.{Wagon, End}
 use Rattle.checkpoint.specs.Checkpoint.{IsCheckpointOf, lines_for, order_said, written_lines}
 use Rattle.checkpoint.specs.OfficeOf.{closed, office_of_lines, office_of_taken, with_lines}
 use Rattle.checkpoint.specs.Parts.{PartsValue, no_parts}
 use Rattle.checkpoint.specs.Taking.{Taken, is_above_last, is_full, is_kept_by, lines_before_last, take_end, take_head, take_line, take_next, take_order, take_read, take_wagon, with_order}
-use Rattle.checkpoint.specs.inner.IsParts.{IsParts, has_its_wagons}
+use Rattle.checkpoint.specs.inner.IsParts.{has_its_wagons}
 use Rattle.checkpoint.proofs.Above.{above_before}
 use Rattle.checkpoint.proofs.Offices.{first_office, orders_have_their_wagons, wagons_are_kept}
 use Rattle.checkpoint.proofs.RowParts.{parts_of}
 use Rattle.checkpoint.proofs.Sound.{AreStepped, no_parts_valid, said_by, steps}
-use Rattle.checkpoint.proofs.Tests.{and_left, and_right, both}
+use Rattle.checkpoint.proofs.Tests.{and_right}
 
 -- ---- what lines say is taken, one after the other, whatever their numbers
 
@@ -65,11 +64,12 @@ takes_wagons networks network front (row ∷ back) sorted few light =
     let regrouped : (front ++ row ∷ []) ++ back ≡ front ++ row ∷ back = append_assoc front (row ∷ []) back in
     let within : nat_le row.load_limit max_load ≡ true = let most = light.0 in grind (arith, nat_tests) in
     let room : nat_le max_roster_wagons (length front) ≡ false =
-    (let counted : length front + (1 + length back) ≤ max_roster_wagons = omega (arith, length-append front (row ∷ back)) in grind (arith, nat_tests)) in
-    (stage network (front ++ row ∷ []) [],
-    λ n. wagon_taken n network front row within room (above_before front row back sorted),
-    subst (λ (rows : List WagonRow). TakesAll networks (stage network (front ++ row ∷ []) []) (map Wagon back) (stage network rows [])) regrouped
-    (takes_wagons networks network (front ++ row ∷ []) back (subst (IsStrictlySortedBy by_number) (sym regrouped) sorted) (subst (λ (rows : List WagonRow). length rows ≤ max_roster_wagons) (sym regrouped) few) light.1))
+    (let counted : length front + (1 + length back) ≤ max_roster_wagons = omega (arith, length-append front (row ∷ back)) in grind (arith, nat_tests)) in (
+      stage network (front ++ row ∷ []) [],
+      λ n. wagon_taken n network front row within room (above_before front row back sorted),
+      subst (λ (rows : List WagonRow). TakesAll networks (stage network (front ++ row ∷ []) []) (map Wagon back) (stage network rows [])) regrouped
+          (takes_wagons networks network (front ++ row ∷ []) back (subst (IsStrictlySortedBy by_number) (sym regrouped) sorted) (subst (λ (rows : List WagonRow). length rows ≤ max_roster_wagons) (sym regrouped) few) light.1),
+    )
 
 -- ---- orders
 
@@ -125,12 +125,13 @@ takes_orders networks network wagons front (row ∷ back) distinct few fits =
     let wanted : wanted_open row ≡ row.text.wagons = wanted_while_open (is_open row) row.text.wagons fits.0.opened in
     let sum : open_wagons (front ++ row ∷ back) ≡ open_wagons front + open_wagons (row ∷ back) = sum_by-append wanted_open front (row ∷ back) in
     let first : open_wagons (row ∷ back) ≡ wanted_open row + open_wagons back = sum_by-cons wanted_open row back in
-    let room : open_wagons front + row.text.wagons ≤ max_open_wagons = omega arith in
-    (stage network wagons (front ++ row ∷ []),
-    λ n. order_taken n network wagons front row fits.0 (new_name front row back distinct) room,
-    subst (λ (rows : List OrderRowValue). TakesAll networks (stage network wagons (front ++ row ∷ [])) (map order_said back) (stage network wagons rows)) regrouped
-    (takes_orders networks network wagons (front ++ row ∷ []) back (subst (λ (rows : List OrderRowValue). IsDistinct is_same (names_of rows)) (sym regrouped) distinct)
-    (subst (λ (rows : List OrderRowValue). open_wagons rows ≤ max_open_wagons) (sym regrouped) few) fits.1))
+    let room : open_wagons front + row.text.wagons ≤ max_open_wagons = omega arith in (
+      stage network wagons (front ++ row ∷ []),
+      λ n. order_taken n network wagons front row fits.0 (new_name front row back distinct) room,
+      subst (λ (rows : List OrderRowValue). TakesAll networks (stage network wagons (front ++ row ∷ [])) (map order_said back) (stage network wagons rows)) regrouped
+          (takes_orders networks network wagons (front ++ row ∷ []) back (subst (λ (rows : List OrderRowValue). IsDistinct is_same (names_of rows)) (sym regrouped) distinct)
+          (subst (λ (rows : List OrderRowValue). open_wagons rows ≤ max_open_wagons) (sym regrouped) few) fits.1),
+    )
 
 -- ---- the head and the last line
 
@@ -170,11 +171,12 @@ takes_office networks office first opened =
     let wagons = takes_wagons networks office.network [] office.wagons first.wagons.ascending first.wagons.few light in
     let orders = takes_orders networks office.network office.wagons [] office.orders first.promises.names first.few_open fit in
     let last : TakesAll networks (stage office.network office.wagons office.orders) (End (lines_before_last office.wagons office.orders) ∷ []) (whole_parts office) =
-    (whole_parts office, λ n. last_taken n office.network office.wagons office.orders (wagons_are_kept networks office first), refl) in
-    (stage office.network [] [],
-    λ n. head_taken networks n office.network first.from_one first.in_force,
-    takes_both networks (stage office.network [] []) (stage office.network office.wagons []) (whole_parts office) (map Wagon office.wagons) (map order_said office.orders ++ End (lines_before_last office.wagons office.orders) ∷ []) wagons
-    (takes_both networks (stage office.network office.wagons []) (stage office.network office.wagons office.orders) (whole_parts office) (map order_said office.orders) (End (lines_before_last office.wagons office.orders) ∷ []) orders last))
+    (whole_parts office, λ n. last_taken n office.network office.wagons office.orders (wagons_are_kept networks office first), refl) in (
+      stage office.network [] [],
+      λ n. head_taken networks n office.network first.from_one first.in_force,
+      takes_both networks (stage office.network [] []) (stage office.network office.wagons []) (whole_parts office) (map Wagon office.wagons) (map order_said office.orders ++ End (lines_before_last office.wagons office.orders) ∷ []) wagons
+          (takes_both networks (stage office.network office.wagons []) (stage office.network office.wagons office.orders) (whole_parts office) (map order_said office.orders) (End (lines_before_last office.wagons office.orders) ∷ []) orders last),
+    )
 
 -- ---- lines that say what is taken
 

@@ -1,15 +1,12 @@
 -- When the two sides of the promises agree.
-use Rattle.std.proofs.Common.{◌≡◌, ◌∙◌, ℕ, ◌<◌, ◌≤◌, Bool, true, false, cond, nat_eq, List, [], ◌∷◌, length, get_or, refl, sym, ap, subst, Option, Some, None, IfSome, arith, inl, inr}
-use Rattle.std.specs.Prelude.{All}
-use Rattle.std.specs.Cmp.Lexicographic.{pointwise}
-use Rattle.std.specs.List.{Contains, IsDistinct, find, list_all, slice_get}
+use Rattle.std.proofs.Common.{◌≡◌, ◌∙◌, ℕ, ◌<◌, ◌≤◌, Bool, true, false, List, [], ◌∷◌, length, get_or, refl, sym, ap, subst, Option, Some, None, IfSome, inl, inr}
+use Rattle.std.specs.List.{Contains, find, list_all}
 use Rattle.std.proofs.lemmas.Bool.{cases_Bool}
 use Rattle.std.proofs.lemmas.List.Sums.{list_all-from_AllPass}
 use Rattle.std.proofs.lemmas.Option.{get_or_from_slice_get, slice_get-get_or}
 use Rattle.wagons_and_orders.specs.declared.wagon_row.WagonRow.{WagonRow}
-use Rattle.wagons_and_orders.specs.Lack.{is_open}
 use Rattle.wagons_and_orders.specs.OrderRow.{IsOrderRow, OrderRowValue}
-use Rattle.fleet_rows.specs.Rows.{is_order, is_wagon, names_of, order_in, wagon_in}
+use Rattle.fleet_rows.specs.Rows.{is_order, is_wagon, order_in, wagon_in}
 use Rattle.fleet_rows.proofs.Orders.{id-order_in, order_in-there}
 use Rattle.fleet_rows.proofs.Wagons.{ascending_distinct, number-wagon_in, wagon_in-there}
 use Rattle.operating_db.specs.FirstOffice.{IsFirstOffice}

@@ -1,5 +1,5 @@
 -- The row of an order by its parts.
-use Rattle.std.proofs.Common.{◌≡◌, ◌∙◌, ℕ, ◌+◌, ◌≤◌, Bool, true, false, cond, ◌&&◌, List, [], ◌∷◌, length, refl, sym, ap, subst, Option, Some, None, arith}
+use Rattle.std.proofs.Common.{◌≡◌, ℕ, ◌+◌, Bool, true, false, cond, ◌&&◌, List, [], ◌∷◌, length, refl, sym, ap, subst, Some, None, arith}
 use Rattle.std.specs.Prelude.{nat_le}
 use Rattle.std.specs.Cmp.Lexicographic.{slice_cmp}
 use Rattle.std.specs.List.{AllByRecursion, list_all}
@@ -21,9 +21,10 @@ less_is Greater h = cc
 
 all_above : (number : List ℕ) (others : List (List ℕ)) → list_all (λ other. is_below other number) others ≡ true → AllByRecursion (λ other. slice_cmp nat_cmp number other ≡ Less) others
 all_above number [] h = tt
-all_above number (other ∷ others) h =
-    (less_is (slice_cmp nat_cmp number other) (and_left (is_below other number) (list_all (λ other. is_below other number) others) h),
-    all_above number others (and_right (is_below other number) (list_all (λ other. is_below other number) others) h))
+all_above number (other ∷ others) h = (
+  less_is (slice_cmp nat_cmp number other) (and_left (is_below other number) (list_all (λ other. is_below other number) others) h),
+  all_above number others (and_right (is_below other number) (list_all (λ other. is_below other number) others) h),
+)
 
 test_above : (number : List ℕ) (others : List (List ℕ)) → AllByRecursion (λ other. slice_cmp nat_cmp number other ≡ Less) others → list_all (λ other. is_below other number) others ≡ true
 test_above number [] h = refl
@@ -32,9 +33,10 @@ test_above number (other ∷ others) h = both (is_below other number) (list_all 
 ascends : (numbers : List (List ℕ)) → is_ascending numbers ≡ true → IsAscending numbers
 unfolding IsStrictlySortedBy
 ascends [] h = tt
-ascends (number ∷ numbers) h =
-    (all_above number numbers (and_left (list_all (λ other. is_below other number) numbers) (is_ascending numbers) h),
-    ascends numbers (and_right (list_all (λ other. is_below other number) numbers) (is_ascending numbers) h))
+ascends (number ∷ numbers) h = (
+  all_above number numbers (and_left (list_all (λ other. is_below other number) numbers) (is_ascending numbers) h),
+  ascends numbers (and_right (list_all (λ other. is_below other number) numbers) (is_ascending numbers) h),
+)
 
 pub test_ascends : (numbers : List (List ℕ)) → IsAscending numbers → is_ascending numbers ≡ true
 unfolding IsStrictlySortedBy

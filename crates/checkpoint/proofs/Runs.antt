@@ -1,17 +1,15 @@
 -- What a run over the lines of a checkpoint has read.
-use Rattle.std.proofs.Common.{◌≡◌, ◌∙◌, ℕ, ◌+◌, ◌<◌, ◌≤◌, Bool, true, false, List, length, refl, sym, ap, subst, Result, Ok, Err, arith}
+use Rattle.std.proofs.Common.{◌≡◌, ◌∙◌, ℕ, ◌+◌, true, false, length, refl, sym, ap, subst, Result, Ok, Err}
 use Rattle.std.specs.Prelude.{IfOk, IfErr}
 use Rattle.line_engine.specs.Lines.{lines_of}
 use Rattle.line_engine.specs.Runs.{Failures, Run, RunEnds, RunStandsAt, RunStops, Runs}
 use Rattle.line_engine.specs.declared.run.RunCount.{RunCount}
 use Rattle.line_engine.specs.declared.run.RunFault.{RunFault}
 use Rattle.line_engine.specs.declared.run.RunFault.TheVariants.{OutOfMemory, TooManyLines, LineTooLong, ReadFailed, WriteFailed}
-use Rattle.operating_db.specs.Office.{Office}
 use Rattle.operating_db.specs.State.{StateValue}
 use Rattle.checkpoint.specs.OfficeOf.{closed, office_of_lines, office_of_taken, with_lines}
 use Rattle.checkpoint.specs.Parts.{PartsValue, no_parts}
-use Rattle.checkpoint.specs.Reads.{Bytes, IsReadAs, IsRefused, IsStopped, IsWholeInput, StandsBefore}
-use Rattle.checkpoint.specs.Taking.{Taken}
+use Rattle.checkpoint.specs.Reads.{Bytes, IsReadAs, IsRefused, IsStopped, StandsBefore}
 use Rattle.checkpoint.specs.inner.IsParts.{IsParts}
 use Rattle.checkpoint.specs.inner.Runs.{AreAllRead, TakesLine}
 use Rattle.checkpoint.specs.inner.Steps.{Follows, IsFaultOf}

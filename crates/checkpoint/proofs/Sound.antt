@@ -1,6 +1,6 @@
 -- Lines that are taken say the parts that they make, and those are as they must be.
-use Rattle.std.proofs.Common.{◌≡◌, ◌∙◌, ℕ, ◌+◌, ◌<◌, ◌≤◌, Bool, true, false, cond, not, ◌&&◌, ◌||◌, nat_eq, nat_lt, List, [], ◌∷◌, ◌++◌, length, map, refl, sym, ap, subst, Option, Some, None, is_some, IfSome, Result, Ok, Err, arith, inl, inr, append_assoc, length-append, zero-add}
-use Rattle.std.specs.Prelude.{◌==◌, nat_le, All}
+use Rattle.std.proofs.Common.{◌≡◌, ◌∙◌, ℕ, ◌+◌, ◌<◌, ◌≤◌, Bool, true, false, cond, not, ◌||◌, nat_lt, List, [], ◌∷◌, ◌++◌, length, map, refl, sym, ap, subst, Option, Some, None, is_some, Result, Ok, Err, arith, inl, inr, append_assoc, length-append, zero-add}
+use Rattle.std.specs.Prelude.{◌==◌, nat_le}
 use Rattle.std.specs.List.{IsDistinct, list_all}
 use Rattle.std.specs.List.Sorted.{IsStrictlySortedBy}
 use Rattle.std.proofs.lemmas.Bool.{cases_Bool}
@@ -26,9 +26,9 @@ use Rattle.checkpoint_lines.specs.OrderLine.{OrderLineValue, line_of_row}
 use Rattle.checkpoint_lines.specs.declared.line.CheckpointLine.{CheckpointLine}
 use Rattle.checkpoint_lines.specs.declared.line.CheckpointLine.TheVariants.{Head, Wagon, Order, End}
 use Rattle.checkpoint.specs.Checkpoint.{order_said, written_lines}
-use Rattle.checkpoint.specs.OfficeOf.{with_line, with_lines}
+use Rattle.checkpoint.specs.OfficeOf.{with_lines}
 use Rattle.checkpoint.specs.Parts.{PartsValue, no_parts}
-use Rattle.checkpoint.specs.Taking.{Taken, is_above_last, is_full, is_kept_by, is_promised_by, lines_before_last, stands_before, take_end, take_head, take_line, take_next, take_order, take_read, take_said, take_wagon, with_order}
+use Rattle.checkpoint.specs.Taking.{Taken, is_above_last, is_full, is_kept_by, lines_before_last, stands_before, take_end, take_head, take_line, take_next, take_order, take_read, take_said, take_wagon, with_order}
 use Rattle.checkpoint.specs.inner.IsParts.{IsParts, has_its_wagons}
 use Rattle.checkpoint.proofs.Above.{ascending_push}
 use Rattle.checkpoint.proofs.RowParts.{OfParts, of_parts}

@@ -1,10 +1,10 @@
 -- Lines that are written one after the other, and what the text says that they make.
-use Rattle.std.proofs.Common.{◌≡◌, ◌∙◌, ℕ, suc, ◌+◌, ◌<◌, ◌≤◌, Bool, true, false, cond, not, ◌&&◌, nat_lt, List, [], ◌∷◌, ◌++◌, length, map, take, get_or, refl, sym, ap, ap₂, subst, Result, Ok, Err, arith, inl, inr, append_assoc, append-nil}
+use Rattle.std.proofs.Common.{◌≡◌, ◌∙◌, ℕ, suc, ◌+◌, ◌<◌, ◌≤◌, Bool, true, false, cond, not, ◌&&◌, nat_lt, List, [], ◌∷◌, ◌++◌, length, map, take, get_or, refl, sym, ap, ap₂, subst, Result, Ok, arith, inl, inr, append_assoc, append-nil}
 use Rattle.std.specs.Prelude.{Option}
 use Rattle.std.specs.List.{AllByRecursion, filter, list_all}
 use Rattle.std.proofs.lemmas.Bool.{cases_Bool}
 use Rattle.std.proofs.lemmas.Bool.Decides.{nat_tests}
-use Rattle.std.proofs.lemmas.List.{map-append, take_more}
+use Rattle.std.proofs.lemmas.List.{take_more}
 use Rattle.std.proofs.lemmas.List.Concat.{flat_map-append, flat_map-cons}
 use Rattle.std.proofs.lemmas.List.Elements.{filter-append}
 use Rattle.std.proofs.lemmas.List.Sums.{sum_by-cons}
@@ -22,8 +22,8 @@ use Rattle.operating_db.specs.Office.{Office}
 use Rattle.checkpoint_lines.specs.LineReading.{checkpoint_line_of}
 use Rattle.checkpoint_lines.specs.LineWriting.{IsEndLine, IsHeadLine, IsOrderLine, IsWagonLine}
 use Rattle.checkpoint_lines.specs.declared.line.CheckpointLine.{CheckpointLine}
-use Rattle.checkpoint_lines.specs.declared.line.CheckpointLine.TheVariants.{Head, Wagon, Order, End}
-use Rattle.checkpoint.specs.Checkpoint.{IsCheckpointOf, lines_for, order_said, written_lines}
+use Rattle.checkpoint_lines.specs.declared.line.CheckpointLine.TheVariants.{Head, Wagon, End}
+use Rattle.checkpoint.specs.Checkpoint.{lines_for, order_said, written_lines}
 use Rattle.checkpoint.specs.OfficeOf.{office_of_lines}
 use Rattle.checkpoint.specs.Taking.{lines_before_last}
 use Rattle.checkpoint.specs.Written.{AreLinesOf, IsCheckpointText, newest_of}
@@ -103,7 +103,7 @@ pub adds_line : {A : Type 0} (is_line : A → List ℕ → Type 0) (say : A → 
 adds_line is_line say xs x old mid new line so one is = (
   so.0 ++ line ∷ [],
   are_lines_append (IsLineOf is_line say) xs (x ∷ []) so.0 (line ∷ []) so.1 (one, tt),
-  is ∙ (ap₂ (λ (t u : List ℕ). t ++ u) so.2 (sym (one_feed line)) ∙ (append_assoc old (with_feeds so.0) (with_feeds (line ∷ [])) ∙ ap (λ (t : List ℕ). old ++ t) (sym (with_feeds-append so.0 (line ∷ [])))))
+  is ∙ (ap₂ (λ (t u : List ℕ). t ++ u) so.2 (sym (one_feed line)) ∙ (append_assoc old (with_feeds so.0) (with_feeds (line ∷ [])) ∙ ap (λ (t : List ℕ). old ++ t) (sym (with_feeds-append so.0 (line ∷ []))))),
 )
 
 pub adds_along : {A : Type 0} (is_line : A → List ℕ → Type 0) (say : A → CheckpointLine) (xs ys : List A) (old new : List ℕ) → xs ≡ ys → AddsLines is_line say xs old new → AddsLines is_line say ys old new
@@ -180,10 +180,11 @@ written networks office a b c d e head last lines begins none first wagons order
     let whole : e ≡ with_feeds (head ∷ (wagons.0 ++ (orders.0 ++ last ∷ []))) = grown a b c d e head last wagons.0 orders.0 none first wagons.2 orders.2 fourth in
     let before : ℕ = lines_before_last office.wagons (filter is_open office.orders) in
     let says_end : SaysLine (End before) last = subst (λ (n : ℕ). SaysLine (End n) last) count says_last in
-    let say : AreLinesOf SaysLine (lines_for (compact office)) (head ∷ (wagons.0 ++ (orders.0 ++ last ∷ []))) =
-    (says_head,
-    are_lines_append SaysLine (map Wagon office.wagons) (map order_said (filter is_open office.orders) ++ End before ∷ []) wagons.0 (orders.0 ++ last ∷ []) (they_say IsWagonLine Wagon office.wagons wagons.0 wagons.1)
-    (are_lines_append SaysLine (map order_said (filter is_open office.orders)) (End before ∷ []) orders.0 (last ∷ []) (they_say IsOrderLine order_said (filter is_open office.orders) orders.0 orders.1) (says_end, tt))) in
+    let say : AreLinesOf SaysLine (lines_for (compact office)) (head ∷ (wagons.0 ++ (orders.0 ++ last ∷ []))) = (
+      says_head,
+      are_lines_append SaysLine (map Wagon office.wagons) (map order_said (filter is_open office.orders) ++ End before ∷ []) wagons.0 (orders.0 ++ last ∷ []) (they_say IsWagonLine Wagon office.wagons wagons.0 wagons.1)
+          (are_lines_append SaysLine (map order_said (filter is_open office.orders)) (End before ∷ []) orders.0 (last ∷ []) (they_say IsOrderLine order_said (filter is_open office.orders) orders.0 orders.1) (says_end, tt)),
+    ) in
     record {
       is_text = record {
         head = head;

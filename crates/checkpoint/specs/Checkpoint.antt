@@ -1,8 +1,7 @@
 -- What a checkpoint is, in the subject's own words, apart from how it is read.
-use Rattle.std.specs.Prelude.{◌≡◌, ℕ, Bool, true, not, List, [], ◌∷◌, ◌++◌, map, Result, Ok}
+use Rattle.std.specs.Prelude.{◌≡◌, ℕ, true, not, List, [], ◌∷◌, ◌++◌, map, Ok}
 use Rattle.std.specs.List.{filter, list_all}
 use Rattle.line_engine.specs.Lines.{is_blank}
-use Rattle.move_messages.specs.declared.fault.LineFault.{LineFault}
 use Rattle.wagons_and_orders.specs.Lack.{is_open}
 use Rattle.wagons_and_orders.specs.OrderRow.{OrderRowValue}
 use Rattle.operating_db.specs.FirstOffice.{IsFirstOffice}

@@ -1,6 +1,5 @@
 -- The text of a checkpoint.
 use Rattle.std.specs.Prelude.{◌≡◌, ℕ, max, List, [], ◌∷◌, ◌++◌, Option, Some, None, fold}
-use Rattle.std.specs.List.{filter}
 use Rattle.line_engine.specs.Lines.{with_feeds}
 use Rattle.wagons_and_orders.specs.declared.wagon_row.WagonRow.{WagonRow}
 use Rattle.operating_db.specs.Compact.{compact}

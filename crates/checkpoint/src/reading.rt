@@ -129,18 +129,18 @@ fn read_parts<R: Source>(
 }
 
 /// The state of the office that the parts of a whole file say; else the file is cut off before this line.
-fn close(
-    alloc: Global,
-    parts: Parts,
-    networks: u32,
-    number: u64,
-) -> Result<OfficeState, ReadFault>
+fn close(alloc: Global, parts: Parts, networks: u32, number: u64) -> Result<OfficeState, ReadFault>
     requires parts { IsParts networks parts }
     requires few { networks ≤ max_networks }
     ensures done { IfOk result (λ state. (closed number parts parts.network parts.ended ≡ Ok state.office) × (state.networks ≡ networks)) }
     ensures refused { IfErr result (IsFaultOf (closed number parts parts.network parts.ended)) }
 {
-    let Parts { network, wagons, orders, ended } = parts;
+    let Parts {
+        network,
+        wagons,
+        orders,
+        ended,
+    } = parts;
     match network {
         Some(network) if ended => {
             let wagons = WagonRows::from_rows(alloc, &wagons)?;

@@ -98,12 +98,7 @@ impl Parts {
 
     /// Takes an order.
     #[tactic(auto, unfolding(crate::specs::Taking::take_order))]
-    fn take_order(
-        &mut self,
-        alloc: Global,
-        number: u64,
-        order: OrderLine,
-    ) -> Result<(), ReadFault>
+    fn take_order(&mut self, alloc: Global, number: u64, order: OrderLine) -> Result<(), ReadFault>
         ensures done { OnOk result (take_order number self.old order ≡ Ok self.new) }
         ensures refused { IfErr result (IsFaultOf (take_order number self.old order)) }
     {
@@ -113,7 +108,12 @@ impl Parts {
         if is_full(&order) {
             return Err(ReadFault::Line(CheckpointFault::OrderFull(number)));
         }
-        let Some(row) = OrderRow::from_parts(alloc, *order.text(), order.promised(), order.filled())?
+        let Some(row) = OrderRow::from_parts(
+            alloc,
+            *order.text(),
+            order.promised(),
+            order.filled(),
+        )?
         else {
             return Err(ReadFault::Line(CheckpointFault::BadCheckpointLine(number)));
         };

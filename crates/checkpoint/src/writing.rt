@@ -29,7 +29,10 @@ pub fn checkpoint_text(alloc: Global, state: &OfficeState) -> Result<String, All
     let wagons = state.wagon_rows();
     let orders = state.order_rows();
     let mut text = String::new(alloc);
-    push_line(&mut text, &head_line(alloc, state.network(), newest(wagons))?)?;
+    push_line(
+        &mut text,
+        &head_line(alloc, state.network(), newest(wagons))?,
+    )?;
     push_wagons(alloc, &mut text, wagons)?;
     push_orders(alloc, &mut text, orders)?;
     let before = 1 + wagons.len() + open_orders(orders);

@@ -1,5 +1,5 @@
 -- What the calls that take lines answer, and what a run over lines does.
-use Rattle.std.specs.Prelude.{◌≡◌, ℕ, Bool, List, Result, Ok, Err}
+use Rattle.std.specs.Prelude.{◌≡◌, ℕ, List, Result, Ok, Err}
 use Rattle.faults.specs.declared.faults.CheckpointFault.{CheckpointFault}
 use Rattle.line_engine.specs.declared.run.RunFault.TheVariants.{OutOfMemory}
 use Rattle.checkpoint.specs.Parts.{PartsValue}

@@ -1,9 +1,8 @@
-use Rattle.std.proofs.Common.{◌≡◌, ◌∙◌, ◌≤◌, ◌++◌, ◌∷◌, [], List, ℕ, length, ap, sym, subst, string_bytes, arith}
+use Rattle.std.proofs.Common.{◌∙◌, ◌≤◌, ◌++◌, ◌∷◌, [], List, ℕ, length, ap, sym, subst, string_bytes, arith}
 use Rattle.line_engine.specs.Lines.{line_feed}
 use Rattle.wagons_and_orders.specs.declared.wagon_row.WagonRow.{WagonRow}
 use Rattle.wagons_and_orders.specs.OrderRow.{OrderRowValue}
 use Rattle.fleet_rows.specs.Rows.{open_wagons}
-use Rattle.operating_db.specs.FirstOffice.{IsFirstOffice}
 use Rattle.checkpoint.proofs.Writes.{IsWritten, few_lines, whole}
 use Rattle.checkpoint.proofs.writing.checkpoint_text.Goals as goal
 

@@ -2,7 +2,6 @@ use Rattle.std.proofs.Common.{◌≡◌, ◌∙◌, ◌+◌, ◌++◌, ◌∷◌
 use Rattle.std.specs.List.{filter}
 use Rattle.line_engine.specs.Lines.{line_feed}
 use Rattle.wagons_and_orders.specs.Lack.{is_open}
-use Rattle.wagons_and_orders.specs.OrderRow.{OrderRowValue}
 use Rattle.checkpoint.specs.Checkpoint.{order_said}
 use Rattle.checkpoint.specs.inner.Lines.{AddsLines}
 use Rattle.checkpoint_lines.specs.LineWriting.{IsOrderLine}
