@@ -244,6 +244,15 @@ may_follow rows k d h within = record {
   few_open = omega (arith, taken_wants rows k d within, h.few_open);
 }
 
+-- the same of a copy so far and of a copied row
+pub copy_follows : (rows items copy : List OrderRowValue) (k : ℕ) (row : OrderRowValue) → IsOrderRows rows → items ≡ rows → k < length items → row ≡ get_or items k row → copy ≡ take k items
+    → (order_in copy row.text.id ≡ None) × (open_wagons copy + wanted_open row ≤ max_open_wagons)
+copy_follows rows items copy k row h same within is so_far =
+    let may = may_follow rows k row h (rw (← same) within) in
+    let row_is : get_or rows k row ≡ row = ap (λ list. get_or list k row) (sym same) ∙ sym is in
+    let copy_is : take k rows ≡ copy = ap (take k) (sym same) ∙ sym so_far in
+    (rw (copy_is, row_is) at may.new, rw (copy_is, row_is) at may.few_open)
+
 -- the count less what an order wants no more
 pub less_wanted : (n before after old new : ℕ) → before ≡ old → after ≡ new → new ≤ old → old ≤ n → n - (before - after) + old ≡ n + new
 less_wanted n before after old new p q r s = omega arith
