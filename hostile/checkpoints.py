@@ -1,8 +1,9 @@
 #!/usr/bin/env python3
-"""Checkpoints: random histories cut at random and gone on with both ways; a checkpoint cut after every byte, with every byte
-replaced, and read and written where memory is refused. The model of office.py says what a checkpoint must be, and what each
+"""Checkpoints: random histories cut at random, and the example day cut after each line, and gone on with both ways; a
+checkpoint cut after every byte, with every byte replaced, and read and written where memory is refused. The model of office.py says what a checkpoint must be, and what each
 line does to it."""
 
+import functools
 import json
 import os
 import random
@@ -10,10 +11,13 @@ import subprocess
 import tempfile
 
 import office
-from memory import ALL, KEPT, STARTS, new_office
-from program import NETWORKS, PROGRAM, Table, office_words, run
+from memory import ALL, KEPT, STARTS
+from program import HERE, NETWORKS, PROGRAM, ROSTER, Table, office_words, run
 
 HISTORIES = int(os.environ.get("HOSTILE_HISTORIES", 10_000))
+DAY = os.path.join(HERE, "..", "examples", "day")
+FILES = ROSTER, tuple(NETWORKS)
+DAY_FILES = f"{DAY}/roster.csv", (f"{DAY}/network.csv", f"{DAY}/network_closed.csv")
 ENTRIES = 1000
 PLACES = ["DE00001", "DE00002", "DE00003", "DE00004", "CZ00001"]
 CLASSES = ["Eanos", "Falns", "Habbins"]
@@ -43,33 +47,65 @@ def checkpoint_of(state):
     return "".join(json.dumps(line, separators=(",", ":")) + "\n" for line in lines)
 
 
+@functools.cache
+def distances(networks):
+    return [office.distances(path) for path in networks]
+
+
+def new_office(files):
+    roster, networks = files
+    return office.Office(office.read_rows(roster), distances(networks), ENTRIES, KEPT)
+
+
+def words_of(word, files):
+    roster, networks = files
+    return office_words(word, ENTRIES, KEPT, roster=roster, networks=networks)
+
+
+def fields_of(line):
+    """The members of a line; none where it is no object."""
+    try:
+        return json.loads(line)
+    except ValueError:
+        return {}
+
+
+def do(state, line):
+    """What a line does to the model's office. A plan line begins."""
+    fields = fields_of(line)
+    try:
+        if fields.get("type") == "plan":
+            state.begin({"at": office.moment_of(fields["at"])})
+        else:
+            state.do(*office.read_command(line.encode()))
+    except office.Refused:
+        pass
+
+
 class History:
     """The lines of a run that is under way, its replies, and the model's office after them."""
 
-    def __init__(self, seed):
-        self.random = random.Random(seed)
-        self.state, self.now = new_office(ENTRIES), 1_772_409_600
+    def __init__(self, files, seed=0):
+        self.random, self.files = random.Random(seed), files
+        self.state, self.now = new_office(files), 1_772_409_600
         self.lines, self.replies, self.number = [], [], 0
-        self.program = subprocess.Popen([PROGRAM, *office_words("run", ENTRIES, KEPT)], stdin=subprocess.PIPE, stdout=subprocess.PIPE)
+        self.program = subprocess.Popen([PROGRAM, *words_of("run", files)], stdin=subprocess.PIPE, stdout=subprocess.PIPE)
 
-    def send(self, line):
-        """Sends a line, and keeps its reply and that of the model where it has one."""
+    def send(self, fields):
+        return self.send_line(json.dumps(fields))
+
+    def send_line(self, line):
+        """Sends a line, and keeps its reply; the certificate where it is a plan."""
         self.lines.append(line)
-        self.program.stdin.write(json.dumps(line).encode() + b"\n")
+        self.program.stdin.write(line.encode() + b"\n")
         self.program.stdin.flush()
         reply = [self.read()]
         word = reply[0].split()[1]
         while word == "plan" and not reply[-1].startswith("{") or word == "sheet" and not reply[-1].startswith("network"):
             reply.append(self.read())
         self.replies.append(reply)
-        if line["type"] != "plan":
-            try:
-                self.state.do(*office.read_command(json.dumps(line).encode()))
-            except office.Refused:
-                pass
-            return None
-        self.state.begin({"at": office.moment_of(line["at"])})
-        return json.loads(reply[-1])
+        do(self.state, line)
+        return json.loads(reply[-1]) if word == "plan" else None
 
     def read(self):
         return self.program.stdout.readline().decode().rstrip("\n")
@@ -107,7 +143,7 @@ class History:
             self.send({"type": "sheet"})
         elif self.lines:
             line = pick.choice(self.lines)
-            self.send(line if line["type"] not in ("plan", "commit") else {"type": "sheet"})
+            self.send_line(line if fields_of(line)["type"] not in ("plan", "commit") else '{"type":"sheet"}')
 
     def close(self):
         self.program.stdin.close()
@@ -115,11 +151,14 @@ class History:
         self.program.wait()
 
 
-def names_before(line, state):
-    """Whether a line speaks of what a checkpoint doesn't have: a message of before, an order that was closed."""
-    if line["type"] in office.KINDS:
-        return (line["company"], line["number"]) in state.messages
-    order = state.orders.get(line.get("order", "")) if line["type"] in ("order", "withdraw") else None
+def names_before(fields, state):
+    """Whether a line speaks of what a checkpoint doesn't have: a message or a version of before, an order that was closed."""
+    kind = fields.get("type")
+    if kind in office.KINDS:
+        return (fields.get("company"), fields.get("number")) in state.messages
+    if kind == "commit":
+        return fields["version"] < state.length
+    order = state.orders.get(fields.get("order", "")) if kind in ("order", "withdraw") else None
     return order is not None and not order.is_open()
 
 
@@ -135,34 +174,47 @@ def shifted(reply, lines, entries, closed):
     return [" ".join(first), *rest]
 
 
+def cuts_of(history):
+    """Behind how many lines a history may be cut: not between a plan and its commit."""
+    kinds = [fields_of(line).get("type") for line in history.lines]
+    return [k for k in range(len(kinds) + 1) if not (0 < k < len(kinds) and kinds[k - 1] == "plan" and kinds[k] == "commit")]
+
+
 def divided(seed):
-    """A history, cut where it isn't between a plan and its commit."""
-    history = History(seed)
+    """A random history, cut at random."""
+    history = History(FILES, seed)
     for _ in range(history.random.randint(5, 60)):
         history.step()
     history.close()
-    cuts = [k for k in range(len(history.lines) + 1) if k == len(history.lines) or history.lines[k]["type"] != "commit"]
-    cut = history.random.choice(cuts)
-    before = new_office(ENTRIES)
+    return cut_at(history, history.random.choice(cuts_of(history)))
+
+
+def day_cut(cut):
+    """The example day, cut behind a line."""
+    history = History(DAY_FILES)
+    with open(f"{DAY}/day.jsonl", encoding="utf-8") as file:
+        for line in file.read().splitlines():
+            history.send_line(line)
+    history.close()
+    return cut_at(history, cut) if cut in cuts_of(history) else None
+
+
+def cut_at(history, cut):
+    """What differs where a history is cut behind so many lines, saved and gone on with."""
+    before = new_office(history.files)
     for line in history.lines[:cut]:
-        try:
-            if line["type"] == "plan":
-                before.begin({"at": office.moment_of(line["at"])})
-            else:
-                before.do(*office.read_command(json.dumps(line).encode()))
-        except office.Refused:
-            pass
-    given = "".join(json.dumps(line) + "\n" for line in history.lines).encode()
-    words = office_words("save", ENTRIES, KEPT)
+        do(before, line)
+    given = "".join(line + "\n" for line in history.lines).encode()
+    words = words_of("save", history.files)
     saved = run(words + ["--upto", str(cut)], given) if cut else run(words, b"")
     if saved.out.decode() != checkpoint_of(before):
         return f"saved {saved.out!r} {saved.err!r} where {checkpoint_of(before)!r} is right"
     return gone_on(history, cut, before, saved.out)
 
 
-def from_words(word, path):
+def from_words(word, path, files=FILES):
     words = [word, "--from", path, "--entries", str(ENTRIES), "--kept", str(KEPT), "--workers", "1"]
-    for network in NETWORKS:
+    for network in files[1]:
         words += ["--network", network]
     return words
 
@@ -172,20 +224,21 @@ def gone_on(history, cut, before, checkpoint):
     closed = {name for name, order in before.orders.items() if not order.is_open()}
     lines, wanted = [], []
     for line, reply in zip(history.lines[cut:], history.replies[cut:]):
-        if names_before(line, before):
+        fields = fields_of(line)
+        if names_before(fields, before):
             lines.append("")
             continue
-        if line["type"] == "commit":
-            line = line | {"version": line["version"] - before.length}
-        lines.append(json.dumps(line))
+        if fields.get("type") == "commit":
+            line = json.dumps(fields | {"version": fields["version"] - before.length})
+        lines.append(line)
         wanted += shifted(reply, cut, before.length, closed)
     with tempfile.NamedTemporaryFile() as file:
         file.write(checkpoint)
         file.flush()
         given = "".join(line + "\n" for line in lines).encode()
-        went = run(from_words("run", file.name), given)
-        again = run(from_words("save", file.name))
-        last = run(from_words("save", file.name), given)
+        went = run(from_words("run", file.name, history.files), given)
+        again = run(from_words("save", file.name, history.files))
+        last = run(from_words("save", file.name, history.files), given)
     if went.out.decode().splitlines() != wanted:
         return f"cut at {cut}: {went.out!r} {went.err!r} where {wanted!r} is right"
     if again.out != checkpoint:
@@ -201,7 +254,7 @@ FAULTS = {51, 52, 53, 75, 79, 85, 86, 87, 88}
 
 def sample():
     """A checkpoint with holds, promises, a filled wagon and an order with room."""
-    history = History(0)
+    history = History(FILES)
     while not (any(order.promised and order.filled for order in history.state.orders.values() if order.is_open())
                and any(wagon.held for wagon in history.state.wagons.values())):
         history.step()
@@ -267,6 +320,7 @@ def requests(text):
 def main():
     table = Table()
     table.try_all("histories cut at random, saved, and gone on with both ways", divided, range(HISTORIES))
+    table.try_all("the example day cut after each line, and gone on with both ways", day_cut, range(42))
     text = sample()
     table.try_all("a checkpoint cut after every byte", cut_after, [(text, length) for length in range(len(text) + 1)])
     table.try_all("every byte of a checkpoint replaced by each of 20 bytes", byte_replaced,

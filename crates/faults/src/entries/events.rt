@@ -6,7 +6,7 @@ Another message has this company and number, and the two differ.
 
 - Where: movement messages: `run`, `feed`.
 - Cause: the sender counts from the beginning again, two systems of one company
-  share numbers, or a message was mended and sent under its old number.
+  share numbers, or a message was changed and sent under its old number.
 - Remedy: give it a number that the company hasn't used in this journal. The
   same message sent again does no harm: it is answered `repeated`.
 ";
@@ -81,7 +81,7 @@ record's; the header is record 1.
   semicolons in place of commas, a wrong wagon number, class, place or moment, a
   load limit over 200,000 kg or with a fraction, or a status that isn't in the
   manual's list.
-- Remedy: mend the record. In a text editor it is the line of that number,
+- Remedy: correct the record. In a text editor it is the line of that number,
   unless the file has empty lines or line breaks in quotes.
 ";
 
@@ -117,7 +117,7 @@ The problem of this version and moment isn't kept.
   first is dropped. One that is kept already stays where it is when it is begun
   again, so the certificate of a repeated `plan` line may be dropped sooner than
   its own line says.
-- Remedy: plan anew and send that certificate. Where many plan at once, give
+- Remedy: plan again and send that certificate. Where many plan at once, give
   more `--kept`.
 ";
 
@@ -129,7 +129,7 @@ it.
 - Where: `commit` lines: `run`, `feed`.
 - Cause: since the problem was begun the wagon was promised, held or moved, or
   it is free again at another place or from another moment.
-- Remedy: plan anew. The commit did nothing, also for its other pairs.
+- Remedy: plan again. The commit did nothing, also for its other pairs.
 ";
 
 pub(crate) const ORDER_CHANGED: &str = "## 83 OrderChanged
@@ -139,7 +139,7 @@ An order lacks fewer wagons now than the commit gives it. The reply names it.
 - Where: `commit` lines: `run`, `feed`.
 - Cause: since the problem was begun another commit promised wagons to it, or it
   was withdrawn.
-- Remedy: plan anew. The commit did nothing, also for its other pairs.
+- Remedy: plan again. The commit did nothing, also for its other pairs.
 ";
 
 pub(crate) const NOT_IN_PROBLEM: &str = "## 84 NotInProblem

@@ -63,5 +63,6 @@ to 20.
 
 - Where: any line of `check`, `solve`, `run` and `feed`.
 - Cause: see the entry of the second number: 12 for `25 wagon 12`.
-- Remedy: mend the field and send the line again. Nothing of the line was done.
+- Remedy: correct the field and send the line again. Nothing of the line was
+  done.
 ";

@@ -9,7 +9,7 @@ record's; the header is record 1.
 - Cause: for record 1 a missing or other header, or an empty file; else
   semicolons in place of commas, a place of another form, kilometres or minutes
   of 0, over 10,000 or with a fraction, or a way other than `one` and `both`.
-- Remedy: mend the record. In a text editor it is the line of that number,
+- Remedy: correct the record. In a text editor it is the line of that number,
   unless the file has empty lines or line breaks in quotes.
 ";
 

@@ -45,7 +45,7 @@ What the program prints couldn't be written.
   `solve`, `run`), `wagons: 94` for any other output.
 - Cause: the reader of a pipe ended first, as `head` does, or the disk is full.
 - Remedy: write into a file on a disk that has room. What that line asked for
-  was done nevertheless, and its reply may be there in part.
+  was done all the same, and its reply may be there in part.
 ";
 
 pub(crate) const SEATS_MISSING: &str = "## 95 SeatsMissing

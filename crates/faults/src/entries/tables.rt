@@ -67,7 +67,7 @@ time. The reply names the wagon and the order.
 
 - Where: table lines: `check`. `commit` lines: `run`, `feed`.
 - Cause: a pair that was made by hand, or planned with other distances.
-- Remedy: take the pair out and plan anew. Class, load limit, distance and
+- Remedy: take the pair out and plan again. Class, load limit, distance and
   latest moment of the order decide which pairs are allowed.
 ";
 
@@ -78,7 +78,7 @@ the wagons that it lacks. The reply names the wagon and the order.
 
 - Where: table lines: `check`. `commit` lines: `run`, `feed`.
 - Cause: pairs of two plans that were joined.
-- Remedy: take the pair out and plan anew.
+- Remedy: take the pair out and plan again.
 ";
 
 pub(crate) const PRICE_GAP: &str = "## 64 PriceGap
@@ -113,5 +113,5 @@ prices prove needed.
 - Where: table lines: `check`. `commit` lines: `run`, `feed`.
 - Cause: a plan that isn't the least, a pair that was taken out or changed, or
   prices of another plan.
-- Remedy: plan anew, and send plan and prices as printed.
+- Remedy: plan again, and send plan and prices as printed.
 ";
