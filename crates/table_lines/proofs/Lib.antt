@@ -8,3 +8,5 @@ pub mod InOrder
 pub mod Written
 pub mod Planned
 pub mod Costs
+pub mod Unplanned
+pub mod RowsHeld

@@ -36,15 +36,15 @@ lacks_put t cost = ap object (put_by t.lacks t cost)
 
 -- ---- no part is a float, and it nests little
 
-list_has_no_float : {A : Type 0} (write : A → Data) (xs : List A) → ((x : A) → has_float (write x) ≡ false) → has_float (list_data write xs) ≡ false
+pub list_has_no_float : {A : Type 0} (write : A → Data) (xs : List A) → ((x : A) → has_float (write x) ≡ false) → has_float (list_data write xs) ≡ false
 list_has_no_float write [] h = refl
 list_has_no_float write (x ∷ xs) h = rw (h x) (list_has_no_float write xs h)
 
-number_has_no_float : (o : Option ℕ) → has_float (number_or_null o) ≡ false
+pub number_has_no_float : (o : Option ℕ) → has_float (number_or_null o) ≡ false
 number_has_no_float None = refl
 number_has_no_float (Some n) = refl
 
-lacks_have_no_float : (lacks : Option (List ℕ)) (others : Members) → members_have_float others ≡ false → members_have_float (with_lacks lacks others) ≡ false
+pub lacks_have_no_float : (lacks : Option (List ℕ)) (others : Members) → members_have_float others ≡ false → members_have_float (with_lacks lacks others) ≡ false
 lacks_have_no_float None others h = h
 lacks_have_no_float (Some lacks) others h = rw (list_has_no_float number_data lacks (λ n. refl)) h
 
@@ -59,15 +59,15 @@ solved_has_no_float t cost =
     let wagons = list_has_no_float string t.wagons (λ number. refl) in
     rw cells (lacks_have_no_float t.lacks (last_members t) (rw (orders, pairs, penalties, u, v, wagons) refl))
 
-list_nests : {A : Type 0} (write : A → Data) (n : ℕ) (xs : List A) → ((x : A) → depth (write x) ≤ n) → items_depth (items_of (map write xs)) ≤ n
+pub list_nests : {A : Type 0} (write : A → Data) (n : ℕ) (xs : List A) → ((x : A) → depth (write x) ≤ n) → items_depth (items_of (map write xs)) ≤ n
 list_nests write n [] h = omega arith
 list_nests write n (x ∷ xs) h = let more = list_nests write n xs h in let one = h x in omega (arith, more, one)
 
-number_nests : (o : Option ℕ) → depth (number_or_null o) ≤ 0
+pub number_nests : (o : Option ℕ) → depth (number_or_null o) ≤ 0
 number_nests None = omega arith
 number_nests (Some n) = omega arith
 
-lacks_nest : (lacks : Option (List ℕ)) (others : Members) → members_depth others ≤ 3 → members_depth (with_lacks lacks others) ≤ 3
+pub lacks_nest : (lacks : Option (List ℕ)) (others : Members) → members_depth others ≤ 3 → members_depth (with_lacks lacks others) ≤ 3
 lacks_nest None others h = h
 lacks_nest (Some lacks) others h = let numbers = list_nests number_data 0 lacks (λ n. omega arith) in omega (arith, numbers, h)
 
@@ -97,17 +97,17 @@ row_reads row h = list-reads cell_of number_or_null row (All-weaker IsNumber (λ
 abbrev cells_in : Rows → List (List (Option ℕ))
 cells_in rows = map (λ row. row.items) rows
 
-cells_read : (rows : Rows) → All (λ row. All IsNumber row.items) rows → list_of_each row_of (list_data (list_data number_or_null) (cells_in rows)) ≡ Ok (cells_in rows)
+pub cells_read : (rows : Rows) → All (λ row. All IsNumber row.items) rows → list_of_each row_of (list_data (list_data number_or_null) (cells_in rows)) ≡ Ok (cells_in rows)
 cells_read rows h =
     list-reads row_of (list_data number_or_null) (cells_in rows)
     (All-map (λ row. row_of (list_data number_or_null row) ≡ Ok row) (λ row. row.items) rows (All-weaker (λ row. All IsNumber row.items) (λ row. row_of (list_data number_or_null row.items) ≡ Ok row.items) (λ row. row_reads row.items) rows h))
 
-penalties_read : (penalties : List ℕ) → All (λ penalty. penalty ≤ max_cost) penalties → list_of_each (number_within 0 max_cost) (list_data number_data penalties) ≡ Ok penalties
+pub penalties_read : (penalties : List ℕ) → All (λ penalty. penalty ≤ max_cost) penalties → list_of_each (number_within 0 max_cost) (list_data number_data penalties) ≡ Ok penalties
 penalties_read penalties h =
     list-reads (number_within 0 max_cost) number_data penalties
     (All-weaker (λ penalty. penalty ≤ max_cost) (λ n. number_within 0 max_cost (number_data n) ≡ Ok n) (λ n below. number_reads 0 max_cost n (omega arith) below) penalties h)
 
-lacks_read : (lacks : List ℕ) → All IsLack lacks → list_of_each (number_within 1 max_order_wagons) (list_data number_data lacks) ≡ Ok lacks
+pub lacks_read : (lacks : List ℕ) → All IsLack lacks → list_of_each (number_within 1 max_order_wagons) (list_data number_data lacks) ≡ Ok lacks
 lacks_read lacks h =
     list-reads (number_within 1 max_order_wagons) number_data lacks
     (All-weaker IsLack (λ n. number_within 1 max_order_wagons (number_data n) ≡ Ok n) (λ n within. number_reads 1 max_order_wagons n within.0 within.1) lacks h)
@@ -132,7 +132,7 @@ record ListsRead (t : TableText) : Type 0 where
   u : list_of_each (number_within 0 (2 ^ 64 - 1)) (list_data number_data t.u) ≡ Ok t.u
   v : list_of_each (number_within 0 (2 ^ 64 - 1)) (list_data number_data t.v) ≡ Ok t.v
 
-abbrev with_lack_list : TableText → Option (List ℕ) → TableText
+abbrev pub with_lack_list : TableText → Option (List ℕ) → TableText
 with_lack_list t lacks =
     record { wagons = t.wagons; orders = t.orders; cells = t.cells; penalties = t.penalties; lacks = lacks; pairs = t.pairs; u = t.u; v = t.v }
 
@@ -146,7 +146,7 @@ unfolding table_line_of
 line_reads bytes t cost utf8 is reads = rw (object_of-ok bytes (solved_data t cost) utf8 is refl, reads) refl
 
 -- the lacks of a table, as a contract sees them
-lacks_seen : (lacks : Option (Vec ℕ Global)) → IfSome lacks (λ list. All IsLack list.items) → IfSome (option_map (λ list. list.items) lacks) (λ list. All IsLack list)
+pub lacks_seen : (lacks : Option (Vec ℕ Global)) → IfSome lacks (λ list. All IsLack list.items) → IfSome (option_map (λ list. list.items) lacks) (λ list. All IsLack list)
 lacks_seen None h = h
 lacks_seen (Some list) h = h
 

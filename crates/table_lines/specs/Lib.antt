@@ -8,4 +8,6 @@ pub mod Checking
 pub mod JsonReplies
 pub mod SolvedText
 pub mod Solving
+pub mod UnplannedText
+pub mod ProblemText
 pub mod inner

@@ -1,5 +1,5 @@
 //! Table lines: a distribution problem, a plan and its prices, as one JSON object a line. Such a line is read, judged and
-//! planned, and `check_run` and `solve_run` are the runs over many of them.
+//! planned; `check_run` and `solve_run` are the runs over many of them, and `problem_line` writes that of a problem.
 #![tactic(auto)]
 
 mod cells;
@@ -7,6 +7,7 @@ mod details;
 mod json_replies;
 mod lacks;
 mod line_solver;
+mod problem_text;
 mod solved_value;
 mod stating;
 mod table_answer;
@@ -18,8 +19,10 @@ mod table_reading;
 mod table_refusal;
 mod table_solver;
 mod tokens;
+mod unplanned_value;
 
 pub use line_solver::solve_line;
+pub use problem_text::problem_line;
 pub use stating::stated_table;
 pub use table_answer::table_cost;
 pub use table_checker::{TableChecker, check_run};

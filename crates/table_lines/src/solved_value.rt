@@ -34,7 +34,7 @@ pub(crate) fn solved_line(
 }
 
 /// The object of these members and of what the orders lack, where the table says it.
-fn object_with_lacks(
+pub(crate) fn object_with_lacks(
     alloc: Global,
     members: Map<String, Value>,
     lacks: &Option<Vec<u32>>,
@@ -53,7 +53,7 @@ fn object_with_lacks(
 }
 
 /// The rows of costs, one for each wagon.
-fn cells_value(alloc: Global, table: &TableLine) -> Result<Value, AllocError>
+pub(crate) fn cells_value(alloc: Global, table: &TableLine) -> Result<Value, AllocError>
     ensures { let t = table_text table.now in IfOk result (λ value. view value ≡ list_data (list_data number_or_null) t.cells) }
 {
     list_value(alloc, &table.cells)

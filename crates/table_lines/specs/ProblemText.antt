@@ -1,0 +1,28 @@
+-- The line of a table under the names of its wagons and orders, without a plan.
+use Rattle.std.specs.Prelude.{◌≡◌, ℕ, List, [], map, Option, Some, Ok}
+use Rattle.std.specs.List.{range_with_len}
+use Rattle.cost_table.specs.Names.{NameLists}
+use Rattle.cost_table.specs.Table.{Table, cost_in, order_count}
+use Rattle.table_lines.specs.TableLine.{TableText}
+use Rattle.table_lines.specs.TablePart.{table_of_line}
+use Rattle.table_lines.specs.StatedTable.{stated_in, stated_line}
+
+-- what a row has for each of so many orders: a cost, or none where the pair isn't allowed
+abbrev pub costs_of : (orders : ℕ) → List (ℕ × ℕ) → List (Option ℕ)
+costs_of orders row = map (cost_in row) (range_with_len 0 orders)
+
+-- the costs of each wagon
+abbrev pub costs_in : Table → List (List (Option ℕ))
+costs_in table = map (costs_of (order_count table)) table.rows
+
+-- a table under these names, as a line states it; it says what each order lacks
+abbrev pub text_of_table : NameLists → Table → TableText
+text_of_table names table =
+    record { wagons = names.wagons; orders = names.orders; cells = costs_in table; penalties = table.penalties; lacks = Some table.lacks; pairs = []; u = []; v = [] }
+
+-- A line that states this table under these names: its fields are read as the table's, and what is to be solved is that
+-- very table, with each of its costs, penalties and lacks.
+pub record StatesTable (names : NameLists) (table : Table) (line : List ℕ) : Type 0 where
+  pub reads : table_of_line line ≡ Ok (text_of_table names table)
+  pub stated : stated_in (text_of_table names table) ≡ Ok (names, table)
+  pub solvable : stated_line line ≡ Ok (text_of_table names table)
