@@ -1,0 +1,4 @@
+pub mod Sums
+pub mod Identity
+pub mod OtherPlans
+pub mod OtherTables

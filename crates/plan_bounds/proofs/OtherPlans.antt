@@ -1,0 +1,39 @@
+-- What other plans of the table cost more, at least.
+use Rattle.std.proofs.Common.{◌≡◌, ◌+◌, ◌-◌, ◌*◌, ◌<◌, ◌≤◌, ℕ, true, cond, List, length, ap, arith, subst}
+use Rattle.std.specs.Prelude.{◌==◌, slice_index, slice_index_or}
+use Rattle.std.specs.List.{sum_by}
+use Rattle.std.proofs.lemmas.Bool.Decides.{nat_tests}
+use Rattle.cost_table.specs.Table.{order_count, wagon_count}
+use Rattle.cost_table.specs.Plan.{sum_below, uses}
+use Rattle.plan_bounds.specs.PricedPlan.{PricedPlan}
+use Rattle.plan_bounds.specs.Slack.{idle_price, missed, refusal_slack, slack}
+use Rattle.plan_bounds.specs.Laws.{IdleWagonsCostTheirPrice, MissesCostTheirSlack, PairsCostTheirSlack}
+use Rattle.plan_bounds.proofs.Identity.{slacks_are_the_difference}
+use Rattle.plan_bounds.proofs.Sums.{sum_below-term, sum_by-term}
+
+pub pairs_cost_their_slack : PairsCostTheirSlack
+pairs_cost_their_slack p c i j other plan has =
+    let same = slacks_are_the_difference p c other plan in
+    let there = sum_by-term (slack p) other has.0 (i, j) has.1 in
+    let here : slack p (slice_index_or other has.0 (i, j)) ≡ slack p (i, j) = ap (slack p) has.2 in
+    omega (arith, same, there, here)
+
+idle_is : (n x : ℕ) → n ≡ 0 → cond (n == 0) x 0 ≡ x
+idle_is n x h = grind (arith, nat_tests, h)
+
+pub idle_wagons_cost_their_price : IdleWagonsCostTheirPrice
+idle_wagons_cost_their_price p c i l other plan idle =
+    let same = slacks_are_the_difference p c other plan in
+    let there = sum_below-term (wagon_count p.table) i (idle_price p other) l in
+    let here : idle_price p other i ≡ slice_index p.u i = idle_is (uses i other) (slice_index p.u i) idle in
+    omega (arith, same, there, here)
+
+at_least : (k m x : ℕ) → k ≤ m → k * x ≤ m * x
+at_least k m x h = grind (arith, h)
+
+pub misses_cost_their_slack : MissesCostTheirSlack
+misses_cost_their_slack p c j l k other plan misses =
+    let same = slacks_are_the_difference p c other plan in
+    let there = sum_below-term (order_count p.table) j (λ j. missed p other j * refusal_slack p j) l in
+    let here = at_least k (missed p other j) (refusal_slack p j) misses in
+    omega (arith, same, there, here)

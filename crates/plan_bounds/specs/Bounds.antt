@@ -1,0 +1,34 @@
+-- Bounds: what plans that differ from the certified one in some way cost more, at least.
+use Rattle.std.specs.Prelude.{◌≡◌, ◌+◌, ◌*◌, ◌<◌, ◌≤◌, ℕ, List, Contains}
+use Rattle.cost_table.specs.Table.{Table}
+use Rattle.cost_table.specs.Plan.{IsPlan, cost_of, serves, uses}
+use Rattle.plan_bounds.specs.PricedPlan.{PricedPlan, certified_cost}
+use Rattle.plan_bounds.specs.Slack.{missed}
+
+-- each plan of the table that is so costs so many km more than the certified one, at least
+abbrev pub CostsMore : PricedPlan → (IsSo : List (ℕ × ℕ) → Type 0) → (km : ℕ) → Type 0
+CostsMore p IsSo km = (other : List (ℕ × ℕ)) → IsPlan p.table other → IsSo other → certified_cost p + km ≤ cost_of p.table other
+
+-- a plan that has a pair
+abbrev pub HasPair : (i j : ℕ) → List (ℕ × ℕ) → Type 0
+HasPair i j other = Contains other (i, j)
+
+-- a plan in which wagon i goes to no order
+abbrev pub IsIdle : (i : ℕ) → List (ℕ × ℕ) → Type 0
+IsIdle i other = uses i other ≡ 0
+
+-- a plan in which order j misses k wagons or more
+abbrev pub MissesAtLeast : PricedPlan → (j k : ℕ) → List (ℕ × ℕ) → Type 0
+MissesAtLeast p j k other = k ≤ missed p other j
+
+-- each wagon that order j misses costs so many km more, at least
+abbrev pub EachMissCosts : PricedPlan → (j km : ℕ) → Type 0
+EachMissCosts p j km = (k : ℕ) → CostsMore p (MissesAtLeast p j k) (k * km)
+
+-- each plan of another table costs so many km more than the certified one, at least
+abbrev pub AllCostMore : PricedPlan → Table → (km : ℕ) → Type 0
+AllCostMore p table km = (other : List (ℕ × ℕ)) → IsPlan table other → certified_cost p + km ≤ cost_of table other
+
+-- no plan of another table costs over so many km less than the certified one
+abbrev pub NoneSavesMore : PricedPlan → Table → (km : ℕ) → Type 0
+NoneSavesMore p table km = (other : List (ℕ × ℕ)) → IsPlan table other → certified_cost p ≤ cost_of table other + km

@@ -1,0 +1,61 @@
+-- Laws of certificates: what every other plan of the table costs, and every plan of a table that differs in one order or one wagon.
+use Rattle.std.specs.Prelude.{◌≡◌, ◌+◌, ◌-◌, ◌*◌, ◌<◌, ◌≤◌, ℕ, List, slice_index}
+use Rattle.cost_table.specs.Table.{lack_at, order_count, row_at, wagon_count}
+use Rattle.cost_table.specs.Plan.{IsPlan, cost_of}
+use Rattle.plan_bounds.specs.PricedPlan.{IsCertified, PricedPlan, certified_cost}
+use Rattle.plan_bounds.specs.Slack.{refusal_slack, slack, slack_in_all}
+use Rattle.plan_bounds.specs.Changes.{gain_of, with_lack, with_wagon, without_wagon}
+use Rattle.plan_bounds.specs.Bounds.{AllCostMore, CostsMore, EachMissCosts, HasPair, IsIdle, NoneSavesMore}
+
+-- a plan costs what the certified one does, and its slacks
+abbrev pub SlacksAreTheDifference : Type 0
+SlacksAreTheDifference =
+    (p : PricedPlan) → IsCertified p → (other : List (ℕ × ℕ)) → IsPlan p.table other → cost_of p.table other ≡ certified_cost p + slack_in_all p other
+
+-- the certified plan has no slack
+abbrev pub CertifiedHasNoSlack : Type 0
+CertifiedHasNoSlack = (p : PricedPlan) → IsCertified p → slack_in_all p p.pairs ≡ 0
+
+-- ---- other plans of the table
+
+-- a plan with a pair costs the pair's slack more, at least
+abbrev pub PairsCostTheirSlack : Type 0
+PairsCostTheirSlack = (p : PricedPlan) → IsCertified p → (i j : ℕ) → CostsMore p (HasPair i j) (slack p (i, j))
+
+-- a plan in which a wagon is idle costs the wagon's price more, at least
+abbrev pub IdleWagonsCostTheirPrice : Type 0
+IdleWagonsCostTheirPrice = (p : PricedPlan) → IsCertified p → (i : ℕ) → i < wagon_count p.table → CostsMore p (IsIdle i) (slice_index p.u i)
+
+-- each wagon that an order misses costs the slack of its refusal more, at least
+abbrev pub MissesCostTheirSlack : Type 0
+MissesCostTheirSlack = (p : PricedPlan) → IsCertified p → (j : ℕ) → j < order_count p.table → EachMissCosts p j (refusal_slack p j)
+
+-- ---- tables in which an order lacks more or fewer wagons
+
+-- where an order lacks one wagon more, each plan costs the order's price more, at least
+abbrev pub OneMoreCostsThePrice : Type 0
+OneMoreCostsThePrice =
+    (p : PricedPlan) → IsCertified p → (j : ℕ) → j < order_count p.table
+    → AllCostMore p (with_lack p.table j (lack_at p.table j + 1)) (slice_index p.v j)
+
+-- where it lacks one wagon less, no plan saves more than the order's price
+abbrev pub OneLessSavesThePrice : Type 0
+OneLessSavesThePrice =
+    (p : PricedPlan) → IsCertified p → (j : ℕ) → j < order_count p.table
+    → NoneSavesMore p (with_lack p.table j (lack_at p.table j - 1)) (slice_index p.v j)
+
+-- ---- tables with one wagon less or more
+
+-- where a wagon may serve no order, each plan costs the wagon's price more, at least
+abbrev pub WithoutAWagonCostsItsPrice : Type 0
+WithoutAWagonCostsItsPrice =
+    (p : PricedPlan) → IsCertified p → (i : ℕ) → i < wagon_count p.table → AllCostMore p (without_wagon p.table i) (slice_index p.u i)
+
+-- with one wagon more, no plan saves more than the most by which an order's price exceeds that wagon's cost for it
+abbrev pub OneWagonMoreSavesItsGain : Type 0
+OneWagonMoreSavesItsGain = (p : PricedPlan) → IsCertified p → (row : List (ℕ × ℕ)) → NoneSavesMore p (with_wagon p.table row) (gain_of p.v row)
+
+-- with one wagon more of the row of wagon i, no plan saves more than the price of wagon i
+abbrev pub ItsTwinSavesItsPrice : Type 0
+ItsTwinSavesItsPrice =
+    (p : PricedPlan) → IsCertified p → (i : ℕ) → i < wagon_count p.table → NoneSavesMore p (with_wagon p.table (row_at p.table i)) (slice_index p.u i)

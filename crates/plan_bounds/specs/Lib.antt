@@ -1,0 +1,5 @@
+pub mod PricedPlan
+pub mod Slack
+pub mod Changes
+pub mod Bounds
+pub mod Laws

@@ -1,0 +1,37 @@
+//! Laws of certificates. Their functions do nothing: the contract is the law.
+ghost use Rattle.plan_bounds.specs.Laws.{
+  CertifiedHasNoSlack,
+  IdleWagonsCostTheirPrice,
+  ItsTwinSavesItsPrice,
+  MissesCostTheirSlack,
+  OneLessSavesThePrice,
+  OneMoreCostsThePrice,
+  OneWagonMoreSavesItsGain,
+  PairsCostTheirSlack,
+  SlacksAreTheDifference,
+  WithoutAWagonCostsItsPrice,
+};
+
+/// A plan of the table costs what the certified one does, and the slacks of its pairs, the prices of its idle wagons and
+/// the slacks of the wagons that its orders miss. The certified plan has no slack.
+pub fn slacks_are_the_difference()
+    ensures identity { SlacksAreTheDifference }
+    ensures certified { CertifiedHasNoSlack }
+{}
+
+/// What each plan of the table costs more, at least, that has a pair, leaves a wagon idle or refuses an order wagons.
+pub fn prices_bound_other_plans()
+    ensures pairs { PairsCostTheirSlack }
+    ensures idle { IdleWagonsCostTheirPrice }
+    ensures misses { MissesCostTheirSlack }
+{}
+
+/// What the plans of a table cost more at least, or save at most, in which an order lacks one wagon more or less, or which
+/// has one wagon more or less.
+pub fn prices_bound_other_tables()
+    ensures one_more { OneMoreCostsThePrice }
+    ensures one_less { OneLessSavesThePrice }
+    ensures wagon_less { WithoutAWagonCostsItsPrice }
+    ensures wagon_more { OneWagonMoreSavesItsGain }
+    ensures twin { ItsTwinSavesItsPrice }
+{}
