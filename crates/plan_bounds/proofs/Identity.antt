@@ -10,7 +10,7 @@ use Rattle.cost_table.proofs.Sums.{distributes, double_count, sum_below-add, sum
 use Rattle.cost_table.proofs.CostLemmas.{orders_below, wagons_below}
 use Rattle.plan_bounds.specs.PricedPlan.{IsCertified, PricedPlan, certified_cost}
 use Rattle.plan_bounds.specs.Slack.{idle_price, missed, refusal_slack, slack, slack_in_all}
-use Rattle.plan_bounds.specs.Laws.{CertifiedHasNoSlack, SlacksAreTheDifference}
+use Rattle.plan_bounds.specs.Laws.{SlacksAreTheDifference}
 use Rattle.plan_bounds.proofs.Sums.{sum_below-list}
 
 -- pair by pair, the costs and the wagons' prices are the orders' prices and the slacks
@@ -77,6 +77,3 @@ slacks_are_the_difference p c other plan =
     let orders = orders_split p c other plan in
     let balance = c.balance in
     omega (arith, pairs, wagons, orders, balance)
-
-pub certified_has_no_slack : CertifiedHasNoSlack
-certified_has_no_slack p c = let same = slacks_are_the_difference p c p.pairs c.plan in omega (arith, same)

@@ -7,9 +7,14 @@ use Rattle.cost_table.specs.Table.{order_count, wagon_count}
 use Rattle.cost_table.specs.Plan.{sum_below, uses}
 use Rattle.plan_bounds.specs.PricedPlan.{PricedPlan}
 use Rattle.plan_bounds.specs.Slack.{idle_price, missed, refusal_slack, slack}
-use Rattle.plan_bounds.specs.Laws.{IdleWagonsCostTheirPrice, MissesCostTheirSlack, PairsCostTheirSlack}
+use Rattle.plan_bounds.specs.Bounds.{CostsMore}
+use Rattle.plan_bounds.specs.Laws.{IdleWagonsCostTheirPrice, LeastPlansHaveNoSlack, MissesCostTheirSlack, PairsCostTheirSlack}
 use Rattle.plan_bounds.proofs.Identity.{slacks_are_the_difference}
 use Rattle.plan_bounds.proofs.Sums.{sum_below-term, sum_by-term}
+
+-- a bound stays one where it is lowered
+pub lower_bound : (p : PricedPlan) (IsSo : List (ℕ × ℕ) → Type 0) (less km : ℕ) → less ≤ km → CostsMore p IsSo km → CostsMore p IsSo less
+lower_bound p IsSo less km le costs other plan so = let more = costs other plan so in omega (arith, le, more)
 
 pub pairs_cost_their_slack : PairsCostTheirSlack
 pairs_cost_their_slack p c i j other plan has =
@@ -37,3 +42,11 @@ misses_cost_their_slack p c j l k other plan misses =
     let there = sum_below-term (order_count p.table) j (λ j. missed p other j * refusal_slack p j) l in
     let here = at_least k (missed p other j) (refusal_slack p j) misses in
     omega (arith, same, there, here)
+
+-- a plan of the certified cost has no slack, since each would cost more
+pub least_plans_have_no_slack : LeastPlansHaveNoSlack
+least_plans_have_no_slack p c other plan least = record {
+  pairs = λ i j has. let more = pairs_cost_their_slack p c i j other plan has in omega (arith, more, least);
+  idle = λ i l idle. let more = idle_wagons_cost_their_price p c i l other plan idle in omega (arith, more, least);
+  misses = λ j l misses. let more = misses_cost_their_slack p c j l 1 other plan misses in omega (arith, more, least);
+}

@@ -1,20 +1,27 @@
 -- Laws of certificates: what every other plan of the table costs, and every plan of a table that differs in one order or one wagon.
 use Rattle.std.specs.Prelude.{◌≡◌, ◌+◌, ◌-◌, ◌*◌, ◌<◌, ◌≤◌, ℕ, List, slice_index}
 use Rattle.cost_table.specs.Table.{lack_at, order_count, row_at, wagon_count}
-use Rattle.cost_table.specs.Plan.{IsPlan, cost_of}
+use Rattle.cost_table.specs.Plan.{IsPlan, cost_of, serves}
 use Rattle.plan_bounds.specs.PricedPlan.{IsCertified, PricedPlan, certified_cost}
-use Rattle.plan_bounds.specs.Slack.{refusal_slack, slack, slack_in_all}
+use Rattle.plan_bounds.specs.Slack.{missed, refusal_slack, slack, slack_in_all}
 use Rattle.plan_bounds.specs.Changes.{gain_of, with_lack, with_wagon, without_wagon}
-use Rattle.plan_bounds.specs.Bounds.{AllCostMore, CostsMore, EachMissCosts, HasPair, IsIdle, NoneSavesMore}
+use Rattle.plan_bounds.specs.Bounds.{AllCostMore, CostsMore, EachMissCosts, HasPair, IsIdle, IsNewPair, NoneSavesMore}
 
 -- a plan costs what the certified one does, and its slacks
 abbrev pub SlacksAreTheDifference : Type 0
 SlacksAreTheDifference =
     (p : PricedPlan) → IsCertified p → (other : List (ℕ × ℕ)) → IsPlan p.table other → cost_of p.table other ≡ certified_cost p + slack_in_all p other
 
--- the certified plan has no slack
-abbrev pub CertifiedHasNoSlack : Type 0
-CertifiedHasNoSlack = (p : PricedPlan) → IsCertified p → slack_in_all p p.pairs ≡ 0
+-- no slack is left over in a plan
+pub record HasNoSlack (p : PricedPlan) (other : List (ℕ × ℕ)) : Type 0 where
+  pub pairs : (i j : ℕ) → HasPair i j other → slack p (i, j) ≡ 0
+  pub idle : (i : ℕ) → i < wagon_count p.table → IsIdle i other → slice_index p.u i ≡ 0
+  pub misses : (j : ℕ) → j < order_count p.table → 1 ≤ missed p other j → refusal_slack p j ≡ 0
+
+-- a plan that costs as little as the certified one has none
+abbrev pub LeastPlansHaveNoSlack : Type 0
+LeastPlansHaveNoSlack =
+    (p : PricedPlan) → IsCertified p → (other : List (ℕ × ℕ)) → IsPlan p.table other → cost_of p.table other ≡ certified_cost p → HasNoSlack p other
 
 -- ---- other plans of the table
 
@@ -29,6 +36,12 @@ IdleWagonsCostTheirPrice = (p : PricedPlan) → IsCertified p → (i : ℕ) → 
 -- each wagon that an order misses costs the slack of its refusal more, at least
 abbrev pub MissesCostTheirSlack : Type 0
 MissesCostTheirSlack = (p : PricedPlan) → IsCertified p → (j : ℕ) → j < order_count p.table → EachMissCosts p j (refusal_slack p j)
+
+-- a plan that gives an order more wagons costs the slack of a pair more, at least, that the certified plan doesn't have
+abbrev pub MoreWagonsCostASlack : Type 0
+MoreWagonsCostASlack =
+    (p : PricedPlan) → IsCertified p → (j : ℕ) (other : List (ℕ × ℕ)) → IsPlan p.table other → serves j p.pairs < serves j other
+    → (i : ℕ) × IsNewPair p i j × (certified_cost p + slack p (i, j) ≤ cost_of p.table other)
 
 -- ---- tables in which an order lacks more or fewer wagons
 

@@ -3,3 +3,4 @@ pub mod Slack
 pub mod Changes
 pub mod Bounds
 pub mod Laws
+pub mod inner

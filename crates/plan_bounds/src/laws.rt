@@ -1,9 +1,10 @@
 //! Laws of certificates. Their functions do nothing: the contract is the law.
 ghost use Rattle.plan_bounds.specs.Laws.{
-  CertifiedHasNoSlack,
   IdleWagonsCostTheirPrice,
   ItsTwinSavesItsPrice,
+  LeastPlansHaveNoSlack,
   MissesCostTheirSlack,
+  MoreWagonsCostASlack,
   OneLessSavesThePrice,
   OneMoreCostsThePrice,
   OneWagonMoreSavesItsGain,
@@ -13,17 +14,19 @@ ghost use Rattle.plan_bounds.specs.Laws.{
 };
 
 /// A plan of the table costs what the certified one does, and the slacks of its pairs, the prices of its idle wagons and
-/// the slacks of the wagons that its orders miss. The certified plan has no slack.
+/// the slacks of the wagons that its orders miss. A plan that costs as little has no slack.
 pub fn slacks_are_the_difference()
     ensures identity { SlacksAreTheDifference }
-    ensures certified { CertifiedHasNoSlack }
+    ensures least { LeastPlansHaveNoSlack }
 {}
 
-/// What each plan of the table costs more, at least, that has a pair, leaves a wagon idle or refuses an order wagons.
+/// What each plan of the table costs more, at least, that has a pair, leaves a wagon idle, refuses an order wagons, or gives
+/// it more than the certified plan does.
 pub fn prices_bound_other_plans()
     ensures pairs { PairsCostTheirSlack }
     ensures idle { IdleWagonsCostTheirPrice }
     ensures misses { MissesCostTheirSlack }
+    ensures more { MoreWagonsCostASlack }
 {}
 
 /// What the plans of a table cost more at least, or save at most, in which an order lacks one wagon more or less, or which
