@@ -1,15 +1,15 @@
 -- The cost of a plan is that of the certified one and the plan's slacks.
-use Rattle.std.proofs.Common.{◌≡◌, ◌+◌, ◌-◌, ◌*◌, ◌<◌, ◌≤◌, ℕ, cond, List, [], ◌∷◌, length, ap, arith}
+use Rattle.std.proofs.Common.{◌≡◌, ◌+◌, ◌-◌, ◌*◌, ◌≤◌, ℕ, cond, List, [], ◌∷◌, ap, arith}
 use Rattle.std.specs.Prelude.{◌==◌, slice_index, unwrap_or}
 use Rattle.std.specs.List.{sum, sum_by}
 use Rattle.std.proofs.lemmas.List.Sums.{sum_by-cons}
 use Rattle.std.proofs.lemmas.Bool.Decides.{nat_tests}
 use Rattle.cost_table.specs.Table.{lack_at, order_count, penalty_at, wagon_count}
-use Rattle.cost_table.specs.Plan.{AllAllowed, IsPlan, cost_of, missed_cost, pair_cost, serves, sum_below, uses}
+use Rattle.cost_table.specs.Plan.{AllAllowed, IsPlan, missed_cost, pair_cost, serves, sum_below, uses}
 use Rattle.cost_table.proofs.Sums.{distributes, double_count, sum_below-add, sum_below-same}
 use Rattle.cost_table.proofs.CostLemmas.{orders_below, wagons_below}
-use Rattle.plan_bounds.specs.PricedPlan.{IsCertified, PricedPlan, certified_cost}
-use Rattle.plan_bounds.specs.Slack.{idle_price, missed, refusal_slack, slack, slack_in_all}
+use Rattle.plan_bounds.specs.PricedPlan.{IsCertified, PricedPlan}
+use Rattle.plan_bounds.specs.Slack.{idle_price, missed, refusal_slack, slack}
 use Rattle.plan_bounds.specs.Laws.{SlacksAreTheDifference}
 use Rattle.plan_bounds.proofs.Sums.{sum_below-list}
 
@@ -64,7 +64,7 @@ orders_split p c ps plan =
     let refused = λ (j : ℕ). missed p ps j * refusal_slack p j in
     let served = λ (j : ℕ). serves j ps * slice_index p.v j in
     let each = sum_below-same m (λ j. paid j + refused j) (λ j. served j + missed_cost p.table ps j)
-        (λ j l. served_or_missed (lack_at p.table j) (serves j ps) (slice_index p.v j) (penalty_at p.table j) (plan.within j l) (c.below_penalty j l)) in
+    (λ j l. served_or_missed (lack_at p.table j) (serves j ps) (slice_index p.v j) (penalty_at p.table j) (plan.within j l) (c.below_penalty j l)) in
     let left = sum_below-add m paid refused in
     let right = sum_below-add m served (missed_cost p.table ps) in
     let count = double_count (λ p. p.1) (slice_index p.v) m ps (orders_below p.table ps plan.allowed) in

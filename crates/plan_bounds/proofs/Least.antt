@@ -1,13 +1,13 @@
 -- The least slack of the pairs that the certified plan doesn't have.
-use Rattle.std.proofs.Common.{◌≡◌, ◌+◌, ◌<◌, ◌≤◌, ℕ, List, Option, Some, None, inl, inr, refl, ap, arith, subst}
+use Rattle.std.proofs.Common.{◌≡◌, ◌+◌, ◌<◌, ◌≤◌, ℕ, Option, Some, None, inl, inr, refl, arith, subst}
 use Rattle.std.specs.Prelude.{IfNone, IfSome, min}
 use Rattle.std.proofs.lemmas.Bool.{cases_lt}
 use Rattle.std.proofs.Math.Nat.{eq-or-lt_of_le}
 use Rattle.cost_table.specs.Table.{wagon_count}
-use Rattle.cost_table.specs.Plan.{IsPlan, serves}
+use Rattle.cost_table.specs.Plan.{serves}
 use Rattle.plan_bounds.specs.PricedPlan.{IsCertified, PricedPlan}
 use Rattle.plan_bounds.specs.Slack.{slack}
-use Rattle.plan_bounds.specs.Bounds.{CostsMore, HasEachPair, HasPair, IsLeastSlack, IsNewPair, NoneServesMore, ServesMore, in_64_bits}
+use Rattle.plan_bounds.specs.Bounds.{CostsMore, HasPair, IsLeastSlack, IsNewPair, NoneServesMore, ServesMore, in_64_bits}
 use Rattle.plan_bounds.specs.inner.Least.{IsLeastOf, IsNewSlack, lesser}
 use Rattle.plan_bounds.proofs.NewPairs.{more_wagons_cost_a_slack}
 use Rattle.plan_bounds.proofs.OtherPlans.{least_plans_have_no_slack}

@@ -1,16 +1,15 @@
 -- A plan that gives an order more wagons has a pair of it that the certified plan doesn't have.
-use Rattle.std.proofs.Common.{◌≡◌, ◌∙◌, ◌⊎◌, ◌+◌, ◌*◌, ◌<◌, ◌≤◌, ℕ, zero, suc, cond, List, [], ◌∷◌, length, get_or, inl, inr, sym, ap, arith, subst}
-use Rattle.std.specs.Prelude.{◌==◌, Contains}
+use Rattle.std.proofs.Common.{◌≡◌, ◌+◌, ◌*◌, ◌<◌, ◌≤◌, ℕ, zero, suc, cond, List, [], ◌∷◌, length, get_or, inl, inr, ap, arith, subst}
+use Rattle.std.specs.Prelude.{◌==◌}
 use Rattle.std.specs.List.{sum_by}
 use Rattle.std.proofs.lemmas.Bool.{cases_lt}
 use Rattle.std.proofs.lemmas.Bool.Decides.{nat_tests}
 use Rattle.std.proofs.lemmas.List.Sums.{sum_by-cons}
 use Rattle.cost_table.specs.Table.{Table, wagon_count}
-use Rattle.cost_table.specs.Plan.{AllAllowed, IsAllowed, IsPlan, serves, sum_below, uses}
+use Rattle.cost_table.specs.Plan.{AllAllowed, IsAllowed, serves, sum_below, uses}
 use Rattle.cost_table.proofs.Sums.{AllBelow, sum_below-add, sum_below-at, sum_below-same, sum_below-zero}
 use Rattle.cost_table.proofs.CostLemmas.{wagons_below}
-use Rattle.plan_bounds.specs.PricedPlan.{IsCertified, PricedPlan}
-use Rattle.plan_bounds.specs.Bounds.{HasPair, IsNewPair, NoneServesMore, HasEachPair}
+use Rattle.plan_bounds.specs.Bounds.{HasPair}
 use Rattle.plan_bounds.specs.Laws.{MoreWagonsCostASlack}
 use Rattle.plan_bounds.proofs.OtherPlans.{pairs_cost_their_slack}
 use Rattle.plan_bounds.proofs.Sums.{sum_by-term}
@@ -25,7 +24,7 @@ serves_by_wagon n j [] h = sum_below-zero n (λ i. 0) (λ i l. omega arith)
 serves_by_wagon n j (q ∷ ps) h =
     let rest = serves_by_wagon n j ps h.1 in
     let each = sum_below-same n (pair_count (q ∷ ps) j) (λ i. cond (q.0 == i) 1 0 * cond (q.1 == j) 1 0 + pair_count ps j i)
-        (λ i l. sum_by-cons (λ (q : ℕ × ℕ). cond (q.0 == i) 1 0 * cond (q.1 == j) 1 0) q ps) in
+    (λ i l. sum_by-cons (λ (q : ℕ × ℕ). cond (q.0 == i) 1 0 * cond (q.1 == j) 1 0) q ps) in
     let parts = sum_below-add n (λ i. cond (q.0 == i) 1 0 * cond (q.1 == j) 1 0) (pair_count ps j) in
     let one = sum_below-at n q.0 (λ i. cond (q.1 == j) 1 0) h.0 in
     let cons = sum_by-cons (λ (q : ℕ × ℕ). cond (q.1 == j) 1 0) q ps in

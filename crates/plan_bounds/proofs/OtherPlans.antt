@@ -1,10 +1,9 @@
 -- What other plans of the table cost more, at least.
-use Rattle.std.proofs.Common.{◌≡◌, ◌+◌, ◌-◌, ◌*◌, ◌<◌, ◌≤◌, ℕ, true, cond, List, length, ap, arith, subst}
+use Rattle.std.proofs.Common.{◌≡◌, ◌*◌, ◌≤◌, ℕ, cond, List, ap, arith}
 use Rattle.std.specs.Prelude.{◌==◌, slice_index, slice_index_or}
-use Rattle.std.specs.List.{sum_by}
 use Rattle.std.proofs.lemmas.Bool.Decides.{nat_tests}
 use Rattle.cost_table.specs.Table.{order_count, wagon_count}
-use Rattle.cost_table.specs.Plan.{sum_below, uses}
+use Rattle.cost_table.specs.Plan.{uses}
 use Rattle.plan_bounds.specs.PricedPlan.{PricedPlan}
 use Rattle.plan_bounds.specs.Slack.{idle_price, missed, refusal_slack, slack}
 use Rattle.plan_bounds.specs.Bounds.{CostsMore}

@@ -1,18 +1,18 @@
 -- What plans of tables cost that differ in one order's lack or in one wagon.
-use Rattle.std.proofs.Common.{◌≡◌, ◌⊎◌, ◌∙◌, ◌+◌, ◌-◌, ◌*◌, ◌<◌, ◌≤◌, ℕ, cond, Bool, true, false, List, [], ◌∷◌, ◌++◌, length, get_or, Option, Some, None, refl, sym, inl, inr, ap, arith, subst}
-use Rattle.std.specs.Prelude.{◌==◌, ◌≢◌, max, slice_index, slice_set}
-use Rattle.std.specs.List.{sum, sum_by}
+use Rattle.std.proofs.Common.{◌≡◌, ◌⊎◌, ◌∙◌, ◌+◌, ◌-◌, ◌*◌, ◌<◌, ◌≤◌, ℕ, cond, Bool, true, false, List, [], ◌∷◌, ◌++◌, length, get_or, Option, Some, refl, sym, inl, inr, ap, arith, subst}
+use Rattle.std.specs.Prelude.{◌==◌, ◌≢◌, slice_index, slice_set}
+use Rattle.std.specs.List.{sum}
 use Rattle.std.proofs.lemmas.List.{get_or-set_same, get_or-set_other, get_or_append_left, get_or_push, length-append, length-set}
 use Rattle.std.proofs.lemmas.List.Sums.{sum_by-set, sum_by_push}
 use Rattle.std.proofs.lemmas.Bool.{cases_Bool}
 use Rattle.std.proofs.lemmas.Bool.Decides.{nat_tests}
 use Rattle.std.proofs.Math.Nat.{eq-or-lt_of_le}
-use Rattle.cost_table.specs.Table.{Table, cost_at, cost_in, lack_at, order_count, penalty_at, row_at, wagon_count}
+use Rattle.cost_table.specs.Table.{Table, cost_in, lack_at, order_count, row_at, wagon_count}
 use Rattle.cost_table.specs.Plan.{IsPlan, cost_of, sum_below}
 use Rattle.price_checker.proofs.Duality.{NoGap, weak_duality}
 use Rattle.plan_bounds.specs.PricedPlan.{IsCertified, PricedPlan, certified_cost}
 use Rattle.plan_bounds.specs.Changes.{gain_of, with_lack, with_wagon, without_wagon}
-use Rattle.plan_bounds.specs.Laws.{ItsTwinSavesItsPrice, OneLessSavesThePrice, OneMoreCostsThePrice, OneWagonMoreSavesItsGain, WithoutAWagonCostsItsPrice}
+use Rattle.plan_bounds.specs.Laws.{ItsTwinSavesItsPrice, LacksCostThePrice, OneLessSavesThePrice, OneMoreCostsThePrice, OneWagonMoreSavesItsGain, WithoutAWagonCostsItsPrice}
 use Rattle.plan_bounds.proofs.Sums.{sum_below-change}
 
 -- ---- one order's lack
@@ -21,18 +21,17 @@ orders_stay : (t : Table) (j n : ℕ) → order_count (with_lack t j n) ≡ orde
 orders_stay t j n = length-set t.lacks j n
 
 -- a plan of the table in which order j lacks n wagons
-lack_changed : (p : PricedPlan) → IsCertified p → (j n : ℕ) → j < order_count p.table → (other : List (ℕ × ℕ)) → IsPlan (with_lack p.table j n) other
-    → certified_cost p + n * slice_index p.v j ≤ cost_of (with_lack p.table j n) other + lack_at p.table j * slice_index p.v j
-lack_changed p c j n l other plan =
+pub lacks_cost_the_price : LacksCostThePrice
+lacks_cost_the_price p c j n l other plan =
     let t = with_lack p.table j n in
     let orders = orders_stay p.table j n in
     let least = weak_duality t p.u p.v c.wagons
-        (λ i k cost a b is. c.no_gap i k cost a (omega (arith, b, orders)) is)
-        (λ k b. c.below_penalty k (omega (arith, b, orders))) other plan in
+    (λ i k cost a b is. c.no_gap i k cost a (omega (arith, b, orders)) is)
+    (λ k b. c.below_penalty k (omega (arith, b, orders))) other plan in
     let paid : sum_below (order_count t) (λ k. lack_at t k * slice_index p.v k) ≡ sum_below (order_count p.table) (λ k. lack_at t k * slice_index p.v k)
-        = ap (λ m. sum_below m (λ k. lack_at t k * slice_index p.v k)) orders in
+    = ap (λ m. sum_below m (λ k. lack_at t k * slice_index p.v k)) orders in
     let change = sum_below-change (order_count p.table) j (λ k. lack_at t k * slice_index p.v k) (λ k. lack_at p.table k * slice_index p.v k) l
-        (λ k b other. ap (λ m. m * slice_index p.v k) (get_or-set_other p.table.lacks j k n 0 other)) in
+    (λ k b other. ap (λ m. m * slice_index p.v k) (get_or-set_other p.table.lacks j k n 0 other)) in
     let here : lack_at t j * slice_index p.v j ≡ n * slice_index p.v j = ap (λ m. m * slice_index p.v j) (get_or-set_same p.table.lacks j n 0 l) in
     let balance = c.balance in
     omega (arith, least, paid, change, here, balance)
@@ -42,7 +41,7 @@ one_more_is l v = grind arith
 
 pub one_more_costs_the_price : OneMoreCostsThePrice
 one_more_costs_the_price p c j l other plan =
-    let changed = lack_changed p c j (lack_at p.table j + 1) l other plan in
+    let changed = lacks_cost_the_price p c j (lack_at p.table j + 1) l other plan in
     let more = one_more_is (lack_at p.table j) (slice_index p.v j) in
     omega (arith, changed, more)
 
@@ -54,7 +53,7 @@ one_less_is l v =
 
 pub one_less_saves_the_price : OneLessSavesThePrice
 one_less_saves_the_price p c j l other plan =
-    let changed = lack_changed p c j (lack_at p.table j - 1) l other plan in
+    let changed = lacks_cost_the_price p c j (lack_at p.table j - 1) l other plan in
     let less = one_less_is (lack_at p.table j) (slice_index p.v j) in
     omega (arith, changed, less)
 

@@ -45,6 +45,12 @@ MoreWagonsCostASlack =
 
 -- ---- tables in which an order lacks more or fewer wagons
 
+-- where an order lacks n wagons, each plan costs n times the order's price, at least, in place of as often as it lacked one
+abbrev pub LacksCostThePrice : Type 0
+LacksCostThePrice =
+    (p : PricedPlan) → IsCertified p → (j n : ℕ) → j < order_count p.table → (other : List (ℕ × ℕ)) → IsPlan (with_lack p.table j n) other
+    → certified_cost p + n * slice_index p.v j ≤ cost_of (with_lack p.table j n) other + lack_at p.table j * slice_index p.v j
+
 -- where an order lacks one wagon more, each plan costs the order's price more, at least
 abbrev pub OneMoreCostsThePrice : Type 0
 OneMoreCostsThePrice =

@@ -1,11 +1,11 @@
 //! The bounds of a certificate, one by one.
-ghost use Rattle.std.specs.Prelude.{◌≡◌, ◌+◌, ◌-◌, ◌<◌, ◌↔◌, IsSome, IfNone, IfSome, IsTrue, slice_index};
+ghost use Rattle.std.specs.Prelude.{◌≡◌, ◌+◌, ◌-◌, ◌<◌, ◌↔◌, IsSome, IfNone, IfSome, IsTrue, All, length, slice_index};
 ghost use Rattle.cost_table.specs.Table.{lack_at, order_count, row_at, wagon_count};
 ghost use Rattle.cost_table.specs.Plan.{IsAllowed};
 ghost use Rattle.price_checker.specs.Certificate.{IsCertificate};
 ghost use Rattle.plan_bounds.specs.PricedPlan.{IsCertified, certified_cost};
 ghost use Rattle.plan_bounds.specs.Slack.{refusal_slack, slack};
-ghost use Rattle.plan_bounds.specs.Changes.{with_lack, with_wagon, without_wagon};
+ghost use Rattle.plan_bounds.specs.Changes.{gain_of, with_lack, with_wagon, without_wagon};
 ghost use Rattle.plan_bounds.specs.Bounds.{
   AllCostMore,
   CostsMore,
@@ -90,6 +90,15 @@ impl<'a> Bounds<'a> {
         self.prices.u[i]
     }
 
+    /// What one wagon more saves at most, by its row: the most by which an order's price exceeds that wagon's cost for it.
+    pub fn wagon_gain(&self, row: &[(u32, u32)]) -> u64
+        requires { All (λ cell. cell.0 < order_count self.now.table) row.now }
+        ensures value { result ≡ gain_of self.now.v row.now }
+        ensures bound { NoneSavesMore self.now (with_wagon self.now.table row.now) result }
+    {
+        gain(&self.prices.v, row)
+    }
+
     /// The price of order `j`: what every plan costs more, at least, where it lacks one wagon more.
     pub fn one_more(&self, j: usize) -> u64
         requires { j < order_count self.now.table }
@@ -146,6 +155,18 @@ impl<'a> Bounds<'a> {
         }
         Some(slack)
     }
+}
+
+/// The most by which an order's price exceeds its cost in a row.
+fn gain(v: &[u64], row: &[(u32, u32)]) -> u64
+    requires { All (λ cell. cell.0 < length v.now) row.now }
+    ensures { result ≡ gain_of v.now row.now }
+{
+    let mut gain = 0;
+    for cell in row {
+        gain = gain.max(v[cell.0 as usize].saturating_sub(u64::from(cell.1)));
+    }
+    gain
 }
 
 /// Whether a pair is among these.

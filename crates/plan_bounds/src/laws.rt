@@ -2,6 +2,7 @@
 ghost use Rattle.plan_bounds.specs.Laws.{
   IdleWagonsCostTheirPrice,
   ItsTwinSavesItsPrice,
+  LacksCostThePrice,
   LeastPlansHaveNoSlack,
   MissesCostTheirSlack,
   MoreWagonsCostASlack,
@@ -29,9 +30,10 @@ pub fn prices_bound_other_plans()
     ensures more { MoreWagonsCostASlack }
 {}
 
-/// What the plans of a table cost more at least, or save at most, in which an order lacks one wagon more or less, or which
-/// has one wagon more or less.
+/// What the plans of a table cost more at least, or save at most, in which an order lacks more or fewer wagons, or which has
+/// one wagon more or less.
 pub fn prices_bound_other_tables()
+    ensures lacks { LacksCostThePrice }
     ensures one_more { OneMoreCostsThePrice }
     ensures one_less { OneLessSavesThePrice }
     ensures wagon_less { WithoutAWagonCostsItsPrice }

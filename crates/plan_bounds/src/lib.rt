@@ -6,6 +6,4 @@ mod bounds;
 mod laws;
 
 pub use bounds::Bounds;
-pub use laws::{
-    prices_bound_other_plans, prices_bound_other_tables, slacks_are_the_difference,
-};
+pub use laws::{prices_bound_other_plans, prices_bound_other_tables, slacks_are_the_difference};

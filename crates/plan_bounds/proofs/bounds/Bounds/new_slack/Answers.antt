@@ -1,9 +1,8 @@
-use Rattle.std.proofs.Common.{◌≡◌, ◌∙◌, ◌<◌, ap, arith, refl, subst, sym}
+use Rattle.std.proofs.Common.{◌∙◌, ◌<◌, ap, arith, refl, subst, sym}
 use Rattle.std.specs.Prelude.{IsTrue}
-use Rattle.std.proofs.lemmas.Grind.{common_steps}
 use Rattle.plan_bounds.specs.PricedPlan.{IsCertified, PricedPlan}
 use Rattle.plan_bounds.specs.Slack.{slack}
-use Rattle.plan_bounds.specs.Bounds.{HasPair, in_64_bits}
+use Rattle.plan_bounds.specs.Bounds.{HasPair}
 use Rattle.plan_bounds.proofs.Least.{in_64_bits-le, slack_is_new}
 use Rattle.plan_bounds.proofs.bounds.Bounds.new_slack.Goals as goal
 use Rattle.plan_bounds.proofs.bounds.Bounds.new_slack.Goals.{else-slack-eq0-via-then-slack-eq0+else-has_pair, else-slack-eq0-via-else-slack-eq0}

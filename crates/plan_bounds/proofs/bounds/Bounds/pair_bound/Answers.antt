@@ -1,4 +1,4 @@
-use Rattle.std.proofs.Common.{◌≡◌, ◌≤◌, arith, rules, subst}
+use Rattle.std.proofs.Common.{◌≡◌, ◌≤◌, arith, subst}
 use Rattle.std.proofs.lemmas.Grind.{common_steps}
 use Rattle.plan_bounds.specs.PricedPlan.{IsCertified}
 use Rattle.plan_bounds.specs.Slack.{slack}

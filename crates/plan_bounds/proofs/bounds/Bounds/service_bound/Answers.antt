@@ -1,4 +1,4 @@
-use Rattle.std.proofs.Common.{◌≡◌, ◌+◌, ◌≤◌, ap, arith, subst, sym}
+use Rattle.std.proofs.Common.{◌+◌, ◌≤◌, ap, arith, subst, sym}
 use Rattle.cost_table.specs.Table.{wagon_count}
 use Rattle.plan_bounds.specs.PricedPlan.{IsCertified, PricedPlan}
 use Rattle.plan_bounds.specs.inner.Least.{IsLeastOf}
