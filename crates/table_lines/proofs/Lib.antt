@@ -10,3 +10,4 @@ pub mod Planned
 pub mod Costs
 pub mod Unplanned
 pub mod RowsHeld
+pub mod ProblemStated

@@ -9,16 +9,11 @@ use Rattle.std.proofs.lemmas.List.FromFn.{length-map-range_with_len}
 use Rattle.std.proofs.Math.Nat.{eq-or-lt_of_le}
 use Rattle.cost_table.specs.Names.{NameLists}
 use Rattle.cost_table.specs.DistinctNames.{first_repeated}
-use Rattle.cost_table.specs.Problem.{ProblemValue, names_of_problem}
-use Rattle.cost_table.specs.ProblemLimits.{IsProblem}
 use Rattle.cost_table.specs.Rows.{IsNumber, Rows, cells_of}
 use Rattle.cost_table.specs.Table.{Table, cost_in, order_count, wagon_count}
 use Rattle.cost_table.specs.TableLimits.{IsRow, IsTable, max_cost, max_table_lack, max_table_orders, max_table_wagons}
-use Rattle.wagons_and_orders.specs.Wanted.{WantedOrder}
-use Rattle.wagons_and_orders.specs.declared.free_wagon.FreeWagon.{FreeWagon}
-use Rattle.table_lines.specs.ProblemText.{StatesTable, costs_in, costs_of, text_of_table}
-use Rattle.table_lines.specs.StatedTable.{stated_in, stated_line}
-use Rattle.table_lines.specs.TablePart.{table_of_line}
+use Rattle.table_lines.specs.ProblemText.{costs_in, costs_of, text_of_table}
+use Rattle.table_lines.specs.StatedTable.{stated_in}
 use Rattle.table_lines.specs.TableCost.{is_even}
 
 -- ---- a row
@@ -136,18 +131,3 @@ stated_as names t legal w o once_wagons once_orders =
     let even = is_even_by (length names.wagons) (length names.orders) t legal w o in
     let rows = rows_held (order_count t) t.rows (recursion_from_All (IsRow (order_count t) 0) t.rows legal.rows) in
     rw (a, b, c, once_wagons, once_orders, even, rows) refl
-
--- and so is what is to be solved
-pub solved_as : (names : NameLists) (t : Table) (line : List ℕ) → table_of_line line ≡ Ok (text_of_table names t) → stated_in (text_of_table names t) ≡ Ok (names, t) → stated_line line ≡ Ok (text_of_table names t)
-unfolding stated_line
-solved_as names t line reads stated = rw (reads, stated) refl
-
--- the line of a problem with these costs
-pub states_problem : (problem : ProblemValue) (t : Table) (line : List ℕ) → IsProblem problem → IsTable t → wagon_count t ≡ length problem.wagons → order_count t ≡ length problem.orders
-    → table_of_line line ≡ Ok (text_of_table (names_of_problem problem) t) → StatesTable (names_of_problem problem) t line
-states_problem problem t line one legal w o reads =
-    let names = names_of_problem problem in
-    let wagons = w ∙ sym (length-map problem.wagons (λ (wagon : FreeWagon). wagon.number)) in
-    let orders = o ∙ sym (length-map problem.orders (λ (wanted : WantedOrder). wanted.order.id)) in
-    let stated = stated_as names t legal wagons orders one.each_wagon_once one.each_order_once in
-    record { reads = reads; stated = stated; solvable = solved_as names t line reads stated }

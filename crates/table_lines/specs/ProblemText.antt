@@ -2,9 +2,13 @@
 use Rattle.std.specs.Prelude.{◌≡◌, ℕ, List, [], map, Option, Some, Ok}
 use Rattle.std.specs.List.{range_with_len}
 use Rattle.cost_table.specs.Names.{NameLists}
+use Rattle.cost_table.specs.Plan.{IsOptimal, cost_of}
 use Rattle.cost_table.specs.Table.{Table, cost_in, order_count}
-use Rattle.table_lines.specs.TableLine.{TableText}
+use Rattle.price_checker.specs.NamedPairs.{checked}
+use Rattle.table_lines.specs.TableCost.{cost_of_text, with_check_fault}
+use Rattle.table_lines.specs.TableLine.{TableText, with_plan}
 use Rattle.table_lines.specs.TablePart.{table_of_line}
+use Rattle.table_lines.specs.Solving.{IsSolved}
 use Rattle.table_lines.specs.StatedTable.{stated_in, stated_line}
 
 -- what a row has for each of so many orders: a cost, or none where the pair isn't allowed
@@ -21,8 +25,13 @@ text_of_table names table =
     record { wagons = names.wagons; orders = names.orders; cells = costs_in table; penalties = table.penalties; lacks = Some table.lacks; pairs = []; u = []; v = [] }
 
 -- A line that states this table under these names: its fields are read as the table's, and what is to be solved is that
--- very table, with each of its costs, penalties and lacks.
+-- very table, with each of its costs, penalties and lacks. With any plan and prices, the check of it is the check of that
+-- plan of this table. What is printed where it is solved has the cost of each plan of this table that costs the least.
 pub record StatesTable (names : NameLists) (table : Table) (line : List ℕ) : Type 0 where
   pub reads : table_of_line line ≡ Ok (text_of_table names table)
   pub stated : stated_in (text_of_table names table) ≡ Ok (names, table)
   pub solvable : stated_line line ≡ Ok (text_of_table names table)
+  pub checks :
+      (pairs : List (List ℕ × List ℕ)) (u v : List ℕ) → cost_of_text (with_plan (text_of_table names table) pairs u v) ≡ with_check_fault (checked names table pairs u v)
+  pub least :
+      (text : List ℕ) (solved : IsSolved (text_of_table names table) text) (plan : List (ℕ × ℕ)) → IsOptimal table plan → solved.cost ≡ cost_of table plan

@@ -18,7 +18,8 @@ use wagons_and_orders::{FreeWagon, Wanted};
 
 /// The table of a problem with these costs, as a line of JSON without a plan and without its line feed: the members
 /// `cells`, `lacks`, `orders`, `penalties` and `wagons`, in this order, and no space. Costs are in kilometres, null
-/// where a wagon may not serve an order. `solve_line` reads it as this very table. `Err` only when out of memory.
+/// where a wagon may not serve an order. `solve_line` reads it as this very table, and what it prints has the cost of each
+/// plan of it that costs the least. `Err` only when out of memory.
 pub fn problem_line(alloc: Global, problem: &Problem, cells: &Cells) -> Result<String, AllocError>
     requires wagons { wagon_count cells.now ≡ length problem.now.wagons }
     requires orders { order_count cells.now ≡ length problem.now.orders }

@@ -2,7 +2,7 @@ use Rattle.std.proofs.Common.{Ok, ap, ◌∙◌, string_bytes, []}
 use Rattle.std.proofs.lemmas.Result.{IfOk-weaker}
 use Rattle.table_lines.specs.TableLine.{TableText, with_plan}
 use Rattle.table_lines.specs.UnplannedText.{unplanned_text}
-use Rattle.table_lines.proofs.RowsHeld.{states_problem}
+use Rattle.table_lines.proofs.ProblemStated.{states_problem}
 use Rattle.table_lines.proofs.problem_text.problem_line.Goals as goal
 
 pub returns-clause-text : goal.returns-clause-text
