@@ -135,7 +135,9 @@ pub(crate) fn with_save_options<'a>(
 ) -> Result<Command<'a>, AllocError> {
     word.args(vec![in alloc;
         upto_option(alloc),
-        file_option(alloc, "with").help(help::WITH).long_help(help::WITH_LONG),
+        file_option(alloc, "with")
+            .help(help::WITH)
+            .long_help(help::WITH_LONG),
         without_option(alloc),
     ]?)
 }
@@ -190,7 +192,6 @@ pub(crate) fn with_office_options<'a>(
     alloc: Global,
     word: Command<'a>,
 ) -> Result<Command<'a>, AllocError> {
-    let starts = ArgGroup::new(alloc, "start").args(&["roster", "from"])?;
     let word = word.args(vec![in alloc;
         roster_option(alloc),
         from_option(alloc),
@@ -199,7 +200,13 @@ pub(crate) fn with_office_options<'a>(
         kept_option(alloc),
         workers_option(alloc),
     ]?)?;
-    word.group(starts.required(true))
+    word.group(start_group(alloc)?)
+}
+
+/// A roster or a checkpoint must be given, and not both.
+fn start_group<'a>(alloc: Global) -> Result<ArgGroup<'a>, AllocError> {
+    let group = ArgGroup::new(alloc, "start").arg("roster")?;
+    group.required(true).arg("from")
 }
 
 /// The option of the roster's file.

@@ -135,9 +135,7 @@ fn word_command<'a>(alloc: Global, help: WordHelp) -> Result<Command<'a>, AllocE
         Arguments::Code => with_code(alloc, word),
         Arguments::Office => with_office_options(alloc, word),
         Arguments::OfficeAndFiles => with_files(alloc, with_office_options(alloc, word)?),
-        Arguments::OfficeAndFleet => {
-            with_save_options(alloc, with_office_options(alloc, word)?)
-        }
+        Arguments::OfficeAndFleet => { with_save_options(alloc, with_office_options(alloc, word)?) }
     }
 }
 
