@@ -58,7 +58,7 @@ fn read_start<R: Files + AllocGlobal>(
 ) -> Result<OfficeState, Stop>
     requires from_one { 1 ≤ networks }
     requires few { networks ≤ max_networks }
-    ensures begins { IfOk result (λ first. BeginsWith start first.office) }
+    ensures begins { IfOk result (λ first. BeginsWith start.entry first.office) }
     ensures counted { IfOk result (λ first. first.networks ≡ networks) }
 {
     match start {

@@ -9,7 +9,6 @@ use faults::FleetFault;
 use fleet_rows::RosterFault;
 use line_network::{NetworkFault, NetworksFault, WorkFault};
 use office::RunFault;
-use rail_codes::WagonNumber;
 use std::alloc::{AllocError, AllocFailed};
 use std::fmt;
 use std::fmt::{Display, Formatter};
@@ -74,23 +73,16 @@ impl Stop {
     }
 }
 
-impl Stop {
-    /// The wagon that is wrong.
-    fn wagon(self) -> Option<WagonNumber> {
-        match self {
-            Stop::Roster(RosterFault::DuplicateWagon(wagon))
-            | Stop::Fleet(FleetFault::UnknownWagon(wagon) | FleetFault::WagonPromised(wagon)) => {
-                Some(wagon)
-            }
-            _ => None,
-        }
-    }
-}
-
 impl Display for Stop {
     fn fmt<W: fmt::Write>(&self, f: &mut Formatter<W>) -> fmt::Result {
         write!(f, "wagons: {}", self.number())?;
-        if let Some(wagon) = self.wagon() {
+        if let Stop::Roster(RosterFault::DuplicateWagon(wagon)) = self {
+            return write_ascii(f, wagon.digits());
+        }
+        if let Stop::Fleet(FleetFault::UnknownWagon(wagon)) = self {
+            return write_ascii(f, wagon.digits());
+        }
+        if let Stop::Fleet(FleetFault::WagonPromised(wagon)) = self {
             return write_ascii(f, wagon.digits());
         }
         if let Stop::Feed(FeedFault::ReceiptLost(seat, entry)) = self {

@@ -102,10 +102,7 @@ fn faults_around_another(rt: HostRuntime) -> Result<(), Fail> {
     assert_eq!(rt; misnamed(alloc, &calls)?, None);
     let checkpoints = [
         (ReadFault::Run(RunFault::LineTooLong(7)), "LineTooLong"),
-        (
-            ReadFault::Line(CheckpointFault::OrderFull(7)),
-            "OrderFull",
-        ),
+        (ReadFault::Line(CheckpointFault::OrderFull(7)), "OrderFull"),
     ];
     assert_eq!(rt; misnamed(alloc, &checkpoints)?, None);
     let tables = [
