@@ -26,6 +26,8 @@ pub(crate) enum Arguments {
     Office,
     /// The options of an office, and files.
     OfficeAndFiles,
+    /// The options of an office, and a moment.
+    OfficeAndMoment,
     /// The options of an office, up to which line, and what changes of the fleet.
     OfficeAndFleet,
 }
@@ -115,6 +117,22 @@ pub(crate) const MAP: WordHelp = WordHelp {
     arguments: Arguments::Office,
 };
 
+/// The help of `table`.
+pub(crate) const TABLE: WordHelp = WordHelp {
+    name: "table",
+    about: "Prints a fleet's problem: commands in, a cost table out",
+    long_about: "Reads the fleet and the network from files, then commands from standard input\n\
+     as `run` does, without a reply. At the end prints the problem at a moment as a\n\
+     table line, which `wagons solve` reads: the free wagons, the waiting orders,\n\
+     the kilometres of each wagon that suits an order and is there in time, what\n\
+     each order lacks, and its penalty. Exits with 0, with 1 where a line was\n\
+     refused, with 2 where it could not run or stopped; then there is no table.",
+    example: "Example:\n  \
+     wagons table --at 2026-03-02T11:00:00Z --roster roster.csv \\\n    \
+     --network network.csv < day.jsonl | wagons solve",
+    arguments: Arguments::OfficeAndMoment,
+};
+
 /// The help of `save`.
 pub(crate) const SAVE: WordHelp = WordHelp {
     name: "save",
@@ -152,6 +170,12 @@ pub(crate) const FILES_LONG: &str =
     "Files of commands, one JSON object a line; 1 to 16. A file that can't be\n\
      opened stops the program before it begins; one that fails while it is\n\
      read doesn't stop the others";
+
+/// What the option of `table` is.
+pub(crate) const AT: &str = "The moment at which the wagons may start";
+
+pub(crate) const AT_LONG: &str = "The moment of the problem, at which the wagons may start, as\n\
+     2026-03-02T11:00:00Z";
 
 /// What the options of `save` are.
 pub(crate) const UPTO: &str = "Only the first N lines are read, 1 to 1000000";

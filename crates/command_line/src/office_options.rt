@@ -8,7 +8,7 @@ use clap::{Arg, ArgAction, ArgGroup, ArgMatches, Command, Error};
 use commit_book::{Limits, MAX_ENTRIES, MAX_KEPT_PROBLEMS};
 use line_engine::{MAX_FILES, MAX_INPUT_LINES};
 use line_network::MAX_WORKERS;
-use rail_codes::WagonNumber;
+use rail_codes::{Moment, WagonNumber};
 use std::alloc::{AllocError, Global};
 
 /// The file that an office begins with.
@@ -81,6 +81,58 @@ impl<'a> FeedOptions<'a> {
             files: Vec::from_slice(alloc, files)?,
         })
     }
+}
+
+/// What `table` is asked to do.
+#[derive(Debug, Drop)]
+pub struct TableOptions<'a> {
+    /// What the office is opened with.
+    pub office: OfficeOptions<'a>,
+    /// The moment of the problem.
+    pub at: Moment,
+}
+
+impl<'a> TableOptions<'a> {
+    /// The options that were given. A moment that is none is a fault of the arguments. `clap` has refused words without
+    /// one before.
+    pub(crate) fn read(alloc: Global, matches: &ArgMatches<'a>) -> Result<TableOptions<'a>, Error> {
+        let at = moment_from(alloc, matches.get_str("at").unwrap_or(""))?;
+        Ok(TableOptions {
+            office: OfficeOptions::read(alloc, matches)?,
+            at,
+        })
+    }
+}
+
+/// The moment that the value of `--at` is.
+fn moment_from(alloc: Global, text: &str) -> Result<Moment, Error> {
+    match Moment::read(text) {
+        Ok(moment) => Ok(moment),
+        Err(fault) => {
+            let code = fault.number();
+            let reason = format!(in alloc;
+                "invalid value '{text}' for '--at <MOMENT>': `wagons explain {code}` says why"
+            )?;
+            let mut command = Command::new(alloc, "table").bin_name("wagons table")?;
+            Err(command.error(ErrorKind::InvalidValue, reason.as_str())?)
+        }
+    }
+}
+
+/// A word that needs the moment of a problem.
+pub(crate) fn with_table_options<'a>(
+    alloc: Global,
+    word: Command<'a>,
+) -> Result<Command<'a>, AllocError> {
+    word.arg(
+        Arg::new(alloc, "at")
+            .long("at")
+            .value_name("MOMENT")
+            .required(true)
+            .action(ArgAction::Set)
+            .help(help::AT)
+            .long_help(help::AT_LONG),
+    )
 }
 
 /// What `save` is asked to do.

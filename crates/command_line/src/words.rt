@@ -3,7 +3,8 @@
 use crate::help;
 use crate::help::{Arguments, WordHelp};
 use crate::office_options::{
-    FeedOptions, OfficeOptions, SaveOptions, with_files, with_office_options, with_save_options,
+    FeedOptions, OfficeOptions, SaveOptions, TableOptions, with_files, with_office_options,
+    with_save_options, with_table_options,
 };
 use clap::builder::ValueParser;
 use clap::error::ErrorKind;
@@ -19,12 +20,13 @@ const CODE: &str = "code";
 const MAX_CODE: u64 = 999;
 
 /// The words, in the order in which help lists them.
-const WORDS: [WordHelp; 7] = [
+const WORDS: [WordHelp; 8] = [
     help::CHECK,
     help::SOLVE,
     help::RUN,
     help::FEED,
     help::MAP,
+    help::TABLE,
     help::SAVE,
     help::EXPLAIN,
 ];
@@ -45,6 +47,8 @@ pub enum Word<'a> {
     Feed(FeedOptions<'a>),
     /// Bring the command lines of standard input to an office, and draw it.
     Map(OfficeOptions<'a>),
+    /// Bring the command lines of standard input to an office, and print its problem as a table line.
+    Table(TableOptions<'a>),
     /// Bring the command lines of standard input to an office, and save it.
     Save(SaveOptions<'a>),
     /// Print this entry of the manual of refusals, or the whole manual.
@@ -66,6 +70,7 @@ fn read_word<'a>(alloc: Global, name: &str, options: &ArgMatches<'a>) -> Result<
     match name {
         "run" => Ok(Word::Run(OfficeOptions::read(alloc, options)?)),
         "map" => Ok(Word::Map(OfficeOptions::read(alloc, options)?)),
+        "table" => Ok(Word::Table(TableOptions::read(alloc, options)?)),
         "save" => Ok(Word::Save(SaveOptions::read(alloc, options)?)),
         "feed" => Ok(Word::Feed(FeedOptions::read(alloc, options)?)),
         "explain" => read_code(alloc, options),
@@ -135,6 +140,9 @@ fn word_command<'a>(alloc: Global, help: WordHelp) -> Result<Command<'a>, AllocE
         Arguments::Code => with_code(alloc, word),
         Arguments::Office => with_office_options(alloc, word),
         Arguments::OfficeAndFiles => with_files(alloc, with_office_options(alloc, word)?),
+        Arguments::OfficeAndMoment => {
+            with_table_options(alloc, with_office_options(alloc, word)?)
+        }
         Arguments::OfficeAndFleet => { with_save_options(alloc, with_office_options(alloc, word)?) }
     }
 }

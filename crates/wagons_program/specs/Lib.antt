@@ -3,3 +3,4 @@ pub mod Status
 pub mod FirstBook
 pub mod Brought
 pub mod Laws
+pub mod TableOfLast

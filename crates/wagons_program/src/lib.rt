@@ -16,6 +16,7 @@ mod save;
 mod solve;
 mod status;
 mod stop;
+mod table;
 
 pub use laws::{each_fault_is_listed, each_number_is_a_faults};
 pub use program::{run_program, run_words};

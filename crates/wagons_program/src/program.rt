@@ -11,6 +11,7 @@ use crate::save::save;
 use crate::solve::solve;
 use crate::status::{DONE, STOPPED};
 use crate::stop::Stop;
+use crate::table::table;
 use clap::Error;
 use clap::error::ErrorKind;
 use command_line::{Word, not_utf8, read_words};
@@ -51,6 +52,7 @@ where
         Ok(Word::Feed(options)) => feed(rt, &options),
         Ok(Word::Solve) => solve(rt, input),
         Ok(Word::Map(options)) => map(rt, &options, input),
+        Ok(Word::Table(options)) => table(rt, &options, input),
         Ok(Word::Save(options)) => save(rt, &options, input),
         Ok(Word::Explain(entry)) => explain(rt, entry),
         Err(error) => print_text(rt, &error),
