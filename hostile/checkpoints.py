@@ -151,13 +151,14 @@ class History:
         self.program.wait()
 
 
-def names_before(fields, state):
-    """Whether a line speaks of what a checkpoint doesn't have: a message or a version of before, an order that was closed."""
+def names_before(fields, state, begun):
+    """Whether a line speaks of what a checkpoint doesn't have: a message of before, a problem that wasn't begun since, an order
+    that was closed."""
     kind = fields.get("type")
     if kind in office.KINDS:
         return (fields.get("company"), fields.get("number")) in state.messages
     if kind == "commit":
-        return fields["version"] < state.length
+        return (fields["version"], fields["at"]) not in begun
     order = state.orders.get(fields.get("order", "")) if kind in ("order", "withdraw") else None
     return order is not None and not order.is_open()
 
@@ -222,10 +223,12 @@ def from_words(word, path, files=FILES):
 def gone_on(history, cut, before, checkpoint):
     """What differs between the rest of a history and the run from a checkpoint."""
     closed = {name for name, order in before.orders.items() if not order.is_open()}
-    lines, wanted = [], []
+    lines, wanted, begun = [], [], set()
     for line, reply in zip(history.lines[cut:], history.replies[cut:]):
         fields = fields_of(line)
-        if names_before(fields, before):
+        if reply[0].split()[1] in ("begun", "plan"):
+            begun.add((int(reply[0].split()[2]), fields["at"]))
+        if names_before(fields, before, begun):
             lines.append("")
             continue
         if fields.get("type") == "commit":
