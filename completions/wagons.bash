@@ -3,7 +3,7 @@ _wagons() {
     local current=${COMP_WORDS[COMP_CWORD]} previous=${COMP_WORDS[COMP_CWORD - 1]}
     local office='--roster --from --network --entries --kept --workers --help'
     if [ "$COMP_CWORD" -eq 1 ]; then
-        COMPREPLY=($(compgen -W 'check solve run feed map table save explain help --help --version' -- "$current"))
+        COMPREPLY=($(compgen -W 'check solve run feed map table why save explain help --help --version' -- "$current"))
         return
     fi
     case $previous in
@@ -12,7 +12,7 @@ _wagons() {
     esac
     case ${COMP_WORDS[1]} in
         run | map) COMPREPLY=($(compgen -W "$office" -- "$current")) ;;
-        table) COMPREPLY=($(compgen -W "$office --at" -- "$current")) ;;
+        table | why) COMPREPLY=($(compgen -W "$office --at" -- "$current")) ;;
         save) COMPREPLY=($(compgen -W "$office --upto --with --without" -- "$current")) ;;
         feed)
             case $current in
@@ -20,7 +20,7 @@ _wagons() {
                 *) COMPREPLY=($(compgen -f -- "$current")) ;;
             esac
             ;;
-        help) COMPREPLY=($(compgen -W 'check solve run feed map table save explain' -- "$current")) ;;
+        help) COMPREPLY=($(compgen -W 'check solve run feed map table why save explain' -- "$current")) ;;
         *) COMPREPLY=($(compgen -W '--help' -- "$current")) ;;
     esac
 }

@@ -133,6 +133,22 @@ pub(crate) const TABLE: WordHelp = WordHelp {
     arguments: Arguments::OfficeAndMoment,
 };
 
+/// The help of `why`.
+pub(crate) const WHY: WordHelp = WordHelp {
+    name: "why",
+    about: "Says why a plan is as it is: commands in, reasons and bounds out",
+    long_about: "Reads the fleet and the network from files, then commands from standard input\n\
+     as `run` does, without a reply. At the end plans the problem at a moment and\n\
+     says for each order how many free wagons pass which test, and for each order\n\
+     and each wagon that goes what other plans cost more, at least, in kilometres.\n\
+     Exits with 0, with 1 where a line was refused, with 2 where it could not run or\n\
+     stopped; then nothing is said.",
+    example: "Example:\n  \
+     wagons why --at 2026-03-02T11:00:00Z --roster roster.csv \\\n    \
+     --network network.csv < day.jsonl",
+    arguments: Arguments::OfficeAndMoment,
+};
+
 /// The help of `save`.
 pub(crate) const SAVE: WordHelp = WordHelp {
     name: "save",
@@ -171,7 +187,7 @@ pub(crate) const FILES_LONG: &str =
      opened stops the program before it begins; one that fails while it is\n\
      read doesn't stop the others";
 
-/// What the option of `table` is.
+/// What the option of `table` and `why` is.
 pub(crate) const AT: &str = "The moment at which the wagons may start";
 
 pub(crate) const AT_LONG: &str = "The moment of the problem, at which the wagons may start, as\n\

@@ -83,21 +83,25 @@ impl<'a> FeedOptions<'a> {
     }
 }
 
-/// What `table` is asked to do.
+/// What `table` and `why` are asked to do.
 #[derive(Debug, Drop)]
-pub struct TableOptions<'a> {
+pub struct ProblemOptions<'a> {
     /// What the office is opened with.
     pub office: OfficeOptions<'a>,
     /// The moment of the problem.
     pub at: Moment,
 }
 
-impl<'a> TableOptions<'a> {
-    /// The options that were given. A moment that is none is a fault of the arguments. `clap` has refused words without
-    /// one before.
-    pub(crate) fn read(alloc: Global, matches: &ArgMatches<'a>) -> Result<TableOptions<'a>, Error> {
-        let at = moment_from(alloc, matches.get_str("at").unwrap_or(""))?;
-        Ok(TableOptions {
+impl<'a> ProblemOptions<'a> {
+    /// The options that were given to a word, by its name for the usage. A moment that is none is a fault of the
+    /// arguments. `clap` has refused words without one before.
+    pub(crate) fn read(
+        alloc: Global,
+        word: &str,
+        matches: &ArgMatches<'a>,
+    ) -> Result<ProblemOptions<'a>, Error> {
+        let at = moment_from(alloc, word, matches.get_str("at").unwrap_or(""))?;
+        Ok(ProblemOptions {
             office: OfficeOptions::read(alloc, matches)?,
             at,
         })
@@ -105,7 +109,7 @@ impl<'a> TableOptions<'a> {
 }
 
 /// The moment that the value of `--at` is.
-fn moment_from(alloc: Global, text: &str) -> Result<Moment, Error> {
+fn moment_from(alloc: Global, word: &str, text: &str) -> Result<Moment, Error> {
     match Moment::read(text) {
         Ok(moment) => Ok(moment),
         Err(fault) => {
@@ -113,14 +117,14 @@ fn moment_from(alloc: Global, text: &str) -> Result<Moment, Error> {
             let reason = format!(in alloc;
                 "invalid value '{text}' for '--at <MOMENT>': `wagons explain {code}` says why"
             )?;
-            let mut command = Command::new(alloc, "table").bin_name("wagons table")?;
+            let mut command = Command::new(alloc, "wagons").bin_name(word)?;
             Err(command.error(ErrorKind::InvalidValue, reason.as_str())?)
         }
     }
 }
 
 /// A word that needs the moment of a problem.
-pub(crate) fn with_table_options<'a>(
+pub(crate) fn with_problem_options<'a>(
     alloc: Global,
     word: Command<'a>,
 ) -> Result<Command<'a>, AllocError> {

@@ -3,8 +3,8 @@
 use crate::help;
 use crate::help::{Arguments, WordHelp};
 use crate::office_options::{
-    FeedOptions, OfficeOptions, SaveOptions, TableOptions, with_files, with_office_options,
-    with_save_options, with_table_options,
+    FeedOptions, OfficeOptions, SaveOptions, ProblemOptions, with_files, with_office_options,
+    with_save_options, with_problem_options,
 };
 use clap::builder::ValueParser;
 use clap::error::ErrorKind;
@@ -20,13 +20,14 @@ const CODE: &str = "code";
 const MAX_CODE: u64 = 999;
 
 /// The words, in the order in which help lists them.
-const WORDS: [WordHelp; 8] = [
+const WORDS: [WordHelp; 9] = [
     help::CHECK,
     help::SOLVE,
     help::RUN,
     help::FEED,
     help::MAP,
     help::TABLE,
+    help::WHY,
     help::SAVE,
     help::EXPLAIN,
 ];
@@ -48,7 +49,9 @@ pub enum Word<'a> {
     /// Bring the command lines of standard input to an office, and draw it.
     Map(OfficeOptions<'a>),
     /// Bring the command lines of standard input to an office, and print its problem as a table line.
-    Table(TableOptions<'a>),
+    Table(ProblemOptions<'a>),
+    /// Bring the command lines of standard input to an office, plan it, and say why the plan is as it is.
+    Why(ProblemOptions<'a>),
     /// Bring the command lines of standard input to an office, and save it.
     Save(SaveOptions<'a>),
     /// Print this entry of the manual of refusals, or the whole manual.
@@ -70,7 +73,8 @@ fn read_word<'a>(alloc: Global, name: &str, options: &ArgMatches<'a>) -> Result<
     match name {
         "run" => Ok(Word::Run(OfficeOptions::read(alloc, options)?)),
         "map" => Ok(Word::Map(OfficeOptions::read(alloc, options)?)),
-        "table" => Ok(Word::Table(TableOptions::read(alloc, options)?)),
+        "table" => Ok(Word::Table(ProblemOptions::read(alloc, "wagons table", options)?)),
+        "why" => Ok(Word::Why(ProblemOptions::read(alloc, "wagons why", options)?)),
         "save" => Ok(Word::Save(SaveOptions::read(alloc, options)?)),
         "feed" => Ok(Word::Feed(FeedOptions::read(alloc, options)?)),
         "explain" => read_code(alloc, options),
@@ -141,7 +145,7 @@ fn word_command<'a>(alloc: Global, help: WordHelp) -> Result<Command<'a>, AllocE
         Arguments::Office => with_office_options(alloc, word),
         Arguments::OfficeAndFiles => with_files(alloc, with_office_options(alloc, word)?),
         Arguments::OfficeAndMoment => {
-            with_table_options(alloc, with_office_options(alloc, word)?)
+            with_problem_options(alloc, with_office_options(alloc, word)?)
         }
         Arguments::OfficeAndFleet => { with_save_options(alloc, with_office_options(alloc, word)?) }
     }

@@ -10,7 +10,7 @@ use Rattle.cost_table.proofs.Sums.{distributes, double_count, sum_below-add, sum
 use Rattle.cost_table.proofs.CostLemmas.{orders_below, wagons_below}
 use Rattle.plan_bounds.specs.PricedPlan.{IsCertified, PricedPlan}
 use Rattle.plan_bounds.specs.Slack.{idle_price, missed, refusal_slack, slack}
-use Rattle.plan_bounds.specs.Laws.{SlacksAreTheDifference}
+use Rattle.plan_bounds.specs.Laws.{SlacksAreTheDifference, SlacksAreWhole}
 use Rattle.plan_bounds.proofs.Sums.{sum_below-list}
 
 -- pair by pair, the costs and the wagons' prices are the orders' prices and the slacks
@@ -77,3 +77,12 @@ slacks_are_the_difference p c other plan =
     let orders = orders_split p c other plan in
     let balance = c.balance in
     omega (arith, pairs, wagons, orders, balance)
+
+pub slacks_are_whole : SlacksAreWhole
+slacks_are_whole p c = record {
+  pairs = λ i j allowed.
+      let gap : slice_index p.v j ≤ allowed.2.0 + slice_index p.u i = c.no_gap i j allowed.2.0 allowed.0 allowed.1 allowed.2.1 in
+      let cost : pair_cost p.table (i, j) ≡ allowed.2.0 = ap (λ o. unwrap_or o 0) allowed.2.1 in
+      omega (arith, gap, cost);
+  misses = λ j l. let below = c.below_penalty j l in omega (arith, below);
+}

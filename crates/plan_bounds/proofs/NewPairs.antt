@@ -63,7 +63,7 @@ both_are q i j h = (grind (arith, nat_tests, h), grind (arith, nat_tests, h))
 counted_once : (i j : ℕ) → cond (i == i) 1 0 * cond (j == j) 1 0 ≡ 1
 counted_once i j = grind (arith, nat_tests)
 
-same_pair : (a b i j : ℕ) → a ≡ i → b ≡ j → let q : ℕ × ℕ = (a, b) in let r : ℕ × ℕ = (i, j) in q ≡ r
+pub same_pair : (a b i j : ℕ) → a ≡ i → b ≡ j → let q : ℕ × ℕ = (a, b) in let r : ℕ × ℕ = (i, j) in q ≡ r
 same_pair a b i j e f = cc
 
 has_counted : (i j : ℕ) (ps : List (ℕ × ℕ)) → 1 ≤ pair_count ps j i → HasPair i j ps

@@ -1,13 +1,13 @@
 -- What other plans of the table cost more, at least.
-use Rattle.std.proofs.Common.{◌≡◌, ◌*◌, ◌≤◌, ℕ, cond, List, ap, arith}
+use Rattle.std.proofs.Common.{◌≡◌, ◌*◌, ◌≤◌, ℕ, cond, List, ap, arith, refl}
 use Rattle.std.specs.Prelude.{◌==◌, slice_index, slice_index_or}
 use Rattle.std.proofs.lemmas.Bool.Decides.{nat_tests}
 use Rattle.cost_table.specs.Table.{order_count, wagon_count}
 use Rattle.cost_table.specs.Plan.{uses}
-use Rattle.plan_bounds.specs.PricedPlan.{PricedPlan}
+use Rattle.plan_bounds.specs.PricedPlan.{IsCertified, PricedPlan}
 use Rattle.plan_bounds.specs.Slack.{idle_price, missed, refusal_slack, slack}
 use Rattle.plan_bounds.specs.Bounds.{CostsMore}
-use Rattle.plan_bounds.specs.Laws.{IdleWagonsCostTheirPrice, LeastPlansHaveNoSlack, MissesCostTheirSlack, PairsCostTheirSlack}
+use Rattle.plan_bounds.specs.Laws.{HasNoSlack, IdleWagonsCostTheirPrice, LeastPlansHaveNoSlack, MissesCostTheirSlack, PairsCostTheirSlack}
 use Rattle.plan_bounds.proofs.Identity.{slacks_are_the_difference}
 use Rattle.plan_bounds.proofs.Sums.{sum_below-term, sum_by-term}
 
@@ -49,3 +49,7 @@ least_plans_have_no_slack p c other plan least = record {
   idle = λ i l idle. let more = idle_wagons_cost_their_price p c i l other plan idle in omega (arith, more, least);
   misses = λ j l misses. let more = misses_cost_their_slack p c j l 1 other plan misses in omega (arith, more, least);
 }
+
+-- so the certified plan has none
+pub certified_has_no_slack : (p : PricedPlan) → IsCertified p → HasNoSlack p p.pairs
+certified_has_no_slack p c = least_plans_have_no_slack p c p.pairs c.plan refl

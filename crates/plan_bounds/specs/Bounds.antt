@@ -1,9 +1,9 @@
 -- Bounds: what plans that differ from the certified one in some way cost more, at least.
-use Rattle.std.specs.Prelude.{◌≡◌, ◌+◌, ◌*◌, ◌<◌, ◌≤◌, ℕ, min, List, Contains}
+use Rattle.std.specs.Prelude.{◌≡◌, ◌+◌, ◌*◌, ◌<◌, ◌≤◌, ℕ, List, Contains}
 use Rattle.cost_table.specs.Table.{Table}
 use Rattle.cost_table.specs.Plan.{IsAllowed, IsPlan, cost_of, serves, uses}
 use Rattle.plan_bounds.specs.PricedPlan.{PricedPlan, certified_cost}
-use Rattle.plan_bounds.specs.Slack.{missed, slack}
+use Rattle.plan_bounds.specs.Slack.{missed}
 
 -- each plan of the table that is so costs so many km more than the certified one, at least
 abbrev pub CostsMore : PricedPlan → (IsSo : List (ℕ × ℕ) → Type 0) → (km : ℕ) → Type 0
@@ -37,19 +37,6 @@ pub record IsNewPair (p : PricedPlan) (i j : ℕ) : Type 0 where
 -- no plan gives order j more wagons than the certified one does
 abbrev pub NoneServesMore : PricedPlan → (j : ℕ) → Type 0
 NoneServesMore p j = (other : List (ℕ × ℕ)) → IsPlan p.table other → serves j other ≤ serves j p.pairs
-
--- so many km, as far as 64 bits go
-abbrev pub in_64_bits : ℕ → ℕ
-in_64_bits km = min km 18_446_744_073_709_551_615
-
--- the least slack of order j's pairs with the first n wagons that the certified plan doesn't have
-pub record IsLeastSlack (p : PricedPlan) (j n km : ℕ) : Type 0 where
-  pub found : (i : ℕ) × IsNewPair p i j × (km ≡ in_64_bits (slack p (i, j)))
-  pub least : (i : ℕ) → i < n → IsNewPair p i j → km ≤ slack p (i, j)
-
--- the certified plan has all pairs of order j with the first n wagons
-abbrev pub HasEachPair : PricedPlan → (j n : ℕ) → Type 0
-HasEachPair p j n = (i : ℕ) → i < n → ¬ IsNewPair p i j
 
 -- each plan of another table costs so many km more than the certified one, at least
 abbrev pub AllCostMore : PricedPlan → Table → (km : ℕ) → Type 0

@@ -1,7 +1,7 @@
 -- Laws of certificates: what every other plan of the table costs, and every plan of a table that differs in one order or one wagon.
 use Rattle.std.specs.Prelude.{◌≡◌, ◌+◌, ◌-◌, ◌*◌, ◌<◌, ◌≤◌, ℕ, List, slice_index}
-use Rattle.cost_table.specs.Table.{lack_at, order_count, row_at, wagon_count}
-use Rattle.cost_table.specs.Plan.{IsPlan, cost_of, serves}
+use Rattle.cost_table.specs.Table.{lack_at, order_count, penalty_at, row_at, wagon_count}
+use Rattle.cost_table.specs.Plan.{IsAllowed, IsPlan, cost_of, pair_cost, serves}
 use Rattle.plan_bounds.specs.PricedPlan.{IsCertified, PricedPlan, certified_cost}
 use Rattle.plan_bounds.specs.Slack.{missed, refusal_slack, slack, slack_in_all}
 use Rattle.plan_bounds.specs.Changes.{gain_of, with_lack, with_wagon, without_wagon}
@@ -10,7 +10,16 @@ use Rattle.plan_bounds.specs.Bounds.{AllCostMore, CostsMore, EachMissCosts, HasP
 -- a plan costs what the certified one does, and its slacks
 abbrev pub SlacksAreTheDifference : Type 0
 SlacksAreTheDifference =
-    (p : PricedPlan) → IsCertified p → (other : List (ℕ × ℕ)) → IsPlan p.table other → cost_of p.table other ≡ certified_cost p + slack_in_all p other
+    (p : PricedPlan) → IsCertified p → (other : List (ℕ × ℕ)) → IsPlan p.table other
+    → cost_of p.table other ≡ certified_cost p + slack_in_all p other
+
+-- no slack is cut off at 0: a price is never above what it is taken from
+pub record HasWholeSlacks (p : PricedPlan) : Type 0 where
+  pub pairs : (i j : ℕ) → IsAllowed p.table (i, j) → slice_index p.v j + slack p (i, j) ≡ pair_cost p.table (i, j) + slice_index p.u i
+  pub misses : (j : ℕ) → j < order_count p.table → slice_index p.v j + refusal_slack p j ≡ penalty_at p.table j
+
+abbrev pub SlacksAreWhole : Type 0
+SlacksAreWhole = (p : PricedPlan) → IsCertified p → HasWholeSlacks p
 
 -- no slack is left over in a plan
 pub record HasNoSlack (p : PricedPlan) (other : List (ℕ × ℕ)) : Type 0 where
@@ -21,7 +30,8 @@ pub record HasNoSlack (p : PricedPlan) (other : List (ℕ × ℕ)) : Type 0 wher
 -- a plan that costs as little as the certified one has none
 abbrev pub LeastPlansHaveNoSlack : Type 0
 LeastPlansHaveNoSlack =
-    (p : PricedPlan) → IsCertified p → (other : List (ℕ × ℕ)) → IsPlan p.table other → cost_of p.table other ≡ certified_cost p → HasNoSlack p other
+    (p : PricedPlan) → IsCertified p → (other : List (ℕ × ℕ)) → IsPlan p.table other
+    → cost_of p.table other ≡ certified_cost p → HasNoSlack p other
 
 -- ---- other plans of the table
 

@@ -1,6 +1,6 @@
 pub mod PricedPlan
 pub mod Slack
+pub mod LeastSlack
 pub mod Changes
 pub mod Bounds
 pub mod Laws
-pub mod inner

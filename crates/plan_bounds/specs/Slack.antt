@@ -1,7 +1,7 @@
 -- Slacks: what the prices of a certificate leave over, in km, and what is left over of a plan in all.
-use Rattle.std.specs.Prelude.{◌+◌, ◌-◌, ◌*◌, ◌==◌, ℕ, if◌then◌else◌, List, slice_index}
+use Rattle.std.specs.Prelude.{◌+◌, ◌-◌, ◌*◌, ◌==◌, ℕ, if◌then◌else◌, min, List, Option, option_map, slice_index}
 use Rattle.std.specs.List.{sum_by}
-use Rattle.cost_table.specs.Table.{lack_at, order_count, penalty_at, wagon_count}
+use Rattle.cost_table.specs.Table.{cost_at, lack_at, order_count, penalty_at, wagon_count}
 use Rattle.cost_table.specs.Plan.{pair_cost, serves, sum_below, uses}
 use Rattle.plan_bounds.specs.PricedPlan.{PricedPlan}
 
@@ -27,3 +27,11 @@ slack_in_all p other =
     sum_by (slack p) other
     + sum_below (wagon_count p.table) (idle_price p other)
     + sum_below (order_count p.table) (λ j. missed p other j * refusal_slack p j)
+
+-- so many km, as far as 64 bits go
+abbrev pub in_64_bits : ℕ → ℕ
+in_64_bits km = min km 18_446_744_073_709_551_615
+
+-- the slack of a pair, as far as 64 bits go; none where the pair isn't allowed
+abbrev pub slack_of_pair : PricedPlan → (i j : ℕ) → Option ℕ
+slack_of_pair p i j = option_map (λ cost. in_64_bits (slack p (i, j))) (cost_at p.table i j)

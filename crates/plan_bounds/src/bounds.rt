@@ -1,10 +1,10 @@
 //! The bounds of a certificate, one by one.
-ghost use Rattle.std.specs.Prelude.{◌≡◌, ◌+◌, ◌-◌, ◌<◌, ◌↔◌, IsSome, IfNone, IfSome, IsTrue, All, length, slice_index};
+ghost use Rattle.std.specs.Prelude.{◌≡◌, ◌+◌, ◌-◌, ◌<◌, ◌≤◌, ◌↔◌, Some, IsSome, IfNone, IfSome, All, length, slice_index};
 ghost use Rattle.cost_table.specs.Table.{lack_at, order_count, row_at, wagon_count};
 ghost use Rattle.cost_table.specs.Plan.{IsAllowed};
 ghost use Rattle.price_checker.specs.Certificate.{IsCertificate};
 ghost use Rattle.plan_bounds.specs.PricedPlan.{IsCertified, certified_cost};
-ghost use Rattle.plan_bounds.specs.Slack.{refusal_slack, slack};
+ghost use Rattle.plan_bounds.specs.Slack.{in_64_bits, missed, refusal_slack, slack_of_pair};
 ghost use Rattle.plan_bounds.specs.Changes.{gain_of, with_lack, with_wagon, without_wagon};
 ghost use Rattle.plan_bounds.specs.Bounds.{
   AllCostMore,
@@ -12,13 +12,11 @@ ghost use Rattle.plan_bounds.specs.Bounds.{
   EachMissCosts,
   HasPair,
   IsIdle,
-  IsLeastSlack,
   NoneSavesMore,
   NoneServesMore,
   ServesMore,
-  in_64_bits,
 };
-ghost use Rattle.plan_bounds.specs.inner.Least.{IsNewSlack, lesser};
+ghost use Rattle.plan_bounds.specs.LeastSlack.{has_pair, least_new_slack, lesser, new_slack};
 
 use cost_table::{Cells, Plan, cost};
 use price_checker::Prices;
@@ -66,11 +64,12 @@ impl<'a> Bounds<'a> {
     }
 
     /// The slack of a pair: what every plan that has this pair costs more, at least. `None` where the pair isn't allowed.
-    /// A slack past 64 bits is given as the largest number of 64 bits.
+    /// It is 0 for a pair of the certified plan. A slack past 64 bits is given as the largest number of 64 bits.
     pub fn pair_bound(&self, i: usize, j: usize) -> Option<u64>
-        ensures value { IfSome result (λ km. km ≡ in_64_bits (slack self.now (i, j))) }
+        ensures value { result ≡ slack_of_pair self.now i j }
         ensures allowed { IsSome result ↔ IsAllowed self.now.table (i, j) }
         ensures bound { IfSome result (CostsMore self.now (HasPair i j)) }
+        ensures own { HasPair i j self.now.pairs → result ≡ Some 0 }
     {
         match self.cells.cell(i, j) {
             Some(cost) => Some(pair_slack(cost, self.prices.u[i], self.prices.v[j])),
@@ -79,11 +78,12 @@ impl<'a> Bounds<'a> {
     }
 
     /// The price of wagon `i`: what every plan in which it is idle costs more, at least, and every plan without it; and what
-    /// one more wagon with the same row saves at most.
+    /// one more wagon with the same row saves at most. It is 0 for a wagon that the certified plan leaves idle.
     pub fn idle_bound(&self, i: usize) -> u64
         requires { i < wagon_count self.now.table }
         ensures value { result ≡ slice_index self.now.u i }
         ensures idle { CostsMore self.now (IsIdle i) result }
+        ensures own { IsIdle i self.now.pairs → result ≡ 0 }
         ensures wagon_less { AllCostMore self.now (without_wagon self.now.table i) result }
         ensures twin { NoneSavesMore self.now (with_wagon self.now.table (row_at self.now.table i)) result }
     {
@@ -117,11 +117,13 @@ impl<'a> Bounds<'a> {
         self.prices.v[j]
     }
 
-    /// The slack of a refusal: what every plan costs more, at least, for each wagon that it refuses order `j`.
+    /// The slack of a refusal: what every plan costs more, at least, for each wagon that it refuses order `j`. It is 0 for an
+    /// order that the certified plan refuses a wagon.
     pub fn refusal_bound(&self, j: usize) -> u64
         requires { j < order_count self.now.table }
         ensures value { result ≡ refusal_slack self.now j }
         ensures bound { EachMissCosts self.now j result }
+        ensures own { 1 ≤ missed self.now self.now.pairs j → result ≡ 0 }
     {
         self.cells.penalty(j) - self.prices.v[j]
     }
@@ -129,7 +131,7 @@ impl<'a> Bounds<'a> {
     /// The least slack of order `j`'s pairs that the plan doesn't have: what every plan that gives it more wagons costs more,
     /// at least. `None` where the plan has all its allowed pairs: then no plan gives it more.
     pub fn service_bound(&self, j: usize) -> Option<u64>
-        ensures least { IfSome result (IsLeastSlack self.now j (wagon_count self.now.table)) }
+        ensures value { result ≡ least_new_slack self.now j (wagon_count self.now.table) }
         ensures bound { IfSome result (CostsMore self.now (ServesMore self.now j)) }
         ensures none { IfNone result (NoneServesMore self.now j) }
     {
@@ -145,7 +147,7 @@ impl<'a> Bounds<'a> {
 
     /// The slack of a pair that is allowed and that the plan doesn't have.
     fn new_slack(&self, i: usize, j: usize) -> Option<u64>
-        ensures { IsNewSlack self.now i j result }
+        ensures { result ≡ new_slack self.now i j }
     {
         let slack = self.pair_bound(i, j)?;
         let pairs = self.plan.pairs();
@@ -171,9 +173,9 @@ fn gain(v: &[u64], row: &[(u32, u32)]) -> u64
 
 /// Whether a pair is among these.
 fn has_pair(pairs: &[(usize, usize)], i: usize, j: usize) -> bool
-    ensures { IsTrue result ↔ HasPair i j pairs.now }
+    ensures { result ≡ has_pair pairs.now i j }
 {
-    pairs.contains(&(i, j))
+    pairs.iter().any(|pair| pair.0 == i && pair.1 == j)
 }
 
 /// The lesser of two numbers, where both are there.

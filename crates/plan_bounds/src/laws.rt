@@ -11,13 +11,15 @@ ghost use Rattle.plan_bounds.specs.Laws.{
   OneWagonMoreSavesItsGain,
   PairsCostTheirSlack,
   SlacksAreTheDifference,
+  SlacksAreWhole,
   WithoutAWagonCostsItsPrice,
 };
 
 /// A plan of the table costs what the certified one does, and the slacks of its pairs, the prices of its idle wagons and
-/// the slacks of the wagons that its orders miss. A plan that costs as little has no slack.
+/// the slacks of the wagons that its orders miss. No slack is cut off at 0. A plan that costs as little has none.
 pub fn slacks_are_the_difference()
     ensures identity { SlacksAreTheDifference }
+    ensures whole { SlacksAreWhole }
     ensures least { LeastPlansHaveNoSlack }
 {}
 

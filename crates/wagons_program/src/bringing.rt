@@ -5,18 +5,18 @@ ghost use Rattle.operating_db.specs.Office.{Office};
 ghost use Rattle.wagons_program.specs.Brought.{AreAnswered, AreStopped, ToCommands, lines_over};
 ghost use Rattle.wagons_program.specs.FirstBook.{BeginsWith, IsFirstBook};
 
-use crate::new_book::{OfficeFiles, new_book, read_files};
+use crate::new_book::{NewBook, OfficeFiles, new_book, read_files};
 use crate::status::status_of_run;
 use crate::stop::Stop;
 use command_line::OfficeOptions;
 use commit_book::Book;
 use line_engine::StdDevice;
-use line_network::Network;
+use line_network::{Network, Networks};
 use std::alloc::Global;
 use std::io::{Read, Write};
 use std::mem;
 use std::rt::Files;
-use std::sync::Wait;
+use std::sync::{Arc, Wait};
 use std::thread::Threads;
 
 /// An office as the lines of an input left it.
@@ -24,6 +24,8 @@ use std::thread::Threads;
 pub(crate) struct Brought {
     pub(crate) book: Book,
     pub(crate) networks: Vec<Network>,
+    /// The distances in each network.
+    pub(crate) distances: Arc<Networks>,
     /// 0, or 1 where a line was refused.
     pub(crate) status: u8,
 }
@@ -40,11 +42,15 @@ pub(crate) fn bring<R: Files + Threads + Wait + AllocGlobal, I: Read + Drop, O: 
         × AreAnswered ToCommands (lines_over (I.remaining input) (O.contents output) first brought.book) brought.status) }
 {
     let OfficeFiles { first, networks } = read_files(rt, options)?;
-    let mut book = new_book(rt, options, first, &networks)?.book;
+    let NewBook {
+        mut book,
+        networks: distances,
+    } = new_book(rt, options, first, &networks)?;
     let status = bring_lines(rt.alloc(), input, output, &mut book)?;
     Ok(Brought {
         book,
         networks,
+        distances,
         status,
     })
 }

@@ -17,6 +17,7 @@ mod solve;
 mod status;
 mod stop;
 mod table;
+mod why;
 
 pub use laws::{each_fault_is_listed, each_number_is_a_faults};
 pub use program::{run_program, run_words};

@@ -24,6 +24,7 @@ pub(crate) fn map<R: Print + Files + Threads + Wait + AllocGlobal, I: Read + Dro
     let Brought {
         book,
         networks,
+        distances: _,
         status,
     } = bring(rt, options, input, io::sink())?;
     let text = map_of(rt.alloc(), &book, &networks);

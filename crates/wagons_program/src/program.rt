@@ -12,6 +12,7 @@ use crate::solve::solve;
 use crate::status::{DONE, STOPPED};
 use crate::stop::Stop;
 use crate::table::table;
+use crate::why::why;
 use clap::Error;
 use clap::error::ErrorKind;
 use command_line::{Word, not_utf8, read_words};
@@ -53,6 +54,7 @@ where
         Ok(Word::Solve) => solve(rt, input),
         Ok(Word::Map(options)) => map(rt, &options, input),
         Ok(Word::Table(options)) => table(rt, &options, input),
+        Ok(Word::Why(options)) => why(rt, &options, input),
         Ok(Word::Save(options)) => save(rt, &options, input),
         Ok(Word::Explain(entry)) => explain(rt, entry),
         Err(error) => print_text(rt, &error),

@@ -32,6 +32,7 @@ pub(crate) fn save<R: Print + Files + Threads + Wait + AllocGlobal, I: Read + Dr
     let Brought {
         book,
         networks: _,
+        distances: _,
         status,
     } = match options.upto {
         Some(lines) => {

@@ -6,7 +6,7 @@ ghost use Rattle.wagons_program.specs.TableOfLast.{IsTableOfLast};
 use crate::bringing::{Brought, bring, leave};
 use crate::printing::print_whole;
 use crate::stop::Stop;
-use command_line::TableOptions;
+use command_line::ProblemOptions;
 use commit_book::{Book, Snap};
 use rail_codes::Moment;
 use std::alloc::{AllocError, Global};
@@ -21,12 +21,13 @@ use table_lines::problem_line;
 /// at a moment as a table line: status 0, or 1 where a line was refused.
 pub(crate) fn table<R: Print + Files + Threads + Wait + AllocGlobal, I: Read + Drop>(
     rt: &R,
-    options: &TableOptions<'_>,
+    options: &ProblemOptions<'_>,
     input: I,
 ) -> Result<u8, Stop> {
     let Brought {
         mut book,
         networks: _,
+        distances: _,
         status,
     } = bring(rt, &options.office, input, io::sink())?;
     let text = last_table(rt.alloc(), &mut book, options.at);

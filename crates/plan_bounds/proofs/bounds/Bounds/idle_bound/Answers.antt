@@ -1,11 +1,11 @@
-use Rattle.std.proofs.Common.{◌≡◌, arith, subst, sym}
+use Rattle.std.proofs.Common.{◌≡◌, ◌∙◌, arith, subst, sym}
 use Rattle.std.proofs.lemmas.Grind.{common_steps}
 use Rattle.std.specs.Prelude.{slice_index}
 use Rattle.cost_table.specs.Table.{row_at}
 use Rattle.plan_bounds.specs.PricedPlan.{IsCertified}
 use Rattle.plan_bounds.specs.Changes.{with_wagon, without_wagon}
 use Rattle.plan_bounds.specs.Bounds.{AllCostMore, CostsMore, IsIdle, NoneSavesMore}
-use Rattle.plan_bounds.proofs.OtherPlans.{idle_wagons_cost_their_price}
+use Rattle.plan_bounds.proofs.OtherPlans.{certified_has_no_slack, idle_wagons_cost_their_price}
 use Rattle.plan_bounds.proofs.OtherTables.{its_twin_saves_its_price, without_a_wagon_costs_its_price}
 use Rattle.plan_bounds.proofs.bounds.Bounds.idle_bound.Goals as goal
 
@@ -15,6 +15,13 @@ returns-clause-idle c =
     let certified : IsCertified p = subst IsCertified c.self.view_is c.self.invariant in
     let value : c.index.result.now ≡ slice_index p.u c.args.i = grind (arith, common_steps) in
     subst (CostsMore p (IsIdle c.args.i)) (sym value) (idle_wagons_cost_their_price p certified c.args.i c.requires)
+
+pub returns-clause-own : goal.returns-clause-own
+returns-clause-own c =
+    let p = c.args.self.now in
+    let certified : IsCertified p = subst IsCertified c.self.view_is c.self.invariant in
+    let value : c.index.result.now ≡ slice_index p.u c.args.i = grind (arith, common_steps) in
+    λ idle. value ∙ (certified_has_no_slack p certified).idle c.args.i c.requires idle
 
 pub returns-clause-wagon_less : goal.returns-clause-wagon_less
 returns-clause-wagon_less c =

@@ -1,9 +1,8 @@
-use Rattle.std.proofs.Common.{◌∙◌, ◌<◌, ap, arith, refl, subst, sym}
-use Rattle.std.specs.Prelude.{IsTrue}
+use Rattle.std.proofs.Common.{◌≡◌, ◌∙◌, ◌<◌, Some, false, ap, arith, subst, sym}
 use Rattle.plan_bounds.specs.PricedPlan.{IsCertified, PricedPlan}
-use Rattle.plan_bounds.specs.Slack.{slack}
-use Rattle.plan_bounds.specs.Bounds.{HasPair}
-use Rattle.plan_bounds.proofs.Least.{in_64_bits-le, slack_is_new}
+use Rattle.plan_bounds.specs.Slack.{slack, slack_of_pair}
+use Rattle.plan_bounds.specs.LeastSlack.{has_pair}
+use Rattle.plan_bounds.proofs.Least.{new_with_slack, slack_of_new, slack_of_pair-le}
 use Rattle.plan_bounds.proofs.bounds.Bounds.new_slack.Goals as goal
 use Rattle.plan_bounds.proofs.bounds.Bounds.new_slack.Goals.{else-slack-eq0-via-then-slack-eq0+else-has_pair, else-slack-eq0-via-else-slack-eq0}
 
@@ -12,13 +11,13 @@ returns c =
     let p = c.args.self.now in
     let certified : IsCertified p = subst IsCertified c.self.view_is c.self.invariant in
     let value = c.in_ok-slack.ensures.value in
-    let new : HasPair c.args.i c.args.j p.pairs → ⊥ = elim c.else-slack-eq0.branch [
-      | else-slack-eq0-via-then-slack-eq0+else-has_pair w ↦ λ has.
+    let new : has_pair p.pairs c.args.i c.args.j ≡ false = elim c.else-slack-eq0.branch [
+      | else-slack-eq0-via-then-slack-eq0+else-has_pair w ↦
           let same = c.pairs-pairs.ensures.pairs ∙ ap (λ (p : PricedPlan). p.pairs) c.self.view_is in
-          let yes : IsTrue w.has_pair.result = w.has_pair.ensures.1 (subst (HasPair c.args.i c.args.j) (sym same) has) in
-          cc (yes, w.if-has_pair.false)
+          ap (λ ps. has_pair ps c.args.i c.args.j) (sym same) ∙ (sym w.has_pair.ensures ∙ w.if-has_pair.false)
       | else-slack-eq0-via-else-slack-eq0 w ↦
-          let more : 0 < slack p (c.args.i, c.args.j) = omega (arith, value, in_64_bits-le (slack p (c.args.i, c.args.j))) in
-          slack_is_new p certified c.args.i c.args.j more
+          let le = slack_of_pair-le p c.args.i c.args.j c.in_ok-slack.slack value in
+          let more : 0 < slack p (c.args.i, c.args.j) = omega (arith, le) in
+          new_with_slack p certified c.args.i c.args.j more
     ] in
-    (record { allowed = c.in_ok-slack.ensures.allowed.0 refl; new = new }, value)
+    slack_of_new (has_pair p.pairs c.args.i c.args.j) (Some c.in_ok-slack.slack) (slack_of_pair p c.args.i c.args.j) new value

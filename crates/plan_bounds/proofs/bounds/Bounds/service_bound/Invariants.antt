@@ -1,5 +1,6 @@
-use Rattle.plan_bounds.specs.inner.Least.{IsLeastOf}
+use Rattle.std.proofs.Common.{◌≡◌}
+use Rattle.plan_bounds.specs.LeastSlack.{least_new_slack}
 use Rattle.plan_bounds.proofs.bounds.Bounds.service_bound.Given as goal
 
 abbrev pub invariant-loop-i : goal.invariant-loop-i
-invariant-loop-i l = IsLeastOf l.self l.j l.i l.least
+invariant-loop-i l = l.least ≡ least_new_slack l.self l.j l.i

@@ -1,0 +1,6 @@
+pub mod Passed
+pub mod Counted
+pub mod Arrivals
+pub mod Lines
+pub mod Columns
+pub mod Narrow

@@ -1,0 +1,10 @@
+use Rattle.std.proofs.Common.{string_bytes}
+use Rattle.std.specs.List.{range_with_len}
+use Rattle.dispatch_sheet.specs.Sheet.{AreLines}
+use Rattle.dispatch_sheet.specs.inner.Pushed.{Adds}
+use Rattle.plan_reasons.specs.WhyText.{IsOrderLine}
+use Rattle.plan_reasons.specs.inner.Asked.{priced_plan}
+use Rattle.plan_reasons.proofs.why_lines.push_orders.Given as goal
+
+abbrev pub invariant-loop-j : goal.invariant-loop-j
+invariant-loop-j l = Adds (AreLines (IsOrderLine l.asked.tables.now l.asked.problem.now (priced_plan l.asked)) (range_with_len 0 l.j)) (string_bytes l.initial.text) (string_bytes l.text)

@@ -1,0 +1,58 @@
+-- Laws of the text: what its counts count, and what its numbers bound.
+use Rattle.std.specs.Prelude.{◌≡◌, ◌+◌, ◌-◌, ◌<◌, ℕ, is_some, Some, slice_get, slice_index, List, length, ◌≤◌}
+use Rattle.std.specs.List.{count_by}
+use Rattle.move_messages.specs.Order.{Order}
+use Rattle.wagons_and_orders.specs.declared.free_wagon.FreeWagon.{FreeWagon}
+use Rattle.wagons_and_orders.specs.Wanted.{WantedOrder}
+use Rattle.line_network.specs.Network.{NetworkValue}
+use Rattle.cost_table.specs.Problem.{ProblemValue}
+use Rattle.cost_table.specs.Table.{Table, cost_in, lack_at, order_count, wagon_count}
+use Rattle.problem_table.specs.Allowed.{IsTableOf}
+use Rattle.plan_bounds.specs.PricedPlan.{IsCertified, PricedPlan}
+use Rattle.plan_bounds.specs.Changes.{with_lack, without_wagon}
+use Rattle.plan_bounds.specs.Bounds.{AllCostMore, CostsMore, IsIdle, IsLeastSlack, NoneSavesMore, ServesMore}
+use Rattle.plan_reasons.specs.declared.reasons.Counts.{Counts}
+use Rattle.plan_reasons.specs.Reasons.{AreCounts, IsCount, IsInTime}
+
+-- how many wagons of a table may serve order j
+abbrev pub cells_of_order : Table → (j : ℕ) → ℕ
+cells_of_order t j = count_by (λ row. is_some (cost_in row j)) t.rows
+
+-- the wagons that are there in time are those that may serve the order
+abbrev pub InTimeAreAllowed : Type 0
+InTimeAreAllowed =
+    (net : NetworkValue) (problem : ProblemValue) (t : Table) → IsTableOf net problem t → (j n : ℕ) (wanted : WantedOrder)
+    → slice_get problem.orders j ≡ Some wanted → IsCount (λ wagon. IsInTime net problem.at wagon wanted.order) problem.wagons n → n ≡ cells_of_order t j
+
+-- how many wagons pass the tests is one number for each test
+abbrev pub CountsAreSettled : Type 0
+CountsAreSettled =
+    (net : NetworkValue) (at : ℕ) (wagons : List FreeWagon) (order : Order) (one other : Counts) → AreCounts net at wagons order one → AreCounts net at wagons order other → one ≡ other
+
+-- a test is passed by no more wagons than the one before it
+pub record Narrow (wagons : List FreeWagon) (counts : Counts) : Type 0 where
+  pub class : counts.class ≤ length wagons
+  pub load : counts.load ≤ counts.class
+  pub way : counts.way ≤ counts.load
+  pub in_time : counts.in_time ≤ counts.way
+  pub cheaper : counts.cheaper ≤ counts.in_time
+
+abbrev pub TestsNarrow : Type 0
+TestsNarrow = (net : NetworkValue) (at : ℕ) (wagons : List FreeWagon) (order : Order) (counts : Counts) → AreCounts net at wagons order counts → Narrow wagons counts
+
+-- what an order's price, and the least slack of its pairs that the plan doesn't have, say of other plans
+pub record OrderBounds (p : PricedPlan) (j : ℕ) : Type 0 where
+  pub one_more : AllCostMore p (with_lack p.table j (lack_at p.table j + 1)) (slice_index p.v j)
+  pub one_less : NoneSavesMore p (with_lack p.table j (lack_at p.table j - 1)) (slice_index p.v j)
+  pub further : (km : ℕ) → IsLeastSlack p j (wagon_count p.table) km → CostsMore p (ServesMore p j) km
+
+-- what a wagon's price says of other plans
+pub record WagonBounds (p : PricedPlan) (i : ℕ) : Type 0 where
+  pub stays : CostsMore p (IsIdle i) (slice_index p.u i)
+  pub without : AllCostMore p (without_wagon p.table i) (slice_index p.u i)
+
+abbrev pub NumbersOfOrdersBound : Type 0
+NumbersOfOrdersBound = (p : PricedPlan) → IsCertified p → (j : ℕ) → j < order_count p.table → OrderBounds p j
+
+abbrev pub NumbersOfWagonsBound : Type 0
+NumbersOfWagonsBound = (p : PricedPlan) → IsCertified p → (i : ℕ) → i < wagon_count p.table → WagonBounds p i

@@ -1,0 +1,4 @@
+pub mod Reasons
+pub mod WhyText
+pub mod Laws
+pub mod inner

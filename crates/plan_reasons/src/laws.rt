@@ -1,0 +1,19 @@
+//! Laws of the text. Their functions do nothing: the contract is the law.
+ghost use Rattle.plan_reasons.specs.Laws.{CountsAreSettled, InTimeAreAllowed, NumbersOfOrdersBound, NumbersOfWagonsBound, TestsNarrow};
+
+/// How many wagons pass the tests for an order is settled, and each test is passed by no more than the one before it.
+pub fn tests_narrow()
+    ensures settled { CountsAreSettled }
+    ensures narrow { TestsNarrow }
+{}
+
+/// The wagons that are counted as there in time are those that may serve the order.
+pub fn in_time_are_allowed()
+    ensures { InTimeAreAllowed }
+{}
+
+/// What the prices and the slacks of a text say of other plans.
+pub fn numbers_are_bounds()
+    ensures orders { NumbersOfOrdersBound }
+    ensures wagons { NumbersOfWagonsBound }
+{}

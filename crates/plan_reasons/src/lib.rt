@@ -1,0 +1,16 @@
+//! Why a plan is as it is: for each order how many free wagons pass the tests for it, one after the other, and for each order
+//! and wagon what other plans cost more, at least, by the prices of the plan's certificate.
+//!
+//! `Err` only when out of memory.
+#![tactic(auto)]
+
+mod asked;
+mod laws;
+mod order_line;
+mod reasons;
+mod wagon_line;
+mod why_lines;
+
+pub use laws::{in_time_are_allowed, numbers_are_bounds, tests_narrow};
+pub use reasons::{Counts, counts_of_order};
+pub use why_lines::why_text;
