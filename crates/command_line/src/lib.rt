@@ -5,5 +5,5 @@ mod help;
 mod office_options;
 mod words;
 
-pub use office_options::{FeedOptions, OfficeOptions, SaveOptions, Start, ProblemOptions};
+pub use office_options::{FeedOptions, OfficeOptions, ProblemOptions, SaveOptions, Start};
 pub use words::{Word, not_utf8, read_words};

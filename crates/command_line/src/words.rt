@@ -3,8 +3,8 @@
 use crate::help;
 use crate::help::{Arguments, WordHelp};
 use crate::office_options::{
-    FeedOptions, OfficeOptions, SaveOptions, ProblemOptions, with_files, with_office_options,
-    with_save_options, with_problem_options,
+    FeedOptions, OfficeOptions, ProblemOptions, SaveOptions, with_files, with_office_options,
+    with_problem_options, with_save_options,
 };
 use clap::builder::ValueParser;
 use clap::error::ErrorKind;

@@ -1,5 +1,5 @@
 -- Laws of the text: what its counts count, and what its numbers bound.
-use Rattle.std.specs.Prelude.{◌≡◌, ◌+◌, ◌-◌, ◌<◌, ℕ, is_some, Some, slice_get, slice_index, List, length, ◌≤◌}
+use Rattle.std.specs.Prelude.{◌≡◌, ◌+◌, ◌-◌, ◌<◌, ℕ, is_some, Some, slice_get, slice_index, List, length, ◌≤◌, IfNone, IfSome}
 use Rattle.std.specs.List.{count_by}
 use Rattle.move_messages.specs.Order.{Order}
 use Rattle.wagons_and_orders.specs.declared.free_wagon.FreeWagon.{FreeWagon}
@@ -10,7 +10,8 @@ use Rattle.cost_table.specs.Table.{Table, cost_in, lack_at, order_count, wagon_c
 use Rattle.problem_table.specs.Allowed.{IsTableOf}
 use Rattle.plan_bounds.specs.PricedPlan.{IsCertified, PricedPlan}
 use Rattle.plan_bounds.specs.Changes.{with_lack, without_wagon}
-use Rattle.plan_bounds.specs.Bounds.{AllCostMore, CostsMore, IsIdle, IsLeastSlack, NoneSavesMore, ServesMore}
+use Rattle.plan_bounds.specs.LeastSlack.{least_new_slack}
+use Rattle.plan_bounds.specs.Bounds.{AllCostMore, CostsMore, IsIdle, NoneSavesMore, NoneServesMore, ServesMore}
 use Rattle.plan_reasons.specs.declared.reasons.Counts.{Counts}
 use Rattle.plan_reasons.specs.Reasons.{AreCounts, IsCount, IsInTime}
 
@@ -44,7 +45,8 @@ TestsNarrow = (net : NetworkValue) (at : ℕ) (wagons : List FreeWagon) (order :
 pub record OrderBounds (p : PricedPlan) (j : ℕ) : Type 0 where
   pub one_more : AllCostMore p (with_lack p.table j (lack_at p.table j + 1)) (slice_index p.v j)
   pub one_less : NoneSavesMore p (with_lack p.table j (lack_at p.table j - 1)) (slice_index p.v j)
-  pub further : (km : ℕ) → IsLeastSlack p j (wagon_count p.table) km → CostsMore p (ServesMore p j) km
+  pub further : IfSome (least_new_slack p j (wagon_count p.table)) (CostsMore p (ServesMore p j))
+  pub settled : IfNone (least_new_slack p j (wagon_count p.table)) (NoneServesMore p j)
 
 -- what a wagon's price says of other plans
 pub record WagonBounds (p : PricedPlan) (i : ℕ) : Type 0 where

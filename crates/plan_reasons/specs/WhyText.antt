@@ -1,6 +1,6 @@
 -- The text that says why a plan is as it is: a line for the whole, one for each order as placed, and one for each wagon that
 -- goes, in the plan's order. Each line ends with a line feed, and its words are parted by one space.
-use Rattle.std.specs.Prelude.{◌≡◌, ◌+◌, ◌-◌, ◌*◌, ◌≤◌, ℕ, max, List, [], ◌∷◌, ◌++◌, length, Option, Some, None, slice_get, slice_index, codes, decimal}
+use Rattle.std.specs.Prelude.{◌≡◌, ◌+◌, ◌-◌, ◌*◌, ℕ, max, List, [], ◌∷◌, ◌++◌, length, Option, Some, None, slice_get, slice_index, codes, decimal, if◌then◌else◌, ◌==◌}
 use Rattle.std.specs.List.{range_with_len}
 use Rattle.rail_codes.specs.Moment.{IsMomentText}
 use Rattle.wagons_and_orders.specs.declared.free_wagon.FreeWagon.{FreeWagon}
@@ -13,7 +13,7 @@ use Rattle.cost_table.specs.Problem.{ProblemValue, order_names, wagon_names}
 use Rattle.price_checker.specs.NamedFaults.{name_at}
 use Rattle.plan_bounds.specs.PricedPlan.{PricedPlan, certified_cost}
 use Rattle.plan_bounds.specs.Slack.{missed}
-use Rattle.plan_bounds.specs.Bounds.{IsLeastSlack, NoneServesMore}
+use Rattle.plan_bounds.specs.LeastSlack.{least_new_slack}
 use Rattle.dispatch_sheet.specs.Sheet.{AreLines}
 use Rattle.dispatch_sheet.specs.Words.{next_word}
 use Rattle.plan_reasons.specs.declared.reasons.Counts.{Counts}
@@ -51,27 +51,21 @@ count_words counts =
     next_word (decimal counts.class) ++ next_word (decimal counts.load) ++ next_word (decimal counts.way)
     ++ next_word (decimal counts.in_time) ++ next_word (decimal counts.cheaper)
 
--- what every plan costs more, at least, that gives order j more wagons; none where no plan does
-abbrev pub IsServiceBound : PricedPlan → (j : ℕ) → Option ℕ → Type 0
-IsServiceBound p j None = NoneServesMore p j
-IsServiceBound p j (Some km) = IsLeastSlack p j (wagon_count p.table) km
-
--- the word of such a bound
+-- the word of a bound; none where no plan is so
 abbrev pub bound_word : Option ℕ → List ℕ
 bound_word None = codes "none"
 bound_word (Some km) = decimal km
 
--- the word of order j's bound, where it misses a wagon
-pub record IsFurtherWord (p : PricedPlan) (j : ℕ) (word : List ℕ) : Type 0 where
-  pub served : missed p p.pairs j ≡ 0 → word ≡ codes "-"
-  pub missing : 1 ≤ missed p p.pairs j → (bound : Option ℕ) × IsServiceBound p j bound × (word ≡ bound_word bound)
+-- for an order that misses a wagon, what every plan costs more, at least, that gives it more wagons
+abbrev pub further_word : PricedPlan → (j : ℕ) → List ℕ
+further_word p j = if missed p p.pairs j == 0 then codes "-" else bound_word (least_new_slack p j (wagon_count p.table))
 
 -- the order's price and that bound
-abbrev pub price_words : PricedPlan → (j : ℕ) → (further : List ℕ) → List ℕ
-price_words p j further = next_word (decimal (slice_index p.v j)) ++ next_word further ++ 10 ∷ []
+abbrev pub price_words : PricedPlan → (j : ℕ) → List ℕ
+price_words p j = next_word (decimal (slice_index p.v j)) ++ next_word (further_word p j) ++ 10 ∷ []
 
-abbrev pub order_text : ProblemValue → PricedPlan → (j : ℕ) → Counts → (further : List ℕ) → List ℕ
-order_text problem p j counts further = order_words problem p j ++ count_words counts ++ price_words p j further
+abbrev pub order_text : ProblemValue → PricedPlan → (j : ℕ) → Counts → List ℕ
+order_text problem p j counts = order_words problem p j ++ count_words counts ++ price_words p j
 
 -- the line of order j
 pub record IsOrderLine (net : NetworkValue) (problem : ProblemValue) (p : PricedPlan) (j : ℕ) (line : List ℕ) : Type 0 where
@@ -79,9 +73,7 @@ pub record IsOrderLine (net : NetworkValue) (problem : ProblemValue) (p : Priced
   pub order : slice_get problem.orders j ≡ Some wanted
   pub counts : Counts
   pub counted : AreCounts net problem.at problem.wagons wanted.order counts
-  pub further : List ℕ
-  pub bound : IsFurtherWord p j further
-  pub text : line ≡ order_text problem p j counts further
+  pub text : line ≡ order_text problem p j counts
 
 -- ---- wagons
 

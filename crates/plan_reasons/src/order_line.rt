@@ -1,11 +1,12 @@
 //! The lines of orders.
-ghost use Rattle.std.specs.Prelude.{◌≡◌, ◌++◌, ◌∷◌, [], ◌<◌, ◌≤◌, length, OnOk, string_bytes};
+ghost use Rattle.std.specs.Prelude.{◌≡◌, ◌++◌, ◌<◌, ◌≤◌, length, OnOk, string_bytes};
 ghost use Rattle.cost_table.specs.Plan.{serves};
 ghost use Rattle.cost_table.specs.Table.{order_count};
 ghost use Rattle.plan_bounds.specs.Slack.{missed};
 ghost use Rattle.dispatch_sheet.specs.inner.Pushed.{Adds};
-ghost use Rattle.plan_reasons.specs.WhyText.{IsOrderLine, count_words, order_words};
-ghost use Rattle.plan_reasons.specs.inner.Asked.{IsAsked, IsFurtherPart, IsPricePart, priced_plan};
+ghost use Rattle.plan_reasons.specs.WhyText.{IsOrderLine, count_words, further_word, order_words, price_words};
+ghost use Rattle.plan_reasons.specs.inner.Asked.{IsAsked, priced_plan};
+ghost use Rattle.dispatch_sheet.specs.Words.{next_word};
 
 use crate::asked::Asked;
 use crate::reasons::{Counts, counts_of_order};
@@ -54,18 +55,11 @@ fn push_counts(text: &mut String, counts: Counts) -> Result<(), AllocError>
 fn push_prices(text: &mut String, asked: &Asked, j: usize) -> Result<(), AllocError>
     requires asked { IsAsked asked.now }
     requires order { j < order_count asked.now.cells.now }
-    ensures { OnOk result (Adds (IsPricePart (priced_plan asked.now) j) (string_bytes text.old) (string_bytes text.new)) }
+    ensures { OnOk result (string_bytes text.new ≡ string_bytes text.old ++ price_words (priced_plan asked.now) j) }
 {
     let bounds = Bounds::new(asked.cells, asked.plan, asked.prices);
     push_number(text, bounds.one_more(j))?;
     push_further(text, asked, &bounds, j)?;
-    end_line(text)
-}
-
-/// Adds a line feed.
-fn end_line(text: &mut String) -> Result<(), AllocError>
-    ensures { OnOk result (string_bytes text.new ≡ string_bytes text.old ++ 10 ∷ []) }
-{
     text.push_str("\n")
 }
 
@@ -78,7 +72,7 @@ fn push_further(
 ) -> Result<(), AllocError>
     requires order { j < order_count asked.now.cells.now }
     requires bounds { bounds.now ≡ priced_plan asked.now }
-    ensures { OnOk result (Adds (IsFurtherPart (priced_plan asked.now) j) (string_bytes text.old) (string_bytes text.new)) }
+    ensures { OnOk result (string_bytes text.new ≡ string_bytes text.old ++ next_word (further_word (priced_plan asked.now) j)) }
 {
     if missed(asked, j) == 0 {
         return push_word(text, "-");

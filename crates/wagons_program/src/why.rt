@@ -49,5 +49,13 @@ fn last_reasons(
     let cells = problem_table::cells(alloc, snap.problem(), tables)?;
     let (plan, prices) = assignment::plan(alloc, &cells)?;
     let version = snap.version();
-    Ok(why_text(alloc, version, snap.problem(), tables, &cells, &plan, &prices)?)
+    Ok(why_text(
+        alloc,
+        version,
+        snap.problem(),
+        tables,
+        &cells,
+        &plan,
+        &prices,
+    )?)
 }

@@ -1,6 +1,7 @@
 use Rattle.cost_table.specs.Table.{wagon_count}
-use Rattle.std.proofs.Common.{arith, Some}
-use Rattle.plan_bounds.proofs.Least.{least_bounds}
+use Rattle.std.proofs.Common.{refl}
+use Rattle.plan_bounds.specs.LeastSlack.{least_new_slack}
+use Rattle.plan_bounds.proofs.Least.{least_bounds, none_bounds}
 use Rattle.plan_bounds.proofs.OtherPlans.{idle_wagons_cost_their_price}
 use Rattle.plan_bounds.proofs.OtherTables.{one_less_saves_the_price, one_more_costs_the_price, without_a_wagon_costs_its_price}
 use Rattle.plan_reasons.proofs.laws.numbers_are_bounds.Goals as goal
@@ -9,7 +10,8 @@ pub returns-clause-orders : goal.returns-clause-orders
 returns-clause-orders c = λ p certified j lt. record {
   one_more = one_more_costs_the_price p certified j lt;
   one_less = one_less_saves_the_price p certified j lt;
-  further = λ km least. least_bounds p certified j (wagon_count p.table) (Some km) (omega arith) least;
+  further = least_bounds p certified j (least_new_slack p j (wagon_count p.table)) refl;
+  settled = none_bounds p certified j (least_new_slack p j (wagon_count p.table)) refl;
 }
 
 pub returns-clause-wagons : goal.returns-clause-wagons
