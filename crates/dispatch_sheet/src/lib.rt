@@ -30,3 +30,4 @@ pub use laws::names_stay_in_quotes;
 pub use map::map_text;
 pub use plan_lines::plan_text;
 pub use sheet::sheet_text;
+pub use words::{push_code, push_number, push_word};

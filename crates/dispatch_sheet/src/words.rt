@@ -10,7 +10,7 @@ use rail_codes::{Moment, push_ascii};
 use std::alloc::AllocError;
 
 /// Adds a code's characters.
-pub(crate) fn push_code(text: &mut String, characters: &[u8]) -> Result<(), AllocError>
+pub fn push_code(text: &mut String, characters: &[u8]) -> Result<(), AllocError>
     requires { IsAscii characters.now }
     ensures { OnOk result (string_bytes text.new ≡ string_bytes text.old ++ next_word characters.now) }
 {
@@ -19,7 +19,7 @@ pub(crate) fn push_code(text: &mut String, characters: &[u8]) -> Result<(), Allo
 }
 
 /// Adds a word.
-pub(crate) fn push_word(text: &mut String, word: &str) -> Result<(), AllocError>
+pub fn push_word(text: &mut String, word: &str) -> Result<(), AllocError>
     ensures { OnOk result (string_bytes text.new ≡ string_bytes text.old ++ next_word word.now) }
 {
     text.push_str(" ")?;
@@ -27,7 +27,7 @@ pub(crate) fn push_word(text: &mut String, word: &str) -> Result<(), AllocError>
 }
 
 /// Adds a number.
-pub(crate) fn push_number(text: &mut String, number: u64) -> Result<(), AllocError>
+pub fn push_number(text: &mut String, number: u64) -> Result<(), AllocError>
     ensures { OnOk result (string_bytes text.new ≡ string_bytes text.old ++ next_word (decimal number)) }
 {
     let mut digits = Buffer::new();
