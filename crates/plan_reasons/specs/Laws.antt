@@ -1,5 +1,5 @@
 -- Laws of the text: what its counts count, and what its numbers bound.
-use Rattle.std.specs.Prelude.{◌≡◌, ◌+◌, ◌-◌, ◌<◌, ℕ, is_some, Some, slice_get, slice_index, List, length, ◌≤◌, IfNone, IfSome}
+use Rattle.std.specs.Prelude.{◌≡◌, ◌+◌, ◌-◌, ◌<◌, ◌≤◌, ℕ, List, length, Some, IfNone, IfSome, is_some, slice_get, slice_index}
 use Rattle.std.specs.List.{count_by}
 use Rattle.move_messages.specs.Order.{Order}
 use Rattle.wagons_and_orders.specs.declared.free_wagon.FreeWagon.{FreeWagon}
@@ -23,12 +23,14 @@ cells_of_order t j = count_by (λ row. is_some (cost_in row j)) t.rows
 abbrev pub InTimeAreAllowed : Type 0
 InTimeAreAllowed =
     (net : NetworkValue) (problem : ProblemValue) (t : Table) → IsTableOf net problem t → (j n : ℕ) (wanted : WantedOrder)
-    → slice_get problem.orders j ≡ Some wanted → IsCount (λ wagon. IsInTime net problem.at wagon wanted.order) problem.wagons n → n ≡ cells_of_order t j
+    → slice_get problem.orders j ≡ Some wanted → IsCount (λ wagon. IsInTime net problem.at wagon wanted.order) problem.wagons n
+    → n ≡ cells_of_order t j
 
 -- how many wagons pass the tests is one number for each test
 abbrev pub CountsAreSettled : Type 0
 CountsAreSettled =
-    (net : NetworkValue) (at : ℕ) (wagons : List FreeWagon) (order : Order) (one other : Counts) → AreCounts net at wagons order one → AreCounts net at wagons order other → one ≡ other
+    (net : NetworkValue) (at : ℕ) (wagons : List FreeWagon) (order : Order) (one other : Counts)
+    → AreCounts net at wagons order one → AreCounts net at wagons order other → one ≡ other
 
 -- a test is passed by no more wagons than the one before it
 pub record Narrow (wagons : List FreeWagon) (counts : Counts) : Type 0 where
@@ -39,7 +41,9 @@ pub record Narrow (wagons : List FreeWagon) (counts : Counts) : Type 0 where
   pub cheaper : counts.cheaper ≤ counts.in_time
 
 abbrev pub TestsNarrow : Type 0
-TestsNarrow = (net : NetworkValue) (at : ℕ) (wagons : List FreeWagon) (order : Order) (counts : Counts) → AreCounts net at wagons order counts → Narrow wagons counts
+TestsNarrow =
+    (net : NetworkValue) (at : ℕ) (wagons : List FreeWagon) (order : Order) (counts : Counts)
+    → AreCounts net at wagons order counts → Narrow wagons counts
 
 -- what an order's price, and the least slack of its pairs that the plan doesn't have, say of other plans
 pub record OrderBounds (p : PricedPlan) (j : ℕ) : Type 0 where

@@ -1,12 +1,13 @@
 //! The lines of orders.
-ghost use Rattle.std.specs.Prelude.{◌≡◌, ◌++◌, ◌<◌, ◌≤◌, length, OnOk, string_bytes};
+ghost use Rattle.std.specs.Prelude.{◌≡◌, ◌+◌, ◌++◌, ◌<◌, ◌≤◌, length, slice_index, OnOk, string_bytes};
 ghost use Rattle.cost_table.specs.Plan.{serves};
-ghost use Rattle.cost_table.specs.Table.{order_count};
+ghost use Rattle.cost_table.specs.Table.{lack_at, order_count};
+ghost use Rattle.plan_bounds.specs.Bounds.{AllCostMore};
+ghost use Rattle.plan_bounds.specs.Changes.{with_lack};
 ghost use Rattle.plan_bounds.specs.Slack.{missed};
-ghost use Rattle.dispatch_sheet.specs.inner.Pushed.{Adds};
-ghost use Rattle.plan_reasons.specs.WhyText.{IsOrderLine, count_words, further_word, order_words, price_words};
-ghost use Rattle.plan_reasons.specs.inner.Asked.{IsAsked, priced_plan};
 ghost use Rattle.dispatch_sheet.specs.Words.{next_word};
+ghost use Rattle.plan_reasons.specs.WhyText.{count_words, further_word, order_words, price_words};
+ghost use Rattle.plan_reasons.specs.inner.Asked.{AddsOrderLine, IsAsked, priced_plan};
 
 use crate::asked::Asked;
 use crate::reasons::{Counts, counts_of_order};
@@ -19,7 +20,7 @@ use std::alloc::AllocError;
 pub(crate) fn push_order_line(text: &mut String, asked: &Asked, j: usize) -> Result<(), AllocError>
     requires asked { IsAsked asked.now }
     requires order { j < length asked.now.problem.now.orders }
-    ensures { OnOk result (Adds (IsOrderLine asked.now.tables.now asked.now.problem.now (priced_plan asked.now) j) (string_bytes text.old) (string_bytes text.new)) }
+    ensures { OnOk result (AddsOrderLine asked.now j (string_bytes text.old) (string_bytes text.new)) }
 {
     let order = asked.problem.orders()[j].order();
     push_order_words(text, asked, j)?;
@@ -58,7 +59,7 @@ fn push_prices(text: &mut String, asked: &Asked, j: usize) -> Result<(), AllocEr
     ensures { OnOk result (string_bytes text.new ≡ string_bytes text.old ++ price_words (priced_plan asked.now) j) }
 {
     let bounds = Bounds::new(asked.cells, asked.plan, asked.prices);
-    push_number(text, bounds.one_more(j))?;
+    push_number(text, price(&bounds, j))?;
     push_further(text, asked, &bounds, j)?;
     text.push_str("\n")
 }
@@ -81,6 +82,15 @@ fn push_further(
         Some(km) => push_number(text, km),
         None => push_word(text, "none"),
     }
+}
+
+/// What every plan costs more, at least, where order `j` lacks one wagon more.
+fn price(bounds: &Bounds, j: usize) -> u64
+    requires { j < order_count bounds.now.table }
+    ensures value { result ≡ slice_index bounds.now.v j }
+    ensures one_more { AllCostMore bounds.now (with_lack bounds.now.table j (lack_at bounds.now.table j + 1)) result }
+{
+    bounds.one_more(j)
 }
 
 /// How many wagons the plan gives order `j`.

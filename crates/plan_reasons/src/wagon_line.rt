@@ -1,11 +1,12 @@
 //! The lines of wagons that go.
-ghost use Rattle.std.specs.Prelude.{◌≡◌, ◌++◌, ◌<◌, OnOk, string_bytes};
+ghost use Rattle.std.specs.Prelude.{◌≡◌, ◌++◌, ◌<◌, OnOk, slice_index, string_bytes};
 ghost use Rattle.cost_table.specs.Plan.{IsAllowed};
 ghost use Rattle.cost_table.specs.Table.{wagon_count};
+ghost use Rattle.plan_bounds.specs.Bounds.{CostsMore, IsIdle};
 ghost use Rattle.dispatch_sheet.specs.inner.Parts.{IsMomentWord};
 ghost use Rattle.dispatch_sheet.specs.inner.Pushed.{Adds};
-ghost use Rattle.plan_reasons.specs.WhyText.{IsArrival, IsWagonLine, wagon_words, without_words};
-ghost use Rattle.plan_reasons.specs.inner.Asked.{IsAsked, priced_plan};
+ghost use Rattle.plan_reasons.specs.WhyText.{IsArrival, wagon_words, without_words};
+ghost use Rattle.plan_reasons.specs.inner.Asked.{AddsWagonLine, IsAsked, priced_plan};
 
 use crate::asked::Asked;
 use crate::reasons::arrival;
@@ -23,7 +24,7 @@ pub(crate) fn push_wagon_line(
 ) -> Result<(), AllocError>
     requires asked { IsAsked asked.now }
     requires allowed { IsAllowed asked.now.cells.now pair }
-    ensures { OnOk result (Adds (IsWagonLine asked.now.tables.now asked.now.problem.now (priced_plan asked.now) pair) (string_bytes text.old) (string_bytes text.new)) }
+    ensures { OnOk result (AddsWagonLine asked.now pair (string_bytes text.old) (string_bytes text.new)) }
 {
     push_wagon_words(text, asked, pair)?;
     push_moment(text, arrival_of(asked, pair))?;
@@ -75,7 +76,16 @@ fn push_without(text: &mut String, asked: &Asked, i: usize) -> Result<(), AllocE
     requires wagon { i < wagon_count asked.now.cells.now }
     ensures { OnOk result (string_bytes text.new ≡ string_bytes text.old ++ without_words (priced_plan asked.now) i) }
 {
-    let bounds = Bounds::new(asked.cells, asked.plan, asked.prices);
-    push_number(text, bounds.idle_bound(i))?;
+    push_number(text, without(asked, i))?;
     text.push_str("\n")
+}
+
+/// What every plan in which wagon `i` stays costs more, at least.
+fn without(asked: &Asked, i: usize) -> u64
+    requires asked { IsAsked asked.now }
+    requires wagon { i < wagon_count asked.now.cells.now }
+    ensures value { result ≡ slice_index asked.now.prices.now.u.items i }
+    ensures bound { CostsMore (priced_plan asked.now) (IsIdle i) result }
+{
+    Bounds::new(asked.cells, asked.plan, asked.prices).idle_bound(i)
 }

@@ -1,13 +1,10 @@
 //! The text that says why a plan is as it is.
-ghost use Rattle.std.specs.Prelude.{◌≡◌, ◌++◌, ◌≤◌, ◌*◌, IfOk, OnOk, length, string_bytes};
-ghost use Rattle.std.specs.List.{range_with_len};
+ghost use Rattle.std.specs.Prelude.{◌≡◌, ◌-◌, ◌++◌, ◌≤◌, ◌*◌, IfOk, OnOk, length, string_bytes};
 ghost use Rattle.cost_table.specs.Table.{order_count};
 ghost use Rattle.price_checker.specs.Certificate.{IsCertificate};
 ghost use Rattle.problem_table.specs.Allowed.{IsTableOf};
-ghost use Rattle.dispatch_sheet.specs.Sheet.{AreLines};
-ghost use Rattle.dispatch_sheet.specs.inner.Pushed.{Adds};
-ghost use Rattle.plan_reasons.specs.WhyText.{IsOrderLine, IsWagonLine, IsWhyText, missed_in_all, priced, why_line};
-ghost use Rattle.plan_reasons.specs.inner.Asked.{IsAsked, priced_plan};
+ghost use Rattle.plan_reasons.specs.WhyText.{IsWhyText, missed_in_all, priced, why_line};
+ghost use Rattle.plan_reasons.specs.inner.Asked.{AddsOrderLines, AddsWagonLines, IsAsked, priced_plan};
 
 use crate::asked::Asked;
 use crate::order_line::{missed, push_order_line};
@@ -38,7 +35,7 @@ pub fn why_text(
 ) -> Result<String, AllocError>
     requires table { IsTableOf tables.now problem.now cells.now }
     requires certificate { IsCertificate cells.now plan.now prices.now.u.items prices.now.v.items }
-    ensures { let p = priced cells.now plan.now prices.now.u.items prices.now.v.items in IfOk result (λ text. IsWhyText version tables.now problem.now p (string_bytes text)) }
+    ensures { IfOk result (λ text. IsWhyText version tables.now problem.now (priced cells.now plan.now prices.now.u.items prices.now.v.items) (string_bytes text)) }
 {
     let asked = Asked {
         problem,
@@ -59,18 +56,25 @@ fn push_why_line(text: &mut String, version: u64, asked: &Asked) -> Result<(), A
     requires { IsAsked asked.now }
     ensures { OnOk result (string_bytes text.new ≡ string_bytes text.old ++ why_line version asked.now.problem.now (priced_plan asked.now)) }
 {
-    let free = asked.problem.wagons().len();
     let pairs = asked.plan.pairs();
     let mut digits = Buffer::new();
     text.push_str("why")?;
     push_number(text, version)?;
-    push_number(text, free as u64)?;
+    push_number(text, asked.problem.wagons().len() as u64)?;
     push_number(text, asked.problem.orders().len() as u64)?;
     push_word(text, digits.format(cost(asked.cells, pairs)))?;
     push_number(text, pairs.len() as u64)?;
-    push_number(text, free.saturating_sub(pairs.len()) as u64)?;
+    push_number(text, staying(asked) as u64)?;
     push_number(text, missed_in_all(asked))?;
     text.push_str("\n")
+}
+
+/// How many free wagons stay.
+fn staying(asked: &Asked) -> usize
+    ensures { result ≡ length asked.now.problem.now.wagons - length asked.now.plan.now }
+{
+    let free = asked.problem.wagons().len();
+    free.saturating_sub(asked.plan.pairs().len())
 }
 
 /// How many wagons the orders miss in all.
@@ -87,7 +91,7 @@ fn missed_in_all(asked: &Asked) -> u64
 /// Adds the line of each order.
 fn push_orders(text: &mut String, asked: &Asked) -> Result<(), AllocError>
     requires { IsAsked asked.now }
-    ensures { OnOk result (Adds (AreLines (IsOrderLine asked.now.tables.now asked.now.problem.now (priced_plan asked.now)) (range_with_len 0 (length asked.now.problem.now.orders))) (string_bytes text.old) (string_bytes text.new)) }
+    ensures { OnOk result (AddsOrderLines asked.now (length asked.now.problem.now.orders) (string_bytes text.old) (string_bytes text.new)) }
 {
     for j in 0..asked.problem.orders().len() {
         push_order_line(text, asked, j)?;
@@ -98,7 +102,7 @@ fn push_orders(text: &mut String, asked: &Asked) -> Result<(), AllocError>
 /// Adds the line of each wagon that goes.
 fn push_wagons(text: &mut String, asked: &Asked) -> Result<(), AllocError>
     requires { IsAsked asked.now }
-    ensures { OnOk result (Adds (AreLines (IsWagonLine asked.now.tables.now asked.now.problem.now (priced_plan asked.now)) asked.now.plan.now) (string_bytes text.old) (string_bytes text.new)) }
+    ensures { OnOk result (AddsWagonLines asked.now asked.now.plan.now (string_bytes text.old) (string_bytes text.new)) }
 {
     for pair in asked.plan.pairs() {
         push_wagon_line(text, asked, *pair)?;
