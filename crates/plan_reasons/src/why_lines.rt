@@ -16,7 +16,7 @@ use line_network::Tables;
 use price_checker::Prices;
 use std::alloc::{AllocError, Global};
 
-/// Why a plan is as it is, by the prices that are its certificate: `why VERSION FREE ORDERS COST GO STAY LACK`, then
+/// Why a plan is as it is, by the prices that are its certificate: `why VERSION FREE ORDERS COST GO STAY MISS`, then
 /// `order NAME LACKS GETS MISSES CLASS LOAD WAY TIME CHEAPER PRICE FURTHER` for each order as placed, then
 /// `wagon NUMBER ORDER KM ARRIVAL WITHOUT` for each wagon that goes, in the plan's order. The table must be the problem's.
 ///
