@@ -32,13 +32,13 @@ build: prove
 $(WAGONS): $(SOURCES)
 	@$(PROVE) wagons
 
-# Compares the manual of refusals with what `wagons explain` must print; tries what this file says of sources, and that the
-# definitions of the headline are found; proves every
-# crate from nothing, tries the edits that must fail, runs every test and the programs on their stored files; then tries
+# Compares the manual of refusals with what `wagons explain` must print; tries what this file says of sources, the completion
+# for bash, and that the definitions of the headline are found; proves every crate from nothing, tries the edits that must fail, runs every test and the programs on their stored files; then tries
 # the program that was built so on the pages' commands. `make` need not build it again. The last line is that of `rt ci`.
 test:
 	@sed '1,/^\$$ wagons explain$$/d;$$d' crates/wagons_scripts/data/explain.script | cmp docs/REFUSALS.md -
 	@tools/try_make
+	@tools/try_completions
 	@tools/claim
 	@mkdir -p out && touch out/tested
 	@echo "== rt ci: every proof from nothing (see docs/GATE.md for its time)"
@@ -91,7 +91,7 @@ install: $(WAGONS)
 	install -D -m 644 docs/wagons.1 $(SHARE)/man/man1/wagons.1
 	install -D -m 644 -t $(SHARE)/doc/wagons README.md
 	install -D -m 644 -t $(SHARE)/doc/wagons/docs docs/*.md docs/day.svg
-	install -D -m 644 -t $(SHARE)/doc/wagons/examples examples/README.md examples/*.jsonl examples/judge.py
+	install -D -m 644 -t $(SHARE)/doc/wagons/examples examples/README.md examples/*.jsonl examples/*.py
 	install -D -m 644 -t $(SHARE)/doc/wagons/examples/day examples/day/*
 	install -D -m 644 -t $(SHARE)/doc/wagons/examples/faults examples/faults/*
 	install -D -m 644 completions/wagons.bash $(SHARE)/bash-completion/completions/wagons

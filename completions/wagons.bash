@@ -1,27 +1,33 @@
 # Completion of wagons for bash.
 _wagons() {
-    local current=${COMP_WORDS[COMP_CWORD]} previous=${COMP_WORDS[COMP_CWORD - 1]}
+    local current=${COMP_WORDS[COMP_CWORD]} previous=${COMP_WORDS[COMP_CWORD - 1]} word=${COMP_WORDS[1]}
+    local words='check solve run feed map table why save explain'
     local office='--roster --from --network --entries --kept --workers --help'
+    # bash parts `--roster=FILE` at its sign.
+    if [ "$current" = = ]; then
+        current=''
+    elif [ "$previous" = = ]; then
+        previous=${COMP_WORDS[COMP_CWORD - 2]}
+    fi
+    COMPREPLY=()
     if [ "$COMP_CWORD" -eq 1 ]; then
-        COMPREPLY=($(compgen -W 'check solve run feed map table why save explain help --help --version' -- "$current"))
+        mapfile -t COMPREPLY < <(compgen -W "$words help --help --version" -- "$current")
         return
     fi
     case $previous in
-        --roster | --from | --network | --with) COMPREPLY=($(compgen -f -- "$current")); return ;;
-        --entries | --kept | --workers | --at | --upto | --without) COMPREPLY=(); return ;;
+        --roster | --from | --network | --with) mapfile -t COMPREPLY < <(compgen -f -- "$current"); return ;;
+        --entries | --kept | --workers | --at | --upto | --without | --order | --wagon | --line-bytes) return ;;
     esac
-    case ${COMP_WORDS[1]} in
-        run | map) COMPREPLY=($(compgen -W "$office" -- "$current")) ;;
-        table | why) COMPREPLY=($(compgen -W "$office --at" -- "$current")) ;;
-        save) COMPREPLY=($(compgen -W "$office --upto --with --without" -- "$current")) ;;
-        feed)
-            case $current in
-                -*) COMPREPLY=($(compgen -W "$office" -- "$current")) ;;
-                *) COMPREPLY=($(compgen -f -- "$current")) ;;
-            esac
-            ;;
-        help) COMPREPLY=($(compgen -W 'check solve run feed map table why save explain' -- "$current")) ;;
-        *) COMPREPLY=($(compgen -W '--help' -- "$current")) ;;
+    case $word in
+        run | map) ;;
+        table) office+=' --at' ;;
+        why) office+=' --at --order --wagon --json' ;;
+        save) office+=' --upto --with --without' ;;
+        feed) [[ $current == -* ]] || { mapfile -t COMPREPLY < <(compgen -f -- "$current"); return; } ;;
+        check | solve) office='--line-bytes --help' ;;
+        help) office=$words ;;
+        *) office='--help' ;;
     esac
+    mapfile -t COMPREPLY < <(compgen -W "$office" -- "$current")
 }
 complete -o filenames -F _wagons wagons

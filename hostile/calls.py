@@ -22,7 +22,7 @@ from program import EACH, HERE, Table
 
 ROOT = os.path.dirname(HERE)
 NAME = "hostile_calls"
-LIBRARIES = """book_feed office problem_table sessions assignment dispatch_sheet table_lines commit_book operating_db price_checker cost_table
+LIBRARIES = """checkpoint book_feed office problem_table sessions assignment dispatch_sheet table_lines commit_book operating_db price_checker cost_table
 line_network line_engine fleet_rows move_messages rail_codes test_samples""".split()
 # How many runs of `rt try` share the cases: each builds the program anew, which takes two processor minutes.
 SHARES = 2
@@ -38,6 +38,8 @@ PARTS = {
     "books": ("the calls of `Book`", ["message", "place", "withdraw", "revise", "begin", "commit",
         "message (a delivery that frees a wagon and lets an order wait)", "begin (the oldest problem is dropped)",
         "begin (the problem that it would drop is committed)", "run (its answers)", "run (one of its calls)"]),
+    "checkpoints": ("an office copied, changed, saved, read, and gone on from", """OfficeState::copy OfficeState::with_fleet
+        checkpoint_text read_checkpoint Book::from_office""".split()),
     "seats": ("the calls of seats, `open` and `close`", ["open", "message", "place", "withdraw", "revise", "begin", "commit",
         "message (a delivery that frees a wagon and lets an order wait)"]),
     "runs": ("`run` and `check_run` over lines", ["a run (the memory for its lines)", "a run (a line)"]),

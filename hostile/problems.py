@@ -1,7 +1,8 @@
 #!/usr/bin/env python3
 """Problems as table lines, and reasons: of random histories and of the example day the line of `table` is the one that the
-model of office.py writes, `solve` finds the cost that a `plan` line says, and `why` counts as the model does. Where few plans
-are possible all of them are tried, and each bound of `why` must hold of them."""
+model of office.py writes, `solve` finds the cost that a `plan` line says, and `why` counts as the model does. It is asked about
+each order and each wagon too: each pair must have the line that the model writes, and the JSON lines must say the same. Where
+few plans are possible all of them are tried, and each bound of `why` must hold of them."""
 
 import itertools
 import json
@@ -153,6 +154,111 @@ def reasons(history, at):
     return broken_bound(problem.table, plans, cost, served, stays)
 
 
+# One order or one wagon.
+
+NAMES = {
+    "order": ["lacks", "gets", "misses", "class", "load", "way", "time", "cheaper", "price", "further"],
+    "wagon": ["order", "km", "arrival", "without"], "stays": [], "fits": ["order", "km", "more"], "class": ["order", "has", "wants"],
+    "load": ["order", "has", "wants"], "way": ["order", "from", "to"], "late": ["order", "arrival", "latest"],
+    "costly": ["order", "km", "penalty"], "why": ["free", "orders", "cost", "go", "stay", "miss"],
+}
+TEXTS = {"from", "to", "arrival", "latest"}
+
+
+def member_of(word, name, value):
+    """The value of a member of a JSON line, by its word in the text."""
+    if name == "wants" and word == "class":
+        return value.split(",")
+    if name == "further" and not value.isdigit():
+        return None if value == "-" else value
+    if name in TEXTS or name == "order" or word == "class":
+        return value
+    return int(value)
+
+
+def json_of(line):
+    """The JSON line that says what a line of text says."""
+    word, first, *values = line.split(" ")
+    said = {word: int(first) if word == "why" else first}
+    said |= {name: member_of(word, name, value) for name, value in zip(NAMES[word], values)}
+    if word == "fits":
+        said["planned"] = values[3:] == ["planned"]
+    return json.dumps(said, separators=(",", ":"))
+
+
+def failed_line(state, wagon, order, at):
+    """The line of a pair that fails a test; none where it fails none."""
+    number, kind, load, place, ready = wagon
+    fields, pair = order.fields, f"{wagon[0]} {order.name}"
+    way = state.networks[state.network - 1].get(place, {}).get(fields["place"])
+    if kind not in fields["classes"]:
+        return f"class {pair} {kind} {','.join(fields['classes'])}"
+    if fields["load"] > load:
+        return f"load {pair} {load} {fields['load']}"
+    if way is None:
+        return f"way {pair} {place} {fields['place']}"
+    arrival = max(ready, at) + 60 * way[1]
+    if arrival > fields["latest"]:
+        return f"late {pair} {office.moment_text(arrival)} {office.moment_text(fields['latest'])}"
+    return f"costly {pair} {way[0]} {fields['penalty']}" if way[0] >= fields["penalty"] else None
+
+
+def wrong_pairs(table, lines, pairs, plans, whole):
+    """What is wrong with the lines of pairs, each with its line where it fails a test."""
+    failed = [line for _, line in pairs if line]
+    fits = {f"{table['wagons'][i]} {table['orders'][j]}": (i, j) for (i, j), line in pairs if not line}
+    if lines[len(fits):] != failed:
+        return f"{lines!r} where {failed!r} is right"
+    cost, last = int(whole[0].split()[4]), -1
+    for line in lines[:len(fits)]:
+        word, number, name, km, more, *rest = line.split(" ")
+        i, j = fits.pop(f"{number} {name}", (None, None))
+        planned = any(row.startswith(f"wagon {number} {name} ") for row in whole)
+        words = ["planned"] if planned else "another plan may be as good".split() if more == "0" else []
+        if word != "fits" or i is None or int(km) != table["cells"][i][j] or int(more) < last or rest != words:
+            return f"{line!r}"
+        last = int(more)
+        if plans is not None and least([plan for plan in plans if plan[1][i] == j]) < cost + last:
+            return f"the bound of {line!r}"
+    return None
+
+
+def asked(history, at):
+    """What is wrong with what is said of each order and of each wagon, as text and as JSON lines."""
+    state = history.state
+    problem = office.Problem(state, at)
+    table, waiting = problem.table, [order for order in state.orders.values() if order.lack()]
+    given = "".join(line + "\n" for line in history.lines).encode()
+    words = [*words_of("why", history.files), "--at", office.moment_text(at)]
+    whole = run(words, given).out.decode().splitlines()
+    plans = plans_of(table)
+    failed = [[failed_line(state, wagon, order, at) for order in waiting] for wagon in problem.free]
+    questions = [(["--order", order.name], [((i, j), failed[i][j]) for i in range(len(failed))]) for j, order in enumerate(waiting)]
+    questions += [(["--wagon", wagon[0]], [((i, j), line) for j, line in enumerate(failed[i])]) for i, wagon in enumerate(problem.free)]
+    for (option, name), pairs in questions:
+        told = run([*words, option, name], given)
+        first, *lines = told.out.decode().splitlines() or [""]
+        heads = [row for row in whole if row.startswith(f"{option[2:]} {name} ")] or [f"stays {name}"]
+        if told.fault() or first != heads[0]:
+            return f"{told.out!r} {told.err!r}"
+        if wrong := wrong_pairs(table, lines, pairs, plans, whole):
+            return f"{option} {name}: {wrong}"
+        if run([*words, option, name, "--json"], given).out.decode().splitlines() != [json_of(line) for line in (first, *lines)]:
+            return f"{option} {name} --json"
+    if run([*words, "--json"], given).out.decode().splitlines() != [json_of(line) for line in whole]:
+        return "--json"
+    nobody = run([*words, "--order", "NO-SUCH-ORDER"], given)
+    return None if (nobody.status, nobody.out, nobody.err) == (2, b"", b"wagons: 84 NO-SUCH-ORDER\n") else f"{nobody.err!r}"
+
+
+def asked_of_random(seed):
+    return asked(*random_history(seed))
+
+
+def asked_of_the_day(minute):
+    return asked(*day_at(minute))
+
+
 def reasons_of_random(seed):
     return reasons(*random_history(seed))
 
@@ -167,6 +273,8 @@ def main():
     table.try_all("`table` of the example day at many moments, and `solve` beside `plan`", of_the_day, range(0, 720, 20))
     table.try_all("`why` of random histories, its bounds tried by all plans where they are few", reasons_of_random, range(HISTORIES))
     table.try_all("`why` of the example day at many moments", reasons_of_the_day, range(0, 720, 20))
+    table.try_all("`why` of each order and wagon of random histories, as text and JSON, its bounds tried likewise", asked_of_random, range(HISTORIES))
+    table.try_all("`why` of each order and wagon of the example day at many moments", asked_of_the_day, range(0, 720, 60))
     table.end()
 
 

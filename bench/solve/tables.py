@@ -1,4 +1,8 @@
-"""Writes table lines without plans from a seed: 1,000 of some hundred cells, and ten that are near the limit of a line."""
+"""Writes table lines without plans from a seed: 1,000 of some hundred cells, and ten that are near the limit of a line.
+
+With the word `lacks`: 20,000 of some twenty cells, whose orders lack up to three wagons. With `full`: one of 1,000 wagons
+and 500 orders.
+"""
 import json
 import random
 import sys
@@ -25,9 +29,24 @@ def table(wagons, orders):
     }
 
 
+def small_table():
+    """A table whose orders lack up to three wagons."""
+    orders = random.randint(2, 6)
+    return table(random.randint(3, 8), orders) | {"lacks": [random.randint(1, 3) for _ in range(orders)]}
+
+
+def tables(kind):
+    if kind == "full":
+        yield table(1_000, 500)
+    elif kind == "lacks":
+        yield from (small_table() for _ in range(20_000))
+    else:
+        for k in range(1_010):
+            # A full line has 10,000 cells: with its plan it has some 60,000 bytes, and 65,536 are the most.
+            yield table(*(100, 100) if k % 101 == 100 else (random.randint(10, 30), random.randint(10, 20)))
+
+
 random.seed(20_260_301)
-for k in range(1_010):
-    # A full line has 10,000 cells: with its plan it has some 60,000 bytes, and 65,536 are the most.
-    wagons, orders = (100, 100) if k % 101 == 100 else (random.randint(10, 30), random.randint(10, 20))
-    json.dump(table(wagons, orders), sys.stdout, separators=(",", ":"))
+for made in tables("".join(sys.argv[1:])):
+    json.dump(made, sys.stdout, separators=(",", ":"))
     print()

@@ -10,7 +10,7 @@ use std::alloc::{AllocError, Global};
 const ORDER: &str =
     r#"{"type":"order","order":"O1","place":"DE00003","classes":["Eanos"],"load":50000,"latest":"2026-03-01T04:00:00Z","penalty":1000}"#;
 
-const OTHER_ORDER: &str =
+pub(crate) const OTHER_ORDER: &str =
     r#"{"type":"order","order":"O2","place":"DE00003","classes":["Eanos"],"load":50000,"latest":"2026-03-01T09:00:00Z","penalty":1000,"wagons":2}"#;
 
 const BEGIN: &str = r#"{"type":"begin","at":"2026-03-01T01:00:00Z"}"#;

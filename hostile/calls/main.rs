@@ -37,6 +37,7 @@ macro_rules! tried_fault {
 }
 
 mod books;
+mod checkpoints;
 mod feeds;
 mod readings;
 mod runs;
@@ -77,6 +78,7 @@ fn part_done<T: Threads + Wait + Sync>(
     match part {
         "readings" => readings::all(rt, threads, alloc, requests),
         "books" => books::all(rt, alloc, requests),
+        "checkpoints" => checkpoints::all(rt, alloc, requests),
         "seats" => seats::all(rt, threads, alloc, requests),
         "runs" => runs::all(rt, alloc, requests),
         "feeds" => feeds::all(rt, threads, alloc, requests),

@@ -18,8 +18,8 @@ pub(crate) struct WordHelp {
 /// What a word takes.
 #[derive(Clone, Copy, Debug)]
 pub(crate) enum Arguments {
-    /// Nothing.
-    Nothing,
+    /// The most bytes of a line.
+    Lines,
     /// The code of a refusal, which may be missing.
     Code,
     /// The options of an office.
@@ -28,6 +28,8 @@ pub(crate) enum Arguments {
     OfficeAndFiles,
     /// The options of an office, and a moment.
     OfficeAndMoment,
+    /// The options of an office, a moment, and what reasons are asked for.
+    OfficeAndReasons,
     /// The options of an office, up to which line, and what changes of the fleet.
     OfficeAndFleet,
 }
@@ -55,7 +57,7 @@ pub(crate) const CHECK: WordHelp = WordHelp {
      `N refused CODE` and details. Exits with 0, with 1 where a line was refused,\n\
      with 2 where it could not run or stopped.",
     example: "Example:\n  wagons check < tables.jsonl",
-    arguments: Arguments::Nothing,
+    arguments: Arguments::Lines,
 };
 
 /// The help of `solve`.
@@ -69,7 +71,7 @@ pub(crate) const SOLVE: WordHelp = WordHelp {
      with 0, with 1 where a line was refused, with 2 where it could not run or\n\
      stopped.",
     example: "Example:\n  wagons solve < problems.jsonl | wagons check",
-    arguments: Arguments::Nothing,
+    arguments: Arguments::Lines,
 };
 
 /// The help of `run`.
@@ -141,12 +143,14 @@ pub(crate) const WHY: WordHelp = WordHelp {
      as `run` does, without a reply. At the end plans the problem at a moment and\n\
      says for each order how many free wagons pass which test, and for each order\n\
      and each wagon that goes what other plans cost more, at least, in kilometres.\n\
+     With `--order` or `--wagon` it says which test each pair fails, and what the\n\
+     plans with the other pairs cost more, at least.\n\
      Exits with 0, with 1 where a line was refused, with 2 where it could not run or\n\
      stopped; then nothing is said.",
     example: "Example:\n  \
      wagons why --at 2026-03-02T11:00:00Z --roster roster.csv \\\n    \
      --network network.csv < day.jsonl",
-    arguments: Arguments::OfficeAndMoment,
+    arguments: Arguments::OfficeAndReasons,
 };
 
 /// The help of `save`.
@@ -192,6 +196,30 @@ pub(crate) const AT: &str = "The moment at which the wagons may start";
 
 pub(crate) const AT_LONG: &str = "The moment of the problem, at which the wagons may start, as\n\
      2026-03-02T11:00:00Z";
+
+/// What the options of `why` are.
+pub(crate) const ORDER: &str = "Only this order, with each free wagon";
+
+pub(crate) const ORDER_LONG: &str =
+    "Only this order: which test each free wagon fails, and of the others\n\
+     what every plan costs more, at least, in which it goes there";
+
+pub(crate) const WAGON: &str = "Only this free wagon, with each waiting order";
+
+pub(crate) const WAGON_LONG: &str =
+    "Only this free wagon: which test it fails for each waiting order, and\n\
+     of the others what every plan costs more, at least, in which it goes\n\
+     there";
+
+pub(crate) const JSON: &str = "Prints JSON lines";
+
+/// What the option of `check` and `solve` is.
+pub(crate) const LINE_BYTES: &str = "Most bytes of a line, 1 to 67108864";
+
+pub(crate) const LINE_BYTES_LONG: &str =
+    "The most bytes of a line, its line feed not counted, 1 to 67108864. A\n\
+     longer line stops the program. Where the line of a plan would be\n\
+     longer, `solve` refuses the table with 92";
 
 /// What the options of `save` are.
 pub(crate) const UPTO: &str = "Only the first N lines are read, 1 to 1000000";

@@ -2,8 +2,12 @@
 #![tactic(auto)]
 
 mod help;
+mod line_options;
 mod office_options;
+mod values;
+mod why_options;
 mod words;
 
 pub use office_options::{FeedOptions, OfficeOptions, ProblemOptions, SaveOptions, Start};
+pub use why_options::{Asked, WhyOptions};
 pub use words::{Word, not_utf8, read_words};

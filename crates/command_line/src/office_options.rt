@@ -1,9 +1,7 @@
 //! The options of the words that open an office: its files and limits.
-ghost use Rattle.std.specs.Prelude.{◌≤◌};
-
 use crate::help;
+use crate::values::{code_from, number_of, number_option};
 use clap::builder::ValueParser;
-use clap::error::ErrorKind;
 use clap::{Arg, ArgAction, ArgGroup, ArgMatches, Command, Error};
 use commit_book::{Limits, MAX_ENTRIES, MAX_KEPT_PROBLEMS};
 use line_engine::{MAX_FILES, MAX_INPUT_LINES};
@@ -100,26 +98,16 @@ impl<'a> ProblemOptions<'a> {
         word: &str,
         matches: &ArgMatches<'a>,
     ) -> Result<ProblemOptions<'a>, Error> {
-        let at = moment_from(alloc, word, matches.get_str("at").unwrap_or(""))?;
+        let at = code_from(
+            alloc,
+            word,
+            "--at <MOMENT>",
+            matches.get_str("at").unwrap_or(""),
+        )?;
         Ok(ProblemOptions {
             office: OfficeOptions::read(alloc, matches)?,
             at,
         })
-    }
-}
-
-/// The moment that the value of `--at` is.
-fn moment_from(alloc: Global, word: &str, text: &str) -> Result<Moment, Error> {
-    match Moment::read(text) {
-        Ok(moment) => Ok(moment),
-        Err(fault) => {
-            let code = fault.number();
-            let reason = format!(in alloc;
-                "invalid value '{text}' for '--at <MOMENT>': `wagons explain {code}` says why"
-            )?;
-            let mut command = Command::new(alloc, "wagons").bin_name(word)?;
-            Err(command.error(ErrorKind::InvalidValue, reason.as_str())?)
-        }
     }
 }
 
@@ -158,7 +146,7 @@ impl<'a> SaveOptions<'a> {
         let texts = matches.get_strs("without").unwrap_or(&[]);
         let mut without = Vec::with_capacity(alloc, texts.len())?;
         for text in texts {
-            without.push(number_from(alloc, text)?)?;
+            without.push(code_from(alloc, "wagons save", "--without <NUMBER>", text)?)?;
         }
         Ok(SaveOptions {
             office: OfficeOptions::read(alloc, matches)?,
@@ -166,21 +154,6 @@ impl<'a> SaveOptions<'a> {
             with: matches.get_str("with"),
             without,
         })
-    }
-}
-
-/// The wagon number that a value of `--without` is.
-fn number_from(alloc: Global, text: &str) -> Result<WagonNumber, Error> {
-    match WagonNumber::read(text) {
-        Ok(number) => Ok(number),
-        Err(fault) => {
-            let code = fault.number();
-            let reason = format!(in alloc;
-                "invalid value '{text}' for '--without <NUMBER>': `wagons explain {code}` says why"
-            )?;
-            let mut command = Command::new(alloc, "save").bin_name("wagons save")?;
-            Err(command.error(ErrorKind::InvalidValue, reason.as_str())?)
-        }
     }
 }
 
@@ -228,19 +201,6 @@ pub(crate) fn with_files<'a>(alloc: Global, word: Command<'a>) -> Result<Command
             .help(help::FILES)
             .long_help(help::FILES_LONG),
     )
-}
-
-/// The number of an option, from 1 to `most`. `clap` has filled in its default and refused a number out of this range
-/// before, so `clamp` changes nothing; it lets callers rely on the range.
-fn number_of(matches: &ArgMatches<'_>, option: &str, most: u64) -> u64
-    requires { 1 ≤ most }
-    ensures least { 1 ≤ result }
-    ensures most { result ≤ most }
-{
-    matches
-        .get_one::<u64>(option)
-        .unwrap_or(most)
-        .clamp(1, most)
 }
 
 /// A word with the options of an office.
@@ -314,15 +274,5 @@ fn file_option<'a>(alloc: Global, name: &'a str) -> Arg<'a> {
     Arg::new(alloc, name)
         .long(name)
         .value_name("FILE")
-        .action(ArgAction::Set)
-}
-
-/// An option that is a number from 1 to `most`.
-fn number_option<'a>(alloc: Global, name: &'a str, most: u64, default: &'a str) -> Arg<'a> {
-    Arg::new(alloc, name)
-        .long(name)
-        .value_name("N")
-        .value_parser(ValueParser::unsigned(1, most))
-        .default_value(default)
         .action(ArgAction::Set)
 }

@@ -2,14 +2,17 @@
 
 use crate::help;
 use crate::help::{Arguments, WordHelp};
+use crate::line_options::{line_limit, with_line_options};
 use crate::office_options::{
     FeedOptions, OfficeOptions, ProblemOptions, SaveOptions, with_files, with_office_options,
     with_problem_options, with_save_options,
 };
+use crate::why_options::{WhyOptions, with_why_options};
 use clap::builder::ValueParser;
 use clap::error::ErrorKind;
 use clap::{Arg, ArgMatches, Command, Error};
 use faults::entry_text;
+use line_engine::LineLimit;
 use std::alloc::{AllocError, Global};
 use std::convert::AsStr;
 
@@ -38,10 +41,10 @@ const VERSION: &str = "0.1.0";
 /// What the program is asked to do.
 #[derive(Debug, Drop)]
 pub enum Word<'a> {
-    /// Check the table lines of standard input.
-    Check,
-    /// Plan the table lines of standard input.
-    Solve,
+    /// Check the table lines of standard input, of at most so many bytes each.
+    Check(LineLimit),
+    /// Plan the table lines of standard input, of at most so many bytes each.
+    Solve(LineLimit),
     /// Bring the command lines of standard input to an office.
     Run(OfficeOptions<'a>),
     /// Bring the command lines of files to an office, all at once.
@@ -51,7 +54,7 @@ pub enum Word<'a> {
     /// Bring the command lines of standard input to an office, and print its problem as a table line.
     Table(ProblemOptions<'a>),
     /// Bring the command lines of standard input to an office, plan it, and say why the plan is as it is.
-    Why(ProblemOptions<'a>),
+    Why(WhyOptions<'a>),
     /// Bring the command lines of standard input to an office, and save it.
     Save(SaveOptions<'a>),
     /// Print this entry of the manual of refusals, or the whole manual.
@@ -63,7 +66,7 @@ pub enum Word<'a> {
 pub fn read_words<'a, S: AsStr>(alloc: Global, words: &'a [S]) -> Result<Word<'a>, Error> {
     let matches = command_line(alloc)?.try_get_matches_from(words)?;
     let Some((name, options)) = matches.subcommand() else {
-        return Ok(Word::Check);
+        return Ok(Word::Check(LineLimit::standard()));
     };
     read_word(alloc, name, options)
 }
@@ -74,12 +77,12 @@ fn read_word<'a>(alloc: Global, name: &str, options: &ArgMatches<'a>) -> Result<
         "run" => Ok(Word::Run(OfficeOptions::read(alloc, options)?)),
         "map" => Ok(Word::Map(OfficeOptions::read(alloc, options)?)),
         "table" => Ok(Word::Table(ProblemOptions::read(alloc, "wagons table", options)?)),
-        "why" => Ok(Word::Why(ProblemOptions::read(alloc, "wagons why", options)?)),
+        "why" => Ok(Word::Why(WhyOptions::read(alloc, options)?)),
         "save" => Ok(Word::Save(SaveOptions::read(alloc, options)?)),
         "feed" => Ok(Word::Feed(FeedOptions::read(alloc, options)?)),
         "explain" => read_code(alloc, options),
-        "solve" => Ok(Word::Solve),
-        _ => Ok(Word::Check),
+        "solve" => Ok(Word::Solve(line_limit(options))),
+        _ => Ok(Word::Check(line_limit(options))),
     }
 }
 
@@ -140,12 +143,16 @@ fn word_command<'a>(alloc: Global, help: WordHelp) -> Result<Command<'a>, AllocE
         .long_about(help.long_about)
         .after_help(help.example);
     match help.arguments {
-        Arguments::Nothing => Ok(word),
+        Arguments::Lines => with_line_options(alloc, word),
         Arguments::Code => with_code(alloc, word),
         Arguments::Office => with_office_options(alloc, word),
         Arguments::OfficeAndFiles => with_files(alloc, with_office_options(alloc, word)?),
         Arguments::OfficeAndMoment => {
             with_problem_options(alloc, with_office_options(alloc, word)?)
+        }
+        Arguments::OfficeAndReasons => {
+            let word = with_problem_options(alloc, with_office_options(alloc, word)?)?;
+            with_why_options(alloc, word)
         }
         Arguments::OfficeAndFleet => { with_save_options(alloc, with_office_options(alloc, word)?) }
     }

@@ -23,27 +23,27 @@ why_of_stopped result (Err fault) P Q is stopped why = rw is (why fault stopped)
 
 -- the same by a reader and a writer that were made for the input and the output
 module _ {H : Type 0} (replying : Replying H) (lines : Lines H) (left holds from held : Option (List ℕ)) (read : from ≡ lines.input) (written : held ≡ lines.held) where
-  pub are_answered : (count : RunCount) → RunEnds replying (record { from = from; to = left; held = held; holds = holds; old = lines.old; new = lines.new }) count
+  pub are_answered : (count : RunCount) → RunEnds replying (record { most = lines.most; from = from; to = left; held = held; holds = holds; old = lines.old; new = lines.new }) count
       → AreAnswered replying lines (status_of_count count)
   are_answered count ends = record {
     left = left;
     holds = holds;
     count = count;
     ends =
-        subst (λ (o : Option (List ℕ)). RunEnds replying (record { from = o; to = left; held = lines.held; holds = holds; old = lines.old; new = lines.new }) count) read
-        (subst (λ (o : Option (List ℕ)). RunEnds replying (record { from = from; to = left; held = o; holds = holds; old = lines.old; new = lines.new }) count) written ends);
+        subst (λ (o : Option (List ℕ)). RunEnds replying (record { most = lines.most; from = o; to = left; held = lines.held; holds = holds; old = lines.old; new = lines.new }) count) read
+        (subst (λ (o : Option (List ℕ)). RunEnds replying (record { most = lines.most; from = from; to = left; held = o; holds = holds; old = lines.old; new = lines.new }) count) written ends);
     status_is = refl;
   }
 
   pub are_stopped : (failed : Failures) (fault : RunFault)
-      → RunStops replying (record { from = from; to = left; held = held; holds = holds; old = lines.old; new = lines.new }) failed fault → AreStopped replying lines (stop.Run fault)
+      → RunStops replying (record { most = lines.most; from = from; to = left; held = held; holds = holds; old = lines.old; new = lines.new }) failed fault → AreStopped replying lines (stop.Run fault)
   are_stopped failed fault stops = record {
     left = left;
     holds = holds;
     failed = failed;
     fault = fault;
     stops =
-        subst (λ (o : Option (List ℕ)). RunStops replying (record { from = o; to = left; held = lines.held; holds = holds; old = lines.old; new = lines.new }) failed fault) read
-        (subst (λ (o : Option (List ℕ)). RunStops replying (record { from = from; to = left; held = o; holds = holds; old = lines.old; new = lines.new }) failed fault) written stops);
+        subst (λ (o : Option (List ℕ)). RunStops replying (record { most = lines.most; from = o; to = left; held = lines.held; holds = holds; old = lines.old; new = lines.new }) failed fault) read
+        (subst (λ (o : Option (List ℕ)). RunStops replying (record { most = lines.most; from = from; to = left; held = o; holds = holds; old = lines.old; new = lines.new }) failed fault) written stops);
     why_is = refl;
   }

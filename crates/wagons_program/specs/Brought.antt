@@ -10,21 +10,22 @@ use Rattle.wagons_program.specs.Status.{status_of_count}
 use Rattle.wagons_program.specs.declared.stop.Stop.{Stop}
 use Rattle.wagons_program.specs.declared.stop.Stop.TheVariants as stop
 
--- A run over lines: the bytes of the input, where they are known, and what the output held before them; what the lines
--- were brought to, before and after them.
+-- A run over lines: the most bytes of a line; the bytes of the input, where they are known, and what the output held before
+-- them; what the lines were brought to, before and after them.
 pub record Lines (H : Type 0) : Type 0 where
+  pub most : ℕ
   pub input : Option (List ℕ)
   pub held : Option (List ℕ)
   pub old : H
   pub new : H
 
 -- the same of an input, an output, and the states before and after
-abbrev pub lines_over : {H : Type 0} → (input held : Option (List ℕ)) → (old new : H) → Lines H
-lines_over input held old new = record { input = input; held = held; old = old; new = new }
+abbrev pub lines_over : {H : Type 0} → (most : ℕ) → (input held : Option (List ℕ)) → (old new : H) → Lines H
+lines_over most input held old new = record { most = most; input = input; held = held; old = old; new = new }
 
 -- by what is left of the input after it, and what the output holds then
 abbrev pub run_of : {H : Type 0} → Lines H → (left holds : Option (List ℕ)) → Run H
-run_of lines left holds = record { from = lines.input; to = left; held = lines.held; holds = holds; old = lines.old; new = lines.new }
+run_of lines left holds = record { most = lines.most; from = lines.input; to = left; held = lines.held; holds = holds; old = lines.old; new = lines.new }
 
 -- The input came to its end, each line was replied to, and this is the status.
 pub record AreAnswered {H : Type 0} (replying : Replying H) (lines : Lines H) (status : ℕ) : Type 0 where

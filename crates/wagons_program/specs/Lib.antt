@@ -4,3 +4,4 @@ pub mod FirstBook
 pub mod Brought
 pub mod Laws
 pub mod TableOfLast
+pub mod ReasonsOfLast

@@ -4,7 +4,7 @@ use Rattle.faults.specs.Numbers.{feed_fault_number, fleet_fault_number, network_
 use Rattle.line_engine.specs.RunFault.{number_of}
 use Rattle.checkpoint.specs.ReadFault.{read_fault_number}
 use Rattle.wagons_program.specs.declared.stop.Stop.{Stop}
-use Rattle.wagons_program.specs.declared.stop.Stop.TheVariants.{OutOfMemory, Networks, OpenFailed, Roster, Checkpoint, Fleet, Network, Tables, WriteFailed, Run, Feed}
+use Rattle.wagons_program.specs.declared.stop.Stop.TheVariants.{OutOfMemory, Networks, OpenFailed, Roster, Checkpoint, Fleet, Network, Tables, OrderNotInProblem, WagonNotInProblem, WriteFailed, Run, Feed}
 
 abbrev pub stop_number : Stop → ℕ
 stop_number OutOfMemory = 1
@@ -15,6 +15,8 @@ stop_number (Checkpoint fault) = read_fault_number fault
 stop_number (Fleet fault) = fleet_fault_number fault
 stop_number (Network fault) = network_fault_number fault
 stop_number (Tables fault) = work_fault_number fault
+stop_number (OrderNotInProblem id) = 84
+stop_number (WagonNotInProblem number) = 84
 stop_number WriteFailed = 94
 stop_number (Run fault) = number_of fault
 stop_number (Feed fault) = feed_fault_number fault

@@ -1,6 +1,7 @@
 //! An office that is opened, and the command lines of an input brought to it.
-ghost use Rattle.std.specs.Prelude.{IfErr, IfOk};
+ghost use Rattle.std.specs.Prelude.{◌≡◌, IfErr, IfOk};
 ghost use Rattle.commit_book.specs.Books.{BookValue};
+ghost use Rattle.line_engine.specs.Lines.{max_line_bytes};
 ghost use Rattle.operating_db.specs.Office.{Office};
 ghost use Rattle.wagons_program.specs.Brought.{AreAnswered, AreStopped, ToCommands, lines_over};
 ghost use Rattle.wagons_program.specs.FirstBook.{BeginsWith, IsFirstBook};
@@ -37,9 +38,10 @@ pub(crate) fn bring<R: Files + Threads + Wait + AllocGlobal, I: Read + Drop, O: 
     input: I,
     output: O,
 ) -> Result<Brought, Stop>
-    ensures { IfOk result (λ brought. (office : Office) × (first : BookValue) × BeginsWith options.now.start office
+    ensures networks { IfOk result (λ brought. brought.distances.value ≡ brought.book.setting.networks) }
+    ensures brought { IfOk result (λ brought. (office : Office) × (first : BookValue) × BeginsWith options.now.start office
         × IsFirstBook office brought.networks.items options.now.limits first
-        × AreAnswered ToCommands (lines_over (I.remaining input) (O.contents output) first brought.book) brought.status) }
+        × AreAnswered ToCommands (lines_over max_line_bytes (I.remaining input) (O.contents output) first brought.book) brought.status) }
 {
     let OfficeFiles { first, networks } = read_files(rt, options)?;
     let NewBook {
@@ -62,8 +64,9 @@ fn bring_lines<I: Read + Drop, O: Write + Drop>(
     output: O,
     book: &mut Book,
 ) -> Result<u8, Stop>
-    ensures ok { IfOk result (AreAnswered ToCommands (lines_over (I.remaining input) (O.contents output) book.old book.new)) }
-    ensures err { IfErr result (AreStopped ToCommands (lines_over (I.remaining input) (O.contents output) book.old book.new)) }
+    ensures setting { book.new.setting ≡ book.old.setting }
+    ensures ok { IfOk result (AreAnswered ToCommands (lines_over max_line_bytes (I.remaining input) (O.contents output) book.old book.new)) }
+    ensures err { IfErr result (AreStopped ToCommands (lines_over max_line_bytes (I.remaining input) (O.contents output) book.old book.new)) }
 {
     let mut reader = StdDevice::new(input);
     let mut writer = StdDevice::new(output);

@@ -1,20 +1,24 @@
 //! The word `solve`.
-ghost use Rattle.std.specs.Prelude.{◌≡◌, IfOk};
+ghost use Rattle.std.specs.Prelude.{◌≡◌, ℕ, IfOk};
 ghost use Rattle.table_lines.specs.Solving.{ToTables};
 ghost use Rattle.wagons_program.specs.Brought.{AreAnswered, Lines};
 
 use crate::status::status_of_run;
 use crate::stop::Stop;
-use line_engine::StdDevice;
+use line_engine::{LineLimit, StdDevice};
 use std::io;
 use std::io::Read;
 use table_lines::solve_run;
 
 /// Plans the table lines of an input: status 0, or 1 where one was refused.
-pub(crate) fn solve<R: Print + AllocGlobal, I: Read + Drop>(rt: &R, input: I) -> Result<u8, Stop>
-    ensures { IfOk result (λ status. (lines : Lines (Unit {0})) × (lines.input ≡ I.remaining input) × AreAnswered ToTables lines status) }
+pub(crate) fn solve<R: Print + AllocGlobal, I: Read + Drop>(
+    rt: &R,
+    limit: LineLimit,
+    input: I,
+) -> Result<u8, Stop>
+    ensures { IfOk result (λ status. (lines : Lines ℕ) × (lines.most ≡ limit) × (lines.input ≡ I.remaining input) × AreAnswered ToTables lines status) }
 {
     let mut reader = StdDevice::new(input);
     let mut writer = StdDevice::new(io::writer(rt));
-    status_of_run(solve_run(rt.alloc(), &mut reader, &mut writer))
+    status_of_run(solve_run(rt.alloc(), limit, &mut reader, &mut writer))
 }

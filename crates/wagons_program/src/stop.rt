@@ -9,6 +9,7 @@ use faults::FleetFault;
 use fleet_rows::RosterFault;
 use line_network::{NetworkFault, NetworksFault, WorkFault};
 use office::RunFault;
+use rail_codes::{OrderId, WagonNumber};
 use std::alloc::{AllocError, AllocFailed};
 use std::fmt;
 use std::fmt::{Display, Formatter};
@@ -33,6 +34,10 @@ pub enum Stop {
     Network(NetworkFault),
     /// The distances could not be worked out (1 or 46).
     Tables(WorkFault),
+    /// No waiting order of the problem has this name (84).
+    OrderNotInProblem(OrderId),
+    /// No free wagon of the problem has this number (84).
+    WagonNotInProblem(WagonNumber),
     /// Help or the version could not be written (94).
     WriteFailed,
     /// The run over the lines stopped (1, 91 to 94).
@@ -55,9 +60,21 @@ impl Stop {
             Stop::Fleet(fault) => fault.number(),
             Stop::Network(fault) => fault.number(),
             Stop::Tables(fault) => fault.number(),
+            Stop::OrderNotInProblem(_) | Stop::WagonNotInProblem(_) => 84,
             Stop::WriteFailed => 94,
             Stop::Run(fault) => fault.number(),
             Stop::Feed(fault) => fault.number(),
+        }
+    }
+
+    /// The wagon that it is about.
+    fn wagon(self) -> Option<WagonNumber> {
+        match self {
+            Stop::Roster(RosterFault::DuplicateWagon(wagon)) => Some(wagon),
+            Stop::Fleet(FleetFault::UnknownWagon(wagon)) => Some(wagon),
+            Stop::Fleet(FleetFault::WagonPromised(wagon)) => Some(wagon),
+            Stop::WagonNotInProblem(wagon) => Some(wagon),
+            _ => None,
         }
     }
 
@@ -76,14 +93,11 @@ impl Stop {
 impl Display for Stop {
     fn fmt<W: fmt::Write>(&self, f: &mut Formatter<W>) -> fmt::Result {
         write!(f, "wagons: {}", self.number())?;
-        if let Stop::Roster(RosterFault::DuplicateWagon(wagon)) = self {
+        if let Some(wagon) = self.wagon() {
             return write_ascii(f, wagon.digits());
         }
-        if let Stop::Fleet(FleetFault::UnknownWagon(wagon)) = self {
-            return write_ascii(f, wagon.digits());
-        }
-        if let Stop::Fleet(FleetFault::WagonPromised(wagon)) = self {
-            return write_ascii(f, wagon.digits());
+        if let Stop::OrderNotInProblem(id) = self {
+            return write_ascii(f, id.as_bytes());
         }
         if let Stop::Feed(FeedFault::ReceiptLost(seat, entry)) = self {
             return write!(f, " {seat} {entry}");

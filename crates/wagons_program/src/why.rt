@@ -1,13 +1,15 @@
 //! The word `why`.
+ghost use Rattle.std.specs.Prelude.{◌≡◌, IfOk, length, string_bytes};
+ghost use Rattle.plan_reasons.specs.Planned.{IsPlannedProblem, priced_plan};
+ghost use Rattle.wagons_program.specs.ReasonsOfLast.{AreReasonsOfLast, IsAnswer, style_of};
 
 use crate::bringing::{Brought, bring, leave};
 use crate::printing::print_whole;
 use crate::stop::Stop;
-use command_line::ProblemOptions;
+use command_line::{Asked, WhyOptions};
 use commit_book::Book;
 use line_network::Networks;
-use plan_reasons::why_text;
-use rail_codes::Moment;
+use plan_reasons::{PlannedProblem, Style, find_order, find_wagon, order_text, wagon_text, why_text};
 use std::alloc::Global;
 use std::io;
 use std::io::Read;
@@ -16,10 +18,10 @@ use std::sync::Wait;
 use std::thread::Threads;
 
 /// Opens an office, brings the command lines of an input to it without replies, plans the problem of its last version at a
-/// moment, and prints why that plan is as it is: status 0, or 1 where a line was refused.
+/// moment, and prints why that plan is as it is, or what it says of an order or a wagon: status 0, or 1 where a line was refused.
 pub(crate) fn why<R: Print + Files + Threads + Wait + AllocGlobal, I: Read + Drop>(
     rt: &R,
-    options: &ProblemOptions<'_>,
+    options: &WhyOptions<'_>,
     input: I,
 ) -> Result<u8, Stop> {
     let Brought {
@@ -27,35 +29,68 @@ pub(crate) fn why<R: Print + Files + Threads + Wait + AllocGlobal, I: Read + Dro
         networks: _,
         distances,
         status,
-    } = bring(rt, &options.office, input, io::sink())?;
-    let text = last_reasons(rt.alloc(), &mut book, &distances, options.at);
+    } = bring(rt, &options.problem.office, input, io::sink())?;
+    let text = last_reasons(rt.alloc(), &mut book, &distances, options);
     leave(book);
     print_whole(rt, &text?)?;
     Ok(status)
 }
 
-/// Why the plan of a book's last version at a moment is as it is, over the network in force.
+/// What is asked about a plan of a book's last version at a moment, over the network in force. `OrderNotInProblem` or
+/// `WagonNotInProblem` (84) where the problem doesn't have what is asked about.
 fn last_reasons(
     alloc: Global,
     book: &mut Book,
     distances: &Networks,
-    at: Moment,
-) -> Result<String, Stop> {
-    let snap = book.begin(alloc, at)?;
+    options: &WhyOptions<'_>,
+) -> Result<String, Stop>
+    requires { distances.now ≡ book.old.setting.networks }
+    ensures { IfOk result (λ text. AreReasonsOfLast book.old.setting book.old.state.history options.now.problem.at (style_of options.now.json) options.now.asked (string_bytes text)) }
+{
+    let (snap, index) = book.begin_indexed(alloc, options.problem.at)?;
     // A book's network in force is one of its networks.
-    let Some(tables) = distances.get(book.state().network()) else {
+    let Some(tables) = distances.get(snap.network()) else {
         return Err(Stop::OpenFailed);
     };
-    let cells = problem_table::cells(alloc, snap.problem(), tables)?;
-    let (plan, prices) = assignment::plan(alloc, &cells)?;
-    let version = snap.version();
-    Ok(why_text(
-        alloc,
-        version,
-        snap.problem(),
+    let cells = book.kept_table(index);
+    let (plan, prices) = assignment::plan(alloc, cells)?;
+    let planned = PlannedProblem {
+        problem: snap.problem(),
         tables,
-        &cells,
-        &plan,
-        &prices,
-    )?)
+        cells,
+        plan: &plan,
+        prices: &prices,
+    };
+    answer(alloc, options, snap.version(), &planned)
+}
+
+/// The text that answers what is asked about a plan.
+fn answer(
+    alloc: Global,
+    options: &WhyOptions<'_>,
+    version: u64,
+    planned: &PlannedProblem<'_>,
+) -> Result<String, Stop>
+    requires { IsPlannedProblem planned.now }
+    ensures { IfOk result (λ text. IsAnswer (style_of options.now.json) options.now.asked version planned.now.tables.now planned.now.problem.now (priced_plan planned.now) (string_bytes text)) }
+{
+    let style = style_of(options.json);
+    match options.asked {
+        Asked::Plan => Ok(why_text(alloc, style, version, planned)?),
+        Asked::Order(id) => match find_order(planned.problem, &id) {
+            Some(j) => Ok(order_text(alloc, style, planned, j)?),
+            None => Err(Stop::OrderNotInProblem(id)),
+        },
+        Asked::Wagon(number) => match find_wagon(planned.problem, &number) {
+            Some(i) => Ok(wagon_text(alloc, style, planned, i)?),
+            None => Err(Stop::WagonNotInProblem(number)),
+        },
+    }
+}
+
+/// How the lines are written.
+fn style_of(json: bool) -> Style
+    ensures { result ≡ style_of json }
+{
+    if json { Style::Json } else { Style::Text }
 }

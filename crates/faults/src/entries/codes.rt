@@ -5,7 +5,7 @@ pub(crate) const NOT_TWELVE_DIGITS: &str = "## 11 NotTwelveDigits
 Without its spaces and hyphens, a wagon number isn't twelve digits.
 
 - Where: behind the field of a refusal 25, as in `25 wagon 11`. In a roster such
-  a record is refused with 78.
+  a record is refused with 78. A fault of the arguments names it too.
 - Cause: a digit was lost or doubled, or another code stands in the field.
 - Remedy: compare it with the number on the side of the wagon.
 ";
@@ -15,7 +15,7 @@ pub(crate) const CHECK_DIGIT: &str = "## 12 CheckDigit
 The last digit of a wagon number isn't the check digit of the eleven before it.
 
 - Where: behind the field of a refusal 25, as in `25 wagon 12`. In a roster such
-  a record is refused with 78.
+  a record is refused with 78. A fault of the arguments names it too.
 - Cause: a digit was mistyped, or two neighbours changed places.
 - Remedy: compare it with the number on the side of the wagon. Don't compute a
   new check digit: the mistake is mostly in another digit.
@@ -57,7 +57,8 @@ pub(crate) const BAD_ORDER_ID: &str = "## 16 BadOrderId
 
 An order name isn't 1 to 16 characters A-Z, 0-9, hyphen.
 
-- Where: behind the field of a refusal 25, as in `25 order 16`.
+- Where: behind the field of a refusal 25, as in `25 order 16`. A fault of the
+  arguments names it too.
 - Cause: small letters, spaces, slashes or underscores, or a longer name.
 - Remedy: give the order a name of these characters, and use the same one in
   each line about it.
@@ -68,7 +69,7 @@ pub(crate) const BAD_MOMENT: &str = "## 17 BadMoment
 A moment can't be read as a date, a time of day and an offset from UTC.
 
 - Where: behind the field of a refusal 25, as in `25 moment 17`. In a roster
-  such a record is refused with 78.
+  such a record is refused with 78. A fault of the arguments names it too.
 - Cause: the offset is missing, or the text is in a local form such as
   `1.3.2026 02:00`.
 - Remedy: write it as `2026-03-01T02:00:00Z` or `2026-03-01T03:00:00+01:00`.
@@ -79,7 +80,7 @@ pub(crate) const MOMENT_OUT_OF_RANGE: &str = "## 18 MomentOutOfRange
 A moment lies before 2000-01-01T00:00:00Z or after 2099-12-31T23:59:59Z.
 
 - Where: behind the field of a refusal 25, as in `25 at 18`. In a roster such a
-  record is refused with 78.
+  record is refused with 78. A fault of the arguments names it too.
 - Cause: a year of two digits, a clock that was never set, or a field that was
   left at its first value (1970).
 - Remedy: send the right moment.

@@ -147,7 +147,8 @@ pub(crate) const NOT_IN_PROBLEM: &str = "## 84 NotInProblem
 A pair names a wagon or an order that the table or the problem doesn't have. The
 reply names both.
 
-- Where: table lines: `check`. `commit` lines: `run`, `feed`.
+- Where: table lines: `check`. `commit` lines: `run`, `feed`. On standard error,
+  as `wagons: 84 SALT-1`, where `why` is asked about one of them.
 - Cause: a misspelled number or name, a wagon that wasn't free or an order that
   wasn't waiting in that version, or a wrong version.
 - Remedy: send the certificate as it was printed, with its own version and

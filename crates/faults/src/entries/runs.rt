@@ -14,14 +14,18 @@ line too many.
 
 pub(crate) const LINE_TOO_LONG: &str = "## 92 LineTooLong
 
-A line has over 65,536 bytes. The number behind it is the line's.
+A line has over 65,536 bytes, or more than `--line-bytes` says. The number
+behind it is the line's.
 
 - Where: on standard error, as `wagons: 92 17`: `check`, `solve`, `run`; in
   `feed` as `file K failed 92`, which names no line:
-  `LC_ALL=C awk 'length > 65536 { print NR; exit }' FILE` finds it.
-- Cause: line feeds that are missing between objects, or a file of another kind.
+  `LC_ALL=C awk 'length > 65536 { print NR; exit }' FILE` finds it. In a reply
+  of `solve`: the table with its plan would be so long.
+- Cause: line feeds that are missing between objects, a file of another kind, or
+  a large table.
 - Remedy: put the line right, or an empty one in its place, and start again. The
-  lines before were done.
+  lines before were done. For large tables `check` and `solve` have the option
+  `--line-bytes`.
 ";
 
 pub(crate) const READ_FAILED: &str = "## 93 ReadFailed

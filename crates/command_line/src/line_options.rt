@@ -1,0 +1,25 @@
+//! The option of the words over table lines.
+
+use crate::help;
+use crate::values::{number_of, number_option};
+use clap::{ArgMatches, Command};
+use line_engine::{LineLimit, LARGEST_LINE_LIMIT};
+use std::alloc::{AllocError, Global};
+
+/// The most bytes of a line, as the options say.
+pub(crate) fn line_limit(matches: &ArgMatches<'_>) -> LineLimit {
+    let bytes = number_of(matches, "line-bytes", u64::from(LARGEST_LINE_LIMIT));
+    LineLimit::new(bytes as u32).unwrap()
+}
+
+/// A word over table lines.
+pub(crate) fn with_line_options<'a>(
+    alloc: Global,
+    word: Command<'a>,
+) -> Result<Command<'a>, AllocError> {
+    word.arg(
+        number_option(alloc, "line-bytes", u64::from(LARGEST_LINE_LIMIT), "65536")
+            .help(help::LINE_BYTES)
+            .long_help(help::LINE_BYTES_LONG),
+    )
+}

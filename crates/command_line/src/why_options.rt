@@ -1,0 +1,93 @@
+//! The options of `why`.
+
+use crate::help;
+use crate::office_options::ProblemOptions;
+use crate::values::code_from;
+use clap::{Arg, ArgAction, ArgGroup, ArgMatches, Command, Error};
+use rail_codes::{OrderId, WagonNumber};
+use std::alloc::{AllocError, Global};
+
+/// The word, as usage lines name it.
+const WHY: &str = "wagons why";
+
+/// What `why` is asked about.
+#[derive(Clone, Copy, Debug, PartialEq, Eq)]
+pub enum Asked {
+    /// The whole plan.
+    Plan,
+    /// One order, with each free wagon.
+    Order(OrderId),
+    /// One wagon, with each waiting order.
+    Wagon(WagonNumber),
+}
+
+/// What `why` is asked to do.
+#[derive(Debug, Drop)]
+pub struct WhyOptions<'a> {
+    /// The office and the moment of the problem.
+    pub problem: ProblemOptions<'a>,
+    /// What is asked about.
+    pub asked: Asked,
+    /// Whether JSON lines are printed.
+    pub json: bool,
+}
+
+impl<'a> WhyOptions<'a> {
+    /// The options that were given. A moment, an order's name or a wagon's number that is none is a fault of the arguments.
+    pub(crate) fn read(alloc: Global, matches: &ArgMatches<'a>) -> Result<WhyOptions<'a>, Error> {
+        Ok(WhyOptions {
+            asked: asked_of(alloc, matches)?,
+            problem: ProblemOptions::read(alloc, WHY, matches)?,
+            json: matches.get_flag("json"),
+        })
+    }
+}
+
+/// What is asked about. `clap` has refused both an order and a wagon before.
+fn asked_of(alloc: Global, matches: &ArgMatches<'_>) -> Result<Asked, Error> {
+    if let Some(name) = matches.get_str("order") {
+        let id = code_from(alloc, WHY, "--order <NAME>", name)?;
+        return Ok(Asked::Order(id));
+    }
+    match matches.get_str("wagon") {
+        Some(number) => Ok(Asked::Wagon(code_from(alloc, WHY, "--wagon <NUMBER>", number)?)),
+        None => Ok(Asked::Plan),
+    }
+}
+
+/// A word that may ask about one order or one wagon, and print JSON lines.
+pub(crate) fn with_why_options<'a>(
+    alloc: Global,
+    word: Command<'a>,
+) -> Result<Command<'a>, AllocError> {
+    let word = word.args(vec![in alloc; order_option(alloc), wagon_option(alloc), json_option(alloc)]?)?;
+    word.group(ArgGroup::new(alloc, "asked").arg("order")?.arg("wagon")?)
+}
+
+/// The option of an order.
+fn order_option<'a>(alloc: Global) -> Arg<'a> {
+    Arg::new(alloc, "order")
+        .long("order")
+        .value_name("NAME")
+        .action(ArgAction::Set)
+        .help(help::ORDER)
+        .long_help(help::ORDER_LONG)
+}
+
+/// The option of a wagon.
+fn wagon_option<'a>(alloc: Global) -> Arg<'a> {
+    Arg::new(alloc, "wagon")
+        .long("wagon")
+        .value_name("NUMBER")
+        .action(ArgAction::Set)
+        .help(help::WAGON)
+        .long_help(help::WAGON_LONG)
+}
+
+/// The option of JSON lines.
+fn json_option<'a>(alloc: Global) -> Arg<'a> {
+    Arg::new(alloc, "json")
+        .long("json")
+        .action(ArgAction::SetTrue)
+        .help(help::JSON)
+}
