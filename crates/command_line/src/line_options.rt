@@ -3,7 +3,7 @@
 use crate::help;
 use crate::values::{number_of, number_option};
 use clap::{ArgMatches, Command};
-use line_engine::{LineLimit, LARGEST_LINE_LIMIT};
+use line_engine::{LARGEST_LINE_LIMIT, LineLimit};
 use std::alloc::{AllocError, Global};
 
 /// The most bytes of a line, as the options say.

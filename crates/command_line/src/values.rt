@@ -41,7 +41,12 @@ pub(crate) fn number_of(matches: &ArgMatches<'_>, option: &str, most: u64) -> u6
 }
 
 /// An option that is a number from 1 to `most`.
-pub(crate) fn number_option<'a>(alloc: Global, name: &'a str, most: u64, default: &'a str) -> Arg<'a> {
+pub(crate) fn number_option<'a>(
+    alloc: Global,
+    name: &'a str,
+    most: u64,
+    default: &'a str,
+) -> Arg<'a> {
     Arg::new(alloc, name)
         .long(name)
         .value_name("N")

@@ -60,7 +60,11 @@ pub(crate) fn with_why_options<'a>(
     alloc: Global,
     word: Command<'a>,
 ) -> Result<Command<'a>, AllocError> {
-    let word = word.args(vec![in alloc; order_option(alloc), wagon_option(alloc), json_option(alloc)]?)?;
+    let word = word.args(vec![in alloc;
+        order_option(alloc),
+        wagon_option(alloc),
+        json_option(alloc),
+    ]?)?;
     word.group(ArgGroup::new(alloc, "asked").arg("order")?.arg("wagon")?)
 }
 
