@@ -4,7 +4,7 @@ pub mod Even
 pub mod Parts
 pub mod Spelled
 pub mod Turns
-pub mod InOrder
+pub mod FoundLists
 pub mod Written
 pub mod Planned
 pub mod Costs
