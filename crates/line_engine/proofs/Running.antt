@@ -8,7 +8,7 @@ use Rattle.std.proofs.lemmas.List.{length-append, append-nil}
 use Rattle.std.proofs.lemmas.List.Concat.{flat_map-cons, flat_map-append}
 use Rattle.std.specs.Io.KnownBytes.{Consumes, Appends, IsAtEnd}
 use Rattle.std.proofs.KnownBytes.{Consumes-nil, Consumes-trans, Appends-nil, Appends-trans}
-use Rattle.line_engine.specs.Lines.{line_feed, has_feed, lines_of, first_line, max_input_lines, max_line_bytes, with_feeds, IsWithin}
+use Rattle.line_engine.specs.Lines.{line_feed, has_feed, lines_of, first_line, max_input_lines, with_feeds, IsWithin}
 use Rattle.line_engine.specs.inner.Cutting.{CutsLine, StopsLine}
 use Rattle.line_engine.specs.Replies.{Replying, ServesLine, ServesLines, refusal_count}
 use Rattle.line_engine.specs.Runs.{Failures, Run, IsLineOrNext, RunEnds, RunStandsAt, RunStops, Runs}
@@ -49,20 +49,20 @@ all-push P (first ∷ lines) line all one = (all.0, all-push P lines line all.1 
 
 -- ---- a run before a line
 
-abbrev pub run_of : {H : Type 0} → (from to held holds : Option (List ℕ)) (old new : H) → Run H
-run_of from to held holds old new = record { from = from; to = to; held = held; holds = holds; old = old; new = new }
+abbrev pub run_of : {H : Type 0} → (most : ℕ) → (from to held holds : Option (List ℕ)) (old new : H) → Run H
+run_of most from to held holds old new = record { most = most; from = from; to = to; held = held; holds = holds; old = old; new = new }
 
 -- The run stands before line n, and what it read behind the lines before it is in the window.
-pub record StandsHere {H : Type 0} (replying : Replying H) (from to held holds : Option (List ℕ)) (old new : H) (n : ℕ) (window : List ℕ) (refused : ℕ) : Type 0 where
-  pub at : RunStandsAt replying (run_of from to held holds old new) n
+pub record StandsHere {H : Type 0} (replying : Replying H) (most : ℕ) (from to held holds : Option (List ℕ)) (old new : H) (n : ℕ) (window : List ℕ) (refused : ℕ) : Type 0 where
+  pub at : RunStandsAt replying (run_of most from to held holds old new) n
   pub here : at.rest ≡ window
   pub counted : at.refusals ≡ refused
 
 is_line_or_next : (n : ℕ) (rest : List ℕ) → n ≤ max_input_lines + 1 → rest ≡ [] → IsLineOrNext n rest
 is_line_or_next n rest few none = elim (eq-or-lt_of_le few) [ inl next ↦ inr (next, none) | inr within ↦ inl (omega (arith, within)) ]
 
-module _ {H : Type 0} (replying : Replying H) where
-  pub begins_run : (from held : Option (List ℕ)) (old : H) → StandsHere replying from from held held old old 1 [] 0
+module _ {H : Type 0} (replying : Replying H) (most : ℕ) where
+  pub begins_run : (from held : Option (List ℕ)) (old : H) → StandsHere replying most from from held held old old 1 [] 0
   begins_run from held old = record {
     at = record {
       input = [];
@@ -82,8 +82,8 @@ module _ {H : Type 0} (replying : Replying H) where
   }
 
   -- more was read
-  pub reads_more : (from to then held holds : Option (List ℕ)) (old new : H) (n : ℕ) (window more filled : List ℕ) (refused : ℕ) → StandsHere replying from to held holds old new n window refused
-      → filled ≡ window ++ more → Consumes to then more → StandsHere replying from then held holds old new n filled refused
+  pub reads_more : (from to then held holds : Option (List ℕ)) (old new : H) (n : ℕ) (window more filled : List ℕ) (refused : ℕ) → StandsHere replying most from to held holds old new n window refused
+      → filled ≡ window ++ more → Consumes to then more → StandsHere replying most from then held holds old new n filled refused
   reads_more from to then held holds old new n window more filled refused so is consumed =
       let at = so.at in
       record {
@@ -108,7 +108,7 @@ module _ {H : Type 0} (replying : Replying H) where
         counted = so.counted;
       }
 
-  replied : (from to held holds : Option (List ℕ)) (old mid new : H) (n : ℕ) (window line text : List ℕ) (refused : ℕ) (flag : Bool) → (so : StandsHere replying from to held holds old mid n window refused)
+  replied : (from to held holds : Option (List ℕ)) (old mid new : H) (n : ℕ) (window line text : List ℕ) (refused : ℕ) (flag : Bool) → (so : StandsHere replying most from to held holds old mid n window refused)
       → ServesLine replying n mid line text flag new
       → ServesLines replying 1 old (so.at.lines ++ line ∷ []) (so.at.output ++ text) (refused + refusal_count flag) new
   replied from to held holds old mid new n window line text refused flag so reply =
@@ -120,9 +120,9 @@ module _ {H : Type 0} (replying : Replying H) where
 
   -- a line that a line feed ends was read and answered
   pub passes_line : (from to then held holds holding : Option (List ℕ)) (old mid new : H) (n : ℕ) (window taken line left text : List ℕ) (refused : ℕ) (flag : Bool)
-      → StandsHere replying from to held holds old mid n window refused → Consumes to then taken → CutsLine window taken line left Feed → IsWithin line
+      → StandsHere replying most from to held holds old mid n window refused → Consumes to then taken → CutsLine window taken line left Feed → IsWithin most line
       → ServesLine replying n mid line text flag new → Appends holds holding text
-      → StandsHere replying from then held holding old new (n + 1) left (refused + refusal_count flag)
+      → StandsHere replying most from then held holding old new (n + 1) left (refused + refusal_count flag)
   passes_line from to then held holds holding old mid new n window taken line left text refused flag so consumed cut within reply wrote =
       let more = reads_more from to then held holds old mid n window taken (window ++ taken) refused so refl consumed in
       let at = more.at in
@@ -139,7 +139,7 @@ module _ {H : Type 0} (replying : Replying H) where
             free = all-push (λ (l : List ℕ). has_feed l ≡ false) at.lines line at.begins.free cut.1;
           };
           number = omega (arith, at.number, length-append at.lines (line ∷ []));
-          short = all-push IsWithin at.lines line at.short within;
+          short = all-push (IsWithin most) at.lines line at.short within;
           replies = replied from then held holds old mid new n (window ++ taken) line text refused flag more reply;
           written = Appends-trans held holds holding at.output text at.written wrote;
         };
@@ -148,8 +148,8 @@ module _ {H : Type 0} (replying : Replying H) where
       }
 
   -- the reader was at its end behind a line feed, or before anything
-  pub ends_run : (from to held holds : Option (List ℕ)) (old new : H) (n : ℕ) (window : List ℕ) (count : RunCount) → StandsHere replying from to held holds old new n window count.refused
-      → n ≡ count.lines + 1 → count.lines ≤ max_input_lines → window ≡ [] → IsAtEnd to → RunEnds replying (run_of from to held holds old new) count
+  pub ends_run : (from to held holds : Option (List ℕ)) (old new : H) (n : ℕ) (window : List ℕ) (count : RunCount) → StandsHere replying most from to held holds old new n window count.refused
+      → n ≡ count.lines + 1 → count.lines ≤ max_input_lines → window ≡ [] → IsAtEnd to → RunEnds replying (run_of most from to held holds old new) count
   ends_run from to held holds old new n window count so number few none ended =
       let at = so.at in
       let input : at.input ≡ with_feeds at.lines ++ [] = at.begins.bytes ∙ ap (λ (xs : List ℕ). with_feeds at.lines ++ xs) (so.here ∙ none) in
@@ -163,15 +163,15 @@ module _ {H : Type 0} (replying : Replying H) where
             (subst (λ (k : ℕ). ServesLines replying 1 old at.lines at.output k new) so.counted at.replies);
         lines = omega (arith, number, at.number, ap length lines);
         few = few;
-        short = subst (AllByRecursion IsWithin) (sym lines) at.short;
+        short = subst (AllByRecursion (IsWithin most)) (sym lines) at.short;
         written = at.written;
       }
 
   -- the last line was ended by the input
   pub ends_line : (from to then held holds holding : Option (List ℕ)) (old mid new : H) (n : ℕ) (window taken line left text : List ℕ) (refused : ℕ) (flag : Bool) (count : RunCount)
-      → StandsHere replying from to held holds old mid n window refused → Consumes to then taken → CutsLine window taken line left Input → IsWithin line
+      → StandsHere replying most from to held holds old mid n window refused → Consumes to then taken → CutsLine window taken line left Input → IsWithin most line
       → ServesLine replying n mid line text flag new → Appends holds holding text → IsAtEnd then
-      → count.lines ≡ n → n ≤ max_input_lines → count.refused ≡ refused + refusal_count flag → RunEnds replying (run_of from then held holding old new) count
+      → count.lines ≡ n → n ≤ max_input_lines → count.refused ≡ refused + refusal_count flag → RunEnds replying (run_of most from then held holding old new) count
   ends_line from to then held holds holding old mid new n window taken line left text refused flag count so consumed cut within reply wrote ended number few counted =
       let more = reads_more from to then held holds old mid n window taken (window ++ taken) refused so refl consumed in
       let at = more.at in
@@ -187,35 +187,35 @@ module _ {H : Type 0} (replying : Replying H) where
             (replied from then held holds old mid new n (window ++ taken) line text refused flag more reply));
         lines = omega (arith, number, at.number, ap length lines, length-append at.lines (line ∷ []));
         few = omega (arith, number, few);
-        short = subst (AllByRecursion IsWithin) (sym lines) (all-push IsWithin at.lines line at.short within);
+        short = subst (AllByRecursion (IsWithin most)) (sym lines) (all-push (IsWithin most) at.lines line at.short within);
         written = Appends-trans held holds holding at.output text at.written wrote;
       }
 
   -- the reader failed before a line of which nothing was read
   pub stops_before : (from to then held holds : Option (List ℕ)) (write_failed : Bool) (old new : H) (n : ℕ) (window taken : List ℕ) (refused : ℕ)
-      → StandsHere replying from to held holds old new n window refused → Consumes to then taken → window ++ taken ≡ [] → n ≤ max_input_lines + 1
-      → RunStops replying (run_of from then held holds old new) (record { reader = true; writer = write_failed }) (ReadFailed n)
+      → StandsHere replying most from to held holds old new n window refused → Consumes to then taken → window ++ taken ≡ [] → n ≤ max_input_lines + 1
+      → RunStops replying (run_of most from then held holds old new) (record { reader = true; writer = write_failed }) (ReadFailed n)
   stops_before from to then held holds write_failed old new n window taken refused so consumed none few =
       let more = reads_more from to then held holds old new n window taken (window ++ taken) refused so refl consumed in
       (more.at, is_line_or_next n more.at.rest few (more.here ∙ none), ap has_feed (more.here ∙ none), refl)
 
   -- a line was too long, or the reader failed in it
   pub stops_reading : (from to then held holds : Option (List ℕ)) (read_failed write_failed : Bool) (old new : H) (n : ℕ) (window taken : List ℕ) (refused : ℕ) (s : LineStop)
-      → StandsHere replying from to held holds old new n window refused → Consumes to then taken → StopsLine (window ++ taken) read_failed s → n ≤ max_input_lines
-      → RunStops replying (run_of from then held holds old new) (record { reader = read_failed; writer = write_failed }) (fault_at s n)
+      → StandsHere replying most from to held holds old new n window refused → Consumes to then taken → StopsLine most (window ++ taken) read_failed s → n ≤ max_input_lines
+      → RunStops replying (run_of most from then held holds old new) (record { reader = read_failed; writer = write_failed }) (fault_at s n)
   stops_reading from to then held holds read_failed write_failed old new n window taken refused stop.TooLong so consumed stopped few =
       let more = reads_more from to then held holds old new n window taken (window ++ taken) refused so refl consumed in
-      (more.at, few, subst (λ (xs : List ℕ). max_line_bytes < length (first_line xs)) (sym more.here) stopped)
+      (more.at, few, subst (λ (xs : List ℕ). most < length (first_line xs)) (sym more.here) stopped)
   stops_reading from to then held holds read_failed write_failed old new n window taken refused stop.ReadFailed so consumed stopped few =
       let more = reads_more from to then held holds old new n window taken (window ++ taken) refused so refl consumed in
       (more.at, inl few, ap has_feed more.here ∙ stopped.0, stopped.1)
 
   -- the writer failed in the reply to a line
   pub stops_writing : (from to then held holds holding : Option (List ℕ)) (read_failed write_failed : Bool) (old mid new : H) (n : ℕ) (window taken line text part unwritten : List ℕ) (refused : ℕ) (flag : Bool)
-      → StandsHere replying from to held holds old mid n window refused → Consumes to then taken
-      → (after : List ℕ) → lines_of (window ++ taken) ≡ line ∷ lines_of after → (has_feed (window ++ taken) ≡ true) ⊎ IsAtEnd then → IsWithin line
+      → StandsHere replying most from to held holds old mid n window refused → Consumes to then taken
+      → (after : List ℕ) → lines_of (window ++ taken) ≡ line ∷ lines_of after → (has_feed (window ++ taken) ≡ true) ⊎ IsAtEnd then → IsWithin most line
       → ServesLine replying n mid line text flag new → text ≡ part ++ unwritten → Appends holds holding part → write_failed ≡ true → n ≤ max_input_lines
-      → RunStops replying (run_of from then held holding old new) (record { reader = read_failed; writer = write_failed }) (WriteFailed n)
+      → RunStops replying (run_of most from then held holding old new) (record { reader = read_failed; writer = write_failed }) (WriteFailed n)
   stops_writing from to then held holds holding read_failed write_failed old mid new n window taken line text part unwritten refused flag so consumed after front whole within reply parts wrote failed few =
       let more = reads_more from to then held holds old mid n window taken (window ++ taken) refused so refl consumed in (
         mid,
@@ -239,7 +239,8 @@ module _ {H : Type 0} (replying : Replying H) where
         failed,
       )
 
-  -- what a run has done where it came to its end, and where it stopped
+-- what a run has done where it came to its end, and where it stopped
+module _ {H : Type 0} (replying : Replying H) where
   pub has_ended : (run : Run H) (failed : Failures) (count : RunCount) → RunEnds replying run count → failed.reader ≡ false → failed.writer ≡ false → Runs replying run failed (Ok count)
   has_ended run failed count ends reader writer = record { ok = ends; err = tt; healthy = (reader, writer) }
 

@@ -13,13 +13,21 @@ max_files = 16
 abbrev pub max_input_lines : ℕ
 max_input_lines = 1000000
 
--- the most bytes of a line, its line feed not counted
+-- the most bytes of a line where nothing else is said, its line feed not counted
 abbrev pub max_line_bytes : ℕ
 max_line_bytes = 65536
 
--- a line that may be answered
-abbrev pub IsWithin : List ℕ → Type 0
-IsWithin line = length line ≤ max_line_bytes
+-- the most that may be said
+abbrev pub largest_line_limit : ℕ
+largest_line_limit = 67108864
+
+-- a number that may be the most bytes of a line
+abbrev pub IsLineLimit : ℕ → Type 0
+IsLineLimit most = (1 ≤ most) × (most ≤ largest_line_limit)
+
+-- a line that may be answered where lines have so many bytes at most
+abbrev pub IsWithin : (most : ℕ) → List ℕ → Type 0
+IsWithin most line = length line ≤ most
 
 abbrev pub has_feed : List ℕ → Bool
 has_feed bytes = list_any (λ c. c == line_feed) bytes

@@ -2,15 +2,16 @@
 use Rattle.std.specs.Prelude.{◌≡◌, ℕ, ◌+◌, ◌<◌, ◌≤◌, Bool, true, false, ◌⊎◌, List, [], ◌∷◌, ◌++◌, length, Option, Result, IfOk, IfErr, OnOk}
 use Rattle.std.specs.Io.KnownBytes.{Consumes, Appends, Keeps, IsAtEnd}
 use Rattle.std.specs.List.{AllByRecursion}
-use Rattle.line_engine.specs.Lines.{lines_of, first_line, has_feed, max_input_lines, max_line_bytes, BeginsWith, IsWithin}
+use Rattle.line_engine.specs.Lines.{lines_of, first_line, has_feed, max_input_lines, BeginsWith, IsWithin}
 use Rattle.line_engine.specs.Replies.{Answering, RunningOut, Replying, Numbered, ServesLine, ServesLines}
 use Rattle.line_engine.specs.declared.run.RunCount.{RunCount}
 use Rattle.line_engine.specs.declared.run.RunFault.{RunFault}
 use Rattle.line_engine.specs.declared.run.RunFault.TheVariants.{OutOfMemory, TooManyLines, LineTooLong, ReadFailed, WriteFailed}
 
--- What a run goes over: the bytes that the reader has left before and after it, where they are known; the bytes that
--- the writer holds before and after it, where they are known; the state before and after it.
+-- What a run goes over: the most bytes of a line; the bytes that the reader has left before and after it, where they are
+-- known; the bytes that the writer holds before and after it, where they are known; the state before and after it.
 pub record Run (H : Type 0) : Type 0 where
+  pub most : ℕ
   pub from : Option (List ℕ)
   pub to : Option (List ℕ)
   pub held : Option (List ℕ)
@@ -18,18 +19,18 @@ pub record Run (H : Type 0) : Type 0 where
   pub old : H
   pub new : H
 
--- the same by what is known of the bytes of a reader and of a writer, and by the reader, the writer and the state before
--- the run and after it
-abbrev pub run_over : {R W H : Type 0} → (R → Option (List ℕ)) → (W → Option (List ℕ)) → (before after : R × W × H) → Run H
-run_over remaining contents before after =
-    record { from = remaining before.0; to = remaining after.0; held = contents before.1; holds = contents after.1; old = before.2; new = after.2 }
+-- the same by the most bytes of a line, by what is known of the bytes of a reader and of a writer, and by the reader, the
+-- writer and the state before the run and after it
+abbrev pub run_over : {R W H : Type 0} → (most : ℕ) → (R → Option (List ℕ)) → (W → Option (List ℕ)) → (before after : R × W × H) → Run H
+run_over most remaining contents before after =
+    record { most = most; from = remaining before.0; to = remaining after.0; held = contents before.1; holds = contents after.1; old = before.2; new = after.2 }
 
 -- whether the reader has failed by the end of a run; whether the writer has
 pub record Failures : Type 0 where
   pub reader : Bool
   pub writer : Bool
 
--- The reader came to its end. What was read are the lines, at most 1,000,000 of them, each of at most 65,536 bytes, and
+-- The reader came to its end. What was read are the lines, at most 1,000,000 of them and each within the run's limit, and
 -- what was written are their replies and nothing else.
 pub record RunEnds {H : Type 0} (replying : Replying H) (run : Run H) (count : RunCount) : Type 0 where
   pub input : List ℕ
@@ -39,10 +40,10 @@ pub record RunEnds {H : Type 0} (replying : Replying H) (run : Run H) (count : R
   pub replies : ServesLines replying 1 run.old (lines_of input) output count.refused run.new
   pub lines : count.lines ≡ length (lines_of input)
   pub few : count.lines ≤ max_input_lines
-  pub short : AllByRecursion IsWithin (lines_of input)
+  pub short : AllByRecursion (IsWithin run.most) (lines_of input)
   pub written : Appends run.held run.holds output
 
--- The run stands before line number n: what was read are the lines before it, each of at most 65,536 bytes, whose replies
+-- The run stands before line number n: what was read are the lines before it, each within the run's limit, whose replies
 -- were written, and the rest.
 pub record RunStandsAt {H : Type 0} (replying : Replying H) (run : Run H) (n : ℕ) : Type 0 where
   pub input : List ℕ
@@ -53,18 +54,18 @@ pub record RunStandsAt {H : Type 0} (replying : Replying H) (run : Run H) (n : �
   pub consumed : Consumes run.from run.to input
   pub begins : BeginsWith input lines rest
   pub number : n ≡ length lines + 1
-  pub short : AllByRecursion IsWithin lines
+  pub short : AllByRecursion (IsWithin run.most) lines
   pub replies : ServesLines replying 1 run.old lines output refusals run.new
   pub written : Appends run.held run.holds output
 
--- The line at the front of the rest, of at most 65,536 bytes, was answered, and a part of its reply written. The line is
+-- The line at the front of the rest, within the run's limit, was answered, and a part of its reply written. The line is
 -- whole: its line feed was read, or the reader is at its end.
 pub record RunWritesPart {H : Type 0} (replying : Replying H) (run : Run H) (rest : List ℕ) (n : ℕ) : Type 0 where
   pub line : List ℕ
   pub after : List ℕ
   pub front : lines_of rest ≡ line ∷ lines_of after
   pub whole : (has_feed rest ≡ true) ⊎ IsAtEnd run.to
-  pub short : IsWithin line
+  pub short : IsWithin run.most line
   pub text : List ℕ
   pub refused : Bool
   pub reply : ServesLine replying n run.old line text refused run.new
@@ -81,7 +82,7 @@ IsLineOrNext n rest = (n ≤ max_input_lines) ⊎ ((n ≡ max_input_lines + 1) �
 abbrev pub RunStops : {H : Type 0} → Replying H → Run H → Failures → RunFault → Type 0
 RunStops {H} replying run failed OutOfMemory = Keeps run.from run.to × Keeps run.held run.holds × (run.new ≡ run.old)
 RunStops {H} replying run failed (TooManyLines n) = (at : RunStandsAt replying run n) × (n ≡ max_input_lines + 1) × (0 < length at.rest)
-RunStops {H} replying run failed (LineTooLong n) = (at : RunStandsAt replying run n) × (n ≤ max_input_lines) × (max_line_bytes < length (first_line at.rest))
+RunStops {H} replying run failed (LineTooLong n) = (at : RunStandsAt replying run n) × (n ≤ max_input_lines) × (run.most < length (first_line at.rest))
 RunStops {H} replying run failed (ReadFailed n) =
     (at : RunStandsAt replying run n) × IsLineOrNext n at.rest × (has_feed at.rest ≡ false) × (failed.reader ≡ true)
 RunStops {H} replying run failed (WriteFailed n) =

@@ -4,6 +4,7 @@
 mod device;
 mod handler;
 mod line_buffer;
+mod line_limit;
 mod reply_text;
 mod run;
 mod std_device;
@@ -11,7 +12,7 @@ mod window;
 
 pub use device::{DeviceFailed, Sink, Source};
 pub use handler::{Handler, Outcome, Responder};
-pub use line_buffer::MAX_LINE_BYTES;
+pub use line_limit::{LARGEST_LINE_LIMIT, LineLimit, MAX_LINE_BYTES};
 pub use reply_text::ReplyText;
 pub use run::{MAX_FILES, MAX_INPUT_LINES, RunCount, RunFault, run_lines, run_replies};
 pub use std_device::StdDevice;

@@ -8,6 +8,7 @@ ghost use Rattle.line_engine.specs.Runs.{Runs, run_over};
 use crate::device::{DeviceFailed, Sink, Source};
 use crate::handler::{Handler, NumberedReplies, Responder};
 use crate::line_buffer::LineBuffer;
+use crate::line_limit::LineLimit;
 use crate::reply_text::ReplyText;
 use crate::window::{LineEnd, LineStop, Window};
 use std::alloc::{AllocError, Global};
@@ -37,7 +38,7 @@ pub enum RunFault {
     /// A byte of line 1,000,001 was read (91).
     #[error("TooManyLines")]
     TooManyLines(u64),
-    /// The line has over 65,536 bytes (92).
+    /// The line has more bytes than the run's limit (92).
     #[error("LineTooLong")]
     LineTooLong(u64),
     /// The reader failed before this line's end (93).
@@ -150,10 +151,11 @@ fn serve<W: Sink, H: Responder>(
 ///
 /// A line ends with a line feed or, where it isn't empty, at the end of the input; lines are numbered from 1. Blank
 /// lines are skipped. Memory for the lines is allocated first (1). After that the run stops only where a byte of
-/// line 1,000,001 was read (91), a line has over 65,536 bytes (92), or the reader (93) or the writer (94) failed in
+/// line 1,000,001 was read (91), a line has over `limit` bytes (92), or the reader (93) or the writer (94) failed in
 /// this call; the replies to the lines before are then written.
 pub fn run_replies<R: Source, W: Sink, H: Responder>(
     alloc: Global,
+    limit: LineLimit,
     reader: &mut R,
     writer: &mut W,
     responder: &H,
@@ -161,11 +163,11 @@ pub fn run_replies<R: Source, W: Sink, H: Responder>(
 ) -> Result<RunCount, RunFault>
     requires reader { R.has_failed reader.old ≡ false }
     requires writer { W.has_failed writer.old ≡ false }
-    ensures { Runs H.replies (run_over R.remaining W.contents (reader.old, writer.old, state.old) (reader.new, writer.new, state.new))
+    ensures { Runs H.replies (run_over limit R.remaining W.contents (reader.old, writer.old, state.old) (reader.new, writer.new, state.new))
         (record { reader = R.has_failed reader.new; writer = W.has_failed writer.new }) result }
 {
     let mut window = Window::new(alloc)?;
-    let mut line = LineBuffer::new(alloc)?;
+    let mut line = LineBuffer::new(alloc, limit)?;
     let mut reply = ReplyText::new(alloc)?;
     let mut count = RunCount {
         lines: 0,
@@ -203,6 +205,7 @@ pub fn run_replies<R: Source, W: Sink, H: Responder>(
 /// The same with a handler's replies, each behind its line's number and a space.
 pub fn run_lines<R: Source, W: Sink, H: Handler>(
     alloc: Global,
+    limit: LineLimit,
     reader: &mut R,
     writer: &mut W,
     handler: &H,
@@ -210,8 +213,15 @@ pub fn run_lines<R: Source, W: Sink, H: Handler>(
 ) -> Result<RunCount, RunFault>
     requires reader { R.has_failed reader.old ≡ false }
     requires writer { W.has_failed writer.old ≡ false }
-    ensures { Runs (Numbered H.answers H.runs_out) (run_over R.remaining W.contents (reader.old, writer.old, state.old) (reader.new, writer.new, state.new))
+    ensures { Runs (Numbered H.answers H.runs_out) (run_over limit R.remaining W.contents (reader.old, writer.old, state.old) (reader.new, writer.new, state.new))
         (record { reader = R.has_failed reader.new; writer = W.has_failed writer.new }) result }
 {
-    run_replies(alloc, reader, writer, &NumberedReplies { handler }, state)
+    run_replies(
+        alloc,
+        limit,
+        reader,
+        writer,
+        &NumberedReplies { handler },
+        state,
+    )
 }

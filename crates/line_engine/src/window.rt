@@ -1,7 +1,7 @@
 //! What was read and not yet cut into lines.
 ghost use Rattle.std.specs.Prelude.{◌≡◌, ℕ, ◌+◌, ◌<◌, ◌≤◌, ◌++◌, ◌||◌, List, [], ◌∷◌, length, true, false, IsOk, IfOk, IfErr, OnOk, MatchResult, Ok, is_err};
 ghost use Rattle.std.specs.Io.KnownBytes.{Consumes, IsAtEnd};
-ghost use Rattle.line_engine.specs.Lines.{line_feed, has_feed, max_line_bytes};
+ghost use Rattle.line_engine.specs.Lines.{line_feed, has_feed};
 ghost use Rattle.line_engine.specs.inner.Cutting.{Moves, CutsLine, StopsLine};
 
 use crate::device::Source;
@@ -89,10 +89,11 @@ impl Window {
 
     /// Moves the bytes before the next line feed to the line's end, and answers whether there is one.
     pub fn cut(&mut self, line: &mut LineBuffer) -> Result<bool, LineStop>
-        ensures within { OnOk result (length line.new ≤ max_line_bytes) }
-        ensures ok { IfOk result (λ ended. Moves self.old self.new line.old line.new ended) }
+        ensures within { OnOk result (length line.new.bytes ≤ line.new.most) }
+        ensures ok { IfOk result (λ ended. Moves self.old self.new line.old.bytes line.new.bytes ended) }
         ensures err { IfErr result (λ stop. (stop ≡ LineStop.TooLong) × (front : List ℕ) × (rest : List ℕ) × (self.old ≡ front ++ rest)
-            × (has_feed front ≡ false) × (max_line_bytes < length line.old + length front)) }
+            × (has_feed front ≡ false) × (line.old.most < length line.old.bytes + length front)) }
+        ensures most { line.new.most ≡ line.old.most }
     {
         let (front, is_ended) = before_feed(&self.piece[self.start..self.end]);
         if line.push(front).is_err() {
@@ -114,8 +115,9 @@ impl Window {
     ) -> Result<LineEnd, LineStop>
         requires { 0 < length self.old }
         ensures cut { (taken : List ℕ) × Consumes (R.remaining reader.old) (R.remaining reader.new) taken
-            × MatchResult result (λ end. CutsLine self.old taken line.new self.new end × (end ≡ LineEnd.Input → IsAtEnd (R.remaining reader.new)))
-            (λ stop. StopsLine (self.old ++ taken) (R.has_failed reader.new) stop) }
+            × MatchResult result (λ end. CutsLine self.old taken line.new.bytes self.new end × (end ≡ LineEnd.Input → IsAtEnd (R.remaining reader.new)))
+            (λ stop. StopsLine line.old.most (self.old ++ taken) (R.has_failed reader.new) stop) }
+        ensures most { line.new.most ≡ line.old.most }
         ensures failure { R.has_failed reader.old ≡ false → IsOk result → R.has_failed reader.new ≡ false }
     {
         line.clear();

@@ -1,6 +1,6 @@
 -- What cutting one line off an input does to the bytes that were read and not yet cut.
 use Rattle.std.specs.Prelude.{◌≡◌, ℕ, ◌<◌, Bool, true, false, List, [], ◌∷◌, ◌++◌, length}
-use Rattle.line_engine.specs.Lines.{line_feed, has_feed, first_line, max_line_bytes}
+use Rattle.line_engine.specs.Lines.{line_feed, has_feed, first_line}
 use Rattle.line_engine.specs.declared.window.LineEnd.{LineEnd}
 use Rattle.line_engine.specs.declared.window.LineEnd.TheVariants.{Feed, Input}
 use Rattle.line_engine.specs.declared.window.LineStop.{LineStop}
@@ -16,7 +16,7 @@ abbrev pub CutsLine : List ℕ → List ℕ → List ℕ → List ℕ → LineEn
 CutsLine old taken line new Feed = (old ++ taken ≡ line ++ line_feed ∷ new) × (has_feed line ≡ false)
 CutsLine old taken line new Input = (old ++ taken ≡ line) × (new ≡ []) × (has_feed line ≡ false) × (0 < length line)
 
--- Why no line was cut off these bytes: their first line is too long, or the reader failed before its end.
-abbrev pub StopsLine : List ℕ → Bool → LineStop → Type 0
-StopsLine bytes has_failed TooLong = max_line_bytes < length (first_line bytes)
-StopsLine bytes has_failed ReadFailed = (has_feed bytes ≡ false) × (has_failed ≡ true)
+-- Why no line was cut off these bytes: their first line is longer than a line may be, or the reader failed before its end.
+abbrev pub StopsLine : (most : ℕ) → List ℕ → Bool → LineStop → Type 0
+StopsLine most bytes has_failed TooLong = most < length (first_line bytes)
+StopsLine most bytes has_failed ReadFailed = (has_feed bytes ≡ false) × (has_failed ≡ true)

@@ -14,5 +14,5 @@ returns-clause-ok c =
     let ended : c.before_feed-is_ended.result.1 ≡ true = c.if-not-is_ended.false in
     let found = c.before_feed-is_ended.ensures.feed ended in
     let seen : c.args.self.now ≡ front ++ line_feed ∷ found.0 = sym is ∙ ap (λ xs. slice_range xs from to) (sym c.deref.ensures.value) ∙ found.1 in
-    let grew : c.push.new.self ≡ c.args.line.now ++ front = on_success c.push.result (sym c.is_err.ensures.value ∙ c.if-is_err.false) c.push.ensures.ok in
-    moves_ended piece from to c.args.self.now front c.args.line.now c.push.new.self is (found.0, seen) c.before_feed-is_ended.ensures.free grew
+    let grew : c.push.new.self.bytes ≡ c.args.line.now.bytes ++ front = on_success c.push.result (sym c.is_err.ensures.value ∙ c.if-is_err.false) c.push.ensures.ok in
+    moves_ended piece from to c.args.self.now front c.args.line.now.bytes c.push.new.self.bytes is (found.0, seen) c.before_feed-is_ended.ensures.free grew
