@@ -11,3 +11,4 @@ pub mod Costs
 pub mod Unplanned
 pub mod RowsHeld
 pub mod ProblemStated
+pub mod KeptLimit
