@@ -4,10 +4,11 @@ pub mod Even
 pub mod Parts
 pub mod Spelled
 pub mod Turns
-pub mod InOrder
+pub mod FoundLists
 pub mod Written
 pub mod Planned
 pub mod Costs
 pub mod Unplanned
 pub mod RowsHeld
 pub mod ProblemStated
+pub mod KeptLimit

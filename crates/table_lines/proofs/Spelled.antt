@@ -2,7 +2,7 @@
 use Rattle.std.proofs.Common.{◌≡◌, ℕ, suc, ◌-◌, ◌<◌, ◌≤◌, List, [], ◌∷◌, ◌++◌, length, map, Option, Some, None, Result, Ok, refl, ap, ◌∙◌, subst, append_assoc, append-nil, arith}
 use Rattle.std.specs.Global.{Vec}
 use Rattle.json.specs.Token.{Token}
-use Rattle.json.specs.Json.{parse_map, after_end_array, read_key, items, value}
+use Rattle.json.specs.Json.{parse_map, after_end_array, items, value}
 use Rattle.json.proofs.Grammar.{value_is, value-begin_array}
 use Rattle.serde_json.specs.Data.{Data, null, unsigned, number, string, array, Items, no_items, item}
 use Rattle.serde_json.specs.Read.{number_of, of_json, of_items, converted}
@@ -11,11 +11,11 @@ use Rattle.move_messages.specs.declared.fault.FieldFault.{FieldFault}
 use Rattle.move_messages.specs.Values.{text_of, code_from, number_within, wagon_number_from, order_id_from, list_of, each, list_of_each, wagon_and_order}
 use Rattle.rail_codes.specs.declared.code_fault.CodeFault.{CodeFault}
 use Rattle.cost_table.specs.TableLimits.{max_cost}
-use Rattle.std.specs.Prelude.{◌^◌, ◌==◌, SomeIff, IfSome, nat_le, nat_lt, slice_index, true, false}
+use Rattle.std.specs.Prelude.{◌^◌, ◌==◌, ⊤, SomeIff, IfSome, nat_le, nat_lt, slice_index, true, false}
 use Rattle.fast_float.specs.Text.{IsInteger, scan, digits_of}
 use Rattle.std.proofs.lemmas.Bool.Decides.{nat_tests}
 use Rattle.table_lines.specs.TableLine.{cell_of, row_of}
-use Rattle.table_lines.specs.inner.Tokens.{Spells, AreRead, IsListOf, SpellsItems, SpellsMember}
+use Rattle.table_lines.specs.inner.Tokens.{Spells, AreRead, IsListOf, SpellsItems}
 
 -- ---- one token
 
@@ -33,19 +33,26 @@ pub code_spelled : {A : Type 0} (read : List ℕ → Result A CodeFault) (ts res
 unfolding code_from text_of
 code_spelled read ts rest s code e r = (string s, rw r refl, λ depth le. rw e (text_spelled s rest depth))
 
-within_is : (high n : ℕ) → n ≤ high → number_within 0 high (number (unsigned n)) ≡ Ok n
+within_is : (low high n : ℕ) → low ≤ n → n ≤ high → number_within low high (number (unsigned n)) ≡ Ok n
 unfolding number_within
-within_is high n fits =
-    let least : nat_le 0 n ≡ true = grind (arith, nat_tests) in
-    let most : nat_le n high ≡ true = grind (arith, nat_tests, fits) in
+within_is low high n above below =
+    let least : nat_le low n ≡ true = grind (arith, nat_tests, above) in
+    let most : nat_le n high ≡ true = grind (arith, nat_tests, below) in
     rw (least, most) refl
 
-pub number_is_spelled : (ts rest : List Token) (s : List ℕ) (high n : ℕ) → ts ≡ Token.number s ∷ rest → number_of s ≡ Some (unsigned n) → n ≤ high → Spells 0 (λ d. number_within 0 high d ≡ Ok n) ts rest
-number_is_spelled ts rest s high n e r fits = (number (unsigned n), within_is high n fits, λ depth le. rw e (number_spelled s rest n depth r))
+-- a number's token, and what it writes
+abbrev pub IsNumberToken : List Token → List Token → ℕ → Type 0
+IsNumberToken ts rest n = (s : List ℕ) × (ts ≡ Token.number s ∷ rest) × (number_of s ≡ Some (unsigned n))
+
+pub number_is_spelled : (ts rest : List Token) (low high n : ℕ) → IsNumberToken ts rest n → low ≤ n → n ≤ high → Spells 0 (λ d. number_within low high d ≡ Ok n) ts rest
+number_is_spelled ts rest low high n t above below = (number (unsigned n), within_is low high n above below, λ depth le. rw t.1 (number_spelled t.0 rest n depth t.2))
+
+pub some_number_is_spelled : (ts rest : List Token) (n : ℕ) → IsNumberToken ts rest n → Spells 0 (λ _. ⊤) ts rest
+some_number_is_spelled ts rest n t = (number (unsigned n), tt, λ depth le. rw t.1 (number_spelled t.0 rest n depth t.2))
 
 pub cell_is_spelled : (ts rest : List Token) (s : List ℕ) (n : ℕ) → ts ≡ Token.number s ∷ rest → number_of s ≡ Some (unsigned n) → n ≤ max_cost → Spells 0 (λ d. cell_of d ≡ Ok (Some n)) ts rest
 unfolding cell_of
-cell_is_spelled ts rest s n e r fits = (number (unsigned n), rw (within_is max_cost n fits) refl, λ depth le. rw e (number_spelled s rest n depth r))
+cell_is_spelled ts rest s n e r fits = (number (unsigned n), rw (within_is 0 max_cost n (omega arith) fits) refl, λ depth le. rw e (number_spelled s rest n depth r))
 
 pub no_cell_spelled : (ts rest : List Token) → ts ≡ Token.null ∷ rest → Spells 0 (λ d. cell_of d ≡ Ok None) ts rest
 unfolding cell_of
@@ -162,11 +169,6 @@ list_spelled nests reads found ts a rest opens s = (
   (s.0, refl, s.1),
   λ depth le. rw opens (ap (converted of_json) (value-begin_array depth a (omega arith)) ∙ converted-array (items (value (depth - 1)) (length a) a) ∙ ap (parse_map array) (s.2 (depth - 1) (omega arith))),
 )
-
-pub member_spelled : {A : Type 0} (nests : ℕ) (reads : Data → A → Type 0) (name : List ℕ) (found : List A) (ts behind rest : List Token) → read_key ts ≡ Some (Some name, behind)
-    → Spells (suc nests) (IsListOf reads found) behind rest → SpellsMember nests reads name found ts rest
-member_spelled nests reads name found ts behind rest key s =
-    (s.1.0, s.1.2, behind, key, λ depth deep. s.2 depth (omega arith) ∙ ap (λ (d : Data). Some (d, rest)) s.1.1)
 
 -- ---- numbers
 

@@ -4,7 +4,7 @@ use Rattle.faults.specs.declared.faults.TableFault.{TableFault}
 use Rattle.faults.specs.declared.faults.TableFault.TheVariants as table
 use Rattle.reply_texts.specs.Details.{then, check_details, line_details}
 use Rattle.table_lines.specs.declared.table_refusal.TableRefusal.{TableRefusal}
-use Rattle.table_lines.specs.declared.table_refusal.TableRefusal.TheVariants.{OutOfMemory, Line, Table, Check}
+use Rattle.table_lines.specs.declared.table_refusal.TableRefusal.TheVariants.{OutOfMemory, Line, Table, Check, PlanTooLong}
 
 -- of a table: the wagon or the order that is listed twice
 abbrev pub table_details : TableFault → List ℕ
@@ -20,3 +20,4 @@ table_line_details OutOfMemory = []
 table_line_details (Line fault) = line_details fault
 table_line_details (Table fault) = table_details fault
 table_line_details (Check fault) = check_details fault
+table_line_details PlanTooLong = []

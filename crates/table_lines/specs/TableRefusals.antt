@@ -9,7 +9,7 @@ use Rattle.faults.specs.declared.faults.TableFault.TheVariants as table
 use Rattle.faults.specs.declared.faults.NamedFault.{NamedFault}
 use Rattle.faults.specs.declared.faults.NamedFault.TheVariants as check
 use Rattle.table_lines.specs.declared.table_refusal.TableRefusal.{TableRefusal}
-use Rattle.table_lines.specs.declared.table_refusal.TableRefusal.TheVariants.{OutOfMemory, Line, Table, Check}
+use Rattle.table_lines.specs.declared.table_refusal.TableRefusal.TheVariants.{OutOfMemory, Line, Table, Check, PlanTooLong}
 
 -- the number that stands for a refusal in a reply
 abbrev pub table_refusal_number : TableRefusal → ℕ
@@ -17,6 +17,7 @@ table_refusal_number OutOfMemory = 1
 table_refusal_number (Line fault) = line_fault_number fault
 table_refusal_number (Table fault) = table_fault_number fault
 table_refusal_number (Check fault) = named_fault_number fault
+table_refusal_number PlanTooLong = 92
 
 -- a fault of the line
 abbrev pub refusal_of_line : LineFault → TableRefusal

@@ -1,4 +1,4 @@
 -- What only private functions and proofs of table_lines need.
-pub mod InOrder
+pub mod FoundLists
 pub mod Tokens
 pub mod Members

@@ -24,7 +24,7 @@ impl Detailed for TableRefusal {
 
     fn push_details(&self, reply: &mut ReplyText) -> Result<(), AllocError> {
         match self {
-            TableRefusal::OutOfMemory => Ok(()),
+            TableRefusal::OutOfMemory | TableRefusal::PlanTooLong => Ok(()),
             TableRefusal::Line(fault) => fault.push_details(reply),
             TableRefusal::Table(fault) => push_table_details(reply, fault),
             TableRefusal::Check(fault) => fault.push_details(reply),

@@ -4,6 +4,7 @@
 
 mod cells;
 mod details;
+mod found_lists;
 mod json_replies;
 mod lacks;
 mod line_solver;
@@ -12,8 +13,8 @@ mod solved_value;
 mod stating;
 mod table_answer;
 mod table_checker;
-mod table_in_order;
 mod table_line;
+mod table_off_tokens;
 mod table_part;
 mod table_reading;
 mod table_refusal;

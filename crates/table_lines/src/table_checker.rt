@@ -5,7 +5,9 @@ ghost use Rattle.table_lines.specs.Checking.{ChecksLine, ToPlans, reply_body};
 
 use crate::table_answer::table_cost;
 use crate::table_refusal::TableRefusal;
-use line_engine::{Handler, Outcome, ReplyText, RunCount, RunFault, Sink, Source, run_lines};
+use line_engine::{
+    Handler, LineLimit, Outcome, ReplyText, RunCount, RunFault, Sink, Source, run_lines,
+};
 use reply_texts::{push_counted, push_refused};
 use std::alloc::{AllocError, Global};
 
@@ -52,16 +54,18 @@ fn push_reply(reply: &mut ReplyText, answer: &Result<u128, TableRefusal>) -> Res
 /// Answers each table line of a reader by one reply line, written at once.
 ///
 /// `N optimal COST` where the line's pairs and prices are a certificate of its table, else `N refused CODE` and its
-/// details; blank lines get no reply. It stops as `run_lines` says: 1, and 91 to 94 with the line's number.
+/// details; blank lines get no reply. It stops as `run_lines` says: 1, and 91 to 94 with the line's number, 92 at a line
+/// with over `limit` bytes.
 pub fn check_run<R: Source, W: Sink>(
     alloc: Global,
+    limit: LineLimit,
     reader: &mut R,
     writer: &mut W,
 ) -> Result<RunCount, RunFault>
     requires reader { R.has_failed reader.old ≡ false }
     requires writer { W.has_failed writer.old ≡ false }
-    ensures { Runs ToPlans (run_over R.remaining W.contents (reader.old, writer.old, tt) (reader.new, writer.new, tt))
+    ensures { Runs ToPlans (run_over limit R.remaining W.contents (reader.old, writer.old, tt) (reader.new, writer.new, tt))
         (record { reader = R.has_failed reader.new; writer = W.has_failed writer.new }) result }
 {
-    run_lines(alloc, reader, writer, &TableChecker, &mut ())
+    run_lines(alloc, limit, reader, writer, &TableChecker, &mut ())
 }

@@ -9,6 +9,7 @@ ghost use Rattle.table_lines.specs.TablePart.{table_of_line, table_then_plan};
 use crate::cells::cells_at;
 use crate::lacks::lacks_at;
 use crate::table_line::TableLine;
+use crate::table_off_tokens::stated_off_tokens;
 use cost_table::MAX_COST;
 use move_messages::{Field, LineFault, codes_at, numbers_at, object_of};
 use serde_json::Value;
@@ -26,6 +27,9 @@ pub fn read_table(alloc: Global, bytes: &[u8]) -> Result<TableLine, LineFault>
     // What `read_table_line` reads is this table, and then its plan.
     ensures agrees { table_line_of bytes.now ≡ table_then_plan bytes.now }
 {
+    if let Some(table) = stated_off_tokens(alloc, bytes) {
+        return Ok(table);
+    }
     let object = object_of(alloc, bytes)?;
     table_part(alloc, &object)
 }

@@ -5,8 +5,8 @@ ghost use Rattle.serde_json.specs.View.{view};
 ghost use Rattle.move_messages.specs.Fields.{Gives};
 ghost use Rattle.table_lines.specs.TableLine.{IsWithinLimits, table_text, table_text_of, table_line_of};
 
-use crate::table_in_order::table_in_order;
 use crate::table_line::TableLine;
+use crate::table_off_tokens::planned_off_tokens;
 use crate::table_part::table_part;
 use move_messages::{Field, LineFault, numbers_at, object_of, pairs_at};
 use serde_json::Value;
@@ -23,7 +23,7 @@ pub fn read_table_line(alloc: Global, bytes: &[u8]) -> Result<TableLine, LineFau
     ensures meaning { Gives table_text result (table_line_of bytes.now) }
     ensures limits { IfOk result IsWithinLimits }
 {
-    if let Some(table) = table_in_order(alloc, bytes) {
+    if let Some(table) = planned_off_tokens(alloc, bytes) {
         return Ok(table);
     }
     let object = object_of(alloc, bytes)?;

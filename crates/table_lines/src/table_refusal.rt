@@ -24,6 +24,9 @@ pub enum TableRefusal {
     /// Its pairs and prices are no certificate of its table (61 to 66, and 84).
     #[error("{0}")]
     Check(NamedFault),
+    /// With its plan it has more bytes than a line may have (92).
+    #[error("LineTooLong")]
+    PlanTooLong,
 }
 
 impl TableRefusal {
@@ -38,6 +41,7 @@ impl TableRefusal {
             TableRefusal::Line(fault) => fault.number(),
             TableRefusal::Table(fault) => fault.number(),
             TableRefusal::Check(fault) => fault.number(),
+            TableRefusal::PlanTooLong => 92,
         }
     }
 }

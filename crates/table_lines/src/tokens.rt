@@ -1,9 +1,10 @@
 //! Values that are read straight off the tokens of a line.
 
-ghost use Rattle.std.specs.Prelude.{◌≡◌, ◌∷◌, ◌<◌, ℕ, suc, Ok, Some, IfSome, OnSome, length};
+ghost use Rattle.std.specs.Prelude.{◌≡◌, ◌∷◌, ◌<◌, ℕ, List, suc, Ok, Some, IfSome, OnSome, length};
 ghost use Rattle.json.specs.Token as token;
 ghost use Rattle.serde_json.specs.Data.{Data, unsigned};
 ghost use Rattle.serde_json.specs.Read.{number_of};
+ghost use Rattle.move_messages.specs.OrderLimits.{max_order_wagons};
 ghost use Rattle.move_messages.specs.Values as values;
 ghost use Rattle.table_lines.specs.TableLine as meaning;
 ghost use Rattle.table_lines.specs.inner.Tokens.{IsListOf, Spells, SpellsItems};
@@ -11,6 +12,7 @@ ghost use Rattle.table_lines.specs.inner.Tokens.{IsListOf, Spells, SpellsItems};
 use cost_table::MAX_COST;
 use fast_float::Numeral;
 use json::{Reader, Token};
+use move_messages::MAX_ORDER_WAGONS;
 use rail_codes::{FromText, OrderId, WagonNumber};
 use std::alloc::Global;
 use std::marker::PhantomData;
@@ -56,6 +58,17 @@ fn whole_number(text: &str) -> Option<u64>
     Numeral::scan(bytes).to_u64()
 }
 
+/// The whole number that comes next.
+pub(crate) fn take_number(reader: &mut Reader<'_>) -> Option<u64>
+    ensures value { IfSome result (λ n. (s : List ℕ) × (reader.old ≡ token.number s ∷ reader.new) × (number_of s ≡ Some (unsigned n))) }
+    ensures shorter { OnSome result (length reader.new < length reader.old) }
+{
+    match reader.next()? {
+        Token::Number(text) => whole_number(text),
+        _ => None,
+    }
+}
+
 /// Codes of one type.
 pub(crate) struct CodeToken<C> {
     code: PhantomData<C>,
@@ -96,12 +109,30 @@ impl TokenKind for NumberToken {
     ghost nests = { λ _. 0 };
 
     fn take(&self, _alloc: Global, reader: &mut Reader<'_>) -> Option<u64> {
-        let Token::Number(text) = reader.next()? else {
-            return None;
-        };
-        let number = whole_number(text)?;
+        let number = take_number(reader)?;
         if number <= self.high {
             Some(number)
+        } else {
+            None
+        }
+    }
+}
+
+/// How many wagons an order lacks.
+#[derive(Clone, Copy, Debug)]
+pub(crate) struct LackToken;
+
+impl TokenKind for LackToken {
+    type Item = u32;
+
+    ghost reads = { λ _ d lack. values.number_within 1 max_order_wagons d ≡ Ok lack };
+
+    ghost nests = { λ _. 0 };
+
+    fn take(&self, _alloc: Global, reader: &mut Reader<'_>) -> Option<u32> {
+        let number = take_number(reader)?;
+        if 1 <= number && number <= u64::from(MAX_ORDER_WAGONS) {
+            Some(number as u32)
         } else {
             None
         }

@@ -1,7 +1,7 @@
 -- Values that stand at the front of a line's tokens.
-use Rattle.std.specs.Prelude.{◌≡◌, ◌<◌, ◌≤◌, ℕ, List, [], ◌∷◌, length, Some, ⊤}
+use Rattle.std.specs.Prelude.{◌≡◌, ◌≤◌, ℕ, List, [], ◌∷◌, length, Some, ⊤}
 use Rattle.json.specs.Token.{Token}
-use Rattle.json.specs.Json.{value, items, read_key}
+use Rattle.json.specs.Json.{value, items}
 use Rattle.serde_json.specs.Data.{Data, array, Items, no_items, item}
 use Rattle.serde_json.specs.Read.{of_json, of_items, converted}
 
@@ -25,9 +25,3 @@ IsListOf reads xs d = (ds : Items) × (d ≡ array ds) × AreRead reads ds xs
 abbrev pub SpellsItems : {A : Type 0} → ℕ → (Data → A → Type 0) → List A → List Token → List Token → Type 0
 SpellsItems nests reads xs ts rest =
     (ds : Items) × AreRead reads ds xs × ((depth : ℕ) → nests ≤ depth → converted of_items (items (value depth) (length ts) ts) ≡ Some (ds, rest))
-
--- The tokens begin with a member of that name whose value is a list that is read as these items.
-abbrev pub SpellsMember : {A : Type 0} → ℕ → (Data → A → Type 0) → List ℕ → List A → List Token → List Token → Type 0
-SpellsMember nests reads name xs ts rest =
-    (ds : Items) × AreRead reads ds xs × (behind : List Token) × (read_key ts ≡ Some (Some name, behind))
-    × ((depth : ℕ) → nests < depth → converted of_json (value depth behind) ≡ Some (array ds, rest))

@@ -6,3 +6,6 @@ returns-in_err-object-clause-agrees c = line_then_plan c.args.bytes.now
 
 pub returns-clause-agrees : goal.returns-clause-agrees
 returns-clause-agrees c = line_then_plan c.args.bytes.now
+
+pub returns-in-Some-clause-agrees : goal.returns-in-Some-clause-agrees
+returns-in-Some-clause-agrees c = line_then_plan c.args.bytes.now
