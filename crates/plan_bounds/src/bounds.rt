@@ -172,7 +172,7 @@ fn gain(v: &[u64], row: &[(u32, u32)]) -> u64
 }
 
 /// Whether a pair is among these.
-fn has_pair(pairs: &[(usize, usize)], i: usize, j: usize) -> bool
+pub fn has_pair(pairs: &[(usize, usize)], i: usize, j: usize) -> bool
     ensures { result ≡ has_pair pairs.now i j }
 {
     pairs.iter().any(|pair| pair.0 == i && pair.1 == j)

@@ -5,5 +5,5 @@
 mod bounds;
 mod laws;
 
-pub use bounds::Bounds;
+pub use bounds::{Bounds, has_pair};
 pub use laws::{prices_bound_other_plans, prices_bound_other_tables, slacks_are_the_difference};

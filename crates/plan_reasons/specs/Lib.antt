@@ -1,4 +1,6 @@
 pub mod Reasons
+pub mod Fields
+pub mod Planned
 pub mod WhyText
 pub mod Laws
 pub mod inner

@@ -1,3 +1,3 @@
 -- What only proofs and private functions need.
 pub mod Passed
-pub mod Asked
+pub mod Added

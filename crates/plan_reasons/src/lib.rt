@@ -4,13 +4,16 @@
 //! `Err` only when out of memory.
 #![tactic(auto)]
 
-mod asked;
 mod laws;
 mod order_line;
+mod planned_problem;
 mod reasons;
+mod style;
 mod wagon_line;
 mod why_lines;
 
 pub use laws::{in_time_are_allowed, numbers_are_bounds, tests_narrow};
+pub use planned_problem::PlannedProblem;
 pub use reasons::{Counts, counts_of_order};
+pub use style::Style;
 pub use why_lines::why_text;

@@ -1,86 +1,121 @@
 //! The lines of orders.
-ghost use Rattle.std.specs.Prelude.{◌≡◌, ◌+◌, ◌++◌, ◌<◌, ◌≤◌, length, slice_index, OnOk, string_bytes};
+ghost use Rattle.std.specs.Prelude.{◌≡◌, ◌+◌, ◌++◌, ◌<◌, ◌≤◌, codes, length, slice_index, OnOk, string_bytes};
 ghost use Rattle.cost_table.specs.Plan.{serves};
 ghost use Rattle.cost_table.specs.Table.{lack_at, order_count};
 ghost use Rattle.plan_bounds.specs.Bounds.{AllCostMore};
 ghost use Rattle.plan_bounds.specs.Changes.{with_lack};
 ghost use Rattle.plan_bounds.specs.Slack.{missed};
-ghost use Rattle.dispatch_sheet.specs.Words.{next_word};
-ghost use Rattle.plan_reasons.specs.WhyText.{count_words, further_word, order_words, price_words};
-ghost use Rattle.plan_reasons.specs.inner.Asked.{AddsOrderLine, IsAsked, priced_plan};
+ghost use Rattle.plan_reasons.specs.Fields.{field, quoted};
+ghost use Rattle.plan_reasons.specs.Planned.{IsPlannedProblem, priced_plan};
+ghost use Rattle.plan_reasons.specs.WhyText.{count_fields, further_value, order_fields, price_fields};
+ghost use Rattle.plan_reasons.specs.inner.Added.{AddsOrderLine};
 
-use crate::asked::Asked;
+use crate::planned_problem::PlannedProblem;
 use crate::reasons::{Counts, counts_of_order};
-use dispatch_sheet::{push_code, push_number, push_word};
+use crate::style::{Style, code_field, end_line, first_code, nothing, number_field, push_field};
 use plan_bounds::Bounds;
 use price_checker::order_name;
 use std::alloc::AllocError;
 
 /// Adds the line of order `j`.
-pub(crate) fn push_order_line(text: &mut String, asked: &Asked, j: usize) -> Result<(), AllocError>
-    requires asked { IsAsked asked.now }
-    requires order { j < length asked.now.problem.now.orders }
-    ensures { OnOk result (AddsOrderLine asked.now j (string_bytes text.old) (string_bytes text.new)) }
+pub(crate) fn push_order_line(
+    text: &mut String,
+    style: Style,
+    planned: &PlannedProblem,
+    j: usize,
+) -> Result<(), AllocError>
+    requires planned { IsPlannedProblem planned.now }
+    requires order { j < length planned.now.problem.now.orders }
+    ensures { OnOk result (AddsOrderLine style planned.now j (string_bytes text.old) (string_bytes text.new)) }
 {
-    let order = asked.problem.orders()[j].order();
-    push_order_words(text, asked, j)?;
-    push_counts(text, counts_of_order(asked.problem, asked.tables, order))?;
-    push_prices(text, asked, j)
+    let order = planned.problem.orders()[j].order();
+    push_order_fields(text, style, planned, j)?;
+    push_counts(
+        text,
+        style,
+        counts_of_order(planned.problem, planned.tables, order),
+    )?;
+    push_prices(text, style, planned, j)
 }
 
 /// Adds the name of order `j`, how many wagons it lacks, gets, and misses.
-fn push_order_words(text: &mut String, asked: &Asked, j: usize) -> Result<(), AllocError>
-    requires asked { IsAsked asked.now }
-    requires order { j < length asked.now.problem.now.orders }
-    ensures { OnOk result (string_bytes text.new ≡ string_bytes text.old ++ order_words asked.now.problem.now (priced_plan asked.now) j) }
+fn push_order_fields(
+    text: &mut String,
+    style: Style,
+    planned: &PlannedProblem,
+    j: usize,
+) -> Result<(), AllocError>
+    requires planned { IsPlannedProblem planned.now }
+    requires order { j < length planned.now.problem.now.orders }
+    ensures { OnOk result (string_bytes text.new ≡ string_bytes text.old ++ order_fields style planned.now.problem.now (priced_plan planned.now) j) }
 {
-    text.push_str("order")?;
-    push_code(text, order_name(asked.problem, j).as_bytes())?;
-    push_number(text, u64::from(asked.cells.lack(j)))?;
-    push_number(text, given(asked, j) as u64)?;
-    push_number(text, missed(asked, j))
+    first_code(
+        text,
+        style,
+        "order",
+        order_name(planned.problem, j).as_bytes(),
+    )?;
+    number_field(text, style, "lacks", u64::from(planned.cells.lack(j)))?;
+    number_field(text, style, "gets", given(planned, j) as u64)?;
+    number_field(text, style, "misses", missed(planned, j))
 }
 
 /// Adds how many wagons pass each test.
-fn push_counts(text: &mut String, counts: Counts) -> Result<(), AllocError>
-    ensures { OnOk result (string_bytes text.new ≡ string_bytes text.old ++ count_words counts) }
+fn push_counts(text: &mut String, style: Style, counts: Counts) -> Result<(), AllocError>
+    ensures { OnOk result (string_bytes text.new ≡ string_bytes text.old ++ count_fields style counts) }
 {
-    push_number(text, counts.class)?;
-    push_number(text, counts.load)?;
-    push_number(text, counts.way)?;
-    push_number(text, counts.in_time)?;
-    push_number(text, counts.cheaper)
+    number_field(text, style, "class", counts.class)?;
+    number_field(text, style, "load", counts.load)?;
+    number_field(text, style, "way", counts.way)?;
+    number_field(text, style, "time", counts.in_time)?;
+    number_field(text, style, "cheaper", counts.cheaper)
 }
 
 /// Adds the price of order `j`, and what every plan that gives it more wagons costs more, at least.
-fn push_prices(text: &mut String, asked: &Asked, j: usize) -> Result<(), AllocError>
-    requires asked { IsAsked asked.now }
-    requires order { j < order_count asked.now.cells.now }
-    ensures { OnOk result (string_bytes text.new ≡ string_bytes text.old ++ price_words (priced_plan asked.now) j) }
+fn push_prices(
+    text: &mut String,
+    style: Style,
+    planned: &PlannedProblem,
+    j: usize,
+) -> Result<(), AllocError>
+    requires planned { IsPlannedProblem planned.now }
+    requires order { j < order_count planned.now.cells.now }
+    ensures { OnOk result (string_bytes text.new ≡ string_bytes text.old ++ price_fields style (priced_plan planned.now) j) }
 {
-    let bounds = Bounds::new(asked.cells, asked.plan, asked.prices);
-    push_number(text, price(&bounds, j))?;
-    push_further(text, asked, &bounds, j)?;
-    text.push_str("\n")
+    let bounds = Bounds::new(planned.cells, planned.plan, planned.prices);
+    number_field(text, style, "price", price(&bounds, j))?;
+    push_further(text, style, planned, &bounds, j)?;
+    end_line(text, style)
 }
 
 /// Adds what every plan that gives order `j` more wagons costs more, at least.
 fn push_further(
     text: &mut String,
-    asked: &Asked,
+    style: Style,
+    planned: &PlannedProblem,
     bounds: &Bounds,
     j: usize,
 ) -> Result<(), AllocError>
-    requires order { j < order_count asked.now.cells.now }
-    requires bounds { bounds.now ≡ priced_plan asked.now }
-    ensures { OnOk result (string_bytes text.new ≡ string_bytes text.old ++ next_word (further_word (priced_plan asked.now) j)) }
+    requires order { j < order_count planned.now.cells.now }
+    requires bounds { bounds.now ≡ priced_plan planned.now }
+    ensures { OnOk result (string_bytes text.new ≡ string_bytes text.old ++ field style (codes "further") (further_value style (priced_plan planned.now) j)) }
 {
-    if missed(asked, j) == 0 {
-        return push_word(text, "-");
+    if missed(planned, j) == 0 {
+        return push_field(text, style, "further", nothing(style));
     }
     match bounds.service_bound(j) {
-        Some(km) => push_number(text, km),
-        None => push_word(text, "none"),
+        Some(km) => number_field(text, style, "further", km),
+        None => push_field(text, style, "further", no_bound(style)),
+    }
+}
+
+/// The word where there is no bound.
+fn no_bound(style: Style) -> &'static str
+    ensures { result.now ≡ quoted style (codes "none") }
+{
+    match style {
+        Style::Text => "none",
+        Style::Json => "\"none\"",
     }
 }
 
@@ -94,17 +129,22 @@ fn price(bounds: &Bounds, j: usize) -> u64
 }
 
 /// How many wagons the plan gives order `j`.
-fn given(asked: &Asked, j: usize) -> usize
-    ensures { result ≡ serves j asked.now.plan.now }
+fn given(planned: &PlannedProblem, j: usize) -> usize
+    ensures { result ≡ serves j planned.now.plan.now }
 {
-    asked.plan.pairs().iter().filter(|pair| pair.1 == j).count()
+    planned
+        .plan
+        .pairs()
+        .iter()
+        .filter(|pair| pair.1 == j)
+        .count()
 }
 
 /// How many wagons order `j` misses.
-pub(crate) fn missed(asked: &Asked, j: usize) -> u64
-    requires { j < order_count asked.now.cells.now }
-    ensures value { result ≡ missed (priced_plan asked.now) asked.now.plan.now j }
+pub(crate) fn missed(planned: &PlannedProblem, j: usize) -> u64
+    requires { j < order_count planned.now.cells.now }
+    ensures value { result ≡ missed (priced_plan planned.now) planned.now.plan.now j }
     ensures limit { result ≤ 20 }
 {
-    u64::from(asked.cells.lack(j)).saturating_sub(given(asked, j) as u64)
+    u64::from(planned.cells.lack(j)).saturating_sub(given(planned, j) as u64)
 }

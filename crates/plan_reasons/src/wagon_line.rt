@@ -3,14 +3,13 @@ ghost use Rattle.std.specs.Prelude.{◌≡◌, ◌++◌, ◌<◌, OnOk, slice_in
 ghost use Rattle.cost_table.specs.Plan.{IsAllowed};
 ghost use Rattle.cost_table.specs.Table.{wagon_count};
 ghost use Rattle.plan_bounds.specs.Bounds.{CostsMore, IsIdle};
-ghost use Rattle.dispatch_sheet.specs.inner.Parts.{IsMomentWord};
-ghost use Rattle.dispatch_sheet.specs.inner.Pushed.{Adds};
-ghost use Rattle.plan_reasons.specs.WhyText.{IsArrival, wagon_words, without_words};
-ghost use Rattle.plan_reasons.specs.inner.Asked.{AddsWagonLine, IsAsked, priced_plan};
+ghost use Rattle.plan_reasons.specs.Planned.{IsPlannedProblem, priced_plan};
+ghost use Rattle.plan_reasons.specs.WhyText.{IsArrival, wagon_fields, without_fields};
+ghost use Rattle.plan_reasons.specs.inner.Added.{AddsWagonLine};
 
-use crate::asked::Asked;
+use crate::planned_problem::PlannedProblem;
 use crate::reasons::arrival;
-use dispatch_sheet::{push_code, push_number};
+use crate::style::{Style, code_field, end_line, first_code, moment_field, number_field};
 use plan_bounds::Bounds;
 use price_checker::{order_name, wagon_name};
 use rail_codes::Moment;
@@ -19,73 +18,81 @@ use std::alloc::AllocError;
 /// Adds the line of a wagon that goes to an order.
 pub(crate) fn push_wagon_line(
     text: &mut String,
-    asked: &Asked,
+    style: Style,
+    planned: &PlannedProblem,
     pair: (usize, usize),
 ) -> Result<(), AllocError>
-    requires asked { IsAsked asked.now }
-    requires allowed { IsAllowed asked.now.cells.now pair }
-    ensures { OnOk result (AddsWagonLine asked.now pair (string_bytes text.old) (string_bytes text.new)) }
+    requires planned { IsPlannedProblem planned.now }
+    requires allowed { IsAllowed planned.now.cells.now pair }
+    ensures { OnOk result (AddsWagonLine style planned.now pair (string_bytes text.old) (string_bytes text.new)) }
 {
-    push_wagon_words(text, asked, pair)?;
-    push_moment(text, arrival_of(asked, pair))?;
-    push_without(text, asked, pair.0)
+    push_wagon_fields(text, style, planned, pair)?;
+    moment_field(text, style, "arrival", arrival_of(planned, pair))?;
+    push_without(text, style, planned, pair.0)
 }
 
 /// Adds the number of a wagon that goes, its order, and its kilometres.
-fn push_wagon_words(
+fn push_wagon_fields(
     text: &mut String,
-    asked: &Asked,
+    style: Style,
+    planned: &PlannedProblem,
     pair: (usize, usize),
 ) -> Result<(), AllocError>
-    requires asked { IsAsked asked.now }
-    requires allowed { IsAllowed asked.now.cells.now pair }
-    ensures { OnOk result (string_bytes text.new ≡ string_bytes text.old ++ wagon_words asked.now.problem.now (priced_plan asked.now) pair) }
+    requires planned { IsPlannedProblem planned.now }
+    requires allowed { IsAllowed planned.now.cells.now pair }
+    ensures { OnOk result (string_bytes text.new ≡ string_bytes text.old ++ wagon_fields style planned.now.problem.now (priced_plan planned.now) pair) }
 {
     let (i, j) = pair;
-    text.push_str("wagon")?;
-    push_code(text, wagon_name(asked.problem, i).digits())?;
-    push_code(text, order_name(asked.problem, j).as_bytes())?;
-    push_number(text, asked.cells.cell(i, j).unwrap_or(0))
+    first_code(
+        text,
+        style,
+        "wagon",
+        wagon_name(planned.problem, i).digits(),
+    )?;
+    code_field(
+        text,
+        style,
+        "order",
+        order_name(planned.problem, j).as_bytes(),
+    )?;
+    number_field(text, style, "km", planned.cells.cell(i, j).unwrap_or(0))
 }
 
 /// When the wagon of a pair is at the order's place.
-fn arrival_of(asked: &Asked, pair: (usize, usize)) -> Moment
-    requires asked { IsAsked asked.now }
-    requires allowed { IsAllowed asked.now.cells.now pair }
-    ensures { IsArrival asked.now.tables.now asked.now.problem.now pair result }
+fn arrival_of(planned: &PlannedProblem, pair: (usize, usize)) -> Moment
+    requires planned { IsPlannedProblem planned.now }
+    requires allowed { IsAllowed planned.now.cells.now pair }
+    ensures { IsArrival planned.now.tables.now planned.now.problem.now pair result }
 {
-    let wagon = &asked.problem.wagons()[pair.0];
-    let order = asked.problem.orders()[pair.1].order();
+    let wagon = &planned.problem.wagons()[pair.0];
+    let order = planned.problem.orders()[pair.1].order();
     // For the prover alone: the latest moment is one of the years that a moment may be of.
     let _latest = order.latest().seconds();
-    let (_, minutes) = asked.tables.between(wagon.place, order.place()).unwrap();
-    Moment::from_seconds(arrival(asked.problem.at(), wagon, minutes)).unwrap()
-}
-
-/// Adds a moment.
-fn push_moment(text: &mut String, moment: Moment) -> Result<(), AllocError>
-    ensures { OnOk result (Adds (IsMomentWord moment) (string_bytes text.old) (string_bytes text.new)) }
-{
-    text.push_str(" ")?;
-    moment.push_text(text)
+    let (_, minutes) = planned.tables.between(wagon.place, order.place()).unwrap();
+    Moment::from_seconds(arrival(planned.problem.at(), wagon, minutes)).unwrap()
 }
 
 /// Adds what every plan in which wagon `i` stays costs more, at least.
-fn push_without(text: &mut String, asked: &Asked, i: usize) -> Result<(), AllocError>
-    requires asked { IsAsked asked.now }
-    requires wagon { i < wagon_count asked.now.cells.now }
-    ensures { OnOk result (string_bytes text.new ≡ string_bytes text.old ++ without_words (priced_plan asked.now) i) }
+fn push_without(
+    text: &mut String,
+    style: Style,
+    planned: &PlannedProblem,
+    i: usize,
+) -> Result<(), AllocError>
+    requires planned { IsPlannedProblem planned.now }
+    requires wagon { i < wagon_count planned.now.cells.now }
+    ensures { OnOk result (string_bytes text.new ≡ string_bytes text.old ++ without_fields style (priced_plan planned.now) i) }
 {
-    push_number(text, without(asked, i))?;
-    text.push_str("\n")
+    number_field(text, style, "without", without(planned, i))?;
+    end_line(text, style)
 }
 
 /// What every plan in which wagon `i` stays costs more, at least.
-fn without(asked: &Asked, i: usize) -> u64
-    requires asked { IsAsked asked.now }
-    requires wagon { i < wagon_count asked.now.cells.now }
-    ensures value { result ≡ slice_index asked.now.prices.now.u.items i }
-    ensures bound { CostsMore (priced_plan asked.now) (IsIdle i) result }
+fn without(planned: &PlannedProblem, i: usize) -> u64
+    requires planned { IsPlannedProblem planned.now }
+    requires wagon { i < wagon_count planned.now.cells.now }
+    ensures value { result ≡ slice_index planned.now.prices.now.u.items i }
+    ensures bound { CostsMore (priced_plan planned.now) (IsIdle i) result }
 {
-    Bounds::new(asked.cells, asked.plan, asked.prices).idle_bound(i)
+    Bounds::new(planned.cells, planned.plan, planned.prices).idle_bound(i)
 }

@@ -1,111 +1,128 @@
 //! The text that says why a plan is as it is.
 ghost use Rattle.std.specs.Prelude.{◌≡◌, ◌-◌, ◌++◌, ◌≤◌, ◌*◌, IfOk, OnOk, length, string_bytes};
 ghost use Rattle.cost_table.specs.Table.{order_count};
-ghost use Rattle.price_checker.specs.Certificate.{IsCertificate};
-ghost use Rattle.problem_table.specs.Allowed.{IsTableOf};
-ghost use Rattle.plan_reasons.specs.WhyText.{IsWhyText, missed_in_all, priced, why_line};
-ghost use Rattle.plan_reasons.specs.inner.Asked.{AddsOrderLines, AddsWagonLines, IsAsked, priced_plan};
+ghost use Rattle.plan_reasons.specs.Planned.{IsPlannedProblem, priced_plan};
+ghost use Rattle.plan_reasons.specs.WhyText.{IsWhyText, missed_in_all, plan_fields, problem_fields, why_line};
+ghost use Rattle.plan_reasons.specs.inner.Added.{AddsOrderLines, AddsWagonLines};
 
-use crate::asked::Asked;
 use crate::order_line::{missed, push_order_line};
+use crate::planned_problem::PlannedProblem;
+use crate::style::{Style, end_line, first_number, number_field, push_field};
 use crate::wagon_line::push_wagon_line;
-use cost_table::{Cells, Plan, Problem, cost};
-use dispatch_sheet::{push_number, push_word};
+use cost_table::cost;
 use itoa::Buffer;
-use line_network::Tables;
-use price_checker::Prices;
 use std::alloc::{AllocError, Global};
 
-/// Why a plan is as it is, by the prices that are its certificate: `why VERSION FREE ORDERS COST GO STAY MISS`, then
-/// `order NAME LACKS GETS MISSES CLASS LOAD WAY TIME CHEAPER PRICE FURTHER` for each order as placed, then
-/// `wagon NUMBER ORDER KM ARRIVAL WITHOUT` for each wagon that goes, in the plan's order. The table must be the problem's.
+/// Why a plan is as it is, by the prices that are its certificate. In a text of words it is `why VERSION FREE ORDERS COST GO
+/// STAY MISS`, then `order NAME LACKS GETS MISSES CLASS LOAD WAY TIME CHEAPER PRICE FURTHER` for each order as placed, then
+/// `wagon NUMBER ORDER KM ARRIVAL WITHOUT` for each wagon that goes, in the plan's order. As JSON each line is an object with
+/// the members `why`, `free`, `orders`, `cost`, `go`, `stay`, `miss`; `order`, `lacks`, `gets`, `misses`, `class`, `load`,
+/// `way`, `time`, `cheaper`, `price`, `further`; or `wagon`, `order`, `km`, `arrival`, `without`.
 ///
 /// `CLASS` to `CHEAPER` are how many free wagons pass each test for the order, one after the other. `PRICE` is what every plan
 /// costs more, at least, where the order lacks one wagon more, and what any plan saves, at most, where it lacks one less.
-/// `FURTHER` is what every plan costs more, at least, that gives the order more wagons: `-` where it misses none, and `none`
-/// where no plan does. `WITHOUT` is what every plan costs more, at least, in which the wagon stays.
+/// `FURTHER` is what every plan costs more, at least, that gives the order more wagons: `-` (in JSON null) where it misses
+/// none, and `none` where no plan does. `WITHOUT` is what every plan costs more, at least, in which the wagon stays.
 pub fn why_text(
     alloc: Global,
+    style: Style,
     version: u64,
-    problem: &Problem,
-    tables: &Tables,
-    cells: &Cells,
-    plan: &Plan,
-    prices: &Prices,
+    planned: &PlannedProblem,
 ) -> Result<String, AllocError>
-    requires table { IsTableOf tables.now problem.now cells.now }
-    requires certificate { IsCertificate cells.now plan.now prices.now.u.items prices.now.v.items }
-    ensures { IfOk result (λ text. IsWhyText version tables.now problem.now (priced cells.now plan.now prices.now.u.items prices.now.v.items) (string_bytes text)) }
+    requires { IsPlannedProblem planned.now }
+    ensures { IfOk result (λ text. IsWhyText style version planned.now.tables.now planned.now.problem.now (priced_plan planned.now) (string_bytes text)) }
 {
-    let asked = Asked {
-        problem,
-        tables,
-        cells,
-        plan,
-        prices,
-    };
     let mut text = String::new(alloc);
-    push_why_line(&mut text, version, &asked)?;
-    push_orders(&mut text, &asked)?;
-    push_wagons(&mut text, &asked)?;
+    push_why_line(&mut text, style, version, planned)?;
+    push_orders(&mut text, style, planned)?;
+    push_wagons(&mut text, style, planned)?;
     Ok(text)
 }
 
 /// Adds the line of the whole.
-fn push_why_line(text: &mut String, version: u64, asked: &Asked) -> Result<(), AllocError>
-    requires { IsAsked asked.now }
-    ensures { OnOk result (string_bytes text.new ≡ string_bytes text.old ++ why_line version asked.now.problem.now (priced_plan asked.now)) }
+fn push_why_line(
+    text: &mut String,
+    style: Style,
+    version: u64,
+    planned: &PlannedProblem,
+) -> Result<(), AllocError>
+    requires { IsPlannedProblem planned.now }
+    ensures { OnOk result (string_bytes text.new ≡ string_bytes text.old ++ why_line style version planned.now.problem.now (priced_plan planned.now)) }
 {
-    let pairs = asked.plan.pairs();
+    push_problem(text, style, version, planned)?;
+    push_plan(text, style, planned)?;
+    end_line(text, style)
+}
+
+/// Adds the version, and how many free wagons and orders there are.
+fn push_problem(
+    text: &mut String,
+    style: Style,
+    version: u64,
+    planned: &PlannedProblem,
+) -> Result<(), AllocError>
+    ensures { OnOk result (string_bytes text.new ≡ string_bytes text.old ++ problem_fields style version planned.now.problem.now) }
+{
+    first_number(text, style, "why", version)?;
+    number_field(text, style, "free", planned.problem.wagons().len() as u64)?;
+    number_field(text, style, "orders", planned.problem.orders().len() as u64)
+}
+
+/// Adds what the plan costs, how many wagons go and stay, and how many the orders miss.
+fn push_plan(text: &mut String, style: Style, planned: &PlannedProblem) -> Result<(), AllocError>
+    requires { IsPlannedProblem planned.now }
+    ensures { OnOk result (string_bytes text.new ≡ string_bytes text.old ++ plan_fields style planned.now.problem.now (priced_plan planned.now)) }
+{
+    let pairs = planned.plan.pairs();
     let mut digits = Buffer::new();
-    text.push_str("why")?;
-    push_number(text, version)?;
-    push_number(text, asked.problem.wagons().len() as u64)?;
-    push_number(text, asked.problem.orders().len() as u64)?;
-    push_word(text, digits.format(cost(asked.cells, pairs)))?;
-    push_number(text, pairs.len() as u64)?;
-    push_number(text, staying(asked) as u64)?;
-    push_number(text, missed_in_all(asked))?;
-    text.push_str("\n")
+    push_field(
+        text,
+        style,
+        "cost",
+        digits.format(cost(planned.cells, pairs)),
+    )?;
+    number_field(text, style, "go", pairs.len() as u64)?;
+    number_field(text, style, "stay", staying(planned) as u64)?;
+    number_field(text, style, "miss", missed_in_all(planned))
 }
 
 /// How many free wagons stay.
-fn staying(asked: &Asked) -> usize
-    ensures { result ≡ length asked.now.problem.now.wagons - length asked.now.plan.now }
+fn staying(planned: &PlannedProblem) -> usize
+    ensures { result ≡ length planned.now.problem.now.wagons - length planned.now.plan.now }
 {
-    let free = asked.problem.wagons().len();
-    free.saturating_sub(asked.plan.pairs().len())
+    let free = planned.problem.wagons().len();
+    free.saturating_sub(planned.plan.pairs().len())
 }
 
 /// How many wagons the orders miss in all.
-fn missed_in_all(asked: &Asked) -> u64
-    ensures { result ≡ missed_in_all (priced_plan asked.now) }
+fn missed_in_all(planned: &PlannedProblem) -> u64
+    ensures { result ≡ missed_in_all (priced_plan planned.now) }
 {
     let mut all = 0;
-    for j in 0..asked.cells.orders() {
-        all += missed(asked, j);
+    for j in 0..planned.cells.orders() {
+        all += missed(planned, j);
     }
     all
 }
 
 /// Adds the line of each order.
-fn push_orders(text: &mut String, asked: &Asked) -> Result<(), AllocError>
-    requires { IsAsked asked.now }
-    ensures { OnOk result (AddsOrderLines asked.now (length asked.now.problem.now.orders) (string_bytes text.old) (string_bytes text.new)) }
+fn push_orders(text: &mut String, style: Style, planned: &PlannedProblem) -> Result<(), AllocError>
+    requires { IsPlannedProblem planned.now }
+    ensures { OnOk result (AddsOrderLines style planned.now (length planned.now.problem.now.orders) (string_bytes text.old) (string_bytes text.new)) }
 {
-    for j in 0..asked.problem.orders().len() {
-        push_order_line(text, asked, j)?;
+    for j in 0..planned.problem.orders().len() {
+        push_order_line(text, style, planned, j)?;
     }
     Ok(())
 }
 
 /// Adds the line of each wagon that goes.
-fn push_wagons(text: &mut String, asked: &Asked) -> Result<(), AllocError>
-    requires { IsAsked asked.now }
-    ensures { OnOk result (AddsWagonLines asked.now asked.now.plan.now (string_bytes text.old) (string_bytes text.new)) }
+fn push_wagons(text: &mut String, style: Style, planned: &PlannedProblem) -> Result<(), AllocError>
+    requires { IsPlannedProblem planned.now }
+    ensures { OnOk result (AddsWagonLines style planned.now planned.now.plan.now (string_bytes text.old) (string_bytes text.new)) }
 {
-    for pair in asked.plan.pairs() {
-        push_wagon_line(text, asked, *pair)?;
+    for pair in planned.plan.pairs() {
+        push_wagon_line(text, style, planned, *pair)?;
     }
     Ok(())
 }

@@ -9,28 +9,28 @@ use Rattle.plan_reasons.proofs.wagon_line.arrival_of.Goals as goal
 
 pub unwrap-minutes-requires : goal.unwrap-minutes-requires
 unwrap-minutes-requires c =
-    let net = c.args.asked.now.tables.now in
-    let problem = c.args.asked.now.problem.now in
+    let net = c.args.planned.now.tables.now in
+    let problem = c.args.planned.now.problem.now in
     let wagon = c.index-wagons-pair.result in
     let wanted = c.index-orders-pair.result in
-    let goes : slice_get problem.wagons c.args.pair.0 ≡ Some wagon = standing c.wagons.result.now problem.wagons c.args.pair.0 wagon c.wagons.ensures.wagons (omega (arith, c.requires.allowed.0, c.requires.asked.table.wagons)) c.index-wagons-pair.is in
-    let order : slice_get problem.orders c.args.pair.1 ≡ Some wanted = standing c.orders.result.now problem.orders c.args.pair.1 wanted c.orders.ensures.orders (omega (arith, c.requires.allowed.1, order_count-table net problem c.args.asked.now.cells.now c.requires.asked.table)) c.index-orders-pair.is in
+    let goes : slice_get problem.wagons c.args.pair.0 ≡ Some wagon = standing c.wagons.result.now problem.wagons c.args.pair.0 wagon c.wagons.ensures.wagons (omega (arith, c.requires.allowed.0, c.requires.planned.table.wagons)) c.index-wagons-pair.is in
+    let order : slice_get problem.orders c.args.pair.1 ≡ Some wanted = standing c.orders.result.now problem.orders c.args.pair.1 wanted c.orders.ensures.orders (omega (arith, c.requires.allowed.1, order_count-table net problem c.args.planned.now.cells.now c.requires.planned.table)) c.index-orders-pair.is in
     let place : c.place.result ≡ wanted.order.place = c.place.ensures ∙ ap (λ (order : Order). order.place) c.order-order.ensures in
     let km = c.requires.allowed.2.0 in
-    let reaches = (c.requires.asked.table.cells c.args.pair.0 c.args.pair.1 km wagon wanted goes order).0 c.requires.allowed.2.1 in
+    let reaches = (c.requires.planned.table.cells c.args.pair.0 c.args.pair.1 km wagon wanted goes order).0 c.requires.allowed.2.1 in
     some_way net wagon.place wanted.order.place (km, reaches.minutes) c.between.result reaches.distance (subst (λ (b : List ℕ). IfNone c.between.result (HasNoWalk net wagon.place b)) place c.between.ensures.none)
 
 pub unwrap-requires : goal.unwrap-requires
 unwrap-requires c =
-    let net = c.args.asked.now.tables.now in
-    let problem = c.args.asked.now.problem.now in
+    let net = c.args.planned.now.tables.now in
+    let problem = c.args.planned.now.problem.now in
     let wagon = c.index-wagons-pair.result in
     let wanted = c.index-orders-pair.result in
-    let goes : slice_get problem.wagons c.args.pair.0 ≡ Some wagon = standing c.wagons.result.now problem.wagons c.args.pair.0 wagon c.wagons.ensures.wagons (omega (arith, c.requires.allowed.0, c.requires.asked.table.wagons)) c.index-wagons-pair.is in
-    let order : slice_get problem.orders c.args.pair.1 ≡ Some wanted = standing c.orders.result.now problem.orders c.args.pair.1 wanted c.orders.ensures.orders (omega (arith, c.requires.allowed.1, order_count-table net problem c.args.asked.now.cells.now c.requires.asked.table)) c.index-orders-pair.is in
+    let goes : slice_get problem.wagons c.args.pair.0 ≡ Some wagon = standing c.wagons.result.now problem.wagons c.args.pair.0 wagon c.wagons.ensures.wagons (omega (arith, c.requires.allowed.0, c.requires.planned.table.wagons)) c.index-wagons-pair.is in
+    let order : slice_get problem.orders c.args.pair.1 ≡ Some wanted = standing c.orders.result.now problem.orders c.args.pair.1 wanted c.orders.ensures.orders (omega (arith, c.requires.allowed.1, order_count-table net problem c.args.planned.now.cells.now c.requires.planned.table)) c.index-orders-pair.is in
     let place : c.place.result ≡ wanted.order.place = c.place.ensures ∙ ap (λ (order : Order). order.place) c.order-order.ensures in
     let km = c.requires.allowed.2.0 in
-    let reaches = (c.requires.asked.table.cells c.args.pair.0 c.args.pair.1 km wagon wanted goes order).0 c.requires.allowed.2.1 in
+    let reaches = (c.requires.planned.table.cells c.args.pair.0 c.args.pair.1 km wagon wanted goes order).0 c.requires.allowed.2.1 in
     let way = c.unwrap-minutes.result in
     let distance : IsDistance net wagon.place wanted.order.place way = subst (λ (b : List ℕ). IsDistance net wagon.place b way) place (of_some (IsDistance net wagon.place c.place.result) c.between.result way c.unwrap-minutes.ensures c.between.ensures.distance) in
     let in_time = in_time_by net problem.at wagon wanted.order way km distance reaches in
@@ -39,15 +39,15 @@ unwrap-requires c =
 
 pub returns : goal.returns
 returns c =
-    let net = c.args.asked.now.tables.now in
-    let problem = c.args.asked.now.problem.now in
+    let net = c.args.planned.now.tables.now in
+    let problem = c.args.planned.now.problem.now in
     let wagon = c.index-wagons-pair.result in
     let wanted = c.index-orders-pair.result in
-    let goes : slice_get problem.wagons c.args.pair.0 ≡ Some wagon = standing c.wagons.result.now problem.wagons c.args.pair.0 wagon c.wagons.ensures.wagons (omega (arith, c.requires.allowed.0, c.requires.asked.table.wagons)) c.index-wagons-pair.is in
-    let order : slice_get problem.orders c.args.pair.1 ≡ Some wanted = standing c.orders.result.now problem.orders c.args.pair.1 wanted c.orders.ensures.orders (omega (arith, c.requires.allowed.1, order_count-table net problem c.args.asked.now.cells.now c.requires.asked.table)) c.index-orders-pair.is in
+    let goes : slice_get problem.wagons c.args.pair.0 ≡ Some wagon = standing c.wagons.result.now problem.wagons c.args.pair.0 wagon c.wagons.ensures.wagons (omega (arith, c.requires.allowed.0, c.requires.planned.table.wagons)) c.index-wagons-pair.is in
+    let order : slice_get problem.orders c.args.pair.1 ≡ Some wanted = standing c.orders.result.now problem.orders c.args.pair.1 wanted c.orders.ensures.orders (omega (arith, c.requires.allowed.1, order_count-table net problem c.args.planned.now.cells.now c.requires.planned.table)) c.index-orders-pair.is in
     let place : c.place.result ≡ wanted.order.place = c.place.ensures ∙ ap (λ (order : Order). order.place) c.order-order.ensures in
     let km = c.requires.allowed.2.0 in
-    let reaches = (c.requires.asked.table.cells c.args.pair.0 c.args.pair.1 km wagon wanted goes order).0 c.requires.allowed.2.1 in
+    let reaches = (c.requires.planned.table.cells c.args.pair.0 c.args.pair.1 km wagon wanted goes order).0 c.requires.allowed.2.1 in
     let way = c.unwrap-minutes.result in
     let distance : IsDistance net wagon.place wanted.order.place way = subst (λ (b : List ℕ). IsDistance net wagon.place b way) place (of_some (IsDistance net wagon.place c.place.result) c.between.result way c.unwrap-minutes.ensures c.between.ensures.distance) in
     let kept = of_ok (λ (m : ℕ). m ≡ c.arrival.result) c.from_seconds.result c.unwrap.result c.unwrap.ensures c.from_seconds.ensures.kept in

@@ -4,18 +4,18 @@ use Rattle.dispatch_sheet.proofs.Lines.{Adds-line, Adds-lines-along}
 use Rattle.dispatch_sheet.proofs.Lists.{taken_more}
 use Rattle.dispatch_sheet.proofs.PlanLines.{IsAllowed-at}
 use Rattle.plan_reasons.specs.WhyText.{IsWagonLine}
-use Rattle.plan_reasons.specs.inner.Asked.{priced_plan}
+use Rattle.plan_reasons.specs.Planned.{priced_plan}
 use Rattle.plan_reasons.proofs.why_lines.push_wagons.Goals as goal
 
 pub push_wagon_line-requires-clause-allowed : goal.push_wagon_line-requires-clause-allowed
 push_wagon_line-requires-clause-allowed c =
-    let cells = c.args.asked.now.cells.now in
+    let cells = c.args.planned.now.cells.now in
     let allowed = subst (AllAllowed cells) (sym c.pairs-pair-items.ensures.pairs) c.requires.certified.plan.allowed in
     IsAllowed-at cells c.pairs-pair-items.result.now c.loop-pair.pair-index (0, 0) allowed (omega arith)
 
 pub loop-pair-preserved : goal.loop-pair-preserved
 loop-pair-preserved c =
-    let is_line = IsWagonLine c.args.asked.now.tables.now c.args.asked.now.problem.now (priced_plan c.args.asked.now) in
+    let is_line = IsWagonLine c.args.style c.args.planned.now.tables.now c.args.planned.now.problem.now (priced_plan c.args.planned.now) in
     let pairs = c.pairs-pair-items.result.now in
     let i = c.loop-pair.pair-index in
     let pair : ℕ × ℕ = get_or pairs i (0, 0) in

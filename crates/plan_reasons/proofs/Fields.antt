@@ -1,0 +1,30 @@
+-- Fields from their parts.
+use Rattle.std.proofs.Common.{◌≡◌, ℕ, List, ◌++◌, refl, ap, ◌∙◌, append_assoc}
+use Rattle.rail_codes.specs.Moment.{IsMomentText}
+use Rattle.dispatch_sheet.specs.inner.Pushed.{Adds}
+use Rattle.plan_reasons.specs.declared.style.Style.{Style}
+use Rattle.plan_reasons.specs.Fields.{field, naming, quote, quoted}
+use Rattle.plan_reasons.specs.inner.Added.{IsMomentField, IsMomentValue}
+
+pub three_parts : (old x y z a b c : List ℕ) → a ≡ old ++ x → b ≡ a ++ y → c ≡ b ++ z → c ≡ old ++ (x ++ y ++ z)
+three_parts old x y z a b c first second third =
+    third ∙ ap (λ (xs : List ℕ). xs ++ z) (second ∙ ap (λ (xs : List ℕ). xs ++ y) first) ∙ joined
+  where
+    joined : ((old ++ x) ++ y) ++ z ≡ old ++ (x ++ y ++ z)
+    joined = simp append_assoc refl
+
+-- a moment's text between what stands around it
+pub moment_value : (style : Style) (seconds : ℕ) (old a b c text : List ℕ) → IsMomentText seconds text → a ≡ old ++ quote style → b ≡ a ++ text → c ≡ b ++ quote style → Adds (IsMomentValue style seconds) old c
+moment_value style seconds old a b c text moment first second third = record {
+  added = quoted style text;
+  is = record { text = text; moment = moment; whole = refl };
+  whole = three_parts old (quote style) text (quote style) a b c first second third;
+}
+
+-- a moment as a field, from its value behind the field's name
+pub moment_field : (style : Style) (name : List ℕ) (seconds : ℕ) (old a b : List ℕ) → a ≡ old ++ naming style name → Adds (IsMomentValue style seconds) a b → Adds (IsMomentField style name seconds) old b
+moment_field style name seconds old a b first second = record {
+  added = field style name second.added;
+  is = record { text = second.is.text; moment = second.is.moment; whole = ap (field style name) second.is.whole };
+  whole = second.whole ∙ ap (λ (xs : List ℕ). xs ++ second.added) first ∙ append_assoc old (naming style name) second.added;
+}
