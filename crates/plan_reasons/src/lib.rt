@@ -4,15 +4,22 @@
 //! `Err` only when out of memory.
 #![tactic(auto)]
 
+mod failed_line;
+mod finders;
 mod laws;
+mod one_text;
 mod order_line;
+mod pair_line;
+mod pair_lists;
 mod planned_problem;
 mod reasons;
 mod style;
 mod wagon_line;
 mod why_lines;
 
-pub use laws::{in_time_are_allowed, numbers_are_bounds, tests_narrow};
+pub use finders::{find_order, find_wagon};
+pub use laws::{fits_are_cheaper, in_time_are_allowed, numbers_are_bounds, tests_narrow};
+pub use one_text::{order_text, wagon_text};
 pub use planned_problem::PlannedProblem;
 pub use reasons::{Counts, counts_of_order};
 pub use style::Style;
