@@ -1,5 +1,6 @@
 //! Why a plan is as it is: for each order how many free wagons pass the tests for it, one after the other, and for each order
-//! and wagon what other plans cost more, at least, by the prices of the plan's certificate.
+//! and wagon what other plans cost more, at least, by the prices of the plan's certificate. Of one order or one wagon also why
+//! each pair is in the plan or not: what plans that have it cost more, at least, or the first test that the wagon fails.
 //!
 //! `Err` only when out of memory.
 #![tactic(auto)]
