@@ -5,3 +5,8 @@ pub mod Fields
 pub mod Lines
 pub mod Columns
 pub mod Narrow
+pub mod Passing
+pub mod More
+pub mod PairTexts
+pub mod PairFields
+pub mod NamedThere

@@ -1,18 +1,16 @@
 -- Lines from their parts.
-use Rattle.std.proofs.Common.{◌≡◌, ℕ, Some, List, ◌++◌, length, refl, ap, ◌∙◌, append_assoc}
+use Rattle.std.proofs.Common.{◌≡◌, ℕ, Some, List, ◌++◌, refl, ap, ◌∙◌}
 use Rattle.std.specs.Prelude.{codes, slice_get}
 use Rattle.plan_bounds.specs.PricedPlan.{PricedPlan}
 use Rattle.line_network.specs.Network.{NetworkValue}
 use Rattle.wagons_and_orders.specs.Wanted.{WantedOrder}
 use Rattle.cost_table.specs.Problem.{ProblemValue}
-use Rattle.std.specs.List.{range_with_len}
-use Rattle.dispatch_sheet.specs.Sheet.{AreLines}
 use Rattle.plan_reasons.specs.declared.reasons.Counts.{Counts}
 use Rattle.plan_reasons.specs.Reasons.{AreCounts}
 use Rattle.dispatch_sheet.specs.inner.Pushed.{Adds}
 use Rattle.plan_reasons.specs.declared.style.Style.{Style}
 use Rattle.plan_reasons.specs.Fields.{field, quoted}
-use Rattle.plan_reasons.specs.WhyText.{IsArrival, IsOrderLine, IsWagonLine, IsWhyText, count_fields, order_fields, order_line, price_fields, wagon_fields, wagon_line, why_line, without_fields}
+use Rattle.plan_reasons.specs.WhyText.{IsArrival, IsOrderLine, IsWagonLine, count_fields, order_fields, order_line, price_fields, wagon_fields, wagon_line, without_fields}
 use Rattle.plan_reasons.specs.inner.Added.{IsMomentField}
 use Rattle.plan_reasons.proofs.Fields.{three_parts}
 
@@ -34,13 +32,3 @@ module _ (style : Style) (net : NetworkValue) (problem : ProblemValue) (p : Pric
         is = record { arrival = arrival; arrives = arrives; moment = moment.text; printed = moment.moment; text = refl };
         whole = three_parts old (wagon_fields style problem p pair) (field style (codes "arrival") (quoted style moment.text)) (without_fields style p pair.0) a b c first (second.whole ∙ ap (λ (xs : List ℕ). a ++ xs) moment.whole) third;
       }
-
-  pub whole_text : (version : ℕ) (a b c : List ℕ) → a ≡ why_line style version problem p → Adds (AreLines (IsOrderLine style net problem p) (range_with_len 0 (length problem.orders))) a b → Adds (AreLines (IsWagonLine style net problem p) p.pairs) b c
-      → IsWhyText style version net problem p c
-  whole_text version a b c first orders wagons = record {
-    orders = orders.added;
-    wagons = wagons.added;
-    order_lines = orders.is;
-    wagon_lines = wagons.is;
-    whole = wagons.whole ∙ ap (λ (xs : List ℕ). xs ++ wagons.added) (orders.whole ∙ ap (λ (xs : List ℕ). xs ++ orders.added) first);
-  }

@@ -1,5 +1,5 @@
 -- Laws of the text: what its counts count, and what its numbers bound.
-use Rattle.std.specs.Prelude.{◌≡◌, ◌+◌, ◌-◌, ◌<◌, ◌≤◌, ℕ, List, length, Some, IfNone, IfSome, is_some, slice_get, slice_index}
+use Rattle.std.specs.Prelude.{◌≡◌, ◌+◌, ◌-◌, ◌<◌, ◌≤◌, ◌↔◌, ℕ, IsTrue, List, length, Some, IfNone, IfSome, is_some, slice_get, slice_index}
 use Rattle.std.specs.List.{count_by}
 use Rattle.move_messages.specs.Order.{Order}
 use Rattle.wagons_and_orders.specs.declared.free_wagon.FreeWagon.{FreeWagon}
@@ -11,9 +11,11 @@ use Rattle.problem_table.specs.Allowed.{IsTableOf}
 use Rattle.plan_bounds.specs.PricedPlan.{IsCertified, PricedPlan}
 use Rattle.plan_bounds.specs.Changes.{with_lack, without_wagon}
 use Rattle.plan_bounds.specs.LeastSlack.{least_new_slack}
-use Rattle.plan_bounds.specs.Bounds.{AllCostMore, CostsMore, IsIdle, NoneSavesMore, NoneServesMore, ServesMore}
+use Rattle.plan_bounds.specs.Bounds.{AllCostMore, CostsMore, HasPair, IsIdle, NoneSavesMore, NoneServesMore, ServesMore}
 use Rattle.plan_reasons.specs.declared.reasons.Counts.{Counts}
-use Rattle.plan_reasons.specs.Reasons.{AreCounts, IsCount, IsInTime}
+use Rattle.plan_reasons.specs.Reasons.{AreCounts, IsCheaper, IsCount, IsInTime}
+use Rattle.plan_reasons.specs.Pairs.{more_of}
+use Rattle.plan_reasons.specs.PairLists.{passes_all}
 
 -- how many wagons of a table may serve order j
 abbrev pub cells_of_order : Table → (j : ℕ) → ℕ
@@ -25,6 +27,13 @@ InTimeAreAllowed =
     (net : NetworkValue) (problem : ProblemValue) (t : Table) → IsTableOf net problem t → (j n : ℕ) (wanted : WantedOrder)
     → slice_get problem.orders j ≡ Some wanted → IsCount (λ wagon. IsInTime net problem.at wagon wanted.order) problem.wagons n
     → n ≡ cells_of_order t j
+
+-- the pairs that fail no test are those whose wagon is there in time and costs less than the order's penalty
+abbrev pub FitsAreCheaper : Type 0
+FitsAreCheaper =
+    (net : NetworkValue) (problem : ProblemValue) (t : Table) → IsTableOf net problem t → (i j : ℕ) (wagon : FreeWagon) (wanted : WantedOrder)
+    → slice_get problem.wagons i ≡ Some wagon → slice_get problem.orders j ≡ Some wanted
+    → IsTrue (passes_all t (i, j)) ↔ IsCheaper net problem.at wagon wanted.order
 
 -- how many wagons pass the tests is one number for each test
 abbrev pub CountsAreSettled : Type 0
@@ -57,8 +66,16 @@ pub record WagonBounds (p : PricedPlan) (i : ℕ) : Type 0 where
   pub stays : CostsMore p (IsIdle i) (slice_index p.u i)
   pub without : AllCostMore p (without_wagon p.table i) (slice_index p.u i)
 
+-- what the number of a pair says of plans that have it; it is 0 for a pair of the plan itself
+pub record PairBounds (p : PricedPlan) (i j : ℕ) : Type 0 where
+  pub more : CostsMore p (HasPair i j) (more_of p (i, j))
+  pub own : HasPair i j p.pairs → more_of p (i, j) ≡ 0
+
 abbrev pub NumbersOfOrdersBound : Type 0
 NumbersOfOrdersBound = (p : PricedPlan) → IsCertified p → (j : ℕ) → j < order_count p.table → OrderBounds p j
 
 abbrev pub NumbersOfWagonsBound : Type 0
 NumbersOfWagonsBound = (p : PricedPlan) → IsCertified p → (i : ℕ) → i < wagon_count p.table → WagonBounds p i
+
+abbrev pub NumbersOfPairsBound : Type 0
+NumbersOfPairsBound = (p : PricedPlan) → IsCertified p → (i j : ℕ) → PairBounds p i j

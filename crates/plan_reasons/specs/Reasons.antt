@@ -8,6 +8,8 @@ use Rattle.line_network.specs.Network.{NetworkValue}
 use Rattle.line_network.specs.Distance.{IsDistance}
 use Rattle.problem_table.specs.Allowed.{Reaches}
 use Rattle.plan_reasons.specs.declared.reasons.Counts.{Counts}
+use Rattle.plan_reasons.specs.declared.reasons.Test.{Test}
+use Rattle.plan_reasons.specs.declared.reasons.Test.TheVariants.{Class, Load, Way, InTime, Cheaper}
 
 -- the order lists the wagon's class, as a whole text
 abbrev pub IsOfClass : FreeWagon → Order → Type 0
@@ -28,6 +30,14 @@ pub record IsCheaper (net : NetworkValue) (at : ℕ) (wagon : FreeWagon) (order 
   pub km : ℕ
   pub reaches : Reaches net at wagon order km
   pub cheaper : km < order.penalty
+
+-- the first test that the wagon fails for the order: it passes those before
+abbrev pub FailsFirst : NetworkValue → (at : ℕ) → FreeWagon → Order → Test → Type 0
+FailsFirst net at wagon order Class = ¬ IsOfClass wagon order
+FailsFirst net at wagon order Load = IsOfClass wagon order × (¬ Suits wagon order)
+FailsFirst net at wagon order Way = Suits wagon order × (¬ HasWay net wagon order)
+FailsFirst net at wagon order InTime = HasWay net wagon order × (¬ IsInTime net at wagon order)
+FailsFirst net at wagon order Cheaper = IsInTime net at wagon order × (¬ IsCheaper net at wagon order)
 
 -- so many of the wagons are so: each has a mark that says whether it is, and n marks say yes
 pub record IsCount (IsSo : FreeWagon → Type 0) (wagons : List FreeWagon) (n : ℕ) : Type 0 where

@@ -1,3 +1,4 @@
 -- What only proofs and private functions need.
 pub mod Passed
 pub mod Added
+pub mod AddedPairs

@@ -1,5 +1,13 @@
 //! Laws of the text. Their functions do nothing: the contract is the law.
-ghost use Rattle.plan_reasons.specs.Laws.{CountsAreSettled, InTimeAreAllowed, NumbersOfOrdersBound, NumbersOfWagonsBound, TestsNarrow};
+ghost use Rattle.plan_reasons.specs.Laws.{
+  CountsAreSettled,
+  FitsAreCheaper,
+  InTimeAreAllowed,
+  NumbersOfOrdersBound,
+  NumbersOfPairsBound,
+  NumbersOfWagonsBound,
+  TestsNarrow,
+};
 
 /// How many wagons pass the tests for an order is settled, and each test is passed by no more than the one before it.
 pub fn tests_narrow()
@@ -12,8 +20,14 @@ pub fn in_time_are_allowed()
     ensures { InTimeAreAllowed }
 {}
 
+/// The pairs with lines of their cost are those that fail no test.
+pub fn fits_are_cheaper()
+    ensures { FitsAreCheaper }
+{}
+
 /// What the prices and the slacks of a text say of other plans.
 pub fn numbers_are_bounds()
     ensures orders { NumbersOfOrdersBound }
     ensures wagons { NumbersOfWagonsBound }
+    ensures pairs { NumbersOfPairsBound }
 {}

@@ -1,18 +1,26 @@
 //! Why a plan is as it is: for each order how many free wagons pass the tests for it, one after the other, and for each order
-//! and wagon what other plans cost more, at least, by the prices of the plan's certificate.
+//! and wagon what other plans cost more, at least, by the prices of the plan's certificate. Of one order or one wagon also why
+//! each pair is in the plan or not: what plans that have it cost more, at least, or the first test that the wagon fails.
 //!
 //! `Err` only when out of memory.
 #![tactic(auto)]
 
+mod failed_line;
+mod finders;
 mod laws;
+mod one_text;
 mod order_line;
+mod pair_line;
+mod pair_lists;
 mod planned_problem;
 mod reasons;
 mod style;
 mod wagon_line;
 mod why_lines;
 
-pub use laws::{in_time_are_allowed, numbers_are_bounds, tests_narrow};
+pub use finders::{find_order, find_wagon};
+pub use laws::{fits_are_cheaper, in_time_are_allowed, numbers_are_bounds, tests_narrow};
+pub use one_text::{order_text, wagon_text};
 pub use planned_problem::PlannedProblem;
 pub use reasons::{Counts, counts_of_order};
 pub use style::Style;

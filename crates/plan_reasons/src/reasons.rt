@@ -1,7 +1,8 @@
 //! How many free wagons pass the tests for an order.
 ghost use Rattle.std.specs.Prelude.{◌≡◌, ◌+◌, ◌*◌, ◌≤◌, max};
 ghost use Rattle.rail_codes.specs.Moment.{first_second};
-ghost use Rattle.plan_reasons.specs.Reasons.{AreCounts};
+ghost use Rattle.line_network.specs.Distance.{IsDistance};
+ghost use Rattle.plan_reasons.specs.Reasons.{AreCounts, FailsFirst, HasWay, IsCheaper};
 ghost use Rattle.plan_reasons.specs.inner.Passed.{ArePassed};
 
 use cost_table::Problem;
@@ -23,6 +24,21 @@ pub struct Counts {
     pub in_time: u64,
     /// It costs less than the order's penalty.
     pub cheaper: u64,
+}
+
+/// A test that a free wagon passes or fails for an order. A wagon that passes one passes those before it.
+#[derive(Clone, Copy, Debug, PartialEq, Eq)]
+pub(crate) enum Test {
+    /// The order lists the wagon's class.
+    Class,
+    /// The wagon carries the order's load.
+    Load,
+    /// A way leads to the order's place.
+    Way,
+    /// The wagon is there by the latest moment.
+    InTime,
+    /// It costs less than the order's penalty.
+    Cheaper,
 }
 
 /// Which tests one wagon passes.
@@ -79,6 +95,40 @@ fn passed_by(tables: &Tables, at: Moment, wagon: &FreeWagon, order: &OrderText) 
         passed.cheaper = passed.in_time && u64::from(km) < order.penalty();
     }
     passed
+}
+
+/// The first test that a wagon fails for an order, of which it doesn't pass all.
+pub(crate) fn first_failed(
+    tables: &Tables,
+    at: Moment,
+    wagon: &FreeWagon,
+    order: &OrderText,
+) -> Test
+    requires { ¬ IsCheaper tables.now at wagon.now order.now }
+    ensures { FailsFirst tables.now at wagon.now order.now result }
+{
+    let passed = passed_by(tables, at, wagon, order);
+    if !passed.class {
+        return Test::Class;
+    }
+    if !passed.load {
+        return Test::Load;
+    }
+    if !passed.way {
+        return Test::Way;
+    }
+    if !passed.in_time {
+        return Test::InTime;
+    }
+    Test::Cheaper
+}
+
+/// The kilometres and minutes of the way from a wagon to an order's place.
+pub(crate) fn way_of(tables: &Tables, wagon: &FreeWagon, order: &OrderText) -> (u32, u32)
+    requires { HasWay tables.now wagon.now order.now }
+    ensures { IsDistance tables.now wagon.now.place order.now.place result }
+{
+    tables.between(wagon.place, order.place()).unwrap()
 }
 
 /// When a wagon is at a place so many minutes away, in seconds since 1970: it starts at a moment, or when it is ready.

@@ -8,7 +8,7 @@ ghost use Rattle.plan_reasons.specs.WhyText.{IsArrival, wagon_fields, without_fi
 ghost use Rattle.plan_reasons.specs.inner.Added.{AddsWagonLine};
 
 use crate::planned_problem::PlannedProblem;
-use crate::reasons::arrival;
+use crate::reasons::{arrival, way_of};
 use crate::style::{Style, code_field, end_line, first_code, moment_field, number_field};
 use plan_bounds::Bounds;
 use price_checker::{order_name, wagon_name};
@@ -68,7 +68,7 @@ fn arrival_of(planned: &PlannedProblem, pair: (usize, usize)) -> Moment
     let order = planned.problem.orders()[pair.1].order();
     // For the prover alone: the latest moment is one of the years that a moment may be of.
     let _latest = order.latest().seconds();
-    let (_, minutes) = planned.tables.between(wagon.place, order.place()).unwrap();
+    let (_, minutes) = way_of(planned.tables, wagon, order);
     Moment::from_seconds(arrival(planned.problem.at(), wagon, minutes)).unwrap()
 }
 

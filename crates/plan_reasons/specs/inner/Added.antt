@@ -1,5 +1,5 @@
 -- Lines and fields that were added to a text.
-use Rattle.std.specs.Prelude.{◌≡◌, ℕ, List, ◌++◌}
+use Rattle.std.specs.Prelude.{◌≡◌, ℕ, List}
 use Rattle.std.specs.List.{range_with_len}
 use Rattle.rail_codes.specs.Moment.{IsMomentText}
 use Rattle.dispatch_sheet.specs.Sheet.{AreLines}

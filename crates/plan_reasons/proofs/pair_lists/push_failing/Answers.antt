@@ -1,0 +1,13 @@
+use Rattle.std.proofs.Common.{◌+◌, ℕ, take, get_or, refl, sym, string_bytes, arith}
+use Rattle.dispatch_sheet.proofs.Lines.{Adds-line, Adds-lines-along}
+use Rattle.dispatch_sheet.proofs.Lists.{taken_more}
+use Rattle.plan_reasons.specs.Pairs.{IsFailedLine}
+use Rattle.plan_reasons.proofs.pair_lists.push_failing.Goals as goal
+
+pub loop-pair-preserved : goal.loop-pair-preserved
+loop-pair-preserved c =
+    let is_line = IsFailedLine c.args.style c.args.planned.now.tables.now c.args.planned.now.problem.now in
+    let pairs = c.args.failing.now in
+    let i = c.loop-pair.pair-index in
+    let pair : ℕ × ℕ = get_or pairs i (0, 0) in
+    Adds-lines-along is_line _ (take (i + 1) pairs) _ _ (sym (taken_more pairs i pair (0, 0) (omega arith) refl)) (Adds-line is_line (take i pairs) pair (string_bytes c.args.text.now) (string_bytes c.loop-pair.text) _ c.loop-pair.invariant (c.in_ok-push_failed_line.ensures {u = tt}))

@@ -1,0 +1,8 @@
+use Rattle.std.proofs.Common.{take, string_bytes}
+use Rattle.dispatch_sheet.specs.Sheet.{AreLines}
+use Rattle.dispatch_sheet.specs.inner.Pushed.{Adds}
+use Rattle.plan_reasons.specs.Pairs.{IsFailedLine}
+use Rattle.plan_reasons.proofs.pair_lists.push_failing.Given as goal
+
+abbrev pub invariant-loop-pair : goal.invariant-loop-pair
+invariant-loop-pair l = Adds (AreLines (IsFailedLine l.style l.planned.tables.now l.planned.problem.now) (take l.pair-index l.failing)) (string_bytes l.initial.text) (string_bytes l.text)

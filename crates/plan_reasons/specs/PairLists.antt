@@ -1,0 +1,76 @@
+-- The texts about one order and about one wagon: its own line, then one for each wagon with the order, or for each order with the
+-- wagon. Pairs that fail no test come first, the one first that costs plans least; then the others as placed.
+use Rattle.std.specs.Prelude.{◌≡◌, ◌==◌, ℕ, Bool, false, not, List, ◌++◌, length, map, nat_lt, codes, Option, Some, None}
+use Rattle.std.specs.List.{filter, find, range_with_len}
+use Rattle.std.specs.List.Sorted.{IsNonDecreasingBy, IsPermutation, IsStableByKey}
+use Rattle.std.specs.Ordering.{nat_cmp}
+use Rattle.line_network.specs.Network.{NetworkValue}
+use Rattle.cost_table.specs.Problem.{ProblemValue, wagon_names}
+use Rattle.cost_table.specs.Table.{Table, cost_at, penalty_at}
+use Rattle.price_checker.specs.NamedFaults.{name_at}
+use Rattle.plan_bounds.specs.PricedPlan.{PricedPlan}
+use Rattle.dispatch_sheet.specs.Sheet.{AreLines}
+use Rattle.plan_reasons.specs.declared.style.Style.{Style}
+use Rattle.plan_reasons.specs.Fields.{ending, first_field, quoted}
+use Rattle.plan_reasons.specs.WhyText.{IsOrderLine, IsWagonLine}
+use Rattle.plan_reasons.specs.Pairs.{IsFailedLine, IsFitsLine, more_of}
+
+-- each free wagon with order j, and each order with wagon i, as placed
+abbrev pub pairs_of_order : ProblemValue → (j : ℕ) → List (ℕ × ℕ)
+pairs_of_order problem j = map (λ i. (i, j)) (range_with_len 0 (length problem.wagons))
+
+abbrev pub pairs_of_wagon : ProblemValue → (i : ℕ) → List (ℕ × ℕ)
+pairs_of_wagon problem i = map (λ j. (i, j)) (range_with_len 0 (length problem.orders))
+
+-- ---- which pairs fail no test
+
+abbrev pub is_below : Option ℕ → (limit : ℕ) → Bool
+is_below None limit = false
+is_below (Some km) limit = nat_lt km limit
+
+-- the table has the pair, at less than the order's penalty
+abbrev pub passes_all : Table → (pair : ℕ × ℕ) → Bool
+passes_all t pair = is_below (cost_at t pair.0 pair.1) (penalty_at t pair.1)
+
+-- those of the pairs, by what plans with them cost more; where that is the same, as they are listed
+pub record AreByMore (p : PricedPlan) (pairs fits : List (ℕ × ℕ)) : Type 0 where
+  pub same : IsPermutation (filter (passes_all p.table) pairs) fits
+  pub ascending : IsNonDecreasingBy (more_of p) fits
+  pub as_listed : IsStableByKey (more_of p) nat_cmp (filter (passes_all p.table) pairs) fits
+
+-- ---- the texts
+
+-- the lines of pairs
+pub record ArePairLines (style : Style) (net : NetworkValue) (problem : ProblemValue) (p : PricedPlan) (pairs : List (ℕ × ℕ)) (text : List ℕ) : Type 0 where
+  pub fits : List (ℕ × ℕ)
+  pub by_more : AreByMore p pairs fits
+  pub fitting : List ℕ
+  pub fits_lines : AreLines (IsFitsLine style net problem p) fits fitting
+  pub failing : List ℕ
+  pub failed_lines : AreLines (IsFailedLine style net problem) (filter (λ pair. not (passes_all p.table pair)) pairs) failing
+  pub whole : text ≡ fitting ++ failing
+
+-- the text about order j
+pub record IsOrderText (style : Style) (net : NetworkValue) (problem : ProblemValue) (p : PricedPlan) (j : ℕ) (text : List ℕ) : Type 0 where
+  pub own : List ℕ
+  pub line : IsOrderLine style net problem p j own
+  pub rest : List ℕ
+  pub pairs : ArePairLines style net problem p (pairs_of_order problem j) rest
+  pub whole : text ≡ own ++ rest
+
+-- the line of wagon i where no order gets it
+abbrev pub stays_line : Style → ProblemValue → (i : ℕ) → List ℕ
+stays_line style problem i = first_field style (codes "stays") (quoted style (name_at (wagon_names problem.wagons) i)) ++ ending style
+
+-- the line of wagon i by the pair that the plan has of it
+abbrev pub IsOwnLine : Style → NetworkValue → ProblemValue → PricedPlan → (i : ℕ) → Option (ℕ × ℕ) → (line : List ℕ) → Type 0
+IsOwnLine style net problem p i None line = line ≡ stays_line style problem i
+IsOwnLine style net problem p i (Some pair) line = IsWagonLine style net problem p pair line
+
+-- the text about wagon i
+pub record IsWagonText (style : Style) (net : NetworkValue) (problem : ProblemValue) (p : PricedPlan) (i : ℕ) (text : List ℕ) : Type 0 where
+  pub own : List ℕ
+  pub line : IsOwnLine style net problem p i (find (λ pair. pair.0 == i) p.pairs) own
+  pub rest : List ℕ
+  pub pairs : ArePairLines style net problem p (pairs_of_wagon problem i) rest
+  pub whole : text ≡ own ++ rest

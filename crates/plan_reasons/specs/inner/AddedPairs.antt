@@ -1,0 +1,55 @@
+-- Lines of pairs, and their fields, that were added to a text.
+use Rattle.std.specs.Prelude.{◌≡◌, ◌<◌, ◌==◌, if◌then◌else◌, ℕ, IsTrue, false, List, [], ◌∷◌, length, codes}
+use Rattle.std.specs.List.{find}
+use Rattle.cost_table.specs.Problem.{ProblemValue}
+use Rattle.dispatch_sheet.specs.Sheet.{AreLines}
+use Rattle.dispatch_sheet.specs.inner.Pushed.{Adds}
+use Rattle.plan_reasons.specs.declared.style.Style.{Style}
+use Rattle.plan_reasons.specs.declared.planned_problem.PlannedProblem.{PlannedProblem}
+use Rattle.plan_reasons.specs.Fields.{field}
+use Rattle.plan_reasons.specs.Planned.{priced_plan}
+use Rattle.plan_reasons.specs.Pairs.{IsArrivalValue, IsFailedLine, IsFitsLine}
+use Rattle.plan_reasons.specs.PairLists.{ArePairLines, IsOwnLine, passes_all}
+
+-- the pair is of a wagon and an order of the problem
+abbrev pub IsPairOf : ProblemValue → ℕ × ℕ → Type 0
+IsPairOf problem pair = (pair.0 < length problem.wagons) × (pair.1 < length problem.orders)
+
+-- one that fails no test, or fails one
+abbrev pub IsFitting : PlannedProblem → ℕ × ℕ → Type 0
+IsFitting planned pair = IsPairOf planned.problem.now pair × IsTrue (passes_all planned.cells.now pair)
+
+abbrev pub IsFailing : PlannedProblem → ℕ × ℕ → Type 0
+IsFailing planned pair = IsPairOf planned.problem.now pair × (passes_all planned.cells.now pair ≡ false)
+
+-- what stands before the item at k of a list
+abbrev pub comma : (k : ℕ) → List ℕ
+comma k = if k == 0 then [] else 44 ∷ []
+
+-- an arrival as a field
+pub record IsArrivalField (style : Style) (seconds : ℕ) (written : List ℕ) : Type 0 where
+  pub value : List ℕ
+  pub arrives : IsArrivalValue style seconds value
+  pub whole : written ≡ field style (codes "arrival") value
+
+-- the line of a pair was added to a text
+abbrev pub AddsFitsLine : Style → PlannedProblem → (pair : ℕ × ℕ) → (old new : List ℕ) → Type 0
+AddsFitsLine style planned pair = Adds (IsFitsLine style planned.tables.now planned.problem.now (priced_plan planned) pair)
+
+abbrev pub AddsFailedLine : Style → PlannedProblem → (pair : ℕ × ℕ) → (old new : List ℕ) → Type 0
+AddsFailedLine style planned pair = Adds (IsFailedLine style planned.tables.now planned.problem.now pair)
+
+-- the lines of pairs
+abbrev pub AddsFitsLines : Style → PlannedProblem → (pairs : List (ℕ × ℕ)) → (old new : List ℕ) → Type 0
+AddsFitsLines style planned pairs = Adds (AreLines (IsFitsLine style planned.tables.now planned.problem.now (priced_plan planned)) pairs)
+
+abbrev pub AddsFailedLines : Style → PlannedProblem → (pairs : List (ℕ × ℕ)) → (old new : List ℕ) → Type 0
+AddsFailedLines style planned pairs = Adds (AreLines (IsFailedLine style planned.tables.now planned.problem.now) pairs)
+
+abbrev pub AddsPairLines : Style → PlannedProblem → (pairs : List (ℕ × ℕ)) → (old new : List ℕ) → Type 0
+AddsPairLines style planned pairs = Adds (ArePairLines style planned.tables.now planned.problem.now (priced_plan planned) pairs)
+
+-- the line of a wagon
+abbrev pub AddsOwnLine : Style → PlannedProblem → (i : ℕ) → (old new : List ℕ) → Type 0
+AddsOwnLine style planned i =
+    Adds (IsOwnLine style planned.tables.now planned.problem.now (priced_plan planned) i (find (λ pair. pair.0 == i) planned.plan.now))

@@ -1,0 +1,124 @@
+//! The lines of pairs.
+ghost use Rattle.std.specs.Prelude.{◌≡◌, All, IfOk, OnOk, not, string_bytes};
+ghost use Rattle.std.specs.List.{filter};
+ghost use Rattle.plan_reasons.specs.PairLists.{AreByMore, passes_all};
+ghost use Rattle.plan_reasons.specs.Planned.{IsPlannedProblem, priced_plan};
+ghost use Rattle.plan_reasons.specs.inner.AddedPairs.{
+  AddsFailedLines,
+  AddsFitsLines,
+  AddsPairLines,
+  IsFailing,
+  IsFitting,
+  IsPairOf,
+};
+
+use crate::pair_line::{more_of, push_failed_line, push_fits_line};
+use crate::planned_problem::PlannedProblem;
+use crate::style::Style;
+use cost_table::Cells;
+use plan_bounds::Bounds;
+use std::alloc::{AllocError, Global};
+
+/// Adds the lines of pairs: first those that fail no test, by what plans with them cost more; then the others.
+pub(crate) fn push_pairs(
+    alloc: Global,
+    text: &mut String,
+    style: Style,
+    planned: &PlannedProblem,
+    pairs: &[(usize, usize)],
+) -> Result<(), AllocError>
+    requires planned { IsPlannedProblem planned.now }
+    requires pairs { All (IsPairOf planned.now.problem.now) pairs.now }
+    ensures { OnOk result (AddsPairLines style planned.now pairs.now (string_bytes text.old) (string_bytes text.new)) }
+{
+    let fits = fits_by_more(alloc, planned, pairs)?;
+    let failing = failing(alloc, planned.cells, pairs)?;
+    push_fits(text, style, planned, &fits)?;
+    push_failing(text, style, planned, &failing)
+}
+
+/// Those of the pairs that fail no test, by what plans with them cost more.
+fn fits_by_more(
+    alloc: Global,
+    planned: &PlannedProblem,
+    pairs: &[(usize, usize)],
+) -> Result<Vec<(usize, usize)>, AllocError>
+    requires { IsPlannedProblem planned.now }
+    ensures { IfOk result (λ fits. AreByMore (priced_plan planned.now) pairs.now fits.items) }
+{
+    let bounds = Bounds::new(planned.cells, planned.plan, planned.prices);
+    let mut fits = fitting(alloc, planned.cells, pairs)?;
+    fits.sort_by_key(|pair| more_of(&bounds, *pair))?;
+    Ok(fits)
+}
+
+/// Those of the pairs that fail no test.
+fn fitting(
+    alloc: Global,
+    cells: &Cells,
+    pairs: &[(usize, usize)],
+) -> Result<Vec<(usize, usize)>, AllocError>
+    ensures { IfOk result (λ fits. fits.items ≡ filter (passes_all cells.now) pairs.now) }
+{
+    let mut fits = Vec::from_slice(alloc, pairs)?;
+    fits.retain(|pair| passes_all(cells, *pair));
+    Ok(fits)
+}
+
+/// Those of the pairs that fail a test.
+fn failing(
+    alloc: Global,
+    cells: &Cells,
+    pairs: &[(usize, usize)],
+) -> Result<Vec<(usize, usize)>, AllocError>
+    ensures { IfOk result (λ failing. failing.items ≡ filter (λ pair. not (passes_all cells.now pair)) pairs.now) }
+{
+    let mut failing = Vec::from_slice(alloc, pairs)?;
+    failing.retain(|pair| !passes_all(cells, *pair));
+    Ok(failing)
+}
+
+/// Whether a pair fails no test: the table has it, at less than the order's penalty.
+fn passes_all(cells: &Cells, pair: (usize, usize)) -> bool
+    ensures { result ≡ passes_all cells.now pair }
+{
+    let (i, j) = pair;
+    match cells.cell(i, j) {
+        Some(km) => km < cells.penalty(j),
+        None => false,
+    }
+}
+
+/// Adds the lines of pairs that fail no test.
+fn push_fits(
+    text: &mut String,
+    style: Style,
+    planned: &PlannedProblem,
+    fits: &[(usize, usize)],
+) -> Result<(), AllocError>
+    requires planned { IsPlannedProblem planned.now }
+    requires fits { All (IsFitting planned.now) fits.now }
+    ensures { OnOk result (AddsFitsLines style planned.now fits.now (string_bytes text.old) (string_bytes text.new)) }
+{
+    for pair in fits {
+        push_fits_line(text, style, planned, *pair)?;
+    }
+    Ok(())
+}
+
+/// Adds the lines of pairs that fail a test.
+fn push_failing(
+    text: &mut String,
+    style: Style,
+    planned: &PlannedProblem,
+    failing: &[(usize, usize)],
+) -> Result<(), AllocError>
+    requires planned { IsPlannedProblem planned.now }
+    requires failing { All (IsFailing planned.now) failing.now }
+    ensures { OnOk result (AddsFailedLines style planned.now failing.now (string_bytes text.old) (string_bytes text.new)) }
+{
+    for pair in failing {
+        push_failed_line(text, style, planned, *pair)?;
+    }
+    Ok(())
+}
