@@ -5,6 +5,7 @@ pub mod Parts
 pub mod Spelled
 pub mod Turns
 pub mod FoundLists
+pub mod WrittenLists
 pub mod Written
 pub mod Planned
 pub mod Costs

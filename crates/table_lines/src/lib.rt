@@ -9,7 +9,7 @@ mod json_replies;
 mod lacks;
 mod line_solver;
 mod problem_text;
-mod solved_value;
+mod solved_tokens;
 mod stating;
 mod table_answer;
 mod table_checker;
@@ -20,7 +20,8 @@ mod table_reading;
 mod table_refusal;
 mod table_solver;
 mod tokens;
-mod unplanned_value;
+mod unplanned_tokens;
+mod written_lists;
 
 pub use line_solver::solve_line;
 pub use problem_text::problem_line;

@@ -7,7 +7,7 @@ ghost use Rattle.table_lines.specs.TableLine.{IsWithinLimits, TableText, table_t
 ghost use Rattle.table_lines.specs.declared.table_refusal.TableRefusal.TheVariants.{OutOfMemory};
 ghost use Rattle.table_lines.specs.Solving.{IsSolved};
 
-use crate::solved_value::solved_line;
+use crate::solved_tokens::solved_line;
 use crate::stating::stated_table;
 use crate::table_line::TableLine;
 use crate::table_part::read_table;

@@ -10,7 +10,7 @@ ghost use Rattle.table_lines.specs.UnplannedText.{unplanned_text};
 ghost use Rattle.table_lines.specs.ProblemText.{StatesTable, costs_in, costs_of, text_of_table};
 
 use crate::table_line::TableLine;
-use crate::unplanned_value::unplanned_line;
+use crate::unplanned_tokens::unplanned_line;
 use cost_table::{Cells, Problem};
 use rail_codes::{OrderId, WagonNumber};
 use std::alloc::{AllocError, Global};

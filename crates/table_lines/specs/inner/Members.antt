@@ -1,20 +1,26 @@
--- The members of a table, solved or without a plan, while they are put together.
-use Rattle.std.specs.Prelude.{ℕ, List, Option, Some, None, codes}
-use Rattle.serde_json.specs.Data.{Members, member, put}
-use Rattle.move_messages.specs.Written.{list_data, number_data, number_or_null}
-use Rattle.table_lines.specs.TableLine.{TableText}
-use Rattle.table_lines.specs.SolvedText.{last_members}
-use Rattle.table_lines.specs.UnplannedText.{unplanned_last}
+-- The members of a table, solved or without a plan, while they are written.
+use Rattle.std.specs.Prelude.{◌≡◌, ◌^◌, ◌<◌, ℕ, List, [], Option, Some, None, Ok, All, codes}
+use Rattle.json.specs.Token.{Token}
+use Rattle.serde_json.specs.Data.{string}
+use Rattle.move_messages.specs.Values.{order_id_from, wagon_and_order, wagon_number_from}
+use Rattle.move_messages.specs.Written.{list_data, number_data, pair_data}
+use Rattle.move_messages.specs.WrittenTokens.{member_tokens}
+use Rattle.price_checker.specs.declared.prices.Prices.{Prices}
+use Rattle.table_lines.specs.declared.table_line.TableLine.{TableLine}
 
--- all but what the orders lack
-abbrev pub plain_members : TableText → (cost : ℕ) → Members
-plain_members t cost = member (codes "cells") (list_data (list_data number_or_null) t.cells) (member (codes "cost") (number_data cost) (last_members t))
+-- what the orders lack, where the table says it
+abbrev pub lacks_tokens : Option (List ℕ) → List Token
+lacks_tokens None = []
+lacks_tokens (Some lacks) = member_tokens (codes "lacks") (list_data number_data lacks)
 
--- all of a table without a plan but what the orders lack
-abbrev pub plain_unplanned : TableText → Members
-plain_unplanned t = member (codes "cells") (list_data (list_data number_or_null) t.cells) (unplanned_last t)
+-- the names of a table read as themselves
+pub record HasWritableNames (table : TableLine) : Type 0 where
+  pub wagons : All (λ number. wagon_number_from (string number) ≡ Ok number) table.wagons.items
+  pub orders : All (λ id. order_id_from (string id) ≡ Ok id) table.orders.items
 
--- members, and what the orders lack, where the table says it
-abbrev pub put_lacks : Option (List ℕ) → Members → Members
-put_lacks None members = members
-put_lacks (Some lacks) members = put (codes "lacks") (list_data number_data lacks) members
+-- the names of a table and the pairs of a plan read as themselves, and the prices are numbers of 64 bits
+pub record AreWritable (table : TableLine) (plan : List (List ℕ × List ℕ)) (prices : Prices) : Type 0 where
+  pub names : HasWritableNames table
+  pub pairs : All (λ pair. wagon_and_order (pair_data pair) ≡ Ok pair) plan
+  pub u : All (λ price. price < 2 ^ 64) prices.u.items
+  pub v : All (λ price. price < 2 ^ 64) prices.v.items
