@@ -24,6 +24,7 @@ pairs_of_wagon problem i = map (λ j. (i, j)) (range_with_len 0 (length problem.
 
 -- ---- which pairs fail no test
 
+-- a cost that is there, and below a limit
 abbrev pub is_below : Option ℕ → (limit : ℕ) → Bool
 is_below None limit = false
 is_below (Some km) limit = nat_lt km limit
