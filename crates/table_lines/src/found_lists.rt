@@ -40,9 +40,17 @@ pub(crate) fn lists_of_line(alloc: Global, bytes: &[u8]) -> Option<FoundLists>
     if !bytes.starts_with(OPENING) {
         return None;
     }
-    let Ok(text) = simdutf8::basic::from_utf8(bytes) else {
-        return None;
-    };
+    match simdutf8::basic::from_utf8(bytes) {
+        Ok(text) => lists_of_text(alloc, text),
+        Err(_) => None,
+    }
+}
+
+/// The lists that stand in a text. A function of its own that begins with the memory for reading, since that is large and
+/// a function clears its locals at entry: so it is cleared once, and for no line that begins otherwise.
+fn lists_of_text(alloc: Global, text: &str) -> Option<FoundLists>
+    ensures { IfSome result (λ lists. (ms : Members) × Hold lists ms × (object_of text.now ≡ Ok (object ms))) }
+{
     let mut scratch = Scratch::new(alloc);
     let Ok(mut reader) = Reader::new(text, &mut scratch) else {
         return None;
