@@ -6,7 +6,7 @@ use crate::books::DAY;
 use crate::samples::book;
 use crate::trying::{must, prepared, say_refused, shown};
 use commit_book::Book;
-use line_engine::{DeviceFailed, RunCount, RunFault, Sink};
+use line_engine::{DeviceFailed, LineLimit, RunCount, RunFault, Sink};
 use office::run;
 use std::alloc::Global;
 use std::str;
@@ -137,7 +137,7 @@ fn ran(
     let mut reader = MemorySource::new(text.as_bytes(), usize::MAX);
     match word {
         Word::Run => run(alloc, &mut reader, page, book),
-        Word::Check => check_run(alloc, &mut reader, page),
+        Word::Check => check_run(alloc, LineLimit::standard(), &mut reader, page),
     }
 }
 

@@ -211,7 +211,7 @@ consumes_none None to keeps = tt
 consumes_none (Some xs) None keeps = absurd keeps
 consumes_none (Some xs) (Some ys) keeps = sym keeps
 
-module _ {L : Type 0} (networks : List NetworkValue) (run : Run (FileSeat L)) (failed : Failures) (over : run.old.networks.now ≡ networks) (new : count_of run.old.seat ≡ 0) (no_repeated : run.old.repeated ≡ 0) (no_refused : run.old.refused ≡ 0) where
+module _ {L : Type 0} (networks : List NetworkValue) (run : Run (FileSeat L)) (failed : Failures) (over : run.old.networks.now ≡ networks) (new : count_of run.old.seat ≡ 0) (no_repeated : run.old.repeated ≡ 0) (no_refused : run.old.refused ≡ 0) (standard : run.most ≡ max_line_bytes) where
   abbrev Fed : Option ℕ → Type 0
   Fed stop = IsSeatFed networks run.from run.to stop run.new.seat run.new.repeated run.new.refused
 
@@ -266,7 +266,7 @@ module _ {L : Type 0} (networks : List NetworkValue) (run : Run (FileSeat L)) (f
   fed_until (TooManyLines n) quiet stops =
       stopped_at n 91 stops.0 (omega arith) (λ e. (omega (arith, stops.0.number, stops.1), stops.2)) (λ e. absurd (omega arith)) (λ e. absurd (omega arith)) (omega (arith, stops.1))
   fed_until (LineTooLong n) quiet stops =
-      stopped_at n 92 stops.0 (omega arith) (λ e. absurd (omega arith)) (λ e. stops.2) (λ e. absurd (omega arith)) (omega (arith, stops.1))
+      stopped_at n 92 stops.0 (omega arith) (λ e. absurd (omega arith)) (λ e. omega (arith, stops.2, standard)) (λ e. absurd (omega arith)) (omega (arith, stops.1))
   fed_until (ReadFailed n) quiet stops =
       stopped_at n 93 stops.0 (omega arith) (λ e. absurd (omega arith)) (λ e. absurd (omega arith)) (λ e. stops.2) (few_by n stops.0.rest stops.1)
   fed_until (WriteFailed n) quiet stops = absurd (let wrote : failed.writer ≡ true = stops.5 in cc)

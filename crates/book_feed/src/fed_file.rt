@@ -4,7 +4,7 @@ ghost use Rattle.sessions.specs.Seat.{count_of};
 ghost use Rattle.book_feed.specs.inner.Fed.{IsFedFile, stop_number};
 
 use crate::feed_lines::{FeedLines, FileSeat, NoReplies};
-use line_engine::{RunCount, RunFault, Source, run_lines};
+use line_engine::{LineLimit, RunCount, RunFault, Source, run_lines};
 use line_network::Networks;
 use sessions::{Seat, SharedBook};
 use std::alloc::Global;
@@ -67,7 +67,8 @@ pub(crate) fn fed_file<W: Wait, L: Ledger, R: Source>(
         refused: 0,
     };
     let lines = FeedLines { rt, shared };
-    let run = run_lines(alloc, &mut reader, &mut NoReplies, &lines, &mut file);
+    let limit = LineLimit::standard();
+    let run = run_lines(alloc, limit, &mut reader, &mut NoReplies, &lines, &mut file);
     let failed = stop_of(run);
     let FileSeat {
         networks: _,

@@ -1,7 +1,8 @@
 -- What a run over the lines of a checkpoint has read.
-use Rattle.std.proofs.Common.{◌≡◌, ◌∙◌, ℕ, ◌+◌, true, false, length, refl, sym, ap, subst, Result, Ok, Err}
+use Rattle.std.proofs.Common.{◌≡◌, ◌∙◌, ℕ, ◌+◌, ◌<◌, true, false, length, refl, sym, ap, subst, Result, Ok, Err}
 use Rattle.std.specs.Prelude.{IfOk, IfErr}
-use Rattle.line_engine.specs.Lines.{lines_of}
+use Rattle.std.specs.List.{AllByRecursion}
+use Rattle.line_engine.specs.Lines.{IsWithin, first_line, lines_of, max_line_bytes}
 use Rattle.line_engine.specs.Runs.{Failures, Run, RunEnds, RunStandsAt, RunStops, Runs}
 use Rattle.line_engine.specs.declared.run.RunCount.{RunCount}
 use Rattle.line_engine.specs.declared.run.RunFault.{RunFault}
@@ -71,20 +72,22 @@ unfolding office_of_lines
 is_refused bytes networks lines (Line fault) h = (h.input, h.whole, ap (office_of_taken (length (lines_of h.input) + 1)) h.follows)
 is_refused bytes networks lines (run_fault fault) h = subst (IsStopped bytes) (sym h.follows) tt
 
-abbrev stands : (run : Run LinesSoFar) (failed : Failures) (n : ℕ) → RunStandsAt TakesLine run n → StandsBefore (bytes_of run failed) n
-stands run failed n at = record { input = at.input; lines = at.lines; rest = at.rest; consumed = at.consumed; begins = at.begins; number = at.number; short = at.short }
+abbrev stands : (run : Run LinesSoFar) (failed : Failures) (n : ℕ) → run.most ≡ max_line_bytes → RunStandsAt TakesLine run n → StandsBefore (bytes_of run failed) n
+stands run failed n standard at =
+    let short = subst (λ (most : ℕ). AllByRecursion (IsWithin most) at.lines) standard at.short in
+    record { input = at.input; lines = at.lines; rest = at.rest; consumed = at.consumed; begins = at.begins; number = at.number; short = short }
 
-stopped_at : (run : Run LinesSoFar) (failed : Failures) (fault : RunFault) → RunStops TakesLine run failed fault → failed.writer ≡ false → IsStopped (bytes_of run failed) fault
-stopped_at run failed OutOfMemory h healthy = tt
-stopped_at run failed (TooManyLines n) h healthy = (stands run failed n h.0, h.1, h.2)
-stopped_at run failed (LineTooLong n) h healthy = (stands run failed n h.0, h.1, h.2)
-stopped_at run failed (ReadFailed n) h healthy = (stands run failed n h.0, h.2, h.3)
-stopped_at run failed (WriteFailed n) h healthy = let failing : failed.writer ≡ true = h.5 in cc
+stopped_at : (run : Run LinesSoFar) (failed : Failures) (fault : RunFault) → run.most ≡ max_line_bytes → RunStops TakesLine run failed fault → failed.writer ≡ false → IsStopped (bytes_of run failed) fault
+stopped_at run failed OutOfMemory standard h healthy = tt
+stopped_at run failed (TooManyLines n) standard h healthy = (stands run failed n standard h.0, h.1, h.2)
+stopped_at run failed (LineTooLong n) standard h healthy = (stands run failed n standard h.0, h.1, subst (λ (most : ℕ). most < length (first_line h.0.rest)) standard h.2)
+stopped_at run failed (ReadFailed n) standard h healthy = (stands run failed n standard h.0, h.2, h.3)
+stopped_at run failed (WriteFailed n) standard h healthy = let failing : failed.writer ≡ true = h.5 in cc
 
-pub is_stopped : (run : Run LinesSoFar) (failed : Failures) (r : Result RunCount RunFault) (fault : RunFault) → Runs TakesLine run failed r → r ≡ Err fault → failed.writer ≡ false → IsStopped (bytes_of run failed) fault
-is_stopped run failed r fault ran is healthy =
+pub is_stopped : (run : Run LinesSoFar) (failed : Failures) (r : Result RunCount RunFault) (fault : RunFault) → run.most ≡ max_line_bytes → Runs TakesLine run failed r → r ≡ Err fault → failed.writer ≡ false → IsStopped (bytes_of run failed) fault
+is_stopped run failed r fault standard ran is healthy =
     let at : IfErr {T = RunCount} (Err fault) (RunStops TakesLine run failed) = subst (λ (r : Result RunCount RunFault). IfErr r (RunStops TakesLine run failed)) is ran.err in
-    stopped_at run failed fault at healthy
+    stopped_at run failed fault standard at healthy
 
 -- ---- what closing the parts answers
 

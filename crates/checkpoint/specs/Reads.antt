@@ -42,7 +42,7 @@ pub record StandsBefore (bytes : Bytes) (n : ℕ) : Type 0 where
   pub consumed : Consumes bytes.from bytes.to input
   pub begins : BeginsWith input lines rest
   pub number : n ≡ length lines + 1
-  pub short : AllByRecursion IsWithin lines
+  pub short : AllByRecursion (IsWithin max_line_bytes) lines
 
 -- Why the lines weren't read to their end: memory was out; a byte of line 1,000,001 was read; a line has over 65,536 bytes; or
 -- the reader failed before a line's end.

@@ -11,7 +11,9 @@ use crate::parts::Parts;
 use crate::read_fault::ReadFault;
 use faults::CheckpointFault;
 use fleet_rows::WagonRows;
-use line_engine::{DeviceFailed, Outcome, ReplyText, Responder, Sink, Source, run_replies};
+use line_engine::{
+    DeviceFailed, LineLimit, Outcome, ReplyText, Responder, Sink, Source, run_replies,
+};
 use operating_db::OfficeState;
 use std::alloc::Global;
 
@@ -119,7 +121,15 @@ fn read_parts<R: Source>(
         networks,
         parts: Ok(Parts::new(alloc)),
     };
-    match run_replies(alloc, reader, &mut NoReplies, &CheckpointLines, &mut state) {
+    let limit = LineLimit::standard();
+    match run_replies(
+        alloc,
+        limit,
+        reader,
+        &mut NoReplies,
+        &CheckpointLines,
+        &mut state,
+    ) {
         Ok(count) => match state.parts {
             Ok(parts) => Ok((parts, count.lines)),
             Err(fault) => Err(fault),

@@ -4,6 +4,7 @@ ghost use Rattle.commit_book.specs.Books.{answer_of};
 ghost use Rattle.commit_book.specs.Headline.{IsProved};
 ghost use Rattle.commit_book.specs.declared.answer.Answer.TheVariants.{Refused};
 ghost use Rattle.faults.specs.declared.faults.Refusal.TheVariants.{OutOfMemory};
+ghost use Rattle.line_engine.specs.Lines.{max_line_bytes};
 ghost use Rattle.line_engine.specs.Outcome.{is_refusal};
 ghost use Rattle.line_engine.specs.Replies.{Numbered, max_head_bytes};
 ghost use Rattle.line_engine.specs.Runs.{Runs, run_over};
@@ -17,7 +18,9 @@ use assignment::plan;
 use commit_book::{Book, Refusal, Reply, Snap};
 use cost_table::{Cells, Plan, cost};
 use dispatch_sheet::{certificate_line, plan_text, sheet_text};
-use line_engine::{Handler, Outcome, ReplyText, RunCount, RunFault, Sink, Source, run_lines};
+use line_engine::{
+    Handler, LineLimit, Outcome, ReplyText, RunCount, RunFault, Sink, Source, run_lines,
+};
 use move_messages::{Command, LineFault, read_line};
 use price_checker::Prices;
 use rail_codes::Moment;
@@ -172,8 +175,8 @@ fn push_planned_reply(
 ///
 /// Replies are those of the manual: `N accepted ENTRY`, `N repeated ENTRY`, `N begun ..`, `N plan ..` with the plan and
 /// its certificate, `N sheet ..`, and `N refused CODE` with its details; blank lines get none. A plan line is a begin,
-/// and planning over the table that the book keeps of it. It stops as `run_lines` says: 1, and 91 to 94 with the line's
-/// number; the book is then as after the lines before, for 94 as after that line.
+/// and planning over the table that the book keeps of it. A line has at most 65,536 bytes. It stops as `run_lines` says:
+/// 1, and 91 to 94 with the line's number; the book is then as after the lines before, for 94 as after that line.
 pub fn run<R: Source, W: Sink>(
     alloc: Global,
     reader: &mut R,
@@ -183,12 +186,13 @@ pub fn run<R: Source, W: Sink>(
     requires reader { R.has_failed reader.old ≡ false }
     requires writer { W.has_failed writer.old ≡ false }
     ensures replies { Runs (Numbered RepliesToLine LineRunsOutOfMemory)
-        (run_over R.remaining W.contents (reader.old, writer.old, book.old) (reader.new, writer.new, book.new))
+        (run_over max_line_bytes R.remaining W.contents (reader.old, writer.old, book.old) (reader.new, writer.new, book.new))
         (record { reader = R.has_failed reader.new; writer = W.has_failed writer.new }) result }
     ensures calls { IsLedTo book.old book.new }
     ensures proved { IsProved book.new.setting book.new.state.history }
 {
-    let count = run_lines(alloc, reader, writer, &CommandLines, book);
+    let limit = LineLimit::standard();
+    let count = run_lines(alloc, limit, reader, writer, &CommandLines, book);
     book.for_the_prover();
     count
 }

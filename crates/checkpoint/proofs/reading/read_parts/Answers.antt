@@ -11,4 +11,4 @@ returns-in-Err-parts-clause-err g c =
     is_refused _ c.args.networks c.in-Ok.count.lines c.in-Err-parts.fault (all_read _ _ _ c.in-Ok.count c.args.networks _ c.run_replies.ensures c.in-Ok.is refl (ap Ok c.new.ensures) c.in-Err-parts.is)
 
 pub returns-in-Err-clause-err : goal.returns-in-Err-clause-err
-returns-in-Err-clause-err g c = is_stopped _ _ _ c.in-Err.fault c.run_replies.ensures c.in-Err.is refl
+returns-in-Err-clause-err g c = is_stopped _ _ _ c.in-Err.fault c.standard-limit.ensures c.run_replies.ensures c.in-Err.is refl

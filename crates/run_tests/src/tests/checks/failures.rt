@@ -1,7 +1,7 @@
 //! Readers and writers that fail, each time or once: no read and no write is tried again.
 
 use super::runs::{INPUT, OUTPUT};
-use line_engine::{RunFault, Source, StdDevice};
+use line_engine::{LineLimit, RunFault, Source, StdDevice};
 use std::alloc::Global;
 use table_lines::check_run;
 use test_samples::{MemoryReader, MemorySink, MemorySource, MemoryWriter};
@@ -17,7 +17,7 @@ fn stops_reading<S: Source + Drop>(alloc: Global, mut reader: S, line: u64, outp
         return false;
     }
     let mut writer = MemorySink::new(alloc, usize::MAX);
-    let answer = check_run(alloc, &mut reader, &mut writer);
+    let answer = check_run(alloc, LineLimit::standard(), &mut reader, &mut writer);
     answer == Err(RunFault::ReadFailed(line)) && writer.bytes() == output
 }
 
@@ -54,7 +54,7 @@ fn stops_writing(
 ) -> bool {
     let mut reader = MemorySource::new(INPUT, 100);
     let mut writer = MemorySink::failing(alloc, step, room, once);
-    let answer = check_run(alloc, &mut reader, &mut writer);
+    let answer = check_run(alloc, LineLimit::standard(), &mut reader, &mut writer);
     let is_written = writer.bytes() == output(room);
     answer == Err(RunFault::WriteFailed(line)) && is_written && writer.writes() == writes
 }
@@ -82,7 +82,7 @@ fn stops_writing_std(alloc: Global, room: usize, once: bool, line: u64, writes: 
     let mut reader = MemorySource::new(INPUT, 100);
     let mut written = MemoryWriter::failing(alloc, room, once);
     let mut writer = StdDevice::new(&mut written);
-    let answer = check_run(alloc, &mut reader, &mut writer);
+    let answer = check_run(alloc, LineLimit::standard(), &mut reader, &mut writer);
     let is_written = written.bytes() == output(room);
     answer == Err(RunFault::WriteFailed(line)) && is_written && written.writes() == writes
 }

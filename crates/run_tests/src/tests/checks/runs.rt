@@ -1,7 +1,7 @@
 //! Whole runs: pieces of any size, a million lines, and stops.
 
 use crate::tests::End;
-use line_engine::{RunCount, RunFault};
+use line_engine::{LineLimit, RunCount, RunFault};
 use std::alloc::Global;
 use std::test::Fail;
 use table_lines::check_run;
@@ -16,7 +16,7 @@ pub(crate) const OUTPUT: &[u8] = b"1 refused 21\n3 refused 22\n";
 fn is_answered(alloc: Global, step: usize) -> Result<bool, Fail> {
     let mut reader = MemorySource::new(INPUT, step);
     let mut writer = MemorySink::new(alloc, step);
-    let count = check_run(alloc, &mut reader, &mut writer)?;
+    let count = check_run(alloc, LineLimit::standard(), &mut reader, &mut writer)?;
     Ok((count.lines, count.refused) == (3, 2) && writer.bytes() == OUTPUT)
 }
 
@@ -32,7 +32,7 @@ fn pieces(rt: HostRuntime) -> Result<(), Fail> {
 fn writes(alloc: Global) -> Result<u64, Fail> {
     let mut reader = MemorySource::new(INPUT, 1);
     let mut writer = MemorySink::new(alloc, usize::MAX);
-    check_run(alloc, &mut reader, &mut writer)?;
+    check_run(alloc, LineLimit::standard(), &mut reader, &mut writer)?;
     Ok(writer.writes())
 }
 
@@ -47,7 +47,7 @@ fn one_write_a_reply(rt: HostRuntime) -> Result<(), Fail> {
 fn end_of(alloc: Global, input: &[u8]) -> End {
     let mut reader = MemorySource::new(input, usize::MAX);
     let mut writer = MemorySink::new(alloc, usize::MAX);
-    match check_run(alloc, &mut reader, &mut writer) {
+    match check_run(alloc, LineLimit::standard(), &mut reader, &mut writer) {
         Ok(RunCount { lines, refused }) => Ok((lines, refused)),
         Err(fault) => Err((fault.number(), fault.line())),
     }

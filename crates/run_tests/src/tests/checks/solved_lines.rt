@@ -1,6 +1,7 @@
 //! Tables without a plan in, the same with one out, and what the check of them replies: costs are worked out by hand. Which
 //! plan and which prices stand in a line is open, so no script can have these lines.
 
+use line_engine::LineLimit;
 use std::alloc::{AllocError, Global};
 use std::test::Fail;
 use table_lines::{check_run, solve_run};
@@ -10,7 +11,7 @@ use test_samples::{MemorySink, MemorySource, numbers_list};
 fn solved(alloc: Global, input: &[u8]) -> Result<Vec<u8>, Fail> {
     let mut reader = MemorySource::new(input, usize::MAX);
     let mut writer = MemorySink::new(alloc, usize::MAX);
-    solve_run(alloc, &mut reader, &mut writer)?;
+    solve_run(alloc, LineLimit::standard(), &mut reader, &mut writer)?;
     Ok(Vec::from_slice(alloc, writer.bytes())?)
 }
 
@@ -19,7 +20,7 @@ fn is_optimal(alloc: Global, input: &[u8], replies: &str) -> Result<bool, Fail> 
     let output = solved(alloc, input)?;
     let mut reader = MemorySource::new(&output, usize::MAX);
     let mut writer = MemorySink::new(alloc, usize::MAX);
-    check_run(alloc, &mut reader, &mut writer)?;
+    check_run(alloc, LineLimit::standard(), &mut reader, &mut writer)?;
     Ok(writer.bytes() == replies.as_bytes())
 }
 
@@ -82,7 +83,7 @@ fn lacks(rt: HostRuntime) -> Result<(), Fail> {
 fn stops_reading(alloc: Global, given: usize, output: &[u8]) -> Option<u64> {
     let mut reader = MemorySource::failing(b"{\n[]\n", 1, given, true);
     let mut writer = MemorySink::new(alloc, usize::MAX);
-    match solve_run(alloc, &mut reader, &mut writer) {
+    match solve_run(alloc, LineLimit::standard(), &mut reader, &mut writer) {
         Err(fault) if fault.number() == 93 && writer.bytes() == output => fault.line(),
         _ => None,
     }
@@ -92,7 +93,7 @@ fn stops_reading(alloc: Global, given: usize, output: &[u8]) -> Option<u64> {
 fn stops_writing(alloc: Global, room: usize, output: &[u8]) -> Option<u64> {
     let mut reader = MemorySource::new(b"{\n[]\n", 1);
     let mut writer = MemorySink::failing(alloc, 1, room, true);
-    match solve_run(alloc, &mut reader, &mut writer) {
+    match solve_run(alloc, LineLimit::standard(), &mut reader, &mut writer) {
         Err(fault) if fault.number() == 94 && writer.bytes() == output => fault.line(),
         _ => None,
     }
