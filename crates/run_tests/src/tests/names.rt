@@ -112,6 +112,7 @@ fn faults_around_another(rt: HostRuntime) -> Result<(), Fail> {
             TableRefusal::Check(NamedFault::SumsDiffer(1, 2)),
             "SumsDiffer",
         ),
+        (TableRefusal::PlanTooLong, "LineTooLong"),
     ];
     assert_eq!(rt; misnamed(alloc, &tables)?, None);
     Ok(())

@@ -24,6 +24,39 @@ fn is_optimal(alloc: Global, input: &[u8], replies: &str) -> Result<bool, Fail> 
     Ok(writer.bytes() == replies.as_bytes())
 }
 
+/// Whether an input, where lines have so many bytes at most, is replied to so, and so many of the replies are refusals.
+fn is_replied(
+    alloc: Global,
+    most: u32,
+    input: &[u8],
+    refused: u64,
+    output: &[u8],
+) -> Result<bool, Fail> {
+    let limit = LineLimit::new(most).unwrap_or(LineLimit::standard());
+    let mut reader = MemorySource::new(input, usize::MAX);
+    let mut writer = MemorySink::new(alloc, usize::MAX);
+    let count = solve_run(alloc, limit, &mut reader, &mut writer)?;
+    Ok(count.refused == refused && writer.bytes() == output)
+}
+
+/// A table, and a line that is none.
+const TWO_LINES: &[u8] =
+    b"{\"wagons\":[\"338447961008\"],\"orders\":[\"O1\"],\"cells\":[[10]],\"penalties\":[50]}\n[]";
+
+/// The table's line with its plan may have as many bytes as it has, and no fewer; then it is refused, and the run goes
+/// on.
+#[test]
+fn a_plan_is_too_long(rt: HostRuntime) -> Result<(), Fail> {
+    let alloc = rt.alloc();
+    let both = solved(alloc, TWO_LINES)?;
+    let last = b"{\"line\":2,\"refused\":\"22\"}\n".len();
+    let most = both.len().saturating_sub(last + 1).min(65_536) as u32;
+    assert!(rt; is_replied(alloc, most, TWO_LINES, 1, &both)?);
+    let refused = b"{\"line\":1,\"refused\":\"92\"}\n{\"line\":2,\"refused\":\"22\"}\n";
+    assert!(rt; is_replied(alloc, most.saturating_sub(1), TWO_LINES, 2, refused)?);
+    Ok(())
+}
+
 /// Seven tables, two of them twice, the last without a line feed.
 const TABLES: &str =
     r#"{"wagons":["338447961008","218124712173"],"orders":["O1","O2"],"cells":[[10,20],[15,null]],"penalties":[1000,1000]}
