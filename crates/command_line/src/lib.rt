@@ -8,6 +8,7 @@ mod values;
 mod why_options;
 mod words;
 
+pub use line_options::LineOptions;
 pub use office_options::{FeedOptions, OfficeOptions, ProblemOptions, SaveOptions, Start};
 pub use why_options::{Asked, WhyOptions};
 pub use words::{Word, not_utf8, read_words};

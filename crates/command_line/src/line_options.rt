@@ -6,10 +6,28 @@ use clap::{ArgMatches, Command};
 use line_engine::{LARGEST_LINE_LIMIT, LineLimit};
 use std::alloc::{AllocError, Global};
 
-/// The most bytes of a line, as the options say.
-pub(crate) fn line_limit(matches: &ArgMatches<'_>) -> LineLimit {
-    let bytes = number_of(matches, "line-bytes", u64::from(LARGEST_LINE_LIMIT));
-    LineLimit::new(bytes as u32).unwrap()
+/// What `check` and `solve` are asked to do.
+#[derive(Debug, Drop)]
+pub struct LineOptions {
+    /// The most bytes of a line.
+    pub limit: LineLimit,
+}
+
+impl LineOptions {
+    /// The options where none is given.
+    pub(crate) fn standard() -> LineOptions {
+        LineOptions {
+            limit: LineLimit::standard(),
+        }
+    }
+
+    /// The options that were given, and the defaults of the others.
+    pub(crate) fn read(matches: &ArgMatches<'_>) -> LineOptions {
+        let bytes = number_of(matches, "line-bytes", u64::from(LARGEST_LINE_LIMIT));
+        LineOptions {
+            limit: LineLimit::new(bytes as u32).unwrap(),
+        }
+    }
 }
 
 /// A word over table lines.

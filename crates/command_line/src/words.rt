@@ -2,7 +2,7 @@
 
 use crate::help;
 use crate::help::{Arguments, WordHelp};
-use crate::line_options::{line_limit, with_line_options};
+use crate::line_options::{LineOptions, with_line_options};
 use crate::office_options::{
     FeedOptions, OfficeOptions, ProblemOptions, SaveOptions, with_files, with_office_options,
     with_problem_options, with_save_options,
@@ -12,7 +12,6 @@ use clap::builder::ValueParser;
 use clap::error::ErrorKind;
 use clap::{Arg, ArgMatches, Command, Error};
 use faults::entry_text;
-use line_engine::LineLimit;
 use std::alloc::{AllocError, Global};
 use std::convert::AsStr;
 
@@ -41,10 +40,10 @@ const VERSION: &str = "0.1.0";
 /// What the program is asked to do.
 #[derive(Debug, Drop)]
 pub enum Word<'a> {
-    /// Check the table lines of standard input, of at most so many bytes each.
-    Check(LineLimit),
-    /// Plan the table lines of standard input, of at most so many bytes each.
-    Solve(LineLimit),
+    /// Check the table lines of standard input.
+    Check(LineOptions),
+    /// Plan the table lines of standard input.
+    Solve(LineOptions),
     /// Bring the command lines of standard input to an office.
     Run(OfficeOptions<'a>),
     /// Bring the command lines of files to an office, all at once.
@@ -66,7 +65,7 @@ pub enum Word<'a> {
 pub fn read_words<'a, S: AsStr>(alloc: Global, words: &'a [S]) -> Result<Word<'a>, Error> {
     let matches = command_line(alloc)?.try_get_matches_from(words)?;
     let Some((name, options)) = matches.subcommand() else {
-        return Ok(Word::Check(LineLimit::standard()));
+        return Ok(Word::Check(LineOptions::standard()));
     };
     read_word(alloc, name, options)
 }
@@ -81,8 +80,8 @@ fn read_word<'a>(alloc: Global, name: &str, options: &ArgMatches<'a>) -> Result<
         "save" => Ok(Word::Save(SaveOptions::read(alloc, options)?)),
         "feed" => Ok(Word::Feed(FeedOptions::read(alloc, options)?)),
         "explain" => read_code(alloc, options),
-        "solve" => Ok(Word::Solve(line_limit(options))),
-        _ => Ok(Word::Check(line_limit(options))),
+        "solve" => Ok(Word::Solve(LineOptions::read(options))),
+        _ => Ok(Word::Check(LineOptions::read(options))),
     }
 }
 

@@ -1,6 +1,5 @@
 -- The reasons of a plan of a history's last version at a moment: what is asked about it, and the text that answers.
-use Rattle.std.specs.Prelude.{◌≡◌, ¬◌, ℕ, Bool, true, false, List, length, Some, slice_get}
-use Rattle.std.specs.List.{Contains}
+use Rattle.std.specs.Prelude.{◌≡◌, ℕ, Bool, true, false, List, length, Some, slice_get}
 use Rattle.command_line.specs.declared.why_options.Asked.{Asked}
 use Rattle.command_line.specs.declared.why_options.Asked.TheVariants.{Plan, Order, Wagon}
 use Rattle.commit_book.specs.History.{problem_at, version}
@@ -15,8 +14,6 @@ use Rattle.plan_reasons.specs.WhyText.{IsWhyText}
 use Rattle.plan_reasons.specs.declared.style.Style.{Style}
 use Rattle.plan_reasons.specs.declared.style.Style.TheVariants.{Text, Json}
 use Rattle.problem_table.specs.Allowed.{IsTableOf}
-use Rattle.wagons_program.specs.declared.stop.Stop.{Stop}
-use Rattle.wagons_program.specs.declared.stop.Stop.TheVariants.{OrderNotInProblem, WagonNotInProblem}
 
 -- how the lines are written
 abbrev pub style_of : (json : Bool) → Style

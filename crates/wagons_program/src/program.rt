@@ -48,10 +48,10 @@ where
     R::File: Send,
 {
     let status = match read_words(rt.alloc(), words) {
-        Ok(Word::Check(limit)) => check(rt, limit, input),
+        Ok(Word::Check(options)) => check(rt, options.limit, input),
         Ok(Word::Run(options)) => run(rt, &options, input),
         Ok(Word::Feed(options)) => feed(rt, &options),
-        Ok(Word::Solve(limit)) => solve(rt, limit, input),
+        Ok(Word::Solve(options)) => solve(rt, options.limit, input),
         Ok(Word::Map(options)) => map(rt, &options, input),
         Ok(Word::Table(options)) => table(rt, &options, input),
         Ok(Word::Why(options)) => why(rt, &options, input),

@@ -67,17 +67,6 @@ impl Stop {
         }
     }
 
-    /// The wagon that it is about.
-    fn wagon(self) -> Option<WagonNumber> {
-        match self {
-            Stop::Roster(RosterFault::DuplicateWagon(wagon)) => Some(wagon),
-            Stop::Fleet(FleetFault::UnknownWagon(wagon)) => Some(wagon),
-            Stop::Fleet(FleetFault::WagonPromised(wagon)) => Some(wagon),
-            Stop::WagonNotInProblem(wagon) => Some(wagon),
-            _ => None,
-        }
-    }
-
     /// The number of the file's record or of the line at which it stopped, counted from 1.
     fn place(self) -> Option<u64> {
         match self {
@@ -93,7 +82,16 @@ impl Stop {
 impl Display for Stop {
     fn fmt<W: fmt::Write>(&self, f: &mut Formatter<W>) -> fmt::Result {
         write!(f, "wagons: {}", self.number())?;
-        if let Some(wagon) = self.wagon() {
+        if let Stop::Roster(RosterFault::DuplicateWagon(wagon)) = self {
+            return write_ascii(f, wagon.digits());
+        }
+        if let Stop::Fleet(FleetFault::UnknownWagon(wagon)) = self {
+            return write_ascii(f, wagon.digits());
+        }
+        if let Stop::Fleet(FleetFault::WagonPromised(wagon)) = self {
+            return write_ascii(f, wagon.digits());
+        }
+        if let Stop::WagonNotInProblem(wagon) = self {
             return write_ascii(f, wagon.digits());
         }
         if let Stop::OrderNotInProblem(id) = self {

@@ -9,7 +9,9 @@ use crate::stop::Stop;
 use command_line::{Asked, WhyOptions};
 use commit_book::Book;
 use line_network::Networks;
-use plan_reasons::{PlannedProblem, Style, find_order, find_wagon, order_text, wagon_text, why_text};
+use plan_reasons::{
+    PlannedProblem, Style, find_order, find_wagon, order_text, wagon_text, why_text,
+};
 use std::alloc::Global;
 use std::io;
 use std::io::Read;
@@ -75,15 +77,15 @@ fn answer(
     ensures { IfOk result (λ text. IsAnswer (style_of options.now.json) options.now.asked version planned.now.tables.now planned.now.problem.now (priced_plan planned.now) (string_bytes text)) }
 {
     let style = style_of(options.json);
-    match options.asked {
+    match &options.asked {
         Asked::Plan => Ok(why_text(alloc, style, version, planned)?),
-        Asked::Order(id) => match find_order(planned.problem, &id) {
+        Asked::Order(id) => match find_order(planned.problem, id) {
             Some(j) => Ok(order_text(alloc, style, planned, j)?),
-            None => Err(Stop::OrderNotInProblem(id)),
+            None => Err(Stop::OrderNotInProblem(*id)),
         },
-        Asked::Wagon(number) => match find_wagon(planned.problem, &number) {
+        Asked::Wagon(number) => match find_wagon(planned.problem, number) {
             Some(i) => Ok(wagon_text(alloc, style, planned, i)?),
-            None => Err(Stop::WagonNotInProblem(number)),
+            None => Err(Stop::WagonNotInProblem(*number)),
         },
     }
 }
