@@ -17,7 +17,7 @@ pub bool_byte-le : (b : Bool) → bool_byte b ≤ 1
 bool_byte-le true = omega arith
 bool_byte-le false = omega arith
 
-each_more : {A B : Type 0} (R : A → B → Type 0) (xs : List A) (ys : List B) (x : A) (y : B) → AllZip R xs ys → R x y → AllZip R (xs ++ x ∷ []) (ys ++ y ∷ [])
+pub each_more : {A B : Type 0} (R : A → B → Type 0) (xs : List A) (ys : List B) (x : A) (y : B) → AllZip R xs ys → R x y → AllZip R (xs ++ x ∷ []) (ys ++ y ∷ [])
 each_more R [] [] x y h r = (r, tt)
 each_more R [] (b ∷ ys) x y h r = absurd h
 each_more R (a ∷ xs) [] x y h r = absurd h

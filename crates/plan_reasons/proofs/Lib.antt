@@ -10,3 +10,5 @@ pub mod More
 pub mod PairTexts
 pub mod PairFields
 pub mod NamedThere
+pub mod CellCounts
+pub mod Tested

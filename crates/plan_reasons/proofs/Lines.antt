@@ -1,5 +1,5 @@
 -- Lines from their parts.
-use Rattle.std.proofs.Common.{◌≡◌, ℕ, Some, List, ◌++◌, refl, ap, ◌∙◌}
+use Rattle.std.proofs.Common.{◌≡◌, ◌<◌, ℕ, zero, suc, Some, List, [], ◌∷◌, ◌++◌, length, refl, ap, ◌∙◌, arith}
 use Rattle.std.specs.Prelude.{codes, slice_get}
 use Rattle.plan_bounds.specs.PricedPlan.{PricedPlan}
 use Rattle.line_network.specs.Network.{NetworkValue}
@@ -32,3 +32,9 @@ module _ (style : Style) (net : NetworkValue) (problem : ProblemValue) (p : Pric
         is = record { arrival = arrival; arrives = arrives; moment = moment.text; printed = moment.moment; text = refl };
         whole = three_parts old (wagon_fields style problem p pair) (field style (codes "arrival") (quoted style moment.text)) (without_fields style p pair.0) a b c first (second.whole ∙ ap (λ (xs : List ℕ). a ++ xs) moment.whole) third;
       }
+
+-- something stands at each place of a list
+pub some_there : {A : Type 0} (xs : List A) (i : ℕ) → i < length xs → (x : A) × (slice_get xs i ≡ Some x)
+some_there [] i lt = absurd (omega arith)
+some_there (x ∷ xs) zero lt = (x, refl)
+some_there (x ∷ xs) (suc i) lt = some_there xs i (omega arith)

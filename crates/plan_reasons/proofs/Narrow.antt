@@ -32,6 +32,36 @@ module _ (IsWide IsNarrow : FreeWagon → Type 0) (within : (wagon : FreeWagon) 
   pub no_more : (wagons : List FreeWagon) (wide narrow : ℕ) → IsCount IsWide wagons wide → IsCount IsNarrow wagons narrow → narrow ≤ wide
   no_more wagons wide narrow p q = omega (arith, marks_le wagons p.marks q.marks p.each q.each, p.count, q.count)
 
+same_mark : (wide narrow : Bool) → (let n : ℕ = cond narrow 1 0 in let w : ℕ = cond wide 1 0 in n ≡ w) → wide ≡ true → narrow ≡ true
+same_mark true true h marked = refl
+same_mark true false h marked = absurd (omega (arith, h))
+same_mark false narrow h marked = cc
+
+-- where a wider and a narrower test are passed by as many wagons, so is one between them
+module _ (IsWide IsMiddle IsNarrow : FreeWagon → Type 0) (wider : (wagon : FreeWagon) → IsMiddle wagon → IsWide wagon) (narrower : (wagon : FreeWagon) → IsNarrow wagon → IsMiddle wagon) where
+  between : (wagons : List FreeWagon) (wide narrow : List Bool) → AllZip (λ wagon mark. IsTrue mark ↔ IsWide wagon) wagons wide → AllZip (λ wagon mark. IsTrue mark ↔ IsNarrow wagon) wagons narrow
+      → count_by (λ mark. mark) narrow ≡ count_by (λ mark. mark) wide → AllZip (λ wagon mark. IsTrue mark ↔ IsMiddle wagon) wagons wide
+  between [] [] narrow p q same = tt
+  between [] (w ∷ ws) narrow p q same = absurd p
+  between (x ∷ xs) [] narrow p q same = absurd p
+  between (x ∷ xs) (w ∷ ws) [] p q same = absurd q
+  between (x ∷ xs) (w ∷ ws) (n ∷ ns) p q same =
+      let within : (wagon : FreeWagon) → IsNarrow wagon → IsWide wagon = λ wagon is. wider wagon (narrower wagon is) in
+      let first = mark_le w n (λ yes. p.0.1 (within x (q.0.0 yes))) in
+      let rest = marks_le IsWide IsNarrow within xs ws ns p.1 q.1 in
+      let one = sum_by-cons (λ (mark : Bool). cond mark 1 0) w ws in
+      let other = sum_by-cons (λ (mark : Bool). cond mark 1 0) n ns in (
+        (λ yes. narrower x (q.0.0 (same_mark w n (omega (arith, first, rest, one, other, same)) yes)), λ middle. p.0.1 (wider x middle)),
+        between xs ws ns p.1 q.1 (omega (arith, first, rest, one, other, same)),
+      )
+
+  pub same_between : (wagons : List FreeWagon) (n m : ℕ) → n ≡ m → IsCount IsWide wagons n → IsCount IsNarrow wagons m → IsCount IsMiddle wagons n
+  same_between wagons n m same wide narrow = record {
+    marks = wide.marks;
+    each = between wagons wide.marks narrow.marks wide.each narrow.each (omega (arith, same, wide.count, narrow.count));
+    count = wide.count;
+  }
+
 -- a count is one number
 one_count : (IsSo : FreeWagon → Type 0) (wagons : List FreeWagon) (n m : ℕ) → IsCount IsSo wagons n → IsCount IsSo wagons m → n ≡ m
 one_count IsSo wagons n m p q = omega (arith, no_more IsSo IsSo (λ wagon h. h) wagons n m p q, no_more IsSo IsSo (λ wagon h. h) wagons m n q p)

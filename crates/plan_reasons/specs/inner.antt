@@ -2,3 +2,4 @@
 pub mod Passed
 pub mod Added
 pub mod AddedPairs
+pub mod Tallied

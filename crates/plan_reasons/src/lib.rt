@@ -5,6 +5,7 @@
 //! `Err` only when out of memory.
 #![tactic(auto)]
 
+mod cell_counts;
 mod failed_line;
 mod finders;
 mod laws;
@@ -15,6 +16,8 @@ mod pair_lists;
 mod planned_problem;
 mod reasons;
 mod style;
+mod tallies;
+mod tested_wagons;
 mod wagon_line;
 mod why_lines;
 
@@ -22,6 +25,6 @@ pub use finders::{find_order, find_wagon};
 pub use laws::{fits_are_cheaper, in_time_are_allowed, numbers_are_bounds, tests_narrow};
 pub use one_text::{order_text, wagon_text};
 pub use planned_problem::PlannedProblem;
-pub use reasons::{Counts, counts_of_order};
+pub use reasons::Counts;
 pub use style::Style;
 pub use why_lines::why_text;

@@ -9,6 +9,7 @@ use crate::order_line::push_order_line;
 use crate::pair_lists::push_pairs;
 use crate::planned_problem::PlannedProblem;
 use crate::style::{Style, end_line, first_code};
+use crate::tallies::Tallies;
 use crate::wagon_line::push_wagon_line;
 use cost_table::Problem;
 use price_checker::wagon_name;
@@ -37,8 +38,9 @@ pub fn order_text(
     ensures { IfOk result (λ text. IsOrderText style planned.now.tables.now planned.now.problem.now (priced_plan planned.now) j (string_bytes text)) }
 {
     let pairs = pairs_of_order(alloc, planned.problem, j)?;
+    let tallies = Tallies::new(alloc, planned)?;
     let mut text = String::new(alloc);
-    push_order_line(&mut text, style, planned, j)?;
+    push_order_line(alloc, &mut text, style, planned, &tallies, j)?;
     push_pairs(alloc, &mut text, style, planned, &pairs)?;
     Ok(text)
 }

@@ -1,6 +1,5 @@
 //! The lines of orders.
 ghost use Rattle.std.specs.Prelude.{◌≡◌, ◌+◌, ◌++◌, ◌<◌, ◌≤◌, codes, length, slice_index, OnOk, string_bytes};
-ghost use Rattle.cost_table.specs.Plan.{serves};
 ghost use Rattle.cost_table.specs.Table.{lack_at, order_count};
 ghost use Rattle.plan_bounds.specs.Bounds.{AllCostMore};
 ghost use Rattle.plan_bounds.specs.Changes.{with_lack};
@@ -9,33 +8,34 @@ ghost use Rattle.plan_reasons.specs.Fields.{field, quoted};
 ghost use Rattle.plan_reasons.specs.Planned.{IsPlannedProblem, priced_plan};
 ghost use Rattle.plan_reasons.specs.WhyText.{count_fields, further_value, order_fields, price_fields};
 ghost use Rattle.plan_reasons.specs.inner.Added.{AddsOrderLine};
+ghost use Rattle.plan_reasons.specs.inner.Tallied.{AreTallies};
 
 use crate::planned_problem::PlannedProblem;
-use crate::reasons::{Counts, counts_of_order};
+use crate::reasons::Counts;
 use crate::style::{Style, code_field, end_line, first_code, nothing, number_field, push_field};
+use crate::tallies::Tallies;
 use plan_bounds::Bounds;
 use price_checker::order_name;
-use std::alloc::AllocError;
+use std::alloc::{AllocError, Global};
 
 /// Adds the line of order `j`.
 pub(crate) fn push_order_line(
+    alloc: Global,
     text: &mut String,
     style: Style,
     planned: &PlannedProblem,
+    tallies: &Tallies,
     j: usize,
 ) -> Result<(), AllocError>
     requires planned { IsPlannedProblem planned.now }
+    requires tallies { AreTallies planned.now tallies.now }
     requires order { j < length planned.now.problem.now.orders }
     ensures { OnOk result (AddsOrderLine style planned.now j (string_bytes text.old) (string_bytes text.new)) }
 {
-    let order = planned.problem.orders()[j].order();
-    push_order_fields(text, style, planned, j)?;
-    push_counts(
-        text,
-        style,
-        counts_of_order(planned.problem, planned.tables, order),
-    )?;
-    push_prices(text, style, planned, j)
+    let counts = tallies.counts(alloc, planned, j)?;
+    push_order_fields(text, style, planned, tallies, j)?;
+    push_counts(text, style, counts)?;
+    push_prices(text, style, planned, tallies, j)
 }
 
 /// Adds the name of order `j`, how many wagons it lacks, gets, and misses.
@@ -43,9 +43,11 @@ fn push_order_fields(
     text: &mut String,
     style: Style,
     planned: &PlannedProblem,
+    tallies: &Tallies,
     j: usize,
 ) -> Result<(), AllocError>
     requires planned { IsPlannedProblem planned.now }
+    requires tallies { AreTallies planned.now tallies.now }
     requires order { j < length planned.now.problem.now.orders }
     ensures { OnOk result (string_bytes text.new ≡ string_bytes text.old ++ order_fields style planned.now.problem.now (priced_plan planned.now) j) }
 {
@@ -56,8 +58,8 @@ fn push_order_fields(
         order_name(planned.problem, j).as_bytes(),
     )?;
     number_field(text, style, "lacks", u64::from(planned.cells.lack(j)))?;
-    number_field(text, style, "gets", given(planned, j) as u64)?;
-    number_field(text, style, "misses", missed(planned, j))
+    number_field(text, style, "gets", tallies.given(planned, j))?;
+    number_field(text, style, "misses", missed(planned, tallies, j))
 }
 
 /// Adds how many wagons pass each test.
@@ -76,15 +78,17 @@ fn push_prices(
     text: &mut String,
     style: Style,
     planned: &PlannedProblem,
+    tallies: &Tallies,
     j: usize,
 ) -> Result<(), AllocError>
     requires planned { IsPlannedProblem planned.now }
+    requires tallies { AreTallies planned.now tallies.now }
     requires order { j < order_count planned.now.cells.now }
     ensures { OnOk result (string_bytes text.new ≡ string_bytes text.old ++ price_fields style (priced_plan planned.now) j) }
 {
     let bounds = Bounds::new(planned.cells, planned.plan, planned.prices);
     number_field(text, style, "price", price(&bounds, j))?;
-    push_further(text, style, planned, &bounds, j)?;
+    push_further(text, style, planned, tallies, &bounds, j)?;
     end_line(text, style)
 }
 
@@ -93,14 +97,16 @@ fn push_further(
     text: &mut String,
     style: Style,
     planned: &PlannedProblem,
+    tallies: &Tallies,
     bounds: &Bounds,
     j: usize,
 ) -> Result<(), AllocError>
+    requires tallies { AreTallies planned.now tallies.now }
     requires order { j < order_count planned.now.cells.now }
     requires bounds { bounds.now ≡ priced_plan planned.now }
     ensures { OnOk result (string_bytes text.new ≡ string_bytes text.old ++ field style (codes "further") (further_value style (priced_plan planned.now) j)) }
 {
-    if missed(planned, j) == 0 {
+    if missed(planned, tallies, j) == 0 {
         return push_field(text, style, "further", nothing(style));
     }
     match bounds.service_bound(j) {
@@ -128,23 +134,12 @@ fn price(bounds: &Bounds, j: usize) -> u64
     bounds.one_more(j)
 }
 
-/// How many wagons the plan gives order `j`.
-fn given(planned: &PlannedProblem, j: usize) -> usize
-    ensures { result ≡ serves j planned.now.plan.now }
-{
-    planned
-        .plan
-        .pairs()
-        .iter()
-        .filter(|pair| pair.1 == j)
-        .count()
-}
-
 /// How many wagons order `j` misses.
-pub(crate) fn missed(planned: &PlannedProblem, j: usize) -> u64
-    requires { j < order_count planned.now.cells.now }
+pub(crate) fn missed(planned: &PlannedProblem, tallies: &Tallies, j: usize) -> u64
+    requires tallies { AreTallies planned.now tallies.now }
+    requires order { j < order_count planned.now.cells.now }
     ensures value { result ≡ missed (priced_plan planned.now) planned.now.plan.now j }
     ensures limit { result ≤ 20 }
 {
-    u64::from(planned.cells.lack(j)).saturating_sub(given(planned, j) as u64)
+    u64::from(planned.cells.lack(j)).saturating_sub(tallies.given(planned, j))
 }

@@ -2,10 +2,9 @@
 ghost use Rattle.std.specs.Prelude.{◌≡◌, ◌+◌, ◌*◌, ◌≤◌, max};
 ghost use Rattle.rail_codes.specs.Moment.{first_second};
 ghost use Rattle.line_network.specs.Distance.{IsDistance};
-ghost use Rattle.plan_reasons.specs.Reasons.{AreCounts, FailsFirst, HasWay, IsCheaper};
+ghost use Rattle.plan_reasons.specs.Reasons.{FailsFirst, HasWay, IsCheaper};
 ghost use Rattle.plan_reasons.specs.inner.Passed.{ArePassed};
 
-use cost_table::Problem;
 use line_network::Tables;
 use move_messages::OrderText;
 use rail_codes::Moment;
@@ -49,30 +48,6 @@ pub(crate) struct Passed {
     pub(crate) way: bool,
     pub(crate) in_time: bool,
     pub(crate) cheaper: bool,
-}
-
-/// How many free wagons of a problem pass each test for an order.
-pub fn counts_of_order(problem: &Problem, tables: &Tables, order: &OrderText) -> Counts
-    ensures { AreCounts tables.now problem.now.at problem.now.wagons order.now result }
-{
-    let at = problem.at();
-    let wagons = problem.wagons();
-    let mut counts = Counts {
-        class: 0,
-        load: 0,
-        way: 0,
-        in_time: 0,
-        cheaper: 0,
-    };
-    for wagon in wagons {
-        let passed = passed_by(tables, at, wagon, order);
-        counts.class += u64::from(passed.class);
-        counts.load += u64::from(passed.load);
-        counts.way += u64::from(passed.way);
-        counts.in_time += u64::from(passed.in_time);
-        counts.cheaper += u64::from(passed.cheaper);
-    }
-    counts
 }
 
 /// Which tests a wagon passes for an order.

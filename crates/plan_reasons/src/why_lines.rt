@@ -4,10 +4,12 @@ ghost use Rattle.cost_table.specs.Table.{order_count};
 ghost use Rattle.plan_reasons.specs.Planned.{IsPlannedProblem, priced_plan};
 ghost use Rattle.plan_reasons.specs.WhyText.{IsWhyText, missed_in_all, plan_fields, problem_fields, why_line};
 ghost use Rattle.plan_reasons.specs.inner.Added.{AddsOrderLines, AddsWagonLines};
+ghost use Rattle.plan_reasons.specs.inner.Tallied.{AreTallies};
 
 use crate::order_line::{missed, push_order_line};
 use crate::planned_problem::PlannedProblem;
 use crate::style::{Style, end_line, first_number, number_field, push_field};
+use crate::tallies::Tallies;
 use crate::wagon_line::push_wagon_line;
 use cost_table::cost;
 use itoa::Buffer;
@@ -33,8 +35,9 @@ pub fn why_text(
     ensures { IfOk result (λ text. IsWhyText style version planned.now.tables.now planned.now.problem.now (priced_plan planned.now) (string_bytes text)) }
 {
     let mut text = String::new(alloc);
-    push_why_line(&mut text, style, version, planned)?;
-    push_orders(&mut text, style, planned)?;
+    let tallies = Tallies::new(alloc, planned)?;
+    push_why_line(&mut text, style, version, planned, &tallies)?;
+    push_orders(alloc, &mut text, style, planned, &tallies)?;
     push_wagons(&mut text, style, planned)?;
     Ok(text)
 }
@@ -45,12 +48,14 @@ fn push_why_line(
     style: Style,
     version: u64,
     planned: &PlannedProblem,
+    tallies: &Tallies,
 ) -> Result<(), AllocError>
-    requires { IsPlannedProblem planned.now }
+    requires planned { IsPlannedProblem planned.now }
+    requires tallies { AreTallies planned.now tallies.now }
     ensures { OnOk result (string_bytes text.new ≡ string_bytes text.old ++ why_line style version planned.now.problem.now (priced_plan planned.now)) }
 {
     push_problem(text, style, version, planned)?;
-    push_plan(text, style, planned)?;
+    push_plan(text, style, planned, tallies)?;
     end_line(text, style)
 }
 
@@ -69,8 +74,14 @@ fn push_problem(
 }
 
 /// Adds what the plan costs, how many wagons go and stay, and how many the orders miss.
-fn push_plan(text: &mut String, style: Style, planned: &PlannedProblem) -> Result<(), AllocError>
-    requires { IsPlannedProblem planned.now }
+fn push_plan(
+    text: &mut String,
+    style: Style,
+    planned: &PlannedProblem,
+    tallies: &Tallies,
+) -> Result<(), AllocError>
+    requires planned { IsPlannedProblem planned.now }
+    requires tallies { AreTallies planned.now tallies.now }
     ensures { OnOk result (string_bytes text.new ≡ string_bytes text.old ++ plan_fields style planned.now.problem.now (priced_plan planned.now)) }
 {
     let pairs = planned.plan.pairs();
@@ -83,7 +94,7 @@ fn push_plan(text: &mut String, style: Style, planned: &PlannedProblem) -> Resul
     )?;
     number_field(text, style, "go", pairs.len() as u64)?;
     number_field(text, style, "stay", staying(planned) as u64)?;
-    number_field(text, style, "miss", missed_in_all(planned))
+    number_field(text, style, "miss", missed_in_all(planned, tallies))
 }
 
 /// How many free wagons stay.
@@ -95,23 +106,31 @@ fn staying(planned: &PlannedProblem) -> usize
 }
 
 /// How many wagons the orders miss in all.
-fn missed_in_all(planned: &PlannedProblem) -> u64
+fn missed_in_all(planned: &PlannedProblem, tallies: &Tallies) -> u64
+    requires { AreTallies planned.now tallies.now }
     ensures { result ≡ missed_in_all (priced_plan planned.now) }
 {
     let mut all = 0;
     for j in 0..planned.cells.orders() {
-        all += missed(planned, j);
+        all += missed(planned, tallies, j);
     }
     all
 }
 
 /// Adds the line of each order.
-fn push_orders(text: &mut String, style: Style, planned: &PlannedProblem) -> Result<(), AllocError>
-    requires { IsPlannedProblem planned.now }
+fn push_orders(
+    alloc: Global,
+    text: &mut String,
+    style: Style,
+    planned: &PlannedProblem,
+    tallies: &Tallies,
+) -> Result<(), AllocError>
+    requires planned { IsPlannedProblem planned.now }
+    requires tallies { AreTallies planned.now tallies.now }
     ensures { OnOk result (AddsOrderLines style planned.now (length planned.now.problem.now.orders) (string_bytes text.old) (string_bytes text.new)) }
 {
     for j in 0..planned.problem.orders().len() {
-        push_order_line(text, style, planned, j)?;
+        push_order_line(alloc, text, style, planned, tallies, j)?;
     }
     Ok(())
 }

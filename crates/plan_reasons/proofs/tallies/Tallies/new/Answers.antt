@@ -1,0 +1,8 @@
+use Rattle.cost_table.proofs.CostLemmas.{orders_in_range}
+use Rattle.plan_reasons.proofs.tallies.Tallies.new.Goals as goal
+
+pub served-requires : goal.served-requires
+served-requires c =
+    let t = c.args.planned.now.cells.now in
+    let range = orders_in_range t c.args.planned.now.plan.now c.requires.certified.plan.allowed in
+    rw (c.pairs.ensures.pairs, c.orders.ensures.count) range
