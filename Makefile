@@ -77,6 +77,7 @@ bench:
 	@bench/plan/run
 	@bench/book/run
 	@bench/save/run
+	@bench/why/run
 
 # Uses the program as nobody should, and prints what was tried, how often, and what was lost (see docs/HOSTILE.md).
 hostile:
