@@ -1,4 +1,4 @@
-use Rattle.std.proofs.Common.{◌≡◌, ◌∙◌, ℕ, Bool, None, ap, cond, get_or, refl, arith}
+use Rattle.std.proofs.Common.{◌∙◌, ℕ, Bool, None, ap, cond, get_or, refl, arith}
 use Rattle.plan_reasons.specs.declared.tested_wagons.TestedWagon.{TestedWagon}
 use Rattle.plan_reasons.specs.inner.Tallied.{has_load, is_of_class}
 use Rattle.plan_reasons.proofs.Counted.{bool_byte-cond}
