@@ -11,7 +11,7 @@ use crate::cell_counts::{allowed, cheaper, served};
 use crate::planned_problem::PlannedProblem;
 use crate::reasons::Counts;
 use crate::tested_wagons::{
-    TestedWagon, TestedWagons, listed_classes, of_class, tested_wagons, with_load, with_way,
+    TestedWagon, TestedWagons, count_suited, listed_classes, tested_wagons, with_way,
 };
 use move_messages::OrderText;
 use std::alloc::{AllocError, Global};
@@ -66,12 +66,12 @@ impl Tallies {
         let order = planned.problem.orders()[j].order();
         let wagons = &self.tested.wagons;
         let listed = listed_classes(alloc, &self.tested.classes, order)?;
-        let load = with_load(wagons, &listed, order.load());
+        let counted = count_suited(wagons, &listed, order.load());
         let in_time = self.in_time[j];
         Ok(Counts {
-            class: of_class(wagons, &listed),
-            load,
-            way: on_a_way(planned, wagons, &listed, order, load, in_time),
+            class: counted.class,
+            load: counted.load,
+            way: on_a_way(planned, wagons, &listed, order, counted.load, in_time),
             in_time,
             cheaper: self.cheaper[j],
         })

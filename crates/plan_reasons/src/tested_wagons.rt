@@ -91,24 +91,26 @@ pub(crate) fn listed_classes(
     Ok(listed)
 }
 
-/// How many wagons are of a listed class.
-pub(crate) fn of_class(wagons: &[TestedWagon], listed: &[bool]) -> u64
-    ensures { result ≡ count_by (is_of_class listed.now) wagons.now }
-{
-    wagons
-        .iter()
-        .filter(|wagon| is_of_class(listed, wagon))
-        .count() as u64
+/// How many wagons suit an order.
+#[derive(Clone, Copy, Debug)]
+pub(crate) struct Suited {
+    /// They are of a class that the order lists.
+    pub(crate) class: u64,
+    /// They carry its load, too.
+    pub(crate) load: u64,
 }
 
-/// How many of these carry a load.
-pub(crate) fn with_load(wagons: &[TestedWagon], listed: &[bool], load: u32) -> u64
-    ensures { result ≡ count_by (has_load listed.now load) wagons.now }
+/// How many wagons are of a listed class, and how many of these carry a load.
+pub(crate) fn count_suited(wagons: &[TestedWagon], listed: &[bool], load: u32) -> Suited
+    ensures class { result.class ≡ count_by (is_of_class listed.now) wagons.now }
+    ensures load { result.load ≡ count_by (has_load listed.now load) wagons.now }
 {
-    wagons
-        .iter()
-        .filter(|wagon| has_load(listed, load, wagon))
-        .count() as u64
+    let mut counts = Suited { class: 0, load: 0 };
+    for wagon in wagons {
+        counts.class += u64::from(is_of_class(listed, wagon));
+        counts.load += u64::from(has_load(listed, load, wagon));
+    }
+    counts
 }
 
 /// From how many of these a way leads to the order's place.

@@ -20,7 +20,7 @@ on_a_way-requires-clause-load c =
     let problem = c.args.planned.now.problem.now in
     let order = c.order-order.result.now in
     let seen : AreSeen net problem.wagons order c.deref-3.result.now c.deref-2.result.now = seen_of net problem.wagons order c.args.self.now.tested.classes.items c.deref.result.now c.args.self.now.tested.wagons.items c.deref-2.result.now c.in_ok-listed.listed.items c.deref-3.result.now c.deref.ensures.value c.deref-2.ensures.value c.deref-3.ensures.value c.in_ok-listed.ensures c.requires.tallies.tested in
-    subst (IsCount (λ (w : FreeWagon). Suits w order) problem.wagons) (sym c.with_load-load.ensures) (load_counted net problem.wagons order c.deref-3.result.now c.deref-2.result.now seen c.load.result c.load.ensures.value)
+    subst (IsCount (λ (w : FreeWagon). Suits w order) problem.wagons) (sym c.count_suited-counted.ensures.load) (load_counted net problem.wagons order c.deref-3.result.now c.deref-2.result.now seen c.load.result c.load.ensures.value)
 
 pub on_a_way-requires-clause-in_time : goal.on_a_way-requires-clause-in_time
 on_a_way-requires-clause-in_time c =
@@ -44,15 +44,14 @@ returns c = λ wanted at.
     let read = standing c.orders.result.now problem.orders c.args.j c.index-orders-j.result c.orders.ensures.orders c.requires.order c.index-orders-j.is in
     let order : handed ≡ wanted.order = c.order-order.ensures ∙ ap (λ (o : WantedOrder). o.order) (same_Some c.index-orders-j.result wanted (sym read ∙ at)) in
     let less : c.args.j < order_count t = omega (arith, c.requires.order, order_count-table net problem t table) in
-    let seen : AreSeen net problem.wagons handed c.deref-5.result.now c.deref-4.result.now = seen_of net problem.wagons handed c.args.self.now.tested.classes.items c.deref.result.now c.args.self.now.tested.wagons.items c.deref-4.result.now c.in_ok-listed.listed.items c.deref-5.result.now c.deref.ensures.value c.deref-4.ensures.value c.deref-5.ensures.value c.in_ok-listed.ensures tallies.tested in
-    let same : AreSeen net problem.wagons handed c.deref-3.result.now c.deref-2.result.now = seen_of net problem.wagons handed c.args.self.now.tested.classes.items c.deref.result.now c.args.self.now.tested.wagons.items c.deref-2.result.now c.in_ok-listed.listed.items c.deref-3.result.now c.deref.ensures.value c.deref-2.ensures.value c.deref-3.ensures.value c.in_ok-listed.ensures tallies.tested in
-    let class = subst (IsCount (λ (w : FreeWagon). IsOfClass w handed) problem.wagons) (sym c.of_class.ensures) (class_counted net problem.wagons handed c.deref-5.result.now c.deref-4.result.now seen) in
-    let load = subst (IsCount (λ (w : FreeWagon). Suits w handed) problem.wagons) (sym c.with_load-load.ensures) (load_counted net problem.wagons handed c.deref-3.result.now c.deref-2.result.now same c.load.result c.load.ensures.value) in
+    let seen : AreSeen net problem.wagons handed c.deref-3.result.now c.deref-2.result.now = seen_of net problem.wagons handed c.args.self.now.tested.classes.items c.deref.result.now c.args.self.now.tested.wagons.items c.deref-2.result.now c.in_ok-listed.listed.items c.deref-3.result.now c.deref.ensures.value c.deref-2.ensures.value c.deref-3.ensures.value c.in_ok-listed.ensures tallies.tested in
+    let class = subst (IsCount (λ (w : FreeWagon). IsOfClass w handed) problem.wagons) (sym c.count_suited-counted.ensures.class) (class_counted net problem.wagons handed c.deref-3.result.now c.deref-2.result.now seen) in
+    let load = subst (IsCount (λ (w : FreeWagon). Suits w handed) problem.wagons) (sym c.count_suited-counted.ensures.load) (load_counted net problem.wagons handed c.deref-3.result.now c.deref-2.result.now seen c.load.result c.load.ensures.value) in
     let in_time : c.index-in_time.result.now ≡ cells_of_order t c.args.j = c.index-in_time.ensures ∙ get_or_default_zero _ c.args.j _ (omega (arith, less, tallies.in_time.0)) ∙ tallies.in_time.1 c.args.j less in
     let cheaper : c.index.result.now ≡ cheaper_cells t c.args.j = c.index.ensures ∙ get_or_default_zero _ c.args.j _ (omega (arith, less, tallies.cheaper.0)) ∙ tallies.cheaper.1 c.args.j less in
     record {
-      class = subst (λ (o : Order). IsCount (λ (w : FreeWagon). IsOfClass w o) problem.wagons c.of_class.result) order class;
-      load = subst (λ (o : Order). IsCount (λ (w : FreeWagon). Suits w o) problem.wagons c.with_load-load.result) order load;
+      class = subst (λ (o : Order). IsCount (λ (w : FreeWagon). IsOfClass w o) problem.wagons c.count_suited-counted.result.class) order class;
+      load = subst (λ (o : Order). IsCount (λ (w : FreeWagon). Suits w o) problem.wagons c.count_suited-counted.result.load) order load;
       way = subst (λ (o : Order). IsCount (λ (w : FreeWagon). HasWay net w o) problem.wagons c.on_a_way.result) order c.on_a_way.ensures;
       in_time = subst (IsCount (λ (w : FreeWagon). IsInTime net problem.at w wanted.order) problem.wagons) (sym in_time) (in_time_counted net problem t table c.args.j wanted at);
       cheaper = subst (IsCount (λ (w : FreeWagon). IsCheaper net problem.at w wanted.order) problem.wagons) (sym cheaper) (cheaper_counted net problem t table c.args.j wanted at);
