@@ -1,0 +1,128 @@
+"""The files of the folder."""
+
+import os
+import subprocess
+from collections.abc import Iterator
+from pathlib import Path
+
+import pytest
+
+from wagons_service.journal import FileOfLines, FolderInUse, Journal, NotKept, Replies, Unreadable
+
+
+def test_lines_are_found_again(tmp_path: Path) -> None:
+    journal = Journal(str(tmp_path))
+    journal.add([b"one", b"", b"three"])
+    journal.add([b"four"])
+    journal.close()
+    again = Journal(str(tmp_path))
+    assert again.lines.count == 4 and again.last_line == 4
+    assert again.lines.read(2, 3) == b"\nthree\n"
+    assert (tmp_path / "journal.jsonl").read_bytes() == b"one\n\nthree\nfour\n"
+
+
+def test_long_files_are_read_in_parts(tmp_path: Path) -> None:
+    lines = [b"x" * (k % 5000) for k in range(2000)]
+    journal = Journal(str(tmp_path))
+    journal.add(lines)
+    journal.close()
+    again = Journal(str(tmp_path))
+    assert again.lines.read(1, 2000).split(b"\n")[:-1] == lines
+    assert [again.line(k + 1) for k in range(0, 2000, 97)] == lines[::97]
+
+
+def test_the_last_line_that_is_not_blank(tmp_path: Path) -> None:
+    journal = Journal(str(tmp_path))
+    assert journal.last_line == 0
+    journal.add([b"one", b" \t\r", b""])
+    assert journal.last_line == 1
+    journal.add([b" "])
+    assert journal.last_line == 1
+    journal.close()
+    assert Journal(str(tmp_path)).last_line == 1
+
+
+@pytest.mark.parametrize("piece", [b"t", b'{"type":"she', b"x" * 70_000])
+def test_a_torn_last_line_is_cut_off(tmp_path: Path, piece: bytes) -> None:
+    (tmp_path / "journal.jsonl").write_bytes(b"one\ntwo\n" + piece)
+    journal = Journal(str(tmp_path))
+    assert journal.lines.torn == piece[:65536] and journal.lines.count == 2
+    journal.add([b"three"])
+    assert (tmp_path / "journal.jsonl").read_bytes() == b"one\ntwo\nthree\n"
+
+
+def test_a_folder_has_one_service(tmp_path: Path) -> None:
+    journal = Journal(str(tmp_path))
+    with pytest.raises(FolderInUse):
+        Journal(str(tmp_path))
+    journal.close()
+    Journal(str(tmp_path)).close()
+
+
+def test_replies_are_found_by_their_lines_number(tmp_path: Path) -> None:
+    path = str(tmp_path / "replies.jsonl")
+    replies = Replies(path)
+    records = [Replies.record(n, f"{n} sheet 0\nwagon \"ä\"") for n in (1, 4, 5)]
+    replies.keep([1, 4, 5], records)
+    for kept in replies, Replies(path):
+        assert kept.last == 5
+        assert kept.read(1, 3) == records[0] + b"\n"
+        assert kept.read(2, 3) == b""
+        assert kept.read(2, 9) == records[1] + b"\n" + records[2] + b"\n"
+        assert kept.until(1, 5, 1) in (1, 2, 3) and kept.until(1, 5, 10_000) == 5
+
+
+def test_replies_of_another_journal_are_refused(tmp_path: Path) -> None:
+    journal = Journal(str(tmp_path))
+    journal.add([b"{}"])
+    journal.replies.keep([1], [Replies.record(1, "1 refused 24 type")])
+    journal.close()
+    (tmp_path / "journal.jsonl").write_bytes(b"")
+    with pytest.raises(Unreadable, match="line 1 has a reply, but the journal ends with line 0"):
+        Journal(str(tmp_path))
+
+
+def test_a_file_that_has_no_replies_is_refused(tmp_path: Path) -> None:
+    (tmp_path / "journal.jsonl").write_bytes(b"{}\n")
+    (tmp_path / "replies.jsonl").write_bytes(b"1 refused 24 type\n")
+    with pytest.raises(Unreadable, match="line 1 is no reply"):
+        Journal(str(tmp_path))
+
+
+@pytest.fixture
+def small_disk(tmp_path: Path) -> Iterator[Path]:
+    """A disk of 256 kB."""
+    folder = tmp_path / "disk"
+    folder.mkdir()
+    mount = subprocess.run(["mount", "-t", "tmpfs", "-o", "size=256k", "tmpfs", str(folder)], capture_output=True)
+    if mount.returncode:
+        pytest.skip("mounting isn't allowed here")
+    yield folder
+    subprocess.run(["umount", "-l", str(folder)], check=True)
+
+
+def test_a_full_disk_takes_all_lines_or_none(small_disk: Path) -> None:
+    journal = Journal(str(small_disk))
+    taken = 0
+    with pytest.raises(NotKept):
+        while True:
+            journal.add([b"x" * 999] * 30)
+            taken += 30
+    assert taken and journal.lines.count == taken
+    assert os.path.getsize(small_disk / "journal.jsonl") == taken * 1000
+
+
+def test_replies_wait_while_the_disk_is_full(small_disk: Path) -> None:
+    replies = Replies(str(small_disk / "replies.jsonl"))
+    filler = small_disk / "filler"
+    with open(filler, "wb", buffering=0) as file, pytest.raises(OSError):
+        while True:
+            file.write(bytes(4096))
+    records = [Replies.record(n, f"{n} accepted {n}") for n in range(1, 1001)]
+    replies.keep(range(1, 501), records[:500])
+    replies.keep(range(501, 1001), records[500:])
+    assert replies.are_behind and replies.read(499, 502) == b"".join(r + b"\n" for r in records[498:502])
+    filler.unlink()
+    replies.write()
+    assert not replies.are_behind and FileOfLines(str(small_disk / "replies.jsonl")).count == 1000
+    assert replies.read(499, 502) == b"".join(r + b"\n" for r in records[498:502])

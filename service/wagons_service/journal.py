@@ -1,0 +1,250 @@
+"""The journal: the lines as they came, each on disk before the office sees it, and the replies kept beside them.
+
+A folder has `journal.jsonl`, `replies.jsonl` and `lock`. Lines are numbered from 1, as `wagons run` numbers them, so the
+journal is what the office read: `wagons run < journal.jsonl` gives the same replies.
+"""
+
+import fcntl
+import json
+import os
+from array import array
+from collections.abc import Iterable, Sequence
+from itertools import accumulate
+
+# What one input of `wagons run` may have; past it the program stops with 91 or 92.
+MOST_LINES = 1_000_000
+MOST_LINE_BYTES = 65_536
+BLANK = b" \t\r"
+CHUNK = 1 << 20
+
+
+class NotKept(Exception):
+    """Nothing was added, and the file is as before: the disk is full, say."""
+
+
+class Broken(Exception):
+    """What is on the disk isn't known any more, so nothing may be added before a new start."""
+
+
+class FolderInUse(Exception):
+    """Another service has the folder."""
+
+
+class Unreadable(Exception):
+    """The files of the folder don't belong together, or one isn't as the service writes it."""
+
+
+class FileOfLines:
+    """A file that grows by whole lines, and where each of its lines ends."""
+
+    def __init__(self, path: str) -> None:
+        self._file = os.open(path, os.O_RDWR | os.O_CREAT | os.O_CLOEXEC, 0o600)
+        self._ends = array("Q", [0])
+        size = 0
+        while chunk := os.pread(self._file, CHUNK, size):
+            at = chunk.find(b"\n")
+            while at >= 0:
+                self._ends.append(size + at + 1)
+                at = chunk.find(b"\n", at + 1)
+            size += len(chunk)
+        # What a crash left of a line that wasn't written to its end.
+        self.torn = os.pread(self._file, MOST_LINE_BYTES, self.size)
+        if size > self.size:
+            os.ftruncate(self._file, self.size)
+            os.fdatasync(self._file)
+
+    @property
+    def count(self) -> int:
+        return len(self._ends) - 1
+
+    @property
+    def size(self) -> int:
+        """How many bytes the whole lines have."""
+        return self._ends[-1]
+
+    def read(self, first: int, last: int) -> bytes:
+        """The lines of these numbers, both among them, as they stand in the file."""
+        start, end = self._ends[first - 1], self._ends[last]
+        parts = []
+        while start < end:
+            part = os.pread(self._file, min(CHUNK, end - start), start)
+            if not part:
+                raise Broken("the file is shorter than it was")
+            parts.append(part)
+            start += len(part)
+        return b"".join(parts)
+
+    def first_bytes(self, first: int, most: int) -> int:
+        """The number of the last line that still fits in so many bytes from a line on; at least that line."""
+        low, high, limit = first, self.count, self._ends[first - 1] + most
+        while low < high:
+            middle = (low + high + 1) // 2
+            low, high = (middle, high) if self._ends[middle] <= limit else (low, middle - 1)
+        return low
+
+    def append(self, lines: Sequence[bytes], is_synced: bool) -> None:
+        """Adds lines, given without their line feeds: all of them or, with `NotKept`, none."""
+        before = self.size
+        data = b"\n".join([*lines, b""])
+        try:
+            self._write(data, before)
+        except OSError as fault:
+            self._cut(before, str(fault))
+            raise NotKept(str(fault)) from None
+        if is_synced:
+            try:
+                os.fdatasync(self._file)
+            except OSError as fault:
+                self._cut(before, str(fault))
+                raise Broken(f"the journal couldn't be synced to the disk: {fault}") from None
+        self._ends.extend(accumulate((len(line) + 1 for line in lines[1:]), initial=before + len(lines[0]) + 1))
+
+    def _write(self, data: bytes, at: int) -> None:
+        view = memoryview(data)
+        while view:
+            written = os.pwrite(self._file, view, at)
+            view, at = view[written:], at + written
+
+    def _cut(self, size: int, why: str) -> None:
+        try:
+            os.ftruncate(self._file, size)
+            os.fdatasync(self._file)
+        except OSError as fault:
+            raise Broken(f"{why}, and what was written of it couldn't be cut off: {fault}") from None
+
+    def close(self) -> None:
+        os.close(self._file)
+
+
+class Replies:
+    """The replies, one a line: `{"number":9,"reply":"9 begun 8 20 5"}`, the text as the program gave it.
+
+    They can be made again from the journal, so they aren't synced. Where the disk is full they wait in memory.
+    """
+
+    def __init__(self, path: str) -> None:
+        self._file = FileOfLines(path)
+        self.torn = self._file.torn
+        # By a line's number: how many records there are up to it. A blank line has none.
+        self._records = array("Q", [0])
+        self._waiting: list[bytes] = []
+        for record in range(1, self._file.count + 1):
+            head = self._file.read(record, record)[:32]
+            number = head.removeprefix(b'{"number":').partition(b",")[0]
+            if not number.isdigit() or int(number) <= self.last:
+                raise Unreadable(f"{path}: line {record} is no reply as the service keeps them")
+            self._number_record(int(number))
+
+    def _number_record(self, number: int) -> None:
+        records = self._records[-1]
+        self._records.extend([records] * (number - len(self._records)))
+        self._records.append(records + 1)
+
+    @property
+    def last(self) -> int:
+        """The number of the last line that has its reply here."""
+        return len(self._records) - 1
+
+    @property
+    def are_behind(self) -> bool:
+        """Whether some replies couldn't be written yet."""
+        return bool(self._waiting)
+
+    @staticmethod
+    def record(number: int, reply: str) -> bytes:
+        return b'{"number":%d,"reply":%s}' % (number, json.dumps(reply).encode())
+
+    def keep(self, numbers: Iterable[int], records: Sequence[bytes]) -> None:
+        """Adds records of ascending numbers behind the last one."""
+        for number in numbers:
+            self._number_record(number)
+        self._waiting.extend(records)
+        self.write()
+
+    def write(self) -> None:
+        """Writes what waits; it goes on waiting where the disk is full."""
+        if self._waiting:
+            try:
+                self._file.append(self._waiting, is_synced=False)
+            except NotKept:
+                return
+            self._waiting = []
+
+    def read(self, first: int, last: int) -> bytes:
+        """The records of the lines of these numbers, both among them, each with its line feed."""
+        last = min(last, self.last)
+        if first > last:
+            return b""
+        start, end = self._records[first - 1] + 1, self._records[last]
+        on_disk = self._file.count
+        written = self._file.read(start, min(end, on_disk)) if start <= min(end, on_disk) else b""
+        waiting = self._waiting[max(start - 1 - on_disk, 0):max(end - on_disk, 0)]
+        return written + b"".join(record + b"\n" for record in waiting)
+
+    def until(self, first: int, last: int, most: int) -> int:
+        """The last line so that the records from `first` on, up to its own, have about so many bytes; at most `last`."""
+        last = min(last, self.last)
+        start = self._records[first - 1] + 1
+        if first >= last or start > self._file.count:
+            return last
+        record = self._file.first_bytes(start, most)
+        low, high = first, last
+        while low < high:
+            middle = (low + high + 1) // 2
+            low, high = (middle, high) if self._records[middle] <= record else (low, middle - 1)
+        return low
+
+    def close(self) -> None:
+        self._file.close()
+
+
+class Journal:
+    """A folder with the lines and their replies, which one service alone has."""
+
+    def __init__(self, folder: str) -> None:
+        os.makedirs(folder, mode=0o700, exist_ok=True)
+        self._lock = os.open(f"{folder}/lock", os.O_RDWR | os.O_CREAT | os.O_CLOEXEC, 0o600)
+        try:
+            fcntl.flock(self._lock, fcntl.LOCK_EX | fcntl.LOCK_NB)
+        except BlockingIOError:
+            os.close(self._lock)
+            raise FolderInUse(f"another service has the folder {folder}") from None
+        self.folder = folder
+        self.path = f"{folder}/journal.jsonl"
+        self.lines = FileOfLines(self.path)
+        self.replies = Replies(f"{folder}/replies.jsonl")
+        if self.replies.last > self.lines.count:
+            raise Unreadable(f"{folder}: line {self.replies.last} has a reply, but the journal ends with line {self.lines.count}")
+        at = os.open(folder, os.O_RDONLY | os.O_DIRECTORY)
+        os.fsync(at)
+        os.close(at)
+        self.last_line = self._last_line()
+
+    def _last_line(self) -> int:
+        """The number of the last line that isn't blank, or 0."""
+        for number in range(self.lines.count, 0, -1):
+            if not is_blank(self.line(number)):
+                return number
+        return 0
+
+    def line(self, number: int) -> bytes:
+        return self.lines.read(number, number)[:-1]
+
+    def add(self, lines: Sequence[bytes]) -> None:
+        """Adds lines and syncs them to the disk: all of them, or none."""
+        first = self.lines.count + 1
+        self.lines.append(lines, is_synced=True)
+        for number in range(self.lines.count, first - 1, -1):
+            if not is_blank(lines[number - first]):
+                self.last_line = number
+                return
+
+    def close(self) -> None:
+        self.lines.close()
+        self.replies.close()
+        os.close(self._lock)
+
+
+def is_blank(line: bytes) -> bool:
+    """Whether `wagons run` skips the line: it has spaces, tabs and carriage returns alone."""
+    return not line.strip(BLANK)

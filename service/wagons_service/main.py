@@ -1,0 +1,55 @@
+"""Starts the service and ends it."""
+
+import asyncio
+import logging
+import signal
+import sys
+from collections.abc import Sequence
+
+from aiohttp import web
+
+from . import options
+from .journal import Broken, FolderInUse, Journal, Unreadable
+from .metrics import Metrics
+from .office import Office
+from .options import Options
+from .senders import BadTokens
+from .server import Server
+
+log = logging.getLogger("wagons-service")
+
+
+async def serve(given: Options) -> None:
+    """Runs until SIGTERM or SIGINT."""
+    stop = asyncio.Event()
+    loop = asyncio.get_running_loop()
+    for number in signal.SIGTERM, signal.SIGINT:
+        loop.add_signal_handler(number, stop.set)
+    metrics = Metrics()
+    office = Office(Journal(given.journal), given.words("run"), metrics)
+    server = Server(office, metrics, given.tokens)
+    loop.add_signal_handler(signal.SIGHUP, server.read_tokens_again)
+    runner = web.AppRunner(server.application(), access_log=None, auto_decompress=False)
+    await runner.setup()
+    site = web.TCPSite(runner, given.host, given.port, shutdown_timeout=5)
+    await site.start()
+    office.start()
+    for host, port, *_ in runner.addresses:
+        log.info("listens on http://%s:%d", f"[{host}]" if ":" in host else host, port)
+    await stop.wait()
+    log.info("ends")
+    server.end_streams()
+    await site.stop()
+    await office.close()
+    await runner.cleanup()
+
+
+def main(arguments: Sequence[str]) -> int:
+    given = options.read(arguments)
+    logging.basicConfig(format="wagons-service: %(levelname)s: %(message)s", level=logging.INFO, stream=sys.stderr)
+    try:
+        asyncio.run(serve(given))
+    except (FolderInUse, Unreadable, BadTokens, Broken, OSError) as fault:
+        print(f"wagons-service: {fault}", file=sys.stderr)
+        return 2
+    return 0

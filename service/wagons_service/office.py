@@ -1,0 +1,344 @@
+"""The office: what stands between those who send lines, the journal and the program.
+
+Lines that come while others are synced to the disk are written and synced together, so a sync serves many senders.
+"""
+
+import asyncio
+import logging
+from collections import deque
+from collections.abc import Sequence
+from dataclasses import dataclass
+from enum import Enum
+
+from .journal import CHUNK, MOST_LINES, Broken, Journal, NotKept, Replies
+from .metrics import Metrics
+from .program import NOTHING, Program, Reply
+
+log = logging.getLogger("wagons-service")
+
+# So often in a row the program may be ended by a signal before it has read the journal.
+MOST_DEATHS = 3
+LAST_REFUSALS = 50
+# The last line of a journal is left for the one by which a sheet ends.
+MOST_TAKEN = MOST_LINES - 1
+SECONDS_TO_END = 10
+SECONDS_BETWEEN_TRIES = 0.5
+
+
+class State(Enum):
+    STARTING = "starting"
+    RUNNING = "running"
+    FULL = "full"
+    STOPPED = "stopped"
+    CLOSING = "closing"
+
+
+class NotTaken(Exception):
+    """Nothing of a request is in the journal; the text says why."""
+
+
+class Stopped(Exception):
+    """The lines are in the journal, but there are no replies to them now; the text says why."""
+
+
+@dataclass(eq=False, slots=True)
+class _Request:
+    lines: Sequence[bytes]
+    numbers: "asyncio.Future[range]"
+    is_ours: bool = False
+
+    def refuse(self, words: str) -> None:
+        if not self.numbers.done():
+            self.numbers.set_exception(NotTaken(words))
+
+    def take(self, first: int) -> None:
+        if not self.numbers.done():
+            self.numbers.set_result(range(first, first + len(self.lines)))
+
+
+class Office:
+    def __init__(self, journal: Journal, command: Sequence[str], metrics: Metrics) -> None:
+        self.journal = journal
+        self.metrics = metrics
+        self.state = State.STARTING
+        self.words = "the office is starting: it reads its journal"
+        self.refused: deque[int] = deque(maxlen=LAST_REFUSALS)
+        self._command = command
+        self._program: Program | None = None
+        self._sent = 0
+        self._told = 0
+        self._counted = 0
+        self._full: str | None = None
+        self._queue: list[_Request] = []
+        self._is_writing = False
+        self._wake = asyncio.Event()
+        self._waiting: dict[asyncio.Future[None], int] = {}
+        self._tasks: list[asyncio.Task[None]] = []
+
+    def start(self) -> None:
+        for name, torn in ("journal.jsonl", self.journal.lines.torn), ("replies.jsonl", self.journal.replies.torn):
+            if torn:
+                log.warning("%s ended in the middle of a line, which was cut off: %r", name, torn[:200])
+        self._tasks = [asyncio.create_task(self._write_all()), asyncio.create_task(self._keep_running())]
+
+    async def close(self) -> None:
+        """Ends the program after the lines that were taken, and closes the journal."""
+        self._set(State.CLOSING, "the service is being stopped")
+        while self._queue or self._is_writing:
+            await asyncio.sleep(0.005)
+        program = self._program
+        if program:
+            program.close()
+            await asyncio.wait([program.ended], timeout=SECONDS_TO_END)
+            program.kill()
+        for task in self._tasks:
+            task.cancel()
+        await asyncio.gather(*self._tasks, return_exceptions=True)
+        self._end_waiting(has_ended=True)
+        self.journal.close()
+
+    @property
+    def answered(self) -> int:
+        """The number of the last line whose reply is whole."""
+        return self.journal.replies.last
+
+    def may_take(self) -> None:
+        """Raises `NotTaken` where no lines are taken now."""
+        if self.state is not State.RUNNING:
+            raise NotTaken(self.words)
+
+    async def take(self, lines: Sequence[bytes]) -> range:
+        """Puts lines into the journal, on the disk, and gives their numbers: all of them or, with `NotTaken`, none."""
+        self.may_take()
+        if not lines:
+            return range(self.journal.lines.count + 1, self.journal.lines.count + 1)
+        request = _Request(lines, asyncio.get_running_loop().create_future())
+        self._queue.append(request)
+        self._wake.set()
+        return await request.numbers
+
+    async def until_answered(self, number: int) -> None:
+        """Waits until the reply to a line is whole. `Stopped` where the office stops before."""
+        if self.answered >= number:
+            return
+        if self.state is State.STOPPED:
+            raise Stopped(self.words)
+        done: asyncio.Future[None] = asyncio.get_running_loop().create_future()
+        self._waiting[done] = number
+        try:
+            await done
+        finally:
+            self._waiting.pop(done, None)
+
+    # Lines go into the journal.
+
+    async def _write_all(self) -> None:
+        while True:
+            try:
+                await asyncio.wait_for(self._wake.wait(), SECONDS_BETWEEN_TRIES)
+            except asyncio.TimeoutError:
+                self._try_again()
+            self._wake.clear()
+            while self._queue:
+                self._is_writing = True
+                await self._write(self._next())
+                self._is_writing = False
+                self._end_sheet()
+
+    def _try_again(self) -> None:
+        """What couldn't be written when the disk was full."""
+        try:
+            self.journal.replies.write()
+        except Broken as fault:
+            self._stop(str(fault))
+        self._end_sheet()
+
+    def _next(self) -> list[_Request]:
+        """The requests that are taken next; the others that wait are refused."""
+        queue, self._queue = self._queue, []
+        if self.journal.replies.are_behind:
+            self._try_again()
+        batch, room = [], MOST_TAKEN - self.journal.lines.count
+        for request in queue:
+            if request.is_ours and self.state is not State.STOPPED:
+                batch.append(request)
+            elif self.state is not State.RUNNING:
+                request.refuse(self.words)
+            elif self.journal.replies.are_behind:
+                request.refuse("the disk is full: replies couldn't be kept")
+            elif len(request.lines) > room:
+                request.refuse(f"91: the journal would have over {MOST_TAKEN:,} lines; begin a new one")
+            else:
+                batch.append(request)
+                room -= len(request.lines)
+        return batch
+
+    async def _write(self, batch: list[_Request]) -> None:
+        lines = [line for request in batch for line in request.lines]
+        if not lines:
+            return
+        first = self.journal.lines.count + 1
+        try:
+            await asyncio.to_thread(self.journal.add, lines)
+        except NotKept as fault:
+            log.error("lines couldn't be added to the journal: %s", fault)
+            for request in batch:
+                request.refuse(f"the journal couldn't be written: {fault}")
+        except Broken as fault:
+            self._stop(str(fault))
+            for request in batch:
+                request.refuse(f"{fault}; whether the lines were taken is known after a new start")
+        else:
+            self._number(batch, first)
+            await self._feed(first, lines)
+
+    @staticmethod
+    def _number(batch: list[_Request], first: int) -> None:
+        for request in batch:
+            request.take(first)
+            first += len(request.lines)
+
+    async def _feed(self, first: int, lines: Sequence[bytes]) -> None:
+        """Gives lines to the program, unless it still reads the journal and will come to them there."""
+        program = self._program
+        if program:
+            count = self.journal.lines.count
+            is_next = self._sent == first - 1
+            program.send(b"\n".join([*lines, b""]) if is_next else self.journal.lines.read(self._sent + 1, count))
+            self._sent = count
+            await program.drain()
+
+    # The program runs, and reads the journal when it was started.
+
+    async def _keep_running(self) -> None:
+        deaths = 0
+        while deaths < MOST_DEATHS:
+            try:
+                program = await Program.start(self._command, self._take_replies)
+            except OSError as fault:
+                self._stop(f"{self._command[0]} couldn't be started: {fault}")
+                return
+            replay = asyncio.create_task(self._replay(program))
+            ended = await program.ended
+            self._program = None
+            has_read = replay.done()
+            replay.cancel()
+            await asyncio.gather(replay, return_exceptions=True)
+            if self.state in (State.CLOSING, State.STOPPED):
+                return
+            if not ended.by_signal:
+                self._stop(ended.words)
+                return
+            log.error("%s; it is started again", ended.words)
+            self.metrics.restarts += 1
+            deaths = 0 if has_read else deaths + 1
+            self._set(State.STARTING, f"{ended.words}; it reads the journal again")
+        self._stop(f"{ended.words} {MOST_DEATHS} times, before it had read the journal")
+
+    async def _replay(self, program: Program) -> None:
+        """Gives the program the journal, and takes lines again when all of them are answered."""
+        try:
+            await self._read_journal(program)
+        except Broken as fault:
+            self._stop(str(fault))
+            program.kill()
+            return
+        last = self.journal.last_line
+        self._end_sheet()
+        while self._told < last:
+            await asyncio.sleep(0.005)
+        log.info("the office runs; its journal has %d lines", self.journal.lines.count)
+        self._set(State.RUNNING, "")
+        if self._full:
+            self._set(State.FULL, self._full)
+
+    async def _read_journal(self, program: Program) -> None:
+        lines = self.journal.lines
+        self._sent = self._told = 0
+        while self._sent < lines.count:
+            last = lines.first_bytes(self._sent + 1, CHUNK)
+            program.send(lines.read(self._sent + 1, last))
+            self._sent = last
+            await program.drain()
+        self._program = program
+
+    def _set(self, state: State, words: str) -> None:
+        if self.state is not State.CLOSING and (self.state is not State.STOPPED or state is State.CLOSING):
+            self.state, self.words = state, words
+
+    def _stop(self, words: str) -> None:
+        log.error("the office stopped: %s", words)
+        self._set(State.STOPPED, words)
+        if self._program:
+            self._program.kill()
+        self._end_waiting(has_ended=True)
+
+    # Replies come.
+
+    def _take_replies(self, replies: list[Reply]) -> None:
+        kept = self.journal.replies
+        new = [reply for reply in replies if reply.number > kept.last]
+        for reply in replies[:len(replies) - len(new)]:
+            if not self._is_as_before(reply):
+                return
+        if replies[-1].number > self._sent:
+            self._stop(f"the program answered line {replies[-1].number} of {self._sent}")
+            return
+        for reply in replies:
+            self._count(reply)
+        try:
+            kept.keep([reply.number for reply in new], [Replies.record(reply.number, reply.text) for reply in new])
+        except Broken as fault:
+            self._stop(str(fault))
+            return
+        self._told = replies[-1].number
+        self._end_sheet()
+        self._end_waiting()
+
+    def _is_as_before(self, reply: Reply) -> bool:
+        """Whether a line is answered as it was before this start. A plan may be another one of the same cost."""
+        before = self.journal.replies.read(reply.number, reply.number)
+        if before == Replies.record(reply.number, reply.text) + b"\n":
+            return True
+        head = reply.text.partition("\n")[0]
+        if reply.kind == "plan" and before.startswith(Replies.record(reply.number, head)[:-2] + b"\\n"):
+            log.warning("line %d has another plan of the same cost now; the kept reply stays", reply.number)
+            return True
+        self._stop(f"line {reply.number} was answered {before[:200]!r} before, and is now answered {head!r}; "
+                   "the program, its files or its options aren't those of this journal")
+        return False
+
+    def _count(self, reply: Reply) -> None:
+        if reply.number <= self._counted:
+            return
+        self._counted = reply.number
+        self.metrics.count(reply)
+        if (code := reply.refusal) and not self._is_our_line(reply):
+            self.refused.append(reply.number)
+            if code == "72" and not self._full:
+                self._full = f"{reply.text}: the book is full; begin a new journal"
+                if self.state is State.RUNNING:
+                    self._set(State.FULL, self._full)
+
+    def _is_our_line(self, reply: Reply) -> bool:
+        return reply.text.endswith(" refused 24 type") and self.journal.line(reply.number) == NOTHING
+
+    def _end_sheet(self) -> None:
+        """A sheet ends where the next reply begins; where no other line comes, one is sent that changes nothing."""
+        program = self._program
+        is_idle = not self._queue and not self._is_writing
+        if program and is_idle and (sheet := program.cutter.open_sheet) and sheet == self.journal.last_line:
+            numbers: asyncio.Future[range] = asyncio.get_running_loop().create_future()
+            numbers.add_done_callback(lambda done: done.exception())
+            self._queue.append(_Request([NOTHING], numbers, is_ours=True))
+            self._wake.set()
+
+    def _end_waiting(self, has_ended: bool = False) -> None:
+        """Tells those whose reply is whole and, where the office has ended, all others."""
+        for done, number in self._waiting.items():
+            if done.done():
+                continue
+            if number <= self.answered:
+                done.set_result(None)
+            elif has_ended:
+                done.set_exception(Stopped(self.words))

@@ -1,0 +1,184 @@
+"""The program `wagons run` as a child: lines go in, replies come out."""
+
+import asyncio
+import os
+from collections.abc import Callable, Sequence
+from dataclasses import dataclass
+
+CHUNK = 1 << 18
+# How much of what the program says on standard error is kept.
+WORDS = 4096
+# The program ends with these when its input has ended.
+DONE = (0, 1)
+# A line that has no `type` is refused with 24 and changes nothing.
+NOTHING = b"{}"
+
+
+@dataclass(frozen=True, slots=True)
+class Reply:
+    """The reply to a line: its text as the program gave it, without the last line feed."""
+
+    number: int
+    text: str
+
+    @property
+    def kind(self) -> str:
+        """`accepted`, `repeated`, `begun`, `plan`, `sheet` or `refused`."""
+        return self.text.split(" ", 2)[1]
+
+    @property
+    def refusal(self) -> str | None:
+        """The code of a refusal."""
+        return self.text.split(" ", 3)[2] if self.kind == "refused" else None
+
+
+class NoReply(Exception):
+    """The program printed what no reply begins with."""
+
+
+class ReplyCutter:
+    """Cuts what the program prints into whole replies.
+
+    A plan ends with its certificate, the one line that begins with a brace. A sheet ends where the next reply begins.
+    All other replies are one line.
+    """
+
+    def __init__(self) -> None:
+        self._piece = b""
+        self._open: list[bytes] = []
+        self.last = 0
+
+    @property
+    def open_sheet(self) -> int | None:
+        """The number of a sheet of which more lines may come."""
+        return self.last if self._open and not is_plan(self._open[0]) else None
+
+    def cut(self, chunk: bytes) -> list[Reply]:
+        """The replies that are whole with these bytes."""
+        lines = (self._piece + chunk).split(b"\n")
+        self._piece = lines.pop()
+        replies: list[Reply] = []
+        for line in lines:
+            if line[:1].isdigit():
+                self._begin(line, replies)
+            elif not self._open:
+                raise NoReply(f"after the reply to line {self.last}: {line[:200]!r}")
+            else:
+                self._open.append(line)
+                if line.startswith(b"{"):
+                    self._close(replies)
+        return replies
+
+    def end(self) -> list[Reply]:
+        """A sheet that was open when the program had done all its lines is whole."""
+        replies: list[Reply] = []
+        if self.open_sheet:
+            self._close(replies)
+        return replies
+
+    def _begin(self, line: bytes, replies: list[Reply]) -> None:
+        self._close(replies)
+        number, kind, *_ = line.split(b" ", 2)
+        if int(number) <= self.last:
+            raise NoReply(f"after the reply to line {self.last}: {line[:200]!r}")
+        self.last = int(number)
+        if kind in (b"plan", b"sheet"):
+            self._open = [line]
+        else:
+            replies.append(Reply(self.last, line.decode("ascii")))
+
+    def _close(self, replies: list[Reply]) -> None:
+        if self._open:
+            replies.append(Reply(self.last, b"\n".join(self._open).decode("ascii")))
+            self._open = []
+
+
+def is_plan(head: bytes) -> bool:
+    return head.split(b" ", 2)[1] == b"plan"
+
+
+@dataclass(frozen=True, slots=True)
+class Ended:
+    """How a program ended: its own words on standard error, or a sentence where it has none."""
+
+    words: str
+    by_signal: bool
+
+
+class Program:
+    """A program that runs. `take` is given each part of its replies; `ended` says how it ended."""
+
+    def __init__(self, process: asyncio.subprocess.Process, take: Callable[[list[Reply]], None]) -> None:
+        self._process = process
+        self._take = take
+        self.cutter = ReplyCutter()
+        self.ended: asyncio.Task[Ended] = asyncio.create_task(self._follow())
+
+    @classmethod
+    async def start(cls, command: Sequence[str], take: Callable[[list[Reply]], None]) -> "Program":
+        """Starts a command; with `OSError` it couldn't be started."""
+        pipe = asyncio.subprocess.PIPE
+        # In a session of its own, so that Ctrl-C in a terminal reaches the service alone, which ends the program.
+        process = await asyncio.create_subprocess_exec(
+            *command, stdin=pipe, stdout=pipe, stderr=pipe, limit=CHUNK, start_new_session=True)
+        return cls(process, take)
+
+    @property
+    def pid(self) -> int:
+        return self._process.pid
+
+    def send(self, data: bytes) -> None:
+        """Gives the program lines, each with its line feed."""
+        assert self._process.stdin is not None
+        self._process.stdin.write(data)
+
+    async def drain(self) -> None:
+        """Waits until the program has read most of what it was given, or has ended."""
+        assert self._process.stdin is not None
+        try:
+            await self._process.stdin.drain()
+        except (BrokenPipeError, ConnectionResetError):
+            await asyncio.wait([self.ended])
+
+    def close(self) -> None:
+        """No more lines come; the program ends when it has answered those before."""
+        assert self._process.stdin is not None
+        self._process.stdin.close()
+
+    def kill(self) -> None:
+        if self._process.returncode is None:
+            self._process.kill()
+
+    async def _follow(self) -> Ended:
+        assert self._process.stdout is not None and self._process.stderr is not None
+        words = asyncio.create_task(self._words(self._process.stderr))
+        try:
+            while chunk := await self._process.stdout.read(CHUNK):
+                if replies := self.cutter.cut(chunk):
+                    self._take(replies)
+        except (NoReply, ValueError) as fault:
+            self.kill()
+            await self._process.wait()
+            return Ended(f"the program printed what is no reply, {fault}", by_signal=False)
+        status = await self._process.wait()
+        if status in DONE and (replies := self.cutter.end()):
+            self._take(replies)
+        said = await words
+        if status < 0:
+            return Ended(f"the program was ended by signal {-status}", by_signal=True)
+        return Ended(said or f"the program ended with status {status}", by_signal=False)
+
+    @staticmethod
+    async def _words(stream: asyncio.StreamReader) -> str:
+        kept = b""
+        while chunk := await stream.read(WORDS):
+            kept = (kept + chunk)[:WORDS]
+        return kept.decode("utf-8", "replace").strip()
+
+
+def found(program: str) -> str:
+    """The path of the program: as it was named, or, where nothing was named, beside this service or on the path."""
+    if program:
+        return program
+    built = os.path.join(os.path.dirname(__file__), "..", "..", "out", "wagons")
+    return os.path.realpath(built) if os.access(built, os.X_OK) else "wagons"

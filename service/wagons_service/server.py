@@ -1,0 +1,295 @@
+"""The addresses to which senders send and at which replies are found."""
+
+import asyncio
+import ipaddress
+import logging
+import time
+from collections.abc import Awaitable, Callable, Sequence
+from urllib.parse import urlsplit
+
+from aiohttp import web
+from aiohttp.http_exceptions import BadHttpMessage
+
+from .answers import JSON_LINES, MOST_BYTES_A_REQUEST, Refusal, cut, number_in, page_end, sentence, with_lines
+from .journal import is_blank
+from .metrics import Metrics
+from .office import NotTaken, Office, State, Stopped
+from .senders import ANYONE, BadTokens, Forbidden, NoLine, Sender, Tokens
+
+log = logging.getLogger("wagons-service")
+
+Handler = Callable[[web.Request], Awaitable[web.StreamResponse]]
+COOKIE = "wagons_token"
+# Paths that need no token.
+OPEN_PATHS = ("/health", "/login")
+OPEN_PREFIX = "/static/"
+# Counted for a sender whose connection ended before its answer.
+GONE = 499
+SECONDS_FOR_A_BODY = 30
+SECONDS_FOR_REPLIES = 60
+SECONDS_FOR_A_LISTENER = 60
+SECONDS_OF_SILENCE = 15
+MOST_HELD_BYTES = 64_000_000
+MOST_LISTENERS = 200
+
+
+class Server:
+    def __init__(self, office: Office, metrics: Metrics, tokens_file: str | None) -> None:
+        self.office = office
+        self.metrics = metrics
+        self._tokens_file = tokens_file
+        self._tokens = Tokens.read(tokens_file) if tokens_file else None
+        self._held = 0
+        self._closing = asyncio.Event()
+
+    def application(self) -> web.Application:
+        app = web.Application(middlewares=[self._answer_errors])
+        app.router.add_post("/lines", self.post_lines)
+        app.router.add_get("/replies", self.get_replies)
+        app.router.add_get("/events", self.get_events)
+        app.router.add_get("/health", self.get_health)
+        app.router.add_get("/metrics", self.get_metrics)
+        return app
+
+    def read_tokens_again(self) -> None:
+        """On SIGHUP. A file that can't be used leaves the tokens as they were."""
+        if self._tokens_file:
+            try:
+                self._tokens = Tokens.read(self._tokens_file)
+                log.info("%d tokens were read", len(self._tokens))
+            except BadTokens as fault:
+                log.error("the tokens stay as they were: %s", fault)
+
+    def end_streams(self) -> None:
+        self._closing.set()
+
+    # Who asks, and what is answered where something is wrong.
+
+    @web.middleware
+    async def _answer_errors(self, request: web.Request, handler: Handler) -> web.StreamResponse:
+        status = 500
+        try:
+            self._judge_origin(request)
+            if sender := self._sender(request):
+                request["sender"] = sender
+            response = await handler(request)
+            status = response.status
+            return response
+        except web.HTTPException as known:
+            status = known.status
+            raise
+        except ConnectionError:
+            status = GONE
+            raise
+        except Exception as fault:
+            refusal = refusal_of(fault)
+            if refusal is None:
+                raise
+            status = refusal.status
+            return sentence(status, str(refusal))
+        finally:
+            self.metrics.requests[status] += 1
+
+    def _sender(self, request: web.Request) -> Sender | None:
+        """Who asks; nobody is known only where none needs to be."""
+        if self._tokens is None:
+            if not is_loopback(urlsplit(f"//{request.host}").hostname or ""):
+                raise Refusal(403, "Without tokens the service is asked by a loopback address alone, as 127.0.0.1 or localhost.")
+            return ANYONE
+        scheme, _, token = request.headers.get("Authorization", "").partition(" ")
+        token = token.strip() if scheme.lower() == "bearer" else request.cookies.get(COOKIE, "")
+        sender = self._tokens.find(token)
+        if sender is None and request.path not in OPEN_PATHS and not request.path.startswith(OPEN_PREFIX):
+            raise Refusal(401, "A token is needed that this service knows: send `Authorization: Bearer TOKEN`.")
+        return sender
+
+    @staticmethod
+    def _judge_origin(request: web.Request) -> None:
+        """A page of another site may not send lines by the browser of one who is at work here."""
+        origin = request.headers.get("Origin")
+        if request.method != "GET" and origin is not None and urlsplit(origin).netloc != request.host:
+            raise Refusal(403, "The request comes from a page of another site.")
+
+    # Lines.
+
+    async def post_lines(self, request: web.Request) -> web.StreamResponse:
+        sender: Sender = request["sender"]
+        sender.judge_role()
+        self.office.may_take()
+        self.metrics.sending += 1
+        try:
+            body = await self.body(request)
+            try:
+                start = time.monotonic()
+                lines = cut(body)
+                sender.judge(lines)
+                return await self.answer(request, lines, start)
+            finally:
+                self._held -= len(body)
+        finally:
+            self.metrics.sending -= 1
+
+    async def body(self, request: web.Request) -> bytes:
+        """A request's body, which counts as held from then on."""
+        too_large = Refusal(413, f"The request has over {MOST_BYTES_A_REQUEST:,} bytes.")
+        if request.headers.get("Content-Encoding", "identity").lower() != "identity":
+            raise Refusal(415, "The body must be sent as it is, without a Content-Encoding.")
+        if (request.content_length or 0) > MOST_BYTES_A_REQUEST:
+            raise too_large
+        body = bytearray()
+        try:
+            async with asyncio.timeout(SECONDS_FOR_A_BODY):
+                async for chunk in request.content.iter_any():
+                    self._hold(len(chunk))
+                    body += chunk
+                    if len(body) > MOST_BYTES_A_REQUEST:
+                        raise too_large
+        except BaseException as fault:
+            self._held -= len(body)
+            if isinstance(fault, TimeoutError):
+                raise Refusal(408, f"The body didn't come within {SECONDS_FOR_A_BODY} seconds.") from None
+            if isinstance(fault, (BadHttpMessage, web.RequestPayloadError)):
+                raise Refusal(400, "The body isn't sent as HTTP asks, or ended too early.") from None
+            raise
+        return bytes(body)
+
+    def _hold(self, more: int) -> None:
+        if self._held + more > MOST_HELD_BYTES:
+            raise Refusal(503, "Too many requests are sent at once; send this one again.")
+        self._held += more
+
+    async def answer(self, request: web.Request, lines: Sequence[bytes], start: float) -> web.StreamResponse:
+        """Takes lines, and answers with their replies as they were kept."""
+        numbers = await self.office.take(lines)
+        awaited = next((number for number in reversed(numbers) if not is_blank(lines[number - numbers.start])), None)
+        if awaited is None:
+            return web.Response(content_type=JSON_LINES)
+        try:
+            async with asyncio.timeout(SECONDS_FOR_REPLIES):
+                await self.office.until_answered(awaited)
+        except (Stopped, TimeoutError) as fault:
+            why = str(fault) or f"there was no reply within {SECONDS_FOR_REPLIES} seconds"
+            where = f"lines {numbers.start} to {numbers[-1]} are in the journal; look for their replies at /replies?from={numbers.start}"
+            raise Refusal(503, f"{why}; {where}") from None
+        self.metrics.time(len(lines), time.monotonic() - start)
+        return await self._kept(request, numbers.start, awaited)
+
+    async def _kept(self, request: web.Request, first: int, last: int) -> web.StreamResponse:
+        replies = self.office.journal.replies
+        end = page_end(self.office.journal, first, last)
+        if end == last:
+            return web.Response(body=replies.read(first, last), content_type=JSON_LINES)
+        response = web.StreamResponse(headers={"Content-Type": JSON_LINES})
+        await response.prepare(request)
+        while first <= last:
+            end = page_end(self.office.journal, first, last)
+            await response.write(replies.read(first, end))
+            first = end + 1
+        return response
+
+    # Replies, once more or as they come.
+
+    async def get_replies(self, request: web.Request) -> web.StreamResponse:
+        journal = self.office.journal
+        first = number_in(request.query.get("from"), "from", 1)
+        last = min(number_in(request.query.get("to"), "to", self.office.answered), self.office.answered)
+        response = web.StreamResponse(headers={"Content-Type": JSON_LINES, "Cache-Control": "no-store"})
+        await response.prepare(request)
+        while first <= last:
+            end = page_end(journal, first, last)
+            records = [record + b"\n" for _, record in with_lines(journal, first, end, request["sender"])]
+            await response.write(b"".join(records))
+            first = end + 1
+        return response
+
+    async def get_events(self, request: web.Request) -> web.StreamResponse:
+        first = number_in(request.query.get("from"), "from", self.office.answered + 1)
+        if "Last-Event-ID" in request.headers:
+            first = number_in(request.headers["Last-Event-ID"], "Last-Event-ID", first) + 1
+        if self.metrics.listening >= MOST_LISTENERS:
+            raise Refusal(503, "Too many listen already; try again later.")
+        response = web.StreamResponse(headers={
+            "Content-Type": "text/event-stream", "Cache-Control": "no-store", "X-Accel-Buffering": "no"})
+        await response.prepare(request)
+        self.metrics.listening += 1
+        try:
+            await self._tell(response, first, request["sender"])
+        except (ConnectionError, TimeoutError):
+            pass  # The listener went away, or didn't read.
+        finally:
+            self.metrics.listening -= 1
+        return response
+
+    async def _tell(self, response: web.StreamResponse, first: int, sender: Sender) -> None:
+        await self._write(response, b"retry: 1000\n\n")
+        while not self._closing.is_set():
+            while first <= self.office.answered:
+                end = page_end(self.office.journal, first, self.office.answered)
+                told = with_lines(self.office.journal, first, end, sender)
+                await self._write(response, b"".join(b"id: %d\ndata: %s\n\n" % event for event in told))
+                first = end + 1
+            try:
+                async with asyncio.timeout(SECONDS_OF_SILENCE):
+                    await self._until_answered(first)
+            except TimeoutError:
+                await self._write(response, b": nothing new\n\n")
+            except Stopped as stopped:
+                await self._write(response, f"event: stopped\ndata: {one_line(str(stopped))}\n\n".encode())
+                return
+
+    async def _until_answered(self, number: int) -> None:
+        """Waits for a reply, or for the service's end."""
+        closing = asyncio.create_task(self._closing.wait())
+        answered = asyncio.create_task(self.office.until_answered(number))
+        try:
+            await asyncio.wait([closing, answered], return_when=asyncio.FIRST_COMPLETED)
+            if answered.done():
+                answered.result()
+        finally:
+            closing.cancel()
+            answered.cancel()
+
+    @staticmethod
+    async def _write(response: web.StreamResponse, data: bytes) -> None:
+        async with asyncio.timeout(SECONDS_FOR_A_LISTENER):
+            await response.write(data)
+
+    # How the service is.
+
+    async def get_health(self, _request: web.Request) -> web.StreamResponse:
+        office = self.office
+        state = {"state": office.state.value, "words": office.words,
+                 "lines": office.journal.lines.count, "answered": office.answered}
+        return web.json_response(state, status=200 if office.state is State.RUNNING else 503)
+
+    async def get_metrics(self, request: web.Request) -> web.StreamResponse:
+        if not request["sender"].may_look:
+            raise Forbidden("A railway's token doesn't see the metrics.")
+        lines = self.office.journal.lines
+        text = self.metrics.text(lines.count, lines.size, self.office.state is State.RUNNING)
+        return web.Response(body=text.encode(), headers={"Content-Type": "text/plain; version=0.0.4; charset=utf-8"})
+
+
+def refusal_of(fault: Exception) -> Refusal | None:
+    """What is answered to a request in which this went wrong."""
+    match fault:
+        case Refusal():
+            return fault
+        case Forbidden():
+            return Refusal(403, str(fault))
+        case NoLine():
+            return Refusal(400, str(fault))
+        case NotTaken():
+            return Refusal(503, f"{fault}; nothing of the request was taken")
+    return None
+
+
+def is_loopback(host: str) -> bool:
+    try:
+        return host == "localhost" or ipaddress.ip_address(host).is_loopback
+    except ValueError:
+        return False
+
+
+def one_line(text: str) -> str:
+    return " ".join(text.split())
