@@ -36,7 +36,8 @@ def start(program: str, tmp_path: Path) -> Iterator[Start]:
     started: list[Service] = []
 
     def one(folder: Path | None = None, **options: Any) -> Service:
-        service = Service(folder or tmp_path / "journal", **({"program": program} | options))
+        options.setdefault("program", program)
+        service = Service(folder or tmp_path / "journal", **options)
         started.append(service)
         return service
 

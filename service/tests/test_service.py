@@ -34,7 +34,7 @@ def test_a_start_replays_the_journal(start: Start) -> None:
     assert service.stop() == 0
     service = start().until_running()
     assert service.kept == kept
-    assert service.post(b'{"type":"begin","at":"2026-03-02T16:00:00Z"}').replies == ["43 begun 30 16 1"]
+    assert service.post(b'{"type":"begin","at":"2026-03-02T16:00:00Z"}').replies == ["43 begun 30 14 1"]
 
 
 def test_replies_that_were_lost_are_made_again(start: Start, tmp_path: Path) -> None:
@@ -226,7 +226,7 @@ def test_what_each_role_sees(start: Start, tokens: Path) -> None:
 
 
 def test_tokens_are_read_again(start: Start, tokens: Path) -> None:
-    service = start(options=["--tokens", str(tokens)], until="tokens").until_running()
+    service = start(options=["--tokens", str(tokens)]).until_running()
     tokens.write_text("another-token-of-it dispatcher\n")
     service.process.send_signal(signal.SIGHUP)
     while service.post(b"{}", "another-token-of-it").status != 200:
@@ -348,12 +348,12 @@ def test_a_program_that_ends_at_once_is_given_up(start: Start, tmp_path: Path) -
     script = tmp_path / "killed"
     script.write_text("#!/bin/sh\nkill -9 $$\n")
     script.chmod(0o755)
-    assert start(program=str(script)).until_state("stopped")["words"] == "the program was ended by signal 9 3 times, before it had read the journal"
+    assert start(program=str(script)).until_state("stopped")["words"] == "the program was ended by signal 9 10 times, soon after its start"
 
 
 def test_a_program_that_says_other_things_is_stopped(start: Start, tmp_path: Path) -> None:
     script = tmp_path / "talks"
-    script.write_text("#!/bin/sh\nread line; echo hello; sleep 9\n")
+    script.write_text("#!/bin/sh\nread line || exit 0; echo hello; sleep 9\n")
     script.chmod(0o755)
     service = start(program=str(script)).until_running()
     answer = service.post(b"{}")

@@ -5,6 +5,7 @@ Lines that come while others are synced to the disk are written and synced toget
 
 import asyncio
 import logging
+import time
 from collections import deque
 from collections.abc import Sequence
 from dataclasses import dataclass
@@ -12,12 +13,14 @@ from enum import Enum
 
 from .journal import CHUNK, MOST_LINES, Broken, Journal, NotKept, Replies
 from .metrics import Metrics
-from .program import NOTHING, Program, Reply
+from .program import DONE, NOTHING, Ended, Program, Reply
 
 log = logging.getLogger("wagons-service")
 
-# So often in a row the program may be ended by a signal before it has read the journal.
-MOST_DEATHS = 3
+# So often in a row the program may be ended by a signal soon after its start, or before it has read the journal.
+MOST_DEATHS = 10
+SECONDS_OF_A_LIFE = 1.0
+SECONDS_BETWEEN_DEATHS = 0.1
 LAST_REFUSALS = 50
 # The last line of a journal is left for the one by which a sheet ends.
 MOST_TAKEN = MOST_LINES - 1
@@ -213,17 +216,12 @@ class Office:
     async def _keep_running(self) -> None:
         deaths = 0
         while deaths < MOST_DEATHS:
+            start = time.monotonic()
             try:
-                program = await Program.start(self._command, self._take_replies)
+                ended, has_read = await self._run()
             except OSError as fault:
                 self._stop(f"{self._command[0]} couldn't be started: {fault}")
                 return
-            replay = asyncio.create_task(self._replay(program))
-            ended = await program.ended
-            self._program = None
-            has_read = replay.done()
-            replay.cancel()
-            await asyncio.gather(replay, return_exceptions=True)
             if self.state in (State.CLOSING, State.STOPPED):
                 return
             if not ended.by_signal:
@@ -231,9 +229,29 @@ class Office:
                 return
             log.error("%s; it is started again", ended.words)
             self.metrics.restarts += 1
-            deaths = 0 if has_read else deaths + 1
+            lived = time.monotonic() - start >= SECONDS_OF_A_LIFE
+            deaths = 0 if has_read and lived else deaths + 1
             self._set(State.STARTING, f"{ended.words}; it reads the journal again")
-        self._stop(f"{ended.words} {MOST_DEATHS} times, before it had read the journal")
+            await asyncio.sleep(SECONDS_BETWEEN_DEATHS * deaths)
+        self._stop(f"{ended.words} {MOST_DEATHS} times, soon after its start")
+
+    async def _run(self) -> tuple[Ended, bool]:
+        """Runs the program to its end: how it ended, and whether it had read the journal."""
+        if not self.journal.last_line:
+            # No reply will say whether the program can run at all, so it runs over no lines first.
+            trial = await Program.start(self._command, lambda _: None)
+            trial.close()
+            ended = await trial.ended
+            if ended.status not in DONE:
+                return ended, False
+        program = await Program.start(self._command, self._take_replies)
+        replay = asyncio.create_task(self._replay(program))
+        ended = await program.ended
+        self._program = None
+        has_read = replay.done()
+        replay.cancel()
+        await asyncio.gather(replay, return_exceptions=True)
+        return ended, has_read
 
     async def _replay(self, program: Program) -> None:
         """Gives the program the journal, and takes lines again when all of them are answered."""

@@ -102,7 +102,11 @@ class Ended:
     """How a program ended: its own words on standard error, or a sentence where it has none."""
 
     words: str
-    by_signal: bool
+    status: int
+
+    @property
+    def by_signal(self) -> bool:
+        return self.status < 0
 
 
 class Program:
@@ -159,14 +163,14 @@ class Program:
         except (NoReply, ValueError) as fault:
             self.kill()
             await self._process.wait()
-            return Ended(f"the program printed what is no reply, {fault}", by_signal=False)
+            return Ended(f"the program printed what is no reply, {fault}", status=2)
         status = await self._process.wait()
         if status in DONE and (replies := self.cutter.end()):
             self._take(replies)
         said = await words
         if status < 0:
-            return Ended(f"the program was ended by signal {-status}", by_signal=True)
-        return Ended(said or f"the program ended with status {status}", by_signal=False)
+            return Ended(f"the program was ended by signal {-status}", status)
+        return Ended(said or f"the program ended with status {status}", status)
 
     @staticmethod
     async def _words(stream: asyncio.StreamReader) -> str:
