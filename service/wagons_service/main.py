@@ -13,8 +13,10 @@ from .journal import Broken, FolderInUse, Journal, Unreadable
 from .metrics import Metrics
 from .office import Office
 from .options import Options
+from .page import Page
 from .senders import BadTokens
 from .server import Server
+from .viewer import Viewer
 
 log = logging.getLogger("wagons-service")
 
@@ -29,7 +31,10 @@ async def serve(given: Options) -> None:
     office = Office(Journal(given.journal), given.words("run"), metrics)
     server = Server(office, metrics, given.tokens)
     loop.add_signal_handler(signal.SIGHUP, server.read_tokens_again)
-    runner = web.AppRunner(server.application(), access_log=None, auto_decompress=False)
+    viewer = Viewer(office, given)
+    app = server.application()
+    Page(office, server, viewer).add_to(app)
+    runner = web.AppRunner(app, access_log=None, auto_decompress=False)
     await runner.setup()
     site = web.TCPSite(runner, given.host, given.port, shutdown_timeout=5)
     await site.start()
@@ -40,6 +45,7 @@ async def serve(given: Options) -> None:
     log.info("ends")
     server.end_streams()
     await site.stop()
+    viewer.end()
     await office.close()
     await runner.cleanup()
 

@@ -60,6 +60,9 @@ class Server:
             except BadTokens as fault:
                 log.error("the tokens stay as they were: %s", fault)
 
+    def knows(self, token: str) -> bool:
+        return self._tokens is None or self._tokens.find(token) is not None
+
     def end_streams(self) -> None:
         self._closing.set()
 
@@ -99,6 +102,8 @@ class Server:
         scheme, _, token = request.headers.get("Authorization", "").partition(" ")
         token = token.strip() if scheme.lower() == "bearer" else request.cookies.get(COOKIE, "")
         sender = self._tokens.find(token)
+        if sender is None and request.method == "GET" and request.path == "/":
+            raise web.HTTPSeeOther("/login")
         if sender is None and request.path not in OPEN_PATHS and not request.path.startswith(OPEN_PREFIX):
             raise Refusal(401, "A token is needed that this service knows: send `Authorization: Bearer TOKEN`.")
         return sender
