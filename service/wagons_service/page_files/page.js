@@ -170,16 +170,13 @@ async function askPlan(event) {
     showPlan();
     const asked = plan;
     const reasons = await ask(`/why?line=${number}&at=${encodeURIComponent(at)}`).then((answer) => answer.json());
-    if (plan === asked) {
-      plan.reasons = readReasons(reasons);
-      showPlan();
-    }
+    if (plan === asked) showReasons(readReasons(reasons));
   });
 }
 
 function readPlan(words, reply, at, number) {
   const lines = reply.split("\n").slice(1);
-  const read = { number, at, free: words[2], orders: words[3], cost: words[4], pairs: [], missing: new Map(), reasons: null };
+  const read = { number, at, free: words[2], orders: words[3], cost: words[4], pairs: [], missing: new Map() };
   read.certificate = lines.pop();
   const stands = new Map(office.wagons.map((wagon) => [wagon.wagon, wagon.place]));
   const wanted = new Map(office.orders.map((order) => [order.order, order.place]));
@@ -215,13 +212,11 @@ function showPlan() {
   const shown = byId("plan-shown");
   if (!plan) return shown.replaceChildren();
   const pairs = element("table", "", { id: "plan-table" });
-  fill(pairs, ["wagon", "order", "from", "to", "km", "arrival", "reason"].map((key) => text(key)), plan.pairs.map((pair) => {
-    const reason = plan.reasons?.wagons.get(pair.wagon);
-    return row([pair.wagon, pair.order, pair.from, pair.to, pair.km, reason?.arrival ?? "", element("td", whyGoes(reason), { className: "words" })]);
-  }));
+  fill(pairs, ["wagon", "order", "from", "to", "km", "arrival", "reason"].map((key) => text(key)), plan.pairs.map((pair) =>
+    row([pair.wagon, pair.order, pair.from, pair.to, pair.km, "", element("td", "", { className: "words" })])));
   const missing = element("table", "", { id: "missing-table" });
   fill(missing, ["order", "misses", "penalty", "reason"].map((key) => text(key)), [...plan.missing.values()].map((order) =>
-    row([order.order, order.misses, order.penalty, element("td", whyMissing(plan.reasons?.orders.get(order.order)), { className: "words" })])), text("plan_missing"));
+    row([order.order, order.misses, order.penalty, element("td", "", { className: "words" })])), text("plan_missing"));
   const accept = element("button", text("accept"), { type: "button", id: "accept" });
   accept.addEventListener("click", () => acceptPlan(accept));
   const drop = element("button", text("drop"), { type: "button", className: "quiet" });
@@ -229,6 +224,15 @@ function showPlan() {
   const tables = [...(plan.pairs.length ? [pairs] : []), ...(plan.missing.size ? [missing] : [])].map((table) => element("div", [table], { className: "wide" }));
   const head = element("p", text(tables.length ? "plan_head" : "plan_none", plan), { id: "plan-head" });
   shown.replaceChildren(head, ...tables, element("p", [accept, " ", drop]));
+}
+
+function showReasons(reasons) { // They come after the plan, and nothing that is there already moves its place.
+  for (const { cells } of byId("plan-table")?.tBodies[0].rows ?? []) {
+    const reason = reasons.wagons.get(cells[0].textContent);
+    cells[5].textContent = reason?.arrival ?? "";
+    cells[6].textContent = whyGoes(reason);
+  }
+  for (const { cells } of byId("missing-table")?.tBodies[0].rows ?? []) cells[3].textContent = whyMissing(reasons.orders.get(cells[0].textContent));
 }
 
 async function acceptPlan(button) {
