@@ -1,7 +1,7 @@
 """What the service answers beside replies: statuses, each with a sentence."""
 
 import json
-from collections.abc import Iterator
+from collections.abc import Iterator, Sequence
 
 from aiohttp import web
 
@@ -36,13 +36,18 @@ def cut(body: bytes) -> list[bytes]:
     lines = body.split(b"\n")
     if not lines[-1]:
         lines.pop()
+    judge_size(lines)
+    return lines
+
+
+def judge_size(lines: Sequence[bytes]) -> None:
+    """Refuses more lines, or longer ones, than a request may have."""
     if len(lines) > MOST_LINES_A_REQUEST:
         raise Refusal(413, f"The request has {len(lines):,} lines; {MOST_LINES_A_REQUEST:,} are the most.")
     longest = max(map(len, lines), default=0)
     if longest > MOST_LINE_BYTES:
         place = next(place for place, line in enumerate(lines, 1) if len(line) > MOST_LINE_BYTES)
         raise Refusal(413, f"Line {place} of the request has over {MOST_LINE_BYTES:,} bytes, at which the program would stop (92).")
-    return lines
 
 
 def number_in(text: str | None, name: str, otherwise: int) -> int:

@@ -9,6 +9,7 @@ from collections.abc import Sequence
 from aiohttp import web
 
 from . import options
+from .identifiers import Identifiers
 from .journal import Broken, FolderInUse, Journal, Unreadable
 from .metrics import Metrics
 from .office import Office
@@ -17,6 +18,8 @@ from .page import Page
 from .senders import BadTokens
 from .server import Server
 from .viewer import Viewer
+from .xml_lines import BadMap, Map
+from .xml_route import XmlRoute
 
 log = logging.getLogger("wagons-service")
 
@@ -34,6 +37,8 @@ async def serve(given: Options) -> None:
     viewer = Viewer(office, given)
     app = server.application()
     Page(office, server, viewer).add_to(app)
+    if given.map:
+        XmlRoute(server, Map.read(given.map), Identifiers(f"{given.journal}/identifiers.jsonl")).add_to(app)
     runner = web.AppRunner(app, access_log=None, auto_decompress=False)
     await runner.setup()
     site = web.TCPSite(runner, given.host, given.port, shutdown_timeout=5)
@@ -55,7 +60,7 @@ def main(arguments: Sequence[str]) -> int:
     logging.basicConfig(format="wagons-service: %(levelname)s: %(message)s", level=logging.INFO, stream=sys.stderr)
     try:
         asyncio.run(serve(given))
-    except (FolderInUse, Unreadable, BadTokens, Broken, OSError) as fault:
+    except (FolderInUse, Unreadable, BadTokens, BadMap, Broken, OSError) as fault:
         print(f"wagons-service: {fault}", file=sys.stderr)
         return 2
     return 0

@@ -4,7 +4,8 @@ import asyncio
 import ipaddress
 import logging
 import time
-from collections.abc import Awaitable, Callable, Sequence
+from collections.abc import AsyncIterator, Awaitable, Callable, Sequence
+from contextlib import asynccontextmanager
 from urllib.parse import urlsplit
 
 from aiohttp import web
@@ -118,30 +119,33 @@ class Server:
     # Lines.
 
     async def post_lines(self, request: web.Request) -> web.StreamResponse:
+        async with self.body(request) as body:
+            start = time.monotonic()
+            lines = cut(body)
+            request["sender"].judge(lines)
+            return await self.answer(request, lines, start)
+
+    @asynccontextmanager
+    async def body(self, request: web.Request) -> AsyncIterator[bytes]:
+        """The body of a request that may send, where lines are taken now."""
         sender: Sender = request["sender"]
         sender.judge_role()
         self.office.may_take()
+        body = bytearray()
         self.metrics.sending += 1
         try:
-            body = await self.body(request)
-            try:
-                start = time.monotonic()
-                lines = cut(body)
-                sender.judge(lines)
-                return await self.answer(request, lines, start)
-            finally:
-                self._held -= len(body)
+            await self._read(request, body)
+            yield bytes(body)
         finally:
+            self._held -= len(body)
             self.metrics.sending -= 1
 
-    async def body(self, request: web.Request) -> bytes:
-        """A request's body, which counts as held from then on."""
+    async def _read(self, request: web.Request, body: bytearray) -> None:
         too_large = Refusal(413, f"The request has over {MOST_BYTES_A_REQUEST:,} bytes.")
         if request.headers.get("Content-Encoding", "identity").lower() != "identity":
             raise Refusal(415, "The body must be sent as it is, without a Content-Encoding.")
         if (request.content_length or 0) > MOST_BYTES_A_REQUEST:
             raise too_large
-        body = bytearray()
         try:
             async with asyncio.timeout(SECONDS_FOR_A_BODY):
                 async for chunk in request.content.iter_any():
@@ -149,14 +153,10 @@ class Server:
                     body += chunk
                     if len(body) > MOST_BYTES_A_REQUEST:
                         raise too_large
-        except BaseException as fault:
-            self._held -= len(body)
-            if isinstance(fault, TimeoutError):
-                raise Refusal(408, f"The body didn't come within {SECONDS_FOR_A_BODY} seconds.") from None
-            if isinstance(fault, (BadHttpMessage, web.RequestPayloadError)):
-                raise Refusal(400, "The body isn't sent as HTTP asks, or ended too early.") from None
-            raise
-        return bytes(body)
+        except TimeoutError:
+            raise Refusal(408, f"The body didn't come within {SECONDS_FOR_A_BODY} seconds.") from None
+        except (BadHttpMessage, web.RequestPayloadError):
+            raise Refusal(400, "The body isn't sent as HTTP asks, or ended too early.") from None
 
     def _hold(self, more: int) -> None:
         if self._held + more > MOST_HELD_BYTES:
