@@ -141,18 +141,18 @@ def test_the_day_by_clicks(start: Start, browse: Browse) -> None:
     page.driver.save_screenshot(str(PICTURE))
     page.click("#accept")
     page.until_says("#said", "The plan is accepted: entry 8 of the book.")
-    page.until(lambda: page.rows("#orders-table")[1][6] == "318127710032", "a promise")
-    assert [row[8] for row in page.rows("#orders-table")] == ["0", "0", "0", "0", "1"]
+    page.until(lambda: page.rows("#orders-table")[1][7] == "318127710032", "a promise")
+    assert [row[1] for row in page.rows("#orders-table")] == ["0", "0", "0", "0", "1"]
 
     # Messages come, and are seen without a reload.
     service.post(LINES[10:23])
     page.until_says("#refusals-list", "25 wagon 12")
     page.click("#closed-too")
-    page.until(lambda: ["STEEL-1", "filled"] in [[row[0], row[4]] for row in page.rows("#orders-table")], "a filled order")
+    page.until(lambda: ["STEEL-1", "filled"] in [[row[0], row[6]] for row in page.rows("#orders-table")], "a filled order")
     page.click('button[aria-label="Withdraw order SCRAP-1"]')
     page.driver.switch_to.alert.accept()
     page.until_says("#said", "Order SCRAP-1 is withdrawn.")
-    page.until(lambda: ["SCRAP-1", "withdrawn"] in [[row[0], row[4]] for row in page.rows("#orders-table")], "a withdrawn order")
+    page.until(lambda: ["SCRAP-1", "withdrawn"] in [[row[0], row[6]] for row in page.rows("#orders-table")], "a withdrawn order")
     service.post(LINES[24:30])
 
     # A plan whose wagon is held in between is refused, and says why.
@@ -170,7 +170,7 @@ def test_the_day_by_clicks(start: Start, browse: Browse) -> None:
     # The sheet that ends the day is what the page shows.
     service.post(line(kind="sheet"))
     sheet = service.kept[-2].splitlines()
-    page.until(lambda: ["MALT-1", "promised"] in [[row[0], row[4]] for row in page.rows("#orders-table")], "the end")
+    page.until(lambda: ["MALT-1", "promised"] in [[row[0], row[6]] for row in page.rows("#orders-table")], "the end")
     assert sorted(row[0] for row in page.rows("#wagons-table")) == sorted(row.split()[1] for row in sheet if row.startswith("wagon "))
     assert page.faults == []
     # What the page asked for itself is in no journal: only lines that were sent, and one for the sheet's end.

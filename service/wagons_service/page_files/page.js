@@ -87,10 +87,10 @@ function showState(words = null) {
 function showOrders() {
   const all = byId("closed-too").checked;
   const orders = office.orders.filter((order) => all || ["waiting", "promised"].includes(order.state));
-  const heads = ["order", "place", "latest", "penalty", "state", "wants", "promised", "filled", "lacks"].map((key) => text(key));
+  const heads = ["order", "lacks", "wants", "place", "latest", "penalty", "state", "promised", "filled"].map((key) => text(key));
   const rows = orders.map((order) => row([
-    order.order, order.place, order.latest, order.penalty, named("state_", order.state), order.wants, order.promised.join(", "), order.filled.join(", "),
-    order.lacks, ...(MAY_SEND ? [withdrawButton(order)] : [])], order.lacks ? "waiting" : ""));
+    order.order, order.lacks, order.wants, order.place, order.latest, order.penalty, named("state_", order.state), order.promised.join(", "),
+    order.filled.join(", "), ...(MAY_SEND ? [withdrawButton(order)] : [])], order.lacks ? "waiting" : ""));
   fill(byId("orders-table"), MAY_SEND ? [...heads, ""] : heads, rows, orders.length ? "" : text("no_orders"));
 }
 
@@ -353,7 +353,8 @@ async function refresh() {
     showPlace();
     await showMap();
   } catch (fault) {
-    showState(text("stopped", { words: fault.message }));
+    // `fetch` throws a TypeError where nobody answers.
+    showState(fault instanceof TypeError ? text("lost") : text("stopped", { words: fault.message }));
   }
 }
 
