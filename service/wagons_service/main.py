@@ -7,6 +7,7 @@ import sys
 from collections.abc import Sequence
 
 from aiohttp import web
+from aiohttp.http_exceptions import BadHttpMessage
 
 from . import options
 from .identifiers import Identifiers
@@ -22,6 +23,15 @@ from .xml_lines import BadMap, Map
 from .xml_route import XmlRoute
 
 log = logging.getLogger("wagons-service")
+
+# So long the rest of a refused body is read, so that its sender sees the answer.
+SECONDS_OF_LINGERING = 2
+
+
+def is_ours(record: logging.LogRecord) -> bool:
+    """Whether what aiohttp logs is worth a line: what isn't HTTP and connections that broke are the sender's."""
+    fault = record.exc_info[1] if record.exc_info else None
+    return not isinstance(fault, (BadHttpMessage, ConnectionError))
 
 
 async def serve(given: Options) -> None:
@@ -39,7 +49,7 @@ async def serve(given: Options) -> None:
     Page(office, server, viewer).add_to(app)
     if given.map:
         XmlRoute(server, Map.read(given.map), Identifiers(f"{given.journal}/identifiers.jsonl")).add_to(app)
-    runner = web.AppRunner(app, access_log=None, auto_decompress=False)
+    runner = web.AppRunner(app, access_log=None, auto_decompress=False, lingering_time=SECONDS_OF_LINGERING)
     await runner.setup()
     site = web.TCPSite(runner, given.host, given.port, shutdown_timeout=5)
     await site.start()
@@ -58,6 +68,7 @@ async def serve(given: Options) -> None:
 def main(arguments: Sequence[str]) -> int:
     given = options.read(arguments)
     logging.basicConfig(format="wagons-service: %(levelname)s: %(message)s", level=logging.INFO, stream=sys.stderr)
+    logging.getLogger("aiohttp.server").addFilter(is_ours)
     try:
         asyncio.run(serve(given))
     except (FolderInUse, Unreadable, BadTokens, BadMap, Broken, OSError) as fault:
