@@ -104,17 +104,24 @@ class Service:
         return self.request("POST", path, body, bearer(token))
 
     @property
+    def last(self) -> Path:
+        """The folder of the last journal."""
+        return self.folder / str(max(int(it.name) for it in self.folder.iterdir() if it.name.isdigit()))
+
+    @property
     def journal(self) -> bytes:
-        return (self.folder / "journal.jsonl").read_bytes()
+        return (self.last / "journal.jsonl").read_bytes()
 
     @property
     def kept(self) -> list[str]:
-        lines = (self.folder / "replies.jsonl").read_text().splitlines()
+        lines = (self.last / "replies.jsonl").read_text().splitlines()
         return [json.loads(line)["reply"] for line in lines]
 
     def run_again(self, more: bytes = b"", options: Sequence[str] = ()) -> str:
         """What `wagons run` prints over the journal and some lines more."""
-        command = [self.program, "run", *self.office, *options]
+        checkpoint = self.last / "checkpoint.jsonl"
+        office = ["--from", str(checkpoint), *self.office[2:]] if checkpoint.exists() else self.office
+        command = [self.program, "run", *office, *options]
         return subprocess.run(command, input=self.journal + more, stdout=subprocess.PIPE, check=False).stdout.decode()
 
     @property

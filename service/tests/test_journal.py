@@ -7,7 +7,7 @@ from pathlib import Path
 
 import pytest
 
-from wagons_service.journal import FileOfLines, FolderInUse, Journal, NotKept, Replies, Unreadable
+from wagons_service.journal import FileOfLines, Folder, FolderInUse, Journal, NotKept, Replies, Unreadable
 
 
 def test_lines_are_found_again(tmp_path: Path) -> None:
@@ -52,11 +52,24 @@ def test_a_torn_last_line_is_cut_off(tmp_path: Path, piece: bytes) -> None:
 
 
 def test_a_folder_has_one_service(tmp_path: Path) -> None:
-    journal = Journal(str(tmp_path))
+    folder = Folder(str(tmp_path))
     with pytest.raises(FolderInUse):
-        Journal(str(tmp_path))
-    journal.close()
-    Journal(str(tmp_path)).close()
+        Folder(str(tmp_path))
+    folder.close()
+    Folder(str(tmp_path)).close()
+
+
+def test_a_new_journal_is_there_wholly_or_not_at_all(tmp_path: Path) -> None:
+    folder = Folder(str(tmp_path))
+    assert folder.journal().checkpoint is None
+    (tmp_path / "new").mkdir()
+    (tmp_path / "new" / "checkpoint.jsonl").write_bytes(b"what a crash left")
+    folder.begin_next(b"saved")
+    folder.close()
+    again = Folder(str(tmp_path))
+    assert again.last == 2 and sorted(it.name for it in tmp_path.iterdir()) == ["1", "2", "lock"]
+    journal = again.journal()
+    assert journal.number == 2 and journal.checkpoint and Path(journal.checkpoint).read_bytes() == b"saved"
 
 
 def test_replies_are_found_by_their_lines_number(tmp_path: Path) -> None:

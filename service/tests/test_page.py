@@ -100,7 +100,7 @@ def test_the_day_by_clicks(start: Start, browse: Browse) -> None:
     service = start().until_running()
     page = browse(service)
     page.open()
-    page.until_says("#state", "The office runs: 0 lines, version 0.")
+    page.until_says("#state", "The office runs: 0 lines in journal 1, version 0.")
     assert len(page.rows("#wagons-table")) == 40
 
     # Five orders, and one that isn't right at first.
@@ -235,7 +235,7 @@ def test_the_office_stops_and_runs_again(start: Start, browse: Browse) -> None:
     again = start(options=["--listen", f"127.0.0.1:{port}"]).until_running()
     page.until_says("#state", "The office runs")
     again.post(message("1001", 1, WAGONS[0]))
-    page.until_says("#state", "1 lines, version 1")
+    page.until_says("#state", "1 lines in journal 1, version 1")
 
 
 def test_tokens_are_asked_for(start: Start, browse: Browse, tmp_path: Path) -> None:

@@ -4,6 +4,8 @@ import json
 import os
 import signal
 import subprocess
+import threading
+import time
 from pathlib import Path
 
 import pytest
@@ -42,7 +44,7 @@ def test_replies_that_were_lost_are_made_again(start: Start, tmp_path: Path) -> 
     service.post(LINES)
     kept = service.kept
     service.stop()
-    file = tmp_path / "journal" / "replies.jsonl"
+    file = tmp_path / "journal" / "1" / "replies.jsonl"
     file.write_bytes(file.read_bytes()[:1000])
     service = start().until_running()
     assert "replies.jsonl ended in the middle of a line" in "\n".join(service.log)
@@ -64,8 +66,8 @@ def test_a_sheet_before_blank_lines_is_whole(start: Start) -> None:
 
 
 def test_a_journal_that_ends_with_a_sheet(start: Start, tmp_path: Path) -> None:
-    (tmp_path / "journal").mkdir()
-    (tmp_path / "journal" / "journal.jsonl").write_bytes(b'{"type":"sheet"}\n')
+    (tmp_path / "journal" / "1").mkdir(parents=True)
+    (tmp_path / "journal" / "1" / "journal.jsonl").write_bytes(b'{"type":"sheet"}\n')
     service = start().until_running()
     assert service.journal == b'{"type":"sheet"}\n{}\n' and service.kept[1] == "2 refused 24 type"
 
@@ -165,6 +167,66 @@ def test_metrics(start: Start) -> None:
         assert expected in text, expected
 
 
+def test_a_new_journal(start: Start) -> None:
+    service = start().until_running()
+    service.post(LINES)
+    command = ["curl", "-sN", f"http://127.0.0.1:{service.port}/events?from=42"]
+    listener = subprocess.Popen(command, stdout=subprocess.PIPE, text=True)
+    before = service.kept
+    answer = service.post(b"", path="/next")
+    assert (answer.status, answer.text) == (200, '{"journal": 2}')
+    assert "event: next\ndata: a new journal begins\n" in listener.communicate(timeout=10)[0]
+    service.until_running()
+    # The office goes on: SALT-1 still lacks a wagon, and Habbins 002 is still promised to it.
+    answer = service.post([order("SALT-1"), line(kind="sheet")])
+    assert answer.headers["Journal"] == "2" and answer.replies[0] == "1 refused 74"
+    assert "order SALT-1 AT30002 2026-03-02T09:00:00Z 300 waiting 2 318127710024\n" in answer.replies[1]
+    assert "".join(reply + "\n" for reply in service.kept) == service.run_again()
+    # The journal before is kept, and its replies are found.
+    assert service.get("/replies?journal=1").replies == before
+    assert service.get("/replies?journal=1").headers["Journal"] == "1"
+    assert service.get("/replies?journal=3").status == 400
+    kept = service.kept
+    service.stop()
+    service = start().until_running()
+    assert service.kept == kept and json.loads(service.get("/health").body)["journal"] == 2
+    assert service.post(b"", path="/next").status == 200
+    assert service.post(order("SALT-1")).replies == ["1 refused 74"]
+
+
+def test_a_full_book_goes_on_in_a_new_journal(start: Start) -> None:
+    service = start(options=["--entries", "2"]).until_running()
+    service.post([order("O1"), order("O2"), order("O3")])
+    assert service.post(order("O3")).status == 503
+    assert service.post(b"", path="/next").status == 200
+    service.until_running()
+    assert service.post(order("O3")).replies == ["1 accepted 1"]
+
+
+def test_no_line_is_lost_between_two_journals(start: Start) -> None:
+    service = start().until_running()
+    told: dict[int, tuple[str, int]] = {}
+
+    def send(k: int) -> None:
+        for n in range(40):
+            while (answer := service.post(order(f"O{k}-{n}"))).status == 503:
+                assert answer.text.endswith("nothing of the request was taken\n"), answer.text
+            told[k * 100 + n] = answer.headers["Journal"], answer.records[0]["number"]
+
+    senders = [threading.Thread(target=send, args=(k,)) for k in range(4)]
+    for sender in senders:
+        sender.start()
+    for _ in range(3):
+        time.sleep(0.1)
+        assert service.post(b"", path="/next").status == 200
+    for sender in senders:
+        sender.join()
+    assert len(told) == 160
+    journals = {name: (service.folder / name / "journal.jsonl").read_bytes().splitlines() for name in "1234"}
+    assert all(journals[journal][number - 1] == order(f"O{key // 100}-{key % 100}") for key, (journal, number) in told.items())
+    assert sum(map(len, journals.values())) == 160
+
+
 # Tokens.
 
 TOKENS = """# who may send what
@@ -223,6 +285,9 @@ def test_what_each_role_sees(start: Start, tokens: Path) -> None:
     assert service.get("/metrics", "railway-1001-token").status == 403
     assert service.get("/metrics", "reader-s-long-token").status == 200
     assert service.get("/health").status == 200
+    for token in "railway-1001-token", "reader-s-long-token":
+        assert service.post(b"", token, "/next").status == 403
+    assert service.post(b"", path="/next").status == 401
 
 
 def test_tokens_are_read_again(start: Start, tokens: Path) -> None:
@@ -300,8 +365,8 @@ def test_a_roster_that_is_wrong(start: Start, tmp_path: Path) -> None:
 
 
 def test_a_line_that_is_too_long_stops_the_office(start: Start, tmp_path: Path) -> None:
-    (tmp_path / "journal").mkdir()
-    (tmp_path / "journal" / "journal.jsonl").write_bytes(order("O1") + b"\n" + b"x" * 65_537 + b"\n{}\n")
+    (tmp_path / "journal" / "1").mkdir(parents=True)
+    (tmp_path / "journal" / "1" / "journal.jsonl").write_bytes(order("O1") + b"\n" + b"x" * 65_537 + b"\n{}\n")
     service = start()
     assert service.until_state("stopped")["words"] == "wagons: 92 2"
     assert service.post(b"{}").status == 503
@@ -358,4 +423,4 @@ def test_a_program_that_says_other_things_is_stopped(start: Start, tmp_path: Pat
     service = start(program=str(script)).until_running()
     answer = service.post(b"{}")
     assert answer.status == 503 and "the program printed what is no reply" in answer.text
-    assert "lines 1 to 1 are in the journal; look for their replies at /replies?from=1" in answer.text
+    assert "lines 1 to 1 are in the journal, and their replies come at /replies?journal=1&from=1" in answer.text

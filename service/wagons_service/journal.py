@@ -1,12 +1,14 @@
 """The journal: the lines as they came, each on disk before the office sees it, and the replies kept beside them.
 
-A folder has `journal.jsonl`, `replies.jsonl` and `lock`. Lines are numbered from 1, as `wagons run` numbers them, so the
-journal is what the office read: `wagons run < journal.jsonl` gives the same replies.
+A folder has a folder for each journal, `1`, `2` and so on, with `journal.jsonl` and `replies.jsonl` in it; the last one is
+written. All but the first have `checkpoint.jsonl`, from which their office begins. Lines are numbered from 1, as
+`wagons run` numbers them, so the journal is what the office read: `wagons run < journal.jsonl` gives the same replies.
 """
 
 import fcntl
 import json
 import os
+import shutil
 from array import array
 from collections.abc import Iterable, Sequence
 from itertools import accumulate
@@ -38,7 +40,9 @@ class FileOfLines:
     """A file that grows by whole lines, and where each of its lines ends."""
 
     def __init__(self, path: str) -> None:
-        self._file = os.open(path, os.O_RDWR | os.O_CREAT | os.O_CLOEXEC, 0o600)
+        # The handle closes the file when nobody reads it any more, though a new journal has begun since.
+        self._handle = os.fdopen(os.open(path, os.O_RDWR | os.O_CREAT | os.O_CLOEXEC, 0o600), "rb+", buffering=0)
+        self._file = self._handle.fileno()
         self._ends = array("Q", [0])
         size = 0
         while chunk := os.pread(self._file, CHUNK, size):
@@ -113,7 +117,7 @@ class FileOfLines:
             raise Broken(f"{why}, and what was written of it couldn't be cut off: {fault}") from None
 
     def close(self) -> None:
-        os.close(self._file)
+        self._handle.close()
 
 
 class Replies:
@@ -198,26 +202,68 @@ class Replies:
         self._file.close()
 
 
-class Journal:
-    """A folder with the lines and their replies, which one service alone has."""
+class Folder:
+    """A folder of journals, which one service alone has."""
 
-    def __init__(self, folder: str) -> None:
-        os.makedirs(folder, mode=0o700, exist_ok=True)
-        self._lock = os.open(f"{folder}/lock", os.O_RDWR | os.O_CREAT | os.O_CLOEXEC, 0o600)
+    def __init__(self, path: str) -> None:
+        os.makedirs(path, mode=0o700, exist_ok=True)
+        self._lock = os.open(f"{path}/lock", os.O_RDWR | os.O_CREAT | os.O_CLOEXEC, 0o600)
         try:
             fcntl.flock(self._lock, fcntl.LOCK_EX | fcntl.LOCK_NB)
         except BlockingIOError:
             os.close(self._lock)
-            raise FolderInUse(f"another service has the folder {folder}") from None
-        self.folder = folder
-        self.path = f"{folder}/journal.jsonl"
-        self.lines = FileOfLines(self.path)
+            raise FolderInUse(f"another service has the folder {path}") from None
+        self.path = path
+        self.last = max((int(name) for name in os.listdir(path) if name.isascii() and name.isdigit()), default=0)
+        if not self.last:
+            self._begin({})
+
+    def journal(self, number: int | None = None) -> "Journal":
+        """The last journal, or the one of a number."""
+        return Journal(f"{self.path}/{number or self.last}", number or self.last)
+
+    def begin_next(self, checkpoint: bytes) -> None:
+        """Begins a new journal from a checkpoint. It is there wholly or, with `OSError`, not at all."""
+        self._begin({"checkpoint.jsonl": checkpoint})
+
+    def _begin(self, files: dict[str, bytes]) -> None:
+        new = f"{self.path}/new"
+        shutil.rmtree(new, ignore_errors=True)
+        os.mkdir(new, 0o700)
+        for name, content in files.items():
+            with open(f"{new}/{name}", "wb") as file:
+                file.write(content)
+                file.flush()
+                os.fsync(file.fileno())
+        sync_folder(new)
+        os.rename(new, f"{self.path}/{self.last + 1}")
+        sync_folder(self.path)
+        self.last += 1
+
+    def close(self) -> None:
+        os.close(self._lock)
+
+
+def sync_folder(path: str) -> None:
+    at = os.open(path, os.O_RDONLY | os.O_DIRECTORY)
+    try:
+        os.fsync(at)
+    finally:
+        os.close(at)
+
+
+class Journal:
+    """The lines and their replies."""
+
+    def __init__(self, folder: str, number: int = 1) -> None:
+        self.number = number
+        checkpoint = f"{folder}/checkpoint.jsonl"
+        self.checkpoint = checkpoint if os.path.exists(checkpoint) else None
+        self.lines = FileOfLines(f"{folder}/journal.jsonl")
         self.replies = Replies(f"{folder}/replies.jsonl")
         if self.replies.last > self.lines.count:
             raise Unreadable(f"{folder}: line {self.replies.last} has a reply, but the journal ends with line {self.lines.count}")
-        at = os.open(folder, os.O_RDONLY | os.O_DIRECTORY)
-        os.fsync(at)
-        os.close(at)
+        sync_folder(folder)
         self.last_line = self._last_line()
 
     def _last_line(self) -> int:
@@ -242,7 +288,6 @@ class Journal:
     def close(self) -> None:
         self.lines.close()
         self.replies.close()
-        os.close(self._lock)
 
 
 def is_blank(line: bytes) -> bool:

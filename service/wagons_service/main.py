@@ -11,14 +11,12 @@ from aiohttp.http_exceptions import BadHttpMessage
 
 from . import options
 from .identifiers import Identifiers
-from .journal import Broken, FolderInUse, Journal, Unreadable
-from .metrics import Metrics
-from .office import Office
+from .journal import Broken, FolderInUse, Unreadable
 from .options import Options
 from .page import Page
 from .senders import BadTokens
 from .server import Server
-from .viewer import Viewer
+from .service import Service
 from .xml_lines import BadMap, Map
 from .xml_route import XmlRoute
 
@@ -40,28 +38,25 @@ async def serve(given: Options) -> None:
     loop = asyncio.get_running_loop()
     for number in signal.SIGTERM, signal.SIGINT:
         loop.add_signal_handler(number, stop.set)
-    metrics = Metrics()
-    office = Office(Journal(given.journal), given.words("run"), metrics)
-    server = Server(office, metrics, given.tokens)
+    service = Service(given)
+    server = Server(service, given.tokens)
     loop.add_signal_handler(signal.SIGHUP, server.read_tokens_again)
-    viewer = Viewer(office, given)
     app = server.application()
-    Page(office, server, viewer).add_to(app)
+    Page(server).add_to(app)
     if given.map:
         XmlRoute(server, Map.read(given.map), Identifiers(f"{given.journal}/identifiers.jsonl")).add_to(app)
     runner = web.AppRunner(app, access_log=None, auto_decompress=False, lingering_time=SECONDS_OF_LINGERING)
     await runner.setup()
     site = web.TCPSite(runner, given.host, given.port, shutdown_timeout=5)
     await site.start()
-    office.start()
+    service.start()
     for host, port, *_ in runner.addresses:
         log.info("listens on http://%s:%d", f"[{host}]" if ":" in host else host, port)
     await stop.wait()
     log.info("ends")
     server.end_streams()
     await site.stop()
-    viewer.end()
-    await office.close()
+    await service.close()
     await runner.cleanup()
 
 

@@ -25,6 +25,7 @@ LAST_REFUSALS = 50
 # The last line of a journal is left for the one by which a sheet ends.
 MOST_TAKEN = MOST_LINES - 1
 SECONDS_TO_END = 10
+TURNS = "a new journal begins"
 SECONDS_BETWEEN_TRIES = 0.5
 
 
@@ -74,6 +75,8 @@ class Office:
         self._full: str | None = None
         self._queue: list[_Request] = []
         self._is_writing = False
+        self._is_paused = False
+        self._is_over = False
         self._wake = asyncio.Event()
         self._waiting: dict[asyncio.Future[None], int] = {}
         self._tasks: list[asyncio.Task[None]] = []
@@ -84,11 +87,25 @@ class Office:
                 log.warning("%s ended in the middle of a line, which was cut off: %r", name, torn[:200])
         self._tasks = [asyncio.create_task(self._write_all()), asyncio.create_task(self._keep_running())]
 
-    async def close(self) -> None:
-        """Ends the program after the lines that were taken, and closes the journal."""
-        self._set(State.CLOSING, "the service is being stopped")
+    async def pause(self) -> None:
+        """Takes no more lines, and waits until all that were taken are answered. `resume` takes lines again."""
+        if self._is_paused or self.state not in (State.RUNNING, State.FULL):
+            raise NotTaken(self.words or TURNS)
+        self._is_paused = True
+        await self._until_written()
+        await self.until_answered(self.journal.last_line)
+
+    def resume(self) -> None:
+        self._is_paused = False
+
+    async def _until_written(self) -> None:
         while self._queue or self._is_writing:
             await asyncio.sleep(0.005)
+
+    async def close(self) -> None:
+        """Ends the program after the lines that were taken."""
+        self._set(State.CLOSING, TURNS if self._is_paused else "the service is being stopped")
+        await self._until_written()
         program = self._program
         if program:
             program.close()
@@ -97,8 +114,13 @@ class Office:
         for task in self._tasks:
             task.cancel()
         await asyncio.gather(*self._tasks, return_exceptions=True)
+        self._is_over = True
         self._end_waiting(has_ended=True)
-        self.journal.close()
+
+    @property
+    def has_turned(self) -> bool:
+        """Whether a new journal has begun behind this one."""
+        return self._is_over and self._is_paused
 
     @property
     def answered(self) -> int:
@@ -109,6 +131,8 @@ class Office:
         """Raises `NotTaken` where no lines are taken now."""
         if self.state is not State.RUNNING:
             raise NotTaken(self.words)
+        if self._is_paused:
+            raise NotTaken(TURNS)
 
     async def take(self, lines: Sequence[bytes]) -> range:
         """Puts lines into the journal, on the disk, and gives their numbers: all of them or, with `NotTaken`, none."""
@@ -124,7 +148,7 @@ class Office:
         """Waits until the reply to a line is whole. `Stopped` where the office stops before."""
         if self.answered >= number:
             return
-        if self.state is State.STOPPED:
+        if self.state is State.STOPPED or self._is_over:
             raise Stopped(self.words)
         done: asyncio.Future[None] = asyncio.get_running_loop().create_future()
         self._waiting[done] = number
@@ -266,9 +290,13 @@ class Office:
         while self._told < last:
             await asyncio.sleep(0.005)
         log.info("the office runs; its journal has %d lines", self.journal.lines.count)
-        self._set(State.RUNNING, "")
+        self._run_or_be_full()
+
+    def _run_or_be_full(self) -> None:
         if self._full:
             self._set(State.FULL, self._full)
+        else:
+            self._set(State.RUNNING, "")
 
     async def _read_journal(self, program: Program) -> None:
         lines = self.journal.lines

@@ -5,7 +5,7 @@ from collections.abc import Sequence
 from dataclasses import dataclass
 
 from .program import found
-from .server import is_loopback
+from .senders import is_loopback
 
 PAGE = "docs/SERVICE.md, and `man wagons-service`"
 
@@ -25,10 +25,10 @@ class Options:
     tokens: str | None
     map: str | None
 
-    def words(self, word: str) -> list[str]:
-        """The command `wagons WORD` with the options that say which office it is."""
-        command = [self.program, word]
-        command += ["--from", self.start] if self.start else ["--roster", self.roster or ""]
+    def words(self, word: str, checkpoint: str | None) -> list[str]:
+        """The command `wagons WORD` with the options that say which office it is; a journal's own checkpoint comes first."""
+        command, start = [self.program, word], checkpoint or self.start
+        command += ["--from", start] if start else ["--roster", self.roster or ""]
         for network in self.networks:
             command += ["--network", network]
         for name, value in ("--entries", self.entries), ("--kept", self.kept), ("--workers", self.workers):

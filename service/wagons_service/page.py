@@ -8,11 +8,9 @@ import jinja2
 from aiohttp import web
 
 from .answers import Refusal, number_in, sentence, with_lines
-from .office import Office
 from .senders import Role, Sender
 from .server import COOKIE, Server, one_line
 from .texts import TEXTS
-from .viewer import Viewer
 
 FILES = Path(__file__).parent / "page_files"
 STATIC = {"page.js": "text/javascript", "page.css": "text/css"}
@@ -24,10 +22,9 @@ HEADERS = {"Content-Security-Policy": POLICY, "X-Content-Type-Options": "nosniff
 
 
 class Page:
-    def __init__(self, office: Office, server: Server, viewer: Viewer) -> None:
-        self._office = office
+    def __init__(self, server: Server) -> None:
         self._server = server
-        self._viewer = viewer
+        self._service = server.service
         self._templates = jinja2.Environment(loader=jinja2.FileSystemLoader(FILES), autoescape=True, undefined=jinja2.StrictUndefined)
 
     def add_to(self, app: web.Application) -> None:
@@ -79,25 +76,25 @@ class Page:
 
     async def get_office(self, request: web.Request) -> web.StreamResponse:
         self._judge_looks(request)
-        return web.json_response(await self._viewer.office(), headers=HEADERS)
+        return web.json_response(await self._service.viewer.office(), headers=HEADERS)
 
     async def get_map(self, request: web.Request) -> web.StreamResponse:
         self._judge_looks(request)
-        return web.Response(body=await self._viewer.map(), content_type="image/svg+xml", headers=HEADERS)
+        return web.Response(body=await self._service.viewer.map(), content_type="image/svg+xml", headers=HEADERS)
 
     async def get_why(self, request: web.Request) -> web.StreamResponse:
         self._judge_looks(request)
-        line = number_in(request.query.get("line"), "line", self._office.answered)
+        line = number_in(request.query.get("line"), "line", self._service.office.answered)
         at = request.query.get("at", "")
         if not at or at.startswith("-") or one_line(at) != at or not at.isascii():
             raise Refusal(400, "`at` must be a moment.")
-        return web.json_response(await self._viewer.why(line, at), headers=HEADERS)
+        return web.json_response(await self._service.viewer.why(line, at), headers=HEADERS)
 
     async def get_explain(self, request: web.Request) -> web.StreamResponse:
-        return web.json_response(await self._viewer.explain(request.match_info["code"]), headers=HEADERS)
+        return web.json_response(await self._service.viewer.explain(request.match_info["code"]), headers=HEADERS)
 
     async def get_refusals(self, request: web.Request) -> web.StreamResponse:
         sender = self._judge_looks(request)
-        journal = self._office.journal
-        told = [json.loads(record) for number in self._office.refused for _, record in with_lines(journal, number, number, sender)]
+        journal = self._service.office.journal
+        told = [json.loads(record) for number in self._service.office.refused for _, record in with_lines(journal, number, number, sender)]
         return web.json_response(told, headers=HEADERS)

@@ -5,6 +5,7 @@ What a line says of its sender is never trusted: the token says whose messages i
 
 import hashlib
 import hmac
+import ipaddress
 import json
 import re
 from collections.abc import Mapping, Sequence
@@ -151,3 +152,11 @@ def sender_of(words: Sequence[str], where: str) -> Sender:
         case ["dispatcher" | "reader" as role]:
             return Sender(Role(role))
     raise BadTokens(f"{where} must be TOKEN dispatcher, TOKEN reader or TOKEN railway COMPANY")
+
+
+def is_loopback(host: str) -> bool:
+    """Whether only this machine is reached, or reaches, by this name."""
+    try:
+        return host == "localhost" or ipaddress.ip_address(host).is_loopback
+    except ValueError:
+        return False

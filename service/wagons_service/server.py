@@ -1,7 +1,6 @@
 """The addresses to which senders send and at which replies are found."""
 
 import asyncio
-import ipaddress
 import logging
 import time
 from collections.abc import AsyncIterator, Awaitable, Callable, Sequence
@@ -12,10 +11,10 @@ from aiohttp import web
 from aiohttp.http_exceptions import BadHttpMessage
 
 from .answers import JSON_LINES, MOST_BYTES_A_REQUEST, Refusal, cut, number_in, page_end, sentence, with_lines
-from .journal import is_blank
-from .metrics import Metrics
+from .journal import MOST_LINES, Journal, is_blank
 from .office import NotTaken, Office, State, Stopped
-from .senders import ANYONE, BadTokens, Forbidden, NoLine, Sender, Tokens
+from .senders import ANYONE, BadTokens, Forbidden, NoLine, Role, Sender, Tokens, is_loopback
+from .service import Service
 
 log = logging.getLogger("wagons-service")
 
@@ -35,19 +34,24 @@ MOST_LISTENERS = 200
 
 
 class Server:
-    def __init__(self, office: Office, metrics: Metrics, tokens_file: str | None) -> None:
-        self.office = office
-        self.metrics = metrics
+    def __init__(self, service: Service, tokens_file: str | None) -> None:
+        self.service = service
+        self.metrics = service.metrics
         self._tokens_file = tokens_file
         self._tokens = Tokens.read(tokens_file) if tokens_file else None
         self._held = 0
         self._closing = asyncio.Event()
+
+    @property
+    def office(self) -> Office:
+        return self.service.office
 
     def application(self) -> web.Application:
         app = web.Application(middlewares=[self._answer_errors])
         app.router.add_post("/lines", self.post_lines)
         app.router.add_get("/replies", self.get_replies)
         app.router.add_get("/events", self.get_events)
+        app.router.add_post("/next", self.post_next)
         app.router.add_get("/health", self.get_health)
         app.router.add_get("/metrics", self.get_metrics)
         return app
@@ -165,40 +169,55 @@ class Server:
 
     async def answer(self, request: web.Request, lines: Sequence[bytes], start: float) -> web.StreamResponse:
         """Takes lines, and answers with their replies as they were kept."""
-        numbers = await self.office.take(lines)
+        office = self.office
+        numbers = await office.take(lines)
+        headers = {"Content-Type": JSON_LINES, "Journal": str(office.journal.number)}
         awaited = next((number for number in reversed(numbers) if not is_blank(lines[number - numbers.start])), None)
         if awaited is None:
-            return web.Response(content_type=JSON_LINES)
+            return web.Response(headers=headers)
         try:
             async with asyncio.timeout(SECONDS_FOR_REPLIES):
-                await self.office.until_answered(awaited)
+                await office.until_answered(awaited)
         except (Stopped, TimeoutError) as fault:
             why = str(fault) or f"there was no reply within {SECONDS_FOR_REPLIES} seconds"
-            where = f"lines {numbers.start} to {numbers[-1]} are in the journal; look for their replies at /replies?from={numbers.start}"
-            raise Refusal(503, f"{why}; {where}") from None
+            where = f"/replies?journal={office.journal.number}&from={numbers.start}"
+            raise Refusal(503, f"{why}; lines {numbers.start} to {numbers[-1]} are in the journal, and their replies come at {where}") from None
         self.metrics.time(len(lines), time.monotonic() - start)
-        return await self._kept(request, numbers.start, awaited)
+        return await self._kept(request, headers, office.journal, numbers.start, awaited)
 
-    async def _kept(self, request: web.Request, first: int, last: int) -> web.StreamResponse:
-        replies = self.office.journal.replies
-        end = page_end(self.office.journal, first, last)
+    @staticmethod
+    async def _kept(request: web.Request, headers: dict[str, str], journal: Journal, first: int, last: int) -> web.StreamResponse:
+        end = page_end(journal, first, last)
         if end == last:
-            return web.Response(body=replies.read(first, last), content_type=JSON_LINES)
-        response = web.StreamResponse(headers={"Content-Type": JSON_LINES})
+            return web.Response(body=journal.replies.read(first, last), headers=headers)
+        response = web.StreamResponse(headers=headers)
         await response.prepare(request)
         while first <= last:
-            end = page_end(self.office.journal, first, last)
-            await response.write(replies.read(first, end))
+            end = page_end(journal, first, last)
+            await response.write(journal.replies.read(first, end))
             first = end + 1
         return response
 
     # Replies, once more or as they come.
 
     async def get_replies(self, request: web.Request) -> web.StreamResponse:
-        journal = self.office.journal
+        now = self.office.journal
+        number = number_in(request.query.get("journal"), "journal", now.number)
+        if number > now.number:
+            raise Refusal(400, f"There is no journal {number}; the last one is {now.number}.")
+        if number == now.number:
+            return await self._replies(request, now)
+        before = await asyncio.to_thread(self.service.folder.journal, number)
+        try:
+            return await self._replies(request, before)
+        finally:
+            before.close()
+
+    @staticmethod
+    async def _replies(request: web.Request, journal: Journal) -> web.StreamResponse:
         first = number_in(request.query.get("from"), "from", 1)
-        last = min(number_in(request.query.get("to"), "to", self.office.answered), self.office.answered)
-        response = web.StreamResponse(headers={"Content-Type": JSON_LINES, "Cache-Control": "no-store"})
+        last = min(number_in(request.query.get("to"), "to", MOST_LINES), journal.replies.last)
+        response = web.StreamResponse(headers={"Content-Type": JSON_LINES, "Cache-Control": "no-store", "Journal": str(journal.number)})
         await response.prepare(request)
         while first <= last:
             end = page_end(journal, first, last)
@@ -208,44 +227,46 @@ class Server:
         return response
 
     async def get_events(self, request: web.Request) -> web.StreamResponse:
-        first = number_in(request.query.get("from"), "from", self.office.answered + 1)
+        office = self.office
+        first = number_in(request.query.get("from"), "from", office.answered + 1)
         if "Last-Event-ID" in request.headers:
             first = number_in(request.headers["Last-Event-ID"], "Last-Event-ID", first) + 1
         if self.metrics.listening >= MOST_LISTENERS:
             raise Refusal(503, "Too many listen already; try again later.")
         response = web.StreamResponse(headers={
-            "Content-Type": "text/event-stream", "Cache-Control": "no-store", "X-Accel-Buffering": "no"})
+            "Content-Type": "text/event-stream", "Cache-Control": "no-store", "X-Accel-Buffering": "no", "Journal": str(office.journal.number)})
         await response.prepare(request)
         self.metrics.listening += 1
         try:
-            await self._tell(response, first, request["sender"])
+            await self._tell(response, office, first, request["sender"])
         except (ConnectionError, TimeoutError):
             pass  # The listener went away, or didn't read.
         finally:
             self.metrics.listening -= 1
         return response
 
-    async def _tell(self, response: web.StreamResponse, first: int, sender: Sender) -> None:
+    async def _tell(self, response: web.StreamResponse, office: Office, first: int, sender: Sender) -> None:
         await self._write(response, b"retry: 1000\n\n")
         while not self._closing.is_set():
-            while first <= self.office.answered:
-                end = page_end(self.office.journal, first, self.office.answered)
-                told = with_lines(self.office.journal, first, end, sender)
+            while first <= office.answered:
+                end = page_end(office.journal, first, office.answered)
+                told = with_lines(office.journal, first, end, sender)
                 await self._write(response, b"".join(b"id: %d\ndata: %s\n\n" % event for event in told))
                 first = end + 1
             try:
                 async with asyncio.timeout(SECONDS_OF_SILENCE):
-                    await self._until_answered(first)
+                    await self._until_answered(office, first)
             except TimeoutError:
                 await self._write(response, b": nothing new\n\n")
             except Stopped as stopped:
-                await self._write(response, f"event: stopped\ndata: {one_line(str(stopped))}\n\n".encode())
+                kind = "next" if office.has_turned else "stopped"
+                await self._write(response, f"event: {kind}\ndata: {one_line(str(stopped))}\n\n".encode())
                 return
 
-    async def _until_answered(self, number: int) -> None:
+    async def _until_answered(self, office: Office, number: int) -> None:
         """Waits for a reply, or for the service's end."""
         closing = asyncio.create_task(self._closing.wait())
-        answered = asyncio.create_task(self.office.until_answered(number))
+        answered = asyncio.create_task(office.until_answered(number))
         try:
             await asyncio.wait([closing, answered], return_when=asyncio.FIRST_COMPLETED)
             if answered.done():
@@ -259,11 +280,16 @@ class Server:
         async with asyncio.timeout(SECONDS_FOR_A_LISTENER):
             await response.write(data)
 
-    # How the service is.
+    # A new journal, and how the service is.
+
+    async def post_next(self, request: web.Request) -> web.StreamResponse:
+        if request["sender"].role is not Role.DISPATCHER:
+            raise Forbidden("A dispatcher's token begins a new journal, and no other.")
+        return web.json_response({"journal": await self.service.begin_next()})
 
     async def get_health(self, _request: web.Request) -> web.StreamResponse:
         office = self.office
-        state = {"state": office.state.value, "words": office.words,
+        state = {"state": office.state.value, "words": office.words, "journal": office.journal.number,
                  "lines": office.journal.lines.count, "answered": office.answered}
         return web.json_response(state, status=200 if office.state is State.RUNNING else 503)
 
@@ -287,13 +313,6 @@ def refusal_of(fault: Exception) -> Refusal | None:
         case NotTaken():
             return Refusal(503, f"{fault}; nothing of the request was taken")
     return None
-
-
-def is_loopback(host: str) -> bool:
-    try:
-        return host == "localhost" or ipaddress.ip_address(host).is_loopback
-    except ValueError:
-        return False
 
 
 def one_line(text: str) -> str:

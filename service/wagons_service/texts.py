@@ -3,7 +3,7 @@
 TEXTS = {
     "title": "Fleet office",
     "skip": "To the orders",
-    "live": "The office runs: {lines} lines, version {version}.",
+    "live": "The office runs: {line} lines in journal {journal}, version {version}.",
     "lost": "The connection is lost; it is tried again.",
     "stopped": "The office has stopped: {words}",
     "network": "Network {network} is in force.",
@@ -94,6 +94,9 @@ TEXTS = {
     "missing": "This field is missing.",
     "not_sent": "It couldn't be sent: {words}",
     "refused": "Refused, {code} {name}: {meaning}",
+    "next": "Begin a new journal",
+    "next_says": "A journal has room for a million lines, and its book for as many events as were said. A new one begins from a checkpoint: all holds, promises and open orders stay.",
+    "next_sure": "Begin a new journal? Lines and versions are counted anew, and a plan that was asked for before can't be accepted.",
     "token": "Token",
     "token_says": "This office asks for a token. It is kept in this browser until it is closed.",
     "token_wrong": "This token isn't known.",

@@ -76,21 +76,30 @@ class Follower:
 
 class Viewer:
     def __init__(self, office: Office, options: Options) -> None:
+        self._journal = office.journal
         self._lines = office.journal.lines
         self._options = options
-        self._follower = Follower(self._lines, options.words("run"))
+        self._follower = Follower(self._lines, self._words("run"))
         # One at a time, so that whoever looks doesn't take the machine from those who send.
         self._turn = asyncio.Lock()
         self._office: tuple[int, dict[str, Any]] = -1, {}
         self._map: tuple[int, bytes] = -1, b""
         self._entries: dict[str, dict[str, str]] = {}
 
+    def _words(self, word: str) -> list[str]:
+        return self._options.words(word, self._journal.checkpoint)
+
+    async def checkpoint(self) -> bytes:
+        """The office as it is now, as `wagons save` prints it."""
+        async with self._turn:
+            return await self._print(self._words("save"), self._lines.count)
+
     async def office(self) -> dict[str, Any]:
         """The wagons and orders as they are now, and the line of the journal after which they are so."""
         async with self._turn:
             upto = self._lines.count
             if self._office[0] != upto:
-                self._office = upto, read_sheet(upto, await self._follower.sheet(upto))
+                self._office = upto, read_sheet(self._journal.number, upto, await self._follower.sheet(upto))
             return self._office[1]
 
     async def map(self) -> bytes:
@@ -98,14 +107,14 @@ class Viewer:
         async with self._turn:
             upto = self._lines.count
             if self._map[0] != upto:
-                drawing = await self._print(self._options.words("map"), upto)
+                drawing = await self._print(self._words("map"), upto)
                 self._map = upto, await run(["neato", "-Tsvg"], drawing)
             return self._map[1]
 
     async def why(self, upto: int, at: str) -> list[list[str]]:
         """The lines of `wagons why` at a moment, as the office was after so many lines."""
         async with self._turn:
-            printed = await self._print([*self._options.words("why"), "--at", at], min(upto, self._lines.count))
+            printed = await self._print([*self._words("why"), "--at", at], min(upto, self._lines.count))
         return [line.split(" ") for line in printed.decode("ascii").splitlines()]
 
     async def explain(self, code: str) -> dict[str, str]:
@@ -163,10 +172,10 @@ async def run(command: Sequence[str], given: bytes) -> bytes:
     return printed
 
 
-def read_sheet(upto: int, text: str) -> dict[str, Any]:
+def read_sheet(journal: int, upto: int, text: str) -> dict[str, Any]:
     """A sheet as the page takes it."""
     head, *rows = text.split("\n")
-    office: dict[str, Any] = {"line": upto, "version": int(head.split(" ")[2]), "wagons": [], "orders": [], "network": None}
+    office: dict[str, Any] = {"journal": journal, "line": upto, "version": int(head.split(" ")[2]), "wagons": [], "orders": [], "network": None}
     for row in rows:
         kind, *words = row.split(" ")
         if kind == "wagon":

@@ -11,7 +11,7 @@ const byId = (id) => document.getElementById(id);
 const text = (key, values = {}) => (TEXTS[key] ?? key).replace(/\{(\w+)\}/g, (whole, name) => String(values[name] ?? whole));
 const named = (key, word) => TEXTS[key + word] ?? word;
 
-let office = { line: 0, version: 0, wagons: [], orders: [], network: null };
+let office = { journal: 0, line: 0, version: 0, wagons: [], orders: [], network: null };
 let plan = null;
 let refusals = [];
 let chosen = "";
@@ -78,7 +78,7 @@ async function refusalText(words) { // ["refused", "25", "wagon", "12"]: the mea
 function showState(words = null) {
   const state = byId("state");
   state.classList.toggle("lost", words !== null);
-  state.textContent = words ?? text("live", { lines: office.line, version: office.version })
+  state.textContent = words ?? text("live", office)
     + (office.network === null ? "" : " " + text("network", { network: office.network }));
 }
 
@@ -373,11 +373,21 @@ function follow(from) {
     }
     refreshSoon();
   };
+  events.addEventListener("next", () => location.reload()); // Lines are numbered anew.
   events.addEventListener("stopped", (event) => { isLive = false; showState(text("stopped", { words: event.data })); });
   events.onerror = () => { if (isLive) { isLive = false; showState(text("lost")); } };
 }
 
+async function beginNext() {
+  if (!confirm(text("next_sure"))) return;
+  await doing(async () => {
+    const answer = await fetch("/next", { method: "POST", credentials: "same-origin" });
+    if (!answer.ok) throw new Error((await answer.text()).trim());
+  });
+}
+
 async function start() {
+  byId("next")?.addEventListener("click", beginNext);
   byId("closed-too").addEventListener("change", showOrders);
   byId("search").addEventListener("input", showWagons);
   byId("plan-form")?.addEventListener("submit", askPlan);
