@@ -177,6 +177,12 @@ def test_the_day_by_clicks(start: Start, browse: Browse) -> None:
     kinds = [json.loads(it).get("type") for it in service.journal.splitlines() if it.endswith(b"}")]
     assert kinds.count("sheet") == 1 and kinds.count(None) == 1
 
+    # A new journal begins by a button, and the page goes on with it.
+    page.click("#next")
+    page.driver.switch_to.alert.accept()
+    page.until_says("#state", "0 lines in journal 2")
+    page.until(lambda: page.rows("#orders-table")[0][0] == "MALT-1", "the open orders")
+
 
 def test_what_comes_from_outside_is_text(start: Start, browse: Browse) -> None:
     service = start().until_running()

@@ -6,7 +6,7 @@ import logging
 from .answers import Refusal
 from .journal import Folder
 from .metrics import Metrics
-from .office import Office, Stopped
+from .office import Office, State, Stopped
 from .options import Options
 from .viewer import Viewer
 
@@ -44,6 +44,8 @@ class Service:
             await self._close()
             self._open()
             self.office.start()
+            while self.office.state is State.STARTING:
+                await asyncio.sleep(0.005)
             log.info("journal %d begins from a checkpoint of the one before", self.folder.last)
             return self.folder.last
 
