@@ -1,5 +1,6 @@
 """The files of the folder."""
 
+import json
 import os
 import subprocess
 from collections.abc import Iterator
@@ -75,7 +76,7 @@ def test_a_new_journal_is_there_wholly_or_not_at_all(tmp_path: Path) -> None:
 def test_replies_are_found_by_their_lines_number(tmp_path: Path) -> None:
     path = str(tmp_path / "replies.jsonl")
     replies = Replies(path)
-    records = [Replies.record(n, f"{n} sheet 0\nwagon \"ä\"") for n in (1, 4, 5)]
+    records = [Replies.record(n, b"%d sheet 0\nwagon \"x\"" % n) for n in (1, 4, 5)]
     replies.keep([1, 4, 5], records)
     for kept in replies, Replies(path):
         assert kept.last == 5
@@ -85,10 +86,17 @@ def test_replies_are_found_by_their_lines_number(tmp_path: Path) -> None:
         assert kept.until(1, 5, 1) in (1, 2, 3) and kept.until(1, 5, 10_000) == 5
 
 
+def test_records_of_many_are_those_of_each() -> None:
+    plain = [(n, b"%d refused 25 wagon 12" % n) for n in range(1, 9)]
+    for replies in plain, [*plain, (9, b'9 plan 0 0 0 0\n{"at":"x"}')], []:
+        assert Replies.records(replies) == [Replies.record(*reply) for reply in replies]
+        assert [json.loads(record) for record in Replies.records(replies)] == [{"number": n, "reply": text.decode()} for n, text in replies]
+
+
 def test_replies_of_another_journal_are_refused(tmp_path: Path) -> None:
     journal = Journal(str(tmp_path))
     journal.add([b"{}"])
-    journal.replies.keep([1], [Replies.record(1, "1 refused 24 type")])
+    journal.replies.keep([1], [Replies.record(1, b"1 refused 24 type")])
     journal.close()
     (tmp_path / "journal.jsonl").write_bytes(b"")
     with pytest.raises(Unreadable, match="line 1 has a reply, but the journal ends with line 0"):
@@ -131,7 +139,7 @@ def test_replies_wait_while_the_disk_is_full(small_disk: Path) -> None:
     with open(filler, "wb", buffering=0) as file, pytest.raises(OSError):
         while True:
             file.write(bytes(4096))
-    records = [Replies.record(n, f"{n} accepted {n}") for n in range(1, 1001)]
+    records = [Replies.record(n, b"%d accepted %d" % (n, n)) for n in range(1, 1001)]
     replies.keep(range(1, 501), records[:500])
     replies.keep(range(501, 1001), records[500:])
     assert replies.are_behind and replies.read(499, 502) == b"".join(r + b"\n" for r in records[498:502])

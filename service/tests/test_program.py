@@ -30,8 +30,8 @@ def test_replies_are_whole_however_they_come() -> None:
             replies += cutter.cut(PRINTED[at:at + more])
             at += more
         assert [reply.number for reply in replies] == [1, 3, 4, 5, 6, 7]
-        assert "".join(reply.text + "\n" for reply in replies).encode() == PRINTED
-        assert [reply.kind for reply in replies] == ["accepted", "plan", "sheet", "refused", "sheet", "refused"]
+        assert b"".join(reply.text + b"\n" for reply in replies) == PRINTED
+        assert [reply.kind for reply in replies] == [b"accepted", b"plan", b"sheet", b"refused", b"sheet", b"refused"]
         assert [reply.refusal for reply in replies] == [None, None, None, "25", None, "24"]
 
 
@@ -51,7 +51,7 @@ def test_a_sheet_is_open_until_the_next_reply() -> None:
 def test_a_sheet_is_whole_when_the_program_has_done_its_lines() -> None:
     cutter = ReplyCutter()
     cutter.cut(b"4 sheet 1\nnetwork 1\n")
-    assert [reply.text for reply in cutter.end()] == ["4 sheet 1\nnetwork 1"]
+    assert [reply.text for reply in cutter.end()] == [b"4 sheet 1\nnetwork 1"]
 
 
 @pytest.mark.parametrize("printed", [b"wagon ..\n", b"1 accepted 1\nx\n", b"2 accepted 1\n2 accepted 2\n", b"2 accepted 1\n1 accepted 2\n"])

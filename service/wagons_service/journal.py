@@ -10,7 +10,7 @@ import json
 import os
 import shutil
 from array import array
-from collections.abc import Iterable, Sequence
+from collections.abc import Sequence
 from itertools import accumulate
 
 # What one input of `wagons run` may have; past it the program stops with 91 or 92.
@@ -155,13 +155,25 @@ class Replies:
         return bool(self._waiting)
 
     @staticmethod
-    def record(number: int, reply: str) -> bytes:
-        return b'{"number":%d,"reply":%s}' % (number, json.dumps(reply).encode())
+    def record(number: int, reply: bytes) -> bytes:
+        return b'{"number":%d,"reply":%b}' % (number, json.dumps(reply.decode("ascii")).encode())
 
-    def keep(self, numbers: Iterable[int], records: Sequence[bytes]) -> None:
+    @classmethod
+    def records(cls, replies: Sequence[tuple[int, bytes]]) -> list[bytes]:
+        """The records of many replies. Most are words alone, which are their own JSON; so that is looked for once."""
+        texts = b"".join([text for _, text in replies])
+        if any(mark in texts for mark in (b"\n", b'"', b"\\")):
+            return [cls.record(number, text) for number, text in replies]
+        return [b'{"number":%d,"reply":"%b"}' % reply for reply in replies]
+
+    def keep(self, numbers: Sequence[int], records: Sequence[bytes]) -> None:
         """Adds records of ascending numbers behind the last one."""
-        for number in numbers:
-            self._number_record(number)
+        if numbers and numbers[-1] - self.last == len(numbers):
+            # No blank line stands between them.
+            self._records.extend(range(self._records[-1] + 1, self._records[-1] + len(numbers) + 1))
+        else:
+            for number in numbers:
+                self._number_record(number)
         self._waiting.extend(records)
         self.write()
 

@@ -1,7 +1,7 @@
 """What is counted, as Prometheus reads it."""
 
 from collections import Counter
-from collections.abc import Iterator
+from collections.abc import Iterator, Sequence
 
 from .program import Reply
 
@@ -20,10 +20,9 @@ class Metrics:
         self._times = [0] * (len(BOUNDS) + 1)
         self._seconds = 0.0
 
-    def count(self, reply: Reply) -> None:
-        self.replies[reply.kind] += 1
-        if code := reply.refusal:
-            self.refusals[code] += 1
+    def count(self, replies: Sequence[Reply]) -> None:
+        for kind, times in Counter(reply.kind for reply in replies).items():
+            self.replies[kind.decode()] += times
 
     def time(self, lines: int, seconds: float) -> None:
         """So many lines had their replies so long after their request was read."""

@@ -330,10 +330,9 @@ class Office:
         if replies[-1].number > self._sent:
             self._stop(f"the program answered line {replies[-1].number} of {self._sent}")
             return
-        for reply in replies:
-            self._count(reply)
+        self._count([reply for reply in replies if reply.number > self._counted])
         try:
-            kept.keep([reply.number for reply in new], [Replies.record(reply.number, reply.text) for reply in new])
+            kept.keep([reply.number for reply in new], Replies.records([(reply.number, reply.text) for reply in new]))
         except Broken as fault:
             self._stop(str(fault))
             return
@@ -346,28 +345,34 @@ class Office:
         before = self.journal.replies.read(reply.number, reply.number)
         if before == Replies.record(reply.number, reply.text) + b"\n":
             return True
-        head = reply.text.partition("\n")[0]
-        if reply.kind == "plan" and before.startswith(Replies.record(reply.number, head)[:-2] + b"\\n"):
+        head = reply.text.partition(b"\n")[0]
+        if reply.kind == b"plan" and before.startswith(Replies.record(reply.number, head)[:-2] + b"\\n"):
             log.warning("line %d has another plan of the same cost now; the kept reply stays", reply.number)
             return True
-        self._stop(f"line {reply.number} was answered {before[:200]!r} before, and is now answered {head!r}; "
+        self._stop(f"line {reply.number} was answered {before[:200].decode()!r} before, and is now answered {head.decode()!r}; "
                    "the program, its files or its options aren't those of this journal")
         return False
 
-    def _count(self, reply: Reply) -> None:
-        if reply.number <= self._counted:
-            return
-        self._counted = reply.number
-        self.metrics.count(reply)
-        if (code := reply.refusal) and not self._is_our_line(reply):
+    def _count(self, replies: Sequence[Reply]) -> None:
+        """Counts replies that weren't before, and keeps the refusals among them in mind."""
+        self._counted = replies[-1].number if replies else self._counted
+        self.metrics.count(replies)
+        for reply in replies:
+            if reply.kind == b"refused":
+                self._note_refusal(reply)
+
+    def _note_refusal(self, reply: Reply) -> None:
+        code = reply.refusal
+        self.metrics.refusals[str(code)] += 1
+        if not self._is_our_line(reply):
             self.refused.append(reply.number)
-            if code == "72" and not self._full:
-                self._full = f"{reply.text}: the book is full; begin a new journal"
-                if self.state is State.RUNNING:
-                    self._set(State.FULL, self._full)
+        if code == "72" and not self._full:
+            self._full = f"{reply.text.decode()}: the book is full; begin a new journal"
+            if self.state is State.RUNNING:
+                self._set(State.FULL, self._full)
 
     def _is_our_line(self, reply: Reply) -> bool:
-        return reply.text.endswith(" refused 24 type") and self.journal.line(reply.number) == NOTHING
+        return reply.text.endswith(b" refused 24 type") and self.journal.line(reply.number) == NOTHING
 
     def _end_sheet(self) -> None:
         """A sheet ends where the next reply begins; where no other line comes, one is sent that changes nothing."""

@@ -4,32 +4,31 @@ import asyncio
 import os
 from collections.abc import Callable, Sequence
 from dataclasses import dataclass
+from typing import NamedTuple
 
 CHUNK = 1 << 18
 # How much of what the program says on standard error is kept.
 WORDS = 4096
 # The program ends with these when its input has ended.
 DONE = (0, 1)
+# The kinds of reply that have several lines.
+SEVERAL = (b"plan", b"sheet")
 # A line that has no `type` is refused with 24 and changes nothing.
 NOTHING = b"{}"
 
 
-@dataclass(frozen=True, slots=True)
-class Reply:
-    """The reply to a line: its text as the program gave it, without the last line feed."""
+class Reply(NamedTuple):
+    """The reply to a line: its number, its kind (`accepted`, `repeated`, `begun`, `plan`, `sheet` or `refused`), and its
+    text as the program gave it, without the last line feed."""
 
     number: int
-    text: str
-
-    @property
-    def kind(self) -> str:
-        """`accepted`, `repeated`, `begun`, `plan`, `sheet` or `refused`."""
-        return self.text.split(" ", 2)[1]
+    kind: bytes
+    text: bytes
 
     @property
     def refusal(self) -> str | None:
         """The code of a refusal."""
-        return self.text.split(" ", 3)[2] if self.kind == "refused" else None
+        return self.text.split(b" ", 3)[2].decode() if self.kind == b"refused" else None
 
 
 class NoReply(Exception):
@@ -45,13 +44,14 @@ class ReplyCutter:
 
     def __init__(self) -> None:
         self._piece = b""
+        self._kind = b""
         self._open: list[bytes] = []
         self.last = 0
 
     @property
     def open_sheet(self) -> int | None:
         """The number of a sheet of which more lines may come."""
-        return self.last if self._open and not is_plan(self._open[0]) else None
+        return self.last if self._open and self._kind == b"sheet" else None
 
     def cut(self, chunk: bytes) -> list[Reply]:
         """The replies that are whole with these bytes."""
@@ -60,7 +60,17 @@ class ReplyCutter:
         replies: list[Reply] = []
         for line in lines:
             if line[:1].isdigit():
-                self._begin(line, replies)
+                if self._open:
+                    self._close(replies)
+                word, kind, _ = line.split(b" ", 2)
+                number = int(word)
+                if number <= self.last:
+                    raise NoReply(f"after the reply to line {self.last}: {line[:200]!r}")
+                self.last = number
+                if kind in SEVERAL:
+                    self._kind, self._open = kind, [line]
+                else:
+                    replies.append(Reply(number, kind, line))
             elif not self._open:
                 raise NoReply(f"after the reply to line {self.last}: {line[:200]!r}")
             else:
@@ -76,25 +86,9 @@ class ReplyCutter:
             self._close(replies)
         return replies
 
-    def _begin(self, line: bytes, replies: list[Reply]) -> None:
-        self._close(replies)
-        number, kind, *_ = line.split(b" ", 2)
-        if int(number) <= self.last:
-            raise NoReply(f"after the reply to line {self.last}: {line[:200]!r}")
-        self.last = int(number)
-        if kind in (b"plan", b"sheet"):
-            self._open = [line]
-        else:
-            replies.append(Reply(self.last, line.decode("ascii")))
-
     def _close(self, replies: list[Reply]) -> None:
-        if self._open:
-            replies.append(Reply(self.last, b"\n".join(self._open).decode("ascii")))
-            self._open = []
-
-
-def is_plan(head: bytes) -> bool:
-    return head.split(b" ", 2)[1] == b"plan"
+        replies.append(Reply(self.last, self._kind, b"\n".join(self._open)))
+        self._open = []
 
 
 @dataclass(frozen=True, slots=True)

@@ -67,7 +67,7 @@ class Follower:
             number, sheet = self._awaited
             for reply in replies:
                 if reply.number == number and not sheet.done():
-                    sheet.set_result(reply.text)
+                    sheet.set_result(reply.text.decode())
 
     def end(self) -> None:
         if self._program:
