@@ -88,7 +88,8 @@ def test_replies_are_found_by_their_lines_number(tmp_path: Path) -> None:
 
 def test_records_of_many_are_those_of_each() -> None:
     plain = [(n, b"%d refused 25 wagon 12" % n) for n in range(1, 9)]
-    for replies in plain, [*plain, (9, b'9 plan 0 0 0 0\n{"at":"x"}')], []:
+    tries: list[list[tuple[int, bytes]]] = [plain, [*plain, (9, b'9 plan 0 0 0 0\n{"at":"x"}')], []]
+    for replies in tries:
         assert Replies.records(replies) == [Replies.record(*reply) for reply in replies]
         assert [json.loads(record) for record in Replies.records(replies)] == [{"number": n, "reply": text.decode()} for n, text in replies]
 
