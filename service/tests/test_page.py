@@ -12,7 +12,7 @@ from selenium.webdriver.remote.webelement import WebElement
 from selenium.webdriver.support.wait import WebDriverWait
 
 from conftest import ROOT, Start
-from running import DAY, WAGONS, Service, line, message
+from running import DAY, WAGONS, Service, line, message, order
 
 LINES = (DAY / "day.jsonl").read_bytes().splitlines()
 SECONDS = 20
@@ -201,7 +201,8 @@ def test_what_comes_from_outside_is_text(start: Start, browse: Browse) -> None:
 
 
 def test_wagons_are_searched_and_sorted_by_keys(start: Start, browse: Browse) -> None:
-    page = browse(start().until_running())
+    service = start().until_running()
+    page = browse(service)
     page.open()
     page.until_says("#wagons-shown", "40 of 40 wagons")
     page.fill("#search", "habbins empty")
@@ -219,6 +220,10 @@ def test_wagons_are_searched_and_sorted_by_keys(start: Start, browse: Browse) ->
     page.driver.execute_script("document.querySelector('[data-place=\"DE10005\"]').focus()")
     page.driver.switch_to.active_element.send_keys(Keys.ENTER)
     page.until_says("#place-shown", f"DE10005: {shown.count('DE10005')} wagons, 0 open orders")
+    # What is shown anew doesn't take the keyboard away.
+    service.post(order("O1", place="DE10005"))
+    page.until_says("#place-shown", "1 open orders")
+    page.until(lambda: page.driver.switch_to.active_element.get_attribute("data-place") == "DE10005", "the keyboard at its place")
 
 
 def test_a_phone(start: Start, browse: Browse) -> None:

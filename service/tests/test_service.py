@@ -176,7 +176,8 @@ def test_a_new_journal(start: Start) -> None:
     answer = service.post(b"", path="/next")
     assert (answer.status, answer.text) == (200, '{"journal": 2}')
     assert "event: next\ndata: a new journal begins\n" in listener.communicate(timeout=10)[0]
-    service.until_running()
+    for path, last in ("/events?journal=1&from=1", ""), ("/events", "1-41"):
+        assert service.request("GET", path, headers={"Last-Event-ID": last}).text.endswith("event: next\ndata: a new journal begins\n\n")
     # The office goes on: SALT-1 still lacks a wagon, and Habbins 002 is still promised to it.
     answer = service.post([order("SALT-1"), line(kind="sheet")])
     assert answer.headers["Journal"] == "2" and answer.replies[0] == "1 refused 74"
@@ -418,7 +419,7 @@ def test_a_program_that_ends_at_once_is_given_up(start: Start, tmp_path: Path) -
 
 def test_a_program_that_says_other_things_is_stopped(start: Start, tmp_path: Path) -> None:
     script = tmp_path / "talks"
-    script.write_text("#!/bin/sh\nread line || exit 0; echo hello; sleep 9\n")
+    script.write_text("#!/bin/sh\nread line || exit 0; echo hello; exec sleep 9\n")
     script.chmod(0o755)
     service = start(program=str(script)).until_running()
     answer = service.post(b"{}")

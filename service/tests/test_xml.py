@@ -71,6 +71,7 @@ BOMB = b'<!DOCTYPE x [<!ENTITY a "aaaaaaaaaa">' + b"".join(b'<!ENTITY %c "&%c;&%
     (b"<?xml version='1.0' encoding='utf-16'?><a/>", "The encoding must be one of"),
     (b"<a>\xff</a>", "Line 1, column 4"),
     (b"<a>" * 300, "Line 1, column"),
+    (HEAD + b"<Movement/>" * 10_001 + b"</Movements>", "There are 10,001 messages in it; 10,000 are the most."),
     (movement("A", event="lost"), "Line 1: the map has no kind for this Movement."),
     (movement("A", station="Nowhere"), "Line 1: place is 'Nowhere', for which the map has no value."),
     (movement("A" * 257), "Line 1: number has over 256 characters."),

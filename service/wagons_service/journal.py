@@ -10,7 +10,7 @@ import json
 import os
 import shutil
 from array import array
-from collections.abc import Sequence
+from collections.abc import Iterator, Sequence
 from itertools import accumulate
 
 # What one input of `wagons run` may have; past it the program stops with 91 or 92.
@@ -78,6 +78,13 @@ class FileOfLines:
             start += len(part)
         return b"".join(parts)
 
+    def lines(self) -> Iterator[bytes]:
+        first = 1
+        while first <= self.count:
+            last = self.first_bytes(first, CHUNK)
+            yield from self.read(first, last)[:-1].split(b"\n")
+            first = last + 1
+
     def first_bytes(self, first: int, most: int) -> int:
         """The number of the last line that still fits in so many bytes from a line on; at least that line."""
         low, high, limit = first, self.count, self._ends[first - 1] + most
@@ -132,9 +139,8 @@ class Replies:
         # By a line's number: how many records there are up to it. A blank line has none.
         self._records = array("Q", [0])
         self._waiting: list[bytes] = []
-        for record in range(1, self._file.count + 1):
-            head = self._file.read(record, record)[:32]
-            number = head.removeprefix(b'{"number":').partition(b",")[0]
+        for record, line in enumerate(self._file.lines(), 1):
+            number = line[:32].removeprefix(b'{"number":').partition(b",")[0]
             if not number.isdigit() or int(number) <= self.last:
                 raise Unreadable(f"{path}: line {record} is no reply as the service keeps them")
             self._number_record(int(number))

@@ -324,15 +324,16 @@ class Office:
     def _take_replies(self, replies: list[Reply]) -> None:
         kept = self.journal.replies
         new = [reply for reply in replies if reply.number > kept.last]
-        for reply in replies[:len(replies) - len(new)]:
-            if not self._is_as_before(reply):
-                return
+        old = replies[:len(replies) - len(new)]
+        # Mostly all are as before, which is seen at once.
+        if old and b"\n".join([*records_of(old), b""]) != kept.read(old[0].number, old[-1].number) and not all(map(self._is_as_before, old)):
+            return
         if replies[-1].number > self._sent:
             self._stop(f"the program answered line {replies[-1].number} of {self._sent}")
             return
         self._count([reply for reply in replies if reply.number > self._counted])
         try:
-            kept.keep([reply.number for reply in new], Replies.records([(reply.number, reply.text) for reply in new]))
+            kept.keep([reply.number for reply in new], records_of(new))
         except Broken as fault:
             self._stop(str(fault))
             return
@@ -393,3 +394,7 @@ class Office:
                 done.set_result(None)
             elif has_ended:
                 done.set_exception(Stopped(self.words))
+
+
+def records_of(replies: Sequence[Reply]) -> list[bytes]:
+    return Replies.records([(reply.number, reply.text) for reply in replies])

@@ -80,7 +80,8 @@ class Page:
 
     async def get_map(self, request: web.Request) -> web.StreamResponse:
         self._judge_looks(request)
-        return web.Response(body=await self._service.viewer.map(), content_type="image/svg+xml", headers=HEADERS)
+        line, drawn = await self._service.viewer.map()
+        return web.Response(body=drawn, content_type="image/svg+xml", headers=HEADERS | {"Line": str(line)})
 
     async def get_why(self, request: web.Request) -> web.StreamResponse:
         self._judge_looks(request)

@@ -7,11 +7,15 @@ import hashlib
 import hmac
 import ipaddress
 import json
+import logging
+import os
 import re
 from collections.abc import Mapping, Sequence
 from dataclasses import dataclass
 from enum import Enum
 from typing import Any
+
+log = logging.getLogger("wagons-service")
 
 MESSAGES = frozenset(
     ["release", "departure", "yard_arrival", "yard_departure", "exception", "arrival", "delivery"])
@@ -112,6 +116,8 @@ class Tokens:
         try:
             with open(path, encoding="utf-8") as file:
                 lines = file.read().split("\n")
+                if os.fstat(file.fileno()).st_mode & 0o007:
+                    log.warning("whoever is on this machine can read %s; take the right from others (chmod o=)", path)
         except (OSError, UnicodeDecodeError) as fault:
             raise BadTokens(f"the tokens couldn't be read: {fault}") from None
         senders: dict[bytes, Sender] = {}

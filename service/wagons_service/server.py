@@ -31,6 +31,8 @@ SECONDS_FOR_A_LISTENER = 60
 SECONDS_OF_SILENCE = 15
 MOST_HELD_BYTES = 64_000_000
 MOST_LISTENERS = 200
+# Lines are numbered anew.
+NEXT = b"event: next\ndata: a new journal begins\n\n"
 
 
 class Server:
@@ -50,7 +52,7 @@ class Server:
         app = web.Application(middlewares=[self._answer_errors])
         app.router.add_post("/lines", self.post_lines)
         app.router.add_get("/replies", self.get_replies)
-        app.router.add_get("/events", self.get_events)
+        app.router.add_get("/events", self.get_events, allow_head=False)
         app.router.add_post("/next", self.post_next)
         app.router.add_get("/health", self.get_health)
         app.router.add_get("/metrics", self.get_metrics)
@@ -228,9 +230,10 @@ class Server:
 
     async def get_events(self, request: web.Request) -> web.StreamResponse:
         office = self.office
+        journal = number_in(request.query.get("journal"), "journal", office.journal.number)
         first = number_in(request.query.get("from"), "from", office.answered + 1)
-        if "Last-Event-ID" in request.headers:
-            first = number_in(request.headers["Last-Event-ID"], "Last-Event-ID", first) + 1
+        if last := request.headers.get("Last-Event-ID"):
+            journal, first = read_id(last)
         if self.metrics.listening >= MOST_LISTENERS:
             raise Refusal(503, "Too many listen already; try again later.")
         response = web.StreamResponse(headers={
@@ -238,7 +241,10 @@ class Server:
         await response.prepare(request)
         self.metrics.listening += 1
         try:
-            await self._tell(response, office, first, request["sender"])
+            if journal == office.journal.number:
+                await self._tell(response, office, first, request["sender"])
+            else:
+                await self._write(response, NEXT)
         except (ConnectionError, TimeoutError):
             pass  # The listener went away, or didn't read.
         finally:
@@ -251,7 +257,7 @@ class Server:
             while first <= office.answered:
                 end = page_end(office.journal, first, office.answered)
                 told = with_lines(office.journal, first, end, sender)
-                await self._write(response, b"".join(b"id: %d\ndata: %s\n\n" % event for event in told))
+                await self._write(response, b"".join(b"id: %d-%d\ndata: %s\n\n" % (office.journal.number, *event) for event in told))
                 first = end + 1
             try:
                 async with asyncio.timeout(SECONDS_OF_SILENCE):
@@ -259,8 +265,7 @@ class Server:
             except TimeoutError:
                 await self._write(response, b": nothing new\n\n")
             except Stopped as stopped:
-                kind = "next" if office.has_turned else "stopped"
-                await self._write(response, f"event: {kind}\ndata: {one_line(str(stopped))}\n\n".encode())
+                await self._write(response, NEXT if office.has_turned else f"event: stopped\ndata: {one_line(str(stopped))}\n\n".encode())
                 return
 
     async def _until_answered(self, office: Office, number: int) -> None:
@@ -313,6 +318,12 @@ def refusal_of(fault: Exception) -> Refusal | None:
         case NotTaken():
             return Refusal(503, f"{fault}; nothing of the request was taken")
     return None
+
+
+def read_id(text: str) -> tuple[int, int]:
+    """The journal and the line that come behind the last event that a listener had."""
+    journal, _, line = text.partition("-")
+    return number_in(journal, "Last-Event-ID", 1), number_in(line, "Last-Event-ID", 1) + 1
 
 
 def one_line(text: str) -> str:

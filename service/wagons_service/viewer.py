@@ -6,6 +6,7 @@ A second program follows the journal when someone looks, and is asked for sheets
 
 import asyncio
 import re
+import time
 from collections.abc import Sequence
 from typing import Any
 
@@ -84,6 +85,7 @@ class Viewer:
         self._turn = asyncio.Lock()
         self._office: tuple[int, dict[str, Any]] = -1, {}
         self._map: tuple[int, bytes] = -1, b""
+        self._map_again = 0.0
         self._entries: dict[str, dict[str, str]] = {}
 
     def _words(self, word: str) -> list[str]:
@@ -102,14 +104,19 @@ class Viewer:
                 self._office = upto, read_sheet(self._journal.number, upto, await self._follower.sheet(upto))
             return self._office[1]
 
-    async def map(self) -> bytes:
-        """The map as SVG."""
+    async def map(self) -> tuple[int, bytes]:
+        """The map as SVG, and the line of the journal after which it is so.
+
+        It is drawn anew so seldom that a tenth of the time goes into it at most, however fast lines come.
+        """
         async with self._turn:
-            upto = self._lines.count
-            if self._map[0] != upto:
+            upto, start = self._lines.count, time.monotonic()
+            if self._map[0] != upto and start >= self._map_again:
                 drawing = await self._print(self._words("map"), upto)
                 self._map = upto, await run(["neato", "-Tsvg"], drawing)
-            return self._map[1]
+                now = time.monotonic()
+                self._map_again = now + 9 * (now - start)
+            return self._map
 
     async def why(self, upto: int, at: str) -> list[list[str]]:
         """The lines of `wagons why` at a moment, as the office was after so many lines."""

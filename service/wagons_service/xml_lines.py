@@ -27,6 +27,8 @@ KINDS: Mapping[str, Mapping[str, str]] = {
 ENCODINGS = frozenset(["utf-8", "us-ascii", "iso-8859-1", "iso-8859-15", "windows-1252"])
 DECLARATION = re.compile(rb"""<\?xml[^>]*?encoding\s*=\s*["']([A-Za-z0-9._-]*)["']""")
 DOCTYPE = b"<!DOCTYPE"
+# As many as a request may have lines.
+MOST_MESSAGES = 10_000
 NUMBER = re.compile("0|[1-9][0-9]{0,18}")
 FLAGS = {"true": True, "1": True, "false": False, "0": False}
 
@@ -126,6 +128,8 @@ class Map:
         found = self._messages(root.getroottree())
         if not isinstance(found, list) or not found:
             raise BadXml("There is no message in it.")
+        if len(found) > MOST_MESSAGES:
+            raise BadXml(f"There are {len(found):,} messages in it; {MOST_MESSAGES:,} are the most.")
         return [self._line(element, identifiers) for element in found]
 
     def _line(self, element: Any, identifiers: Identifiers | None) -> bytes:

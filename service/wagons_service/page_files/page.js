@@ -5,6 +5,7 @@ const TEXTS = JSON.parse(document.getElementById("texts").textContent);
 const MAY_SEND = document.body.dataset.maySend === "yes";
 const PLACE = /^[A-Z]{2}[0-9]{5}$/;
 const WAIT = 250;
+const REDRAW = 1500;
 const MOST_REFUSALS = 20;
 
 const byId = (id) => document.getElementById(id);
@@ -17,6 +18,7 @@ let refusals = [];
 let chosen = "";
 let sorting = { column: "wagon", down: false };
 let refreshing = null;
+let redrawing = null;
 let isLive = true;
 
 // Building blocks.
@@ -42,6 +44,12 @@ function fill(table, heads, rows, caption = "") {
 
 const row = (cells, className = "") => element("tr", cells.map((cell) => cell instanceof HTMLElement && cell.tagName === "TD" ? cell
   : element("td", cell instanceof HTMLElement ? [cell] : cell)), { className });
+
+function keepingFocus(show) { // What is shown anew doesn't take the keyboard from whoever is in it.
+  const key = document.activeElement?.dataset.key;
+  show();
+  if (key && document.activeElement === document.body) document.querySelector(`[data-key="${CSS.escape(key)}"]`)?.focus({ preventScroll: true });
+}
 
 const say = (words) => { byId("said").textContent = words; };
 
@@ -98,6 +106,7 @@ function withdrawButton(order) {
   if (!["waiting", "promised"].includes(order.state)) return element("span");
   const button = element("button", text("withdraw"), { type: "button" });
   button.setAttribute("aria-label", text("withdraw_order", order));
+  button.dataset.key = `withdraw ${order.order}`;
   button.addEventListener("click", () => withdraw(order, button));
   return button;
 }
@@ -272,20 +281,23 @@ function showWagons() {
 function sortButton(column) {
   const button = element("button", text(column), { type: "button", title: text("sort", { column: text(column) }) });
   button.dataset.column = column;
+  button.dataset.key = `sort ${column}`;
   button.addEventListener("click", () => {
     sorting = { column, down: sorting.column === column && !sorting.down };
-    showWagons();
-    byId("wagons-table").querySelector(`[data-column="${column}"]`).focus();
+    keepingFocus(showWagons);
   });
   return button;
 }
 
 // The map.
 
-async function showMap() {
+async function showMap() { // It may be older than the office, since drawing takes long; then it is asked for again.
+  clearTimeout(redrawing);
   const shown = byId("map-shown");
   try {
-    const drawn = new DOMParser().parseFromString(await (await ask("/map.svg")).text(), "image/svg+xml");
+    const answer = await ask("/map.svg");
+    if (Number(answer.headers.get("Line")) < office.line) redrawing = setTimeout(showMap, REDRAW);
+    const drawn = new DOMParser().parseFromString(await answer.text(), "image/svg+xml");
     const svg = document.importNode(drawn.documentElement, true);
     svg.setAttribute("role", "group");
     svg.setAttribute("aria-label", text("map"));
@@ -294,7 +306,7 @@ async function showMap() {
       if (PLACE.test(place)) makePlace(node, place);
     }
     svg.querySelectorAll("title").forEach((title) => title.remove());
-    shown.replaceChildren(svg);
+    keepingFocus(() => shown.replaceChildren(svg));
   } catch (fault) {
     shown.textContent = text("map_none", { words: fault.message });
   }
@@ -306,6 +318,7 @@ function makePlace(node, place) {
   node.setAttribute("role", "button");
   node.setAttribute("aria-label", place);
   node.dataset.place = place;
+  node.dataset.key = `place ${place}`;
   const choose = () => { chosen = place; showPlace(); };
   node.addEventListener("click", choose);
   node.addEventListener("keydown", (event) => {
@@ -348,9 +361,11 @@ async function refresh() {
   try {
     office = await (await ask("/office")).json();
     if (isLive) showState();
-    showOrders();
-    showWagons();
-    showPlace();
+    keepingFocus(() => {
+      showOrders();
+      showWagons();
+      showPlace();
+    });
     await showMap();
   } catch (fault) {
     // `fetch` throws a TypeError where nobody answers.
@@ -363,7 +378,7 @@ function refreshSoon() {
 }
 
 function follow(from) {
-  const events = new EventSource(`/events?from=${from}`);
+  const events = new EventSource(`/events?journal=${office.journal}&from=${from}`);
   events.onopen = () => { isLive = true; refreshSoon(); };
   events.onmessage = (event) => {
     const told = JSON.parse(event.data);
