@@ -67,8 +67,8 @@ class Service:
                 self._told.set()
         self._told.set()
 
-    def until_running(self) -> "Service":
-        for _ in range(2000):
+    def until_running(self, seconds: int = 20) -> "Service":
+        for _ in range(100 * seconds):
             if self.get("/health").status == 200:
                 return self
             time.sleep(0.01)

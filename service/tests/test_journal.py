@@ -1,5 +1,6 @@
 """The files of the folder."""
 
+import errno
 import json
 import os
 import subprocess
@@ -8,7 +9,7 @@ from pathlib import Path
 
 import pytest
 
-from wagons_service.journal import FileOfLines, Folder, FolderInUse, Journal, NotKept, Replies, Unreadable
+from wagons_service.journal import Broken, FileOfLines, Folder, FolderInUse, Journal, NotKept, Replies, Unreadable
 
 
 def test_lines_are_found_again(tmp_path: Path) -> None:
@@ -109,6 +110,19 @@ def test_a_file_that_has_no_replies_is_refused(tmp_path: Path) -> None:
     (tmp_path / "replies.jsonl").write_bytes(b"1 refused 24 type\n")
     with pytest.raises(Unreadable, match="line 1 is no reply"):
         Journal(str(tmp_path))
+
+
+def test_a_disk_that_fails_is_not_trusted_any_more(tmp_path: Path, monkeypatch: pytest.MonkeyPatch) -> None:
+    journal = Journal(str(tmp_path))
+    journal.add([b"one"])
+
+    def fails(_file: int) -> None:
+        raise OSError(errno.EIO, "Input/output error")
+
+    monkeypatch.setattr(os, "fdatasync", fails)
+    with pytest.raises(Broken, match="Input/output error"):
+        journal.add([b"two"])
+    assert journal.lines.count == 1
 
 
 @pytest.fixture

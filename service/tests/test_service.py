@@ -387,6 +387,22 @@ def test_a_full_book_is_said_to_all(start: Start, tmp_path: Path) -> None:
             service.until_state("full")
 
 
+def test_a_full_journal_is_said_to_all(start: Start, tmp_path: Path) -> None:
+    folder = tmp_path / "journal" / "1"
+    folder.mkdir(parents=True)
+    (folder / "journal.jsonl").write_bytes(b'{"type":"x"}\n' * 999_997)
+    service = start()
+    service.until_running(100)
+    answer = service.post([b"x"] * 3)
+    assert answer.status == 503 and answer.text == "91: the journal would have over 999,999 lines; begin a new one; nothing of the request was taken\n"
+    assert service.post(b"x").replies == ["999998 refused 21"]
+    # The last line is left for the one by which a sheet ends.
+    assert service.post(line(kind="sheet")).replies[0].startswith("999999 sheet 0\n")
+    assert service.post(b"x").status == 503 and service.journal.endswith(b'{"type":"sheet"}\n{}\n')
+    assert service.post(b"", path="/next").status == 200
+    assert service.post(b"x").replies == ["1 refused 21"]
+
+
 def test_another_office_is_not_gone_on_with(start: Start) -> None:
     service = start(options=["--entries", "2"]).until_running()
     service.post([order("O1"), order("O2"), order("O3")])

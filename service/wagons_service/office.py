@@ -51,9 +51,9 @@ class _Request:
     numbers: "asyncio.Future[range]"
     is_ours: bool = False
 
-    def refuse(self, words: str) -> None:
+    def refuse(self, why: Exception) -> None:
         if not self.numbers.done():
-            self.numbers.set_exception(NotTaken(words))
+            self.numbers.set_exception(why)
 
     def take(self, first: int) -> None:
         if not self.numbers.done():
@@ -86,6 +86,13 @@ class Office:
             if torn:
                 log.warning("%s ended in the middle of a line, which was cut off: %r", name, torn[:200])
         self._tasks = [asyncio.create_task(self._write_all()), asyncio.create_task(self._keep_running())]
+        for task in self._tasks:
+            task.add_done_callback(self._judge_end)
+
+    def _judge_end(self, task: asyncio.Task[None]) -> None:
+        """Whatever goes wrong in here that nobody thought of, no sender waits for good."""
+        if not task.cancelled() and (fault := task.exception()):
+            self._stop(f"the service failed: {fault!r}")
 
     async def pause(self) -> None:
         """Takes no more lines, and waits until all that were taken are answered. `resume` takes lines again."""
@@ -190,11 +197,11 @@ class Office:
             if request.is_ours and self.state is not State.STOPPED:
                 batch.append(request)
             elif self.state is not State.RUNNING:
-                request.refuse(self.words)
+                request.refuse(NotTaken(self.words))
             elif self.journal.replies.are_behind:
-                request.refuse("the disk is full: replies couldn't be kept")
+                request.refuse(NotTaken("the disk is full: replies couldn't be kept"))
             elif len(request.lines) > room:
-                request.refuse(f"91: the journal would have over {MOST_TAKEN:,} lines; begin a new one")
+                request.refuse(NotTaken(f"91: the journal would have over {MOST_TAKEN:,} lines; begin a new one"))
             else:
                 batch.append(request)
                 room -= len(request.lines)
@@ -210,11 +217,11 @@ class Office:
         except NotKept as fault:
             log.error("lines couldn't be added to the journal: %s", fault)
             for request in batch:
-                request.refuse(f"the journal couldn't be written: {fault}")
+                request.refuse(NotTaken(f"the journal couldn't be written: {fault}"))
         except Broken as fault:
             self._stop(str(fault))
             for request in batch:
-                request.refuse(f"{fault}; whether the lines were taken is known after a new start")
+                request.refuse(Stopped(f"{fault}; whether the lines were taken is known after a new start"))
         else:
             self._number(batch, first)
             await self._feed(first, lines)
@@ -270,12 +277,14 @@ class Office:
                 return ended, False
         program = await Program.start(self._command, self._take_replies)
         replay = asyncio.create_task(self._replay(program))
-        ended = await program.ended
-        self._program = None
-        has_read = replay.done()
-        replay.cancel()
-        await asyncio.gather(replay, return_exceptions=True)
-        return ended, has_read
+        try:
+            ended = await program.ended
+            return ended, replay.done()
+        finally:
+            self._program = None
+            program.kill()
+            replay.cancel()
+            await asyncio.gather(replay, return_exceptions=True)
 
     async def _replay(self, program: Program) -> None:
         """Gives the program the journal, and takes lines again when all of them are answered."""

@@ -3,6 +3,7 @@
 import asyncio
 import os
 from collections.abc import Callable, Sequence
+from contextlib import suppress
 from dataclasses import dataclass
 from typing import NamedTuple
 
@@ -144,7 +145,7 @@ class Program:
         self._process.stdin.close()
 
     def kill(self) -> None:
-        if self._process.returncode is None:
+        with suppress(ProcessLookupError):
             self._process.kill()
 
     async def _follow(self) -> Ended:

@@ -166,7 +166,7 @@ class Server:
 
     def _hold(self, more: int) -> None:
         if self._held + more > MOST_HELD_BYTES:
-            raise Refusal(503, "Too many requests are sent at once; send this one again.")
+            raise NotTaken("too many requests are sent at once")
         self._held += more
 
     async def answer(self, request: web.Request, lines: Sequence[bytes], start: float) -> web.StreamResponse:
@@ -317,6 +317,8 @@ def refusal_of(fault: Exception) -> Refusal | None:
             return Refusal(400, str(fault))
         case NotTaken():
             return Refusal(503, f"{fault}; nothing of the request was taken")
+        case Stopped():
+            return Refusal(503, str(fault))
     return None
 
 
