@@ -134,8 +134,8 @@ def test_the_day_by_clicks(start: Start, browse: Browse) -> None:
     page.until(lambda: page.rows("#plan-table")[0][5], "an arrival")
     pairs = page.rows("#plan-table")
     assert pairs[0][:6] == ["318127710016", "MALT-1", "DE10001", "DE10003", "150", "2026-03-02T08:50:00Z"]
-    assert len(pairs) == 8 and "Every plan in which it stays costs at least" in pairs[0][6]
-    assert page.rows("#missing-table")[0][:3] == ["SALT-1", "1", "300"] and len(page.rows("#missing-table")[0][3]) > 20
+    assert len(pairs) == 8 and any("Every plan in which it stays costs at least 300 km more." == pair[6] for pair in pairs)
+    assert page.rows("#missing-table") == [["SALT-1", "1", "300", "Free wagons that suit and are there in time: 1. No plan gives it more."]]
     PICTURE.parent.mkdir(exist_ok=True)
     page.until(lambda: page.find("#map-shown svg"), "a map")
     page.driver.save_screenshot(str(PICTURE))

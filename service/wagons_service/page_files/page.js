@@ -210,9 +210,10 @@ const TESTS = [[4, "why_class"], [5, "why_load"], [6, "why_way"], [7, "why_time"
 
 function whyMissing(words) {
   if (!words) return "";
-  const test = TESTS.find(([place]) => words[place] === "0");
+  // The first test that no more wagons pass than the order gets, which is its second word.
+  const test = TESTS.find(([place]) => Number(words[place]) <= Number(words[2]));
   const further = words[10] === "none" ? text("further_none") : words[10] === "-" ? "" : text("further", { km: words[10] });
-  return text(test ? test[1] : "why_others") + " " + further;
+  return (test ? text(test[1], { n: words[test[0]] }) : text("why_others")) + " " + further;
 }
 
 const whyGoes = (reason) => !reason ? "" : reason.without === "0" ? text("without_0") : text("without", { km: reason.without });
