@@ -151,6 +151,7 @@ async function sendForm(form, line, accepted) {
   form.querySelectorAll("[data-field]").forEach((place) => { place.textContent = ""; });
   const button = form.querySelector("button");
   button.disabled = true;
+  say("");
   await doing(async () => {
     const { number, reply } = await send(JSON.stringify(line));
     const words = wordsOf(reply);
