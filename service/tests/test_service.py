@@ -2,6 +2,7 @@
 
 import json
 import os
+import shutil
 import signal
 import subprocess
 import threading
@@ -226,6 +227,32 @@ def test_no_line_is_lost_between_two_journals(start: Start) -> None:
     journals = {name: (service.folder / name / "journal.jsonl").read_bytes().splitlines() for name in "1234"}
     assert all(journals[journal][number - 1] == order(f"O{key // 100}-{key % 100}") for key, (journal, number) in told.items())
     assert sum(map(len, journals.values())) == 160
+
+
+def test_a_copy_of_the_folder_is_a_journal_of_before(start: Start, tmp_path: Path) -> None:
+    service = start().until_running()
+    over = threading.Event()
+
+    def send() -> None:
+        n = 0
+        while not over.is_set():
+            service.post([message("1001", n + k, WAGONS[k]) for k in range(30)])
+            n += 30
+
+    sender = threading.Thread(target=send)
+    sender.start()
+    for k in range(5):
+        time.sleep(0.1)
+        copy = tmp_path / f"copy_{k}"
+        copy.mkdir()
+        subprocess.run(["cp", service.folder / "1" / "replies.jsonl", service.folder / "1" / "journal.jsonl", copy], check=True)
+        shutil.copytree(copy, tmp_path / f"folder_{k}" / "1")
+    over.set()
+    sender.join()
+    for k in range(5):
+        again = start(tmp_path / f"folder_{k}").until_running()
+        assert again.kept and again.kept == service.kept[:len(again.kept)]
+        assert service.journal.startswith(again.journal)
 
 
 # Tokens.
