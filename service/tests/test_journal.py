@@ -9,7 +9,7 @@ from pathlib import Path
 
 import pytest
 
-from wagons_service.journal import Broken, FileOfLines, Folder, FolderInUse, Journal, NotKept, Replies, Unreadable
+from wagons_service.journal import Broken, FileOfLines, Folder, FolderInUse, Journal, KeptReplies, NotKept, Unreadable
 
 
 def test_lines_are_found_again(tmp_path: Path) -> None:
@@ -76,10 +76,10 @@ def test_a_new_journal_is_there_wholly_or_not_at_all(tmp_path: Path) -> None:
 
 def test_replies_are_found_by_their_lines_number(tmp_path: Path) -> None:
     path = str(tmp_path / "replies.jsonl")
-    replies = Replies(path)
-    records = [Replies.record(n, b"%d sheet 0\nwagon \"x\"" % n) for n in (1, 4, 5)]
+    replies = KeptReplies(path)
+    records = [KeptReplies.record(n, b"%d sheet 0\nwagon \"x\"" % n) for n in (1, 4, 5)]
     replies.keep([1, 4, 5], records)
-    for kept in replies, Replies(path):
+    for kept in replies, KeptReplies(path):
         assert kept.last == 5
         assert kept.read(1, 3) == records[0] + b"\n"
         assert kept.read(2, 3) == b""
@@ -91,14 +91,15 @@ def test_records_of_many_are_those_of_each() -> None:
     plain = [(n, b"%d refused 25 wagon 12" % n) for n in range(1, 9)]
     tries: list[list[tuple[int, bytes]]] = [plain, [*plain, (9, b'9 plan 0 0 0 0\n{"at":"x"}')], []]
     for replies in tries:
-        assert Replies.records(replies) == [Replies.record(*reply) for reply in replies]
-        assert [json.loads(record) for record in Replies.records(replies)] == [{"number": n, "reply": text.decode()} for n, text in replies]
+        records = KeptReplies.records([number for number, _ in replies], [text for _, text in replies])
+        assert records == [KeptReplies.record(*reply) for reply in replies]
+        assert [json.loads(record) for record in records] == [{"number": n, "reply": text.decode()} for n, text in replies]
 
 
 def test_replies_of_another_journal_are_refused(tmp_path: Path) -> None:
     journal = Journal(str(tmp_path))
     journal.add([b"{}"])
-    journal.replies.keep([1], [Replies.record(1, b"1 refused 24 type")])
+    journal.replies.keep([1], [KeptReplies.record(1, b"1 refused 24 type")])
     journal.close()
     (tmp_path / "journal.jsonl").write_bytes(b"")
     with pytest.raises(Unreadable, match="line 1 has a reply, but the journal ends with line 0"):
@@ -149,12 +150,12 @@ def test_a_full_disk_takes_all_lines_or_none(small_disk: Path) -> None:
 
 
 def test_replies_wait_while_the_disk_is_full(small_disk: Path) -> None:
-    replies = Replies(str(small_disk / "replies.jsonl"))
+    replies = KeptReplies(str(small_disk / "replies.jsonl"))
     filler = small_disk / "filler"
     with open(filler, "wb", buffering=0) as file, pytest.raises(OSError):
         while True:
             file.write(bytes(4096))
-    records = [Replies.record(n, b"%d accepted %d" % (n, n)) for n in range(1, 1001)]
+    records = [KeptReplies.record(n, b"%d accepted %d" % (n, n)) for n in range(1, 1001)]
     replies.keep(range(1, 501), records[:500])
     replies.keep(range(501, 1001), records[500:])
     assert replies.are_behind and replies.read(499, 502) == b"".join(r + b"\n" for r in records[498:502])

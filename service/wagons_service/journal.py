@@ -12,6 +12,7 @@ import shutil
 from array import array
 from collections.abc import Iterator, Sequence
 from itertools import accumulate
+from operator import add
 
 # What one input of `wagons run` may have; past it the program stops with 91 or 92.
 MOST_LINES = 1_000_000
@@ -108,7 +109,8 @@ class FileOfLines:
             except OSError as fault:
                 self._cut(before, str(fault))
                 raise Broken(f"the journal couldn't be synced to the disk: {fault}") from None
-        self._ends.extend(accumulate((len(line) + 1 for line in lines[1:]), initial=before + len(lines[0]) + 1))
+        # Where each ends: the lengths before it with its own, and a line feed for each.
+        self._ends.extend(map(add, accumulate(map(len, lines)), range(before + 1, before + 1 + len(lines))))
 
     def _write(self, data: bytes, at: int) -> None:
         view = memoryview(data)
@@ -127,7 +129,7 @@ class FileOfLines:
         self._handle.close()
 
 
-class Replies:
+class KeptReplies:
     """The replies, one a line: `{"number":9,"reply":"9 begun 8 20 5"}`, the text as the program gave it.
 
     They can be made again from the journal, so they aren't synced. Where the disk is full they wait in memory.
@@ -165,12 +167,12 @@ class Replies:
         return b'{"number":%d,"reply":%b}' % (number, json.dumps(reply.decode("ascii")).encode())
 
     @classmethod
-    def records(cls, replies: Sequence[tuple[int, bytes]]) -> list[bytes]:
+    def records(cls, numbers: Sequence[int], replies: Sequence[bytes]) -> list[bytes]:
         """The records of many replies. Most are words alone, which are their own JSON; so that is looked for once."""
-        texts = b"".join([text for _, text in replies])
+        texts = b"".join(replies)
         if any(mark in texts for mark in (b"\n", b'"', b"\\")):
-            return [cls.record(number, text) for number, text in replies]
-        return [b'{"number":%d,"reply":"%b"}' % reply for reply in replies]
+            return [cls.record(*reply) for reply in zip(numbers, replies)]
+        return [b'{"number":%d,"reply":"%b"}' % reply for reply in zip(numbers, replies)]
 
     def keep(self, numbers: Sequence[int], records: Sequence[bytes]) -> None:
         """Adds records of ascending numbers behind the last one."""
@@ -278,7 +280,7 @@ class Journal:
         checkpoint = f"{folder}/checkpoint.jsonl"
         self.checkpoint = checkpoint if os.path.exists(checkpoint) else None
         self.lines = FileOfLines(f"{folder}/journal.jsonl")
-        self.replies = Replies(f"{folder}/replies.jsonl")
+        self.replies = KeptReplies(f"{folder}/replies.jsonl")
         if self.replies.last > self.lines.count:
             raise Unreadable(f"{folder}: line {self.replies.last} has a reply, but the journal ends with line {self.lines.count}")
         sync_folder(folder)

@@ -1,9 +1,9 @@
 """What is counted, as Prometheus reads it."""
 
 from collections import Counter
-from collections.abc import Iterator, Sequence
+from collections.abc import Iterator
 
-from .program import Reply
+from .program import Replies
 
 # Upper bounds in seconds.
 BOUNDS = (0.001, 0.002, 0.005, 0.01, 0.02, 0.05, 0.1, 0.2, 0.5, 1.0, 5.0)
@@ -20,9 +20,11 @@ class Metrics:
         self._times = [0] * (len(BOUNDS) + 1)
         self._seconds = 0.0
 
-    def count(self, replies: Sequence[Reply]) -> None:
-        for kind, times in Counter(reply.kind for reply in replies).items():
+    def count(self, replies: Replies) -> None:
+        for kind, times in Counter(replies.kinds).items():
             self.replies[kind.decode()] += times
+        for _, text in replies.refused:
+            self.refusals[code_of(text)] += 1
 
     def time(self, lines: int, seconds: float) -> None:
         """So many lines had their replies so long after their request was read."""
@@ -54,6 +56,11 @@ class Metrics:
             yield f'{name}_bucket{{le="{bound}"}} {total}'
         yield f"{name}_sum {self._seconds:.6f}"
         yield f"{name}_count {total}"
+
+
+def code_of(refusal: bytes) -> str:
+    """The number of a refusal, behind its line's number and `refused`."""
+    return refusal.split(b" ", 3)[2].decode()
 
 
 def head(name: str, kind: str, what: str) -> Iterator[str]:

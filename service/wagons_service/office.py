@@ -6,14 +6,15 @@ Lines that come while others are synced to the disk are written and synced toget
 import asyncio
 import logging
 import time
+from bisect import bisect_right
 from collections import deque
 from collections.abc import Sequence
 from dataclasses import dataclass
 from enum import Enum
 
-from .journal import CHUNK, MOST_LINES, Broken, Journal, NotKept, Replies
+from .journal import CHUNK, MOST_LINES, Broken, Journal, KeptReplies, NotKept
 from .metrics import Metrics
-from .program import DONE, NOTHING, Ended, Program, Reply
+from .program import DONE, NOTHING, Ended, Program, Replies
 
 log = logging.getLogger("wagons-service")
 
@@ -330,59 +331,61 @@ class Office:
 
     # Replies come.
 
-    def _take_replies(self, replies: list[Reply]) -> None:
+    def _take_replies(self, replies: Replies) -> None:
         kept = self.journal.replies
-        new = [reply for reply in replies if reply.number > kept.last]
-        old = replies[:len(replies) - len(new)]
-        # Mostly all are as before, which is seen at once.
-        if old and b"\n".join([*records_of(old), b""]) != kept.read(old[0].number, old[-1].number) and not all(map(self._is_as_before, old)):
+        numbers = replies.numbers
+        if numbers[-1] > self._sent:
+            self._stop(f"the program answered line {numbers[-1]} of {self._sent}")
             return
-        if replies[-1].number > self._sent:
-            self._stop(f"the program answered line {replies[-1].number} of {self._sent}")
+        before = bisect_right(numbers, kept.last)
+        if before and not self._are_as_before(replies.part(0, before)):
             return
-        self._count([reply for reply in replies if reply.number > self._counted])
+        self._count(replies.part(bisect_right(numbers, self._counted)))
+        new = replies.part(before)
         try:
-            kept.keep([reply.number for reply in new], records_of(new))
+            kept.keep(new.numbers, KeptReplies.records(new.numbers, new.texts))
         except Broken as fault:
             self._stop(str(fault))
             return
-        self._told = replies[-1].number
+        self._told = numbers[-1]
         self._end_sheet()
         self._end_waiting()
 
-    def _is_as_before(self, reply: Reply) -> bool:
-        """Whether a line is answered as it was before this start. A plan may be another one of the same cost."""
-        before = self.journal.replies.read(reply.number, reply.number)
-        if before == Replies.record(reply.number, reply.text) + b"\n":
+    def _are_as_before(self, replies: Replies) -> bool:
+        """Whether lines are answered as they were before this start. Mostly all are, which is seen at once."""
+        records = KeptReplies.records(replies.numbers, replies.texts)
+        kept = self.journal.replies.read(replies.numbers[0], replies.numbers[-1])
+        return b"\n".join([*records, b""]) == kept or all(map(self._is_as_before, *replies))
+
+    def _is_as_before(self, number: int, kind: bytes, text: bytes) -> bool:
+        """Whether a line is answered as before. A plan may be another one of the same cost."""
+        before = self.journal.replies.read(number, number)
+        if before == KeptReplies.record(number, text) + b"\n":
             return True
-        head = reply.text.partition(b"\n")[0]
-        if reply.kind == b"plan" and before.startswith(Replies.record(reply.number, head)[:-2] + b"\\n"):
-            log.warning("line %d has another plan of the same cost now; the kept reply stays", reply.number)
+        head = text.partition(b"\n")[0]
+        if kind == b"plan" and before.startswith(KeptReplies.record(number, head)[:-2] + b"\\n"):
+            log.warning("line %d has another plan of the same cost now; the kept reply stays", number)
             return True
-        self._stop(f"line {reply.number} was answered {before[:200].decode()!r} before, and is now answered {head.decode()!r}; "
+        self._stop(f"line {number} was answered {before[:200].decode()!r} before, and is now answered {head.decode()!r}; "
                    "the program, its files or its options aren't those of this journal")
         return False
 
-    def _count(self, replies: Sequence[Reply]) -> None:
+    def _count(self, replies: Replies) -> None:
         """Counts replies that weren't before, and keeps the refusals among them in mind."""
-        self._counted = replies[-1].number if replies else self._counted
+        if not replies.numbers:
+            return
+        self._counted = replies.numbers[-1]
         self.metrics.count(replies)
-        for reply in replies:
-            if reply.kind == b"refused":
-                self._note_refusal(reply)
+        for number, text in replies.refused:
+            if not self._is_our_line(number, text):
+                self.refused.append(number)
+            if text.endswith(b" refused 72") and not self._full:
+                self._full = f"{text.decode()}: the book is full; begin a new journal"
+                if self.state is State.RUNNING:
+                    self._set(State.FULL, self._full)
 
-    def _note_refusal(self, reply: Reply) -> None:
-        code = reply.refusal
-        self.metrics.refusals[str(code)] += 1
-        if not self._is_our_line(reply):
-            self.refused.append(reply.number)
-        if code == "72" and not self._full:
-            self._full = f"{reply.text.decode()}: the book is full; begin a new journal"
-            if self.state is State.RUNNING:
-                self._set(State.FULL, self._full)
-
-    def _is_our_line(self, reply: Reply) -> bool:
-        return reply.text.endswith(b" refused 24 type") and self.journal.line(reply.number) == NOTHING
+    def _is_our_line(self, number: int, refusal: bytes) -> bool:
+        return refusal.endswith(b" refused 24 type") and self.journal.line(number) == NOTHING
 
     def _end_sheet(self) -> None:
         """A sheet ends where the next reply begins; where no other line comes, one is sent that changes nothing."""
@@ -403,7 +406,3 @@ class Office:
                 done.set_result(None)
             elif has_ended:
                 done.set_exception(Stopped(self.words))
-
-
-def records_of(replies: Sequence[Reply]) -> list[bytes]:
-    return Replies.records([(reply.number, reply.text) for reply in replies])

@@ -2,6 +2,7 @@
 
 import asyncio
 import os
+import re
 from collections.abc import Callable, Sequence
 from contextlib import suppress
 from dataclasses import dataclass
@@ -14,22 +15,33 @@ WORDS = 4096
 DONE = (0, 1)
 # The kinds of reply that have several lines.
 SEVERAL = (b"plan", b"sheet")
+# A reply of one line: its text, its number and its kind.
+SHORT = re.compile(rb"(([0-9]+) (accepted|repeated|begun|refused) [^\n]*)\n")
 # A line that has no `type` is refused with 24 and changes nothing.
 NOTHING = b"{}"
 
 
-class Reply(NamedTuple):
-    """The reply to a line: its number, its kind (`accepted`, `repeated`, `begun`, `plan`, `sheet` or `refused`), and its
-    text as the program gave it, without the last line feed."""
+class Replies(NamedTuple):
+    """Replies one behind the other, each thing of all of them in a column, since there are many: the numbers of their
+    lines, their kinds (`accepted`, `repeated`, `begun`, `plan`, `sheet` or `refused`), and their texts as the program gave
+    them, each without the last line feed."""
 
-    number: int
-    kind: bytes
-    text: bytes
+    numbers: Sequence[int]
+    kinds: Sequence[bytes]
+    texts: Sequence[bytes]
+
+    def part(self, start: int, end: int | None = None) -> "Replies":
+        return Replies(self.numbers[start:end], self.kinds[start:end], self.texts[start:end])
 
     @property
-    def refusal(self) -> str | None:
-        """The code of a refusal."""
-        return self.text.split(b" ", 3)[2].decode() if self.kind == b"refused" else None
+    def refused(self) -> list[tuple[int, bytes]]:
+        """The numbers and texts of the refusals."""
+        if b"refused" not in self.kinds:
+            return []
+        return [(number, text) for number, kind, text in zip(*self) if kind == b"refused"]
+
+
+NONE = Replies((), (), ())
 
 
 class NoReply(Exception):
@@ -54,24 +66,38 @@ class ReplyCutter:
         """The number of a sheet of which more lines may come."""
         return self.last if self._open and self._kind == b"sheet" else None
 
-    def cut(self, chunk: bytes) -> list[Reply]:
+    def cut(self, chunk: bytes) -> Replies:
         """The replies that are whole with these bytes."""
-        lines = (self._piece + chunk).split(b"\n")
-        self._piece = lines.pop()
-        replies: list[Reply] = []
-        for line in lines:
+        data = self._piece + chunk
+        end = data.rfind(b"\n") + 1
+        data, self._piece = data[:end], data[end:]
+        replies = NONE if self._open else self._cut_short(data)
+        return replies if replies.numbers else self._cut_line_by_line(data)
+
+    def _cut_short(self, data: bytes) -> Replies:
+        """The replies of these lines where all are one line and follow one another, as they mostly do; else none."""
+        found = SHORT.findall(data)
+        if not found:
+            return NONE
+        texts, words, kinds = zip(*found)
+        numbers = list(map(int, words))
+        first, last = numbers[0], numbers[-1]
+        if first <= self.last or numbers != list(range(first, last + 1)) or sum(map(len, texts)) + len(texts) != len(data):
+            return NONE
+        self.last = last
+        return Replies(numbers, kinds, texts)
+
+    def _cut_line_by_line(self, data: bytes) -> Replies:
+        replies = Replies([], [], [])
+        for line in data.split(b"\n")[:-1]:
             if line[:1].isdigit():
-                if self._open:
-                    self._close(replies)
+                self._close(replies)
                 word, kind, _ = line.split(b" ", 2)
-                number = int(word)
-                if number <= self.last:
+                if int(word) <= self.last:
                     raise NoReply(f"after the reply to line {self.last}: {line[:200]!r}")
-                self.last = number
-                if kind in SEVERAL:
-                    self._kind, self._open = kind, [line]
-                else:
-                    replies.append(Reply(number, kind, line))
+                self.last, self._kind, self._open = int(word), kind, [line]
+                if kind not in SEVERAL:
+                    self._close(replies)
             elif not self._open:
                 raise NoReply(f"after the reply to line {self.last}: {line[:200]!r}")
             else:
@@ -80,16 +106,19 @@ class ReplyCutter:
                     self._close(replies)
         return replies
 
-    def end(self) -> list[Reply]:
+    def end(self) -> Replies:
         """A sheet that was open when the program had done all its lines is whole."""
-        replies: list[Reply] = []
+        replies = Replies([], [], [])
         if self.open_sheet:
             self._close(replies)
         return replies
 
-    def _close(self, replies: list[Reply]) -> None:
-        replies.append(Reply(self.last, self._kind, b"\n".join(self._open)))
-        self._open = []
+    def _close(self, replies: Replies) -> None:
+        if self._open:
+            for column, value in zip(replies, (self.last, self._kind, b"\n".join(self._open))):
+                assert isinstance(column, list)
+                column.append(value)
+            self._open = []
 
 
 @dataclass(frozen=True, slots=True)
@@ -107,14 +136,14 @@ class Ended:
 class Program:
     """A program that runs. `take` is given each part of its replies; `ended` says how it ended."""
 
-    def __init__(self, process: asyncio.subprocess.Process, take: Callable[[list[Reply]], None]) -> None:
+    def __init__(self, process: asyncio.subprocess.Process, take: Callable[[Replies], None]) -> None:
         self._process = process
         self._take = take
         self.cutter = ReplyCutter()
         self.ended: asyncio.Task[Ended] = asyncio.create_task(self._follow())
 
     @classmethod
-    async def start(cls, command: Sequence[str], take: Callable[[list[Reply]], None]) -> "Program":
+    async def start(cls, command: Sequence[str], take: Callable[[Replies], None]) -> "Program":
         """Starts a command; with `OSError` it couldn't be started."""
         pipe = asyncio.subprocess.PIPE
         # In a session of its own, so that Ctrl-C in a terminal reaches the service alone, which ends the program.
@@ -153,14 +182,14 @@ class Program:
         words = asyncio.create_task(self._words(self._process.stderr))
         try:
             while chunk := await self._process.stdout.read(CHUNK):
-                if replies := self.cutter.cut(chunk):
+                if (replies := self.cutter.cut(chunk)).numbers:
                     self._take(replies)
         except (NoReply, ValueError) as fault:
             self.kill()
             await self._process.wait()
             return Ended(f"the program printed what is no reply, {fault}", status=2)
         status = await self._process.wait()
-        if status in DONE and (replies := self.cutter.end()):
+        if status in DONE and (replies := self.cutter.end()).numbers:
             self._take(replies)
         said = await words
         if status < 0:

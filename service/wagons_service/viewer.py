@@ -14,7 +14,7 @@ from .answers import Refusal
 from .journal import CHUNK, MOST_LINES, FileOfLines
 from .office import Office
 from .options import Options
-from .program import DONE, NOTHING, Program, Reply
+from .program import DONE, NOTHING, Program, Replies
 
 SECONDS_TO_DRAW = 30
 SHEET = b'{"type":"sheet"}'
@@ -63,12 +63,11 @@ class Follower:
             raise Refusal(503, f"{self._command[0]} couldn't be started: {fault}") from None
         return self._program
 
-    def _take(self, replies: list[Reply]) -> None:
+    def _take(self, replies: Replies) -> None:
         if self._awaited:
             number, sheet = self._awaited
-            for reply in replies:
-                if reply.number == number and not sheet.done():
-                    sheet.set_result(reply.text.decode())
+            if number in replies.numbers and not sheet.done():
+                sheet.set_result(replies.texts[replies.numbers.index(number)].decode())
 
     def end(self) -> None:
         if self._program:
