@@ -106,11 +106,14 @@ def test_replies_of_another_journal_are_refused(tmp_path: Path) -> None:
         Journal(str(tmp_path))
 
 
-def test_a_file_that_has_no_replies_is_refused(tmp_path: Path) -> None:
-    (tmp_path / "journal.jsonl").write_bytes(b"{}\n")
-    (tmp_path / "replies.jsonl").write_bytes(b"1 refused 24 type\n")
-    with pytest.raises(Unreadable, match="line 1 is no reply"):
-        Journal(str(tmp_path))
+@pytest.mark.parametrize("spoiled", [
+    b"3 refused 24 type", b"", bytes(40), b'{"number":2,"reply":"2 accepted 2"}', b'{"number":3,"reply":"3 acc', b'{"number":3,"reply":"3 \0\0\0 3"}'])
+def test_replies_that_were_spoiled_are_made_again(tmp_path: Path, spoiled: bytes) -> None:
+    good = [KeptReplies.record(n, b"%d accepted %d" % (n, n)) for n in (1, 2, 4)]
+    file = tmp_path / "replies.jsonl"
+    file.write_bytes(b"\n".join([*good[:2], spoiled, good[2], b""]))
+    replies = KeptReplies(str(file))
+    assert replies.spoiled == 3 and replies.last == 2 and file.read_bytes() == b"\n".join([*good[:2], b""])
 
 
 def test_a_disk_that_fails_is_not_trusted_any_more(tmp_path: Path, monkeypatch: pytest.MonkeyPatch) -> None:

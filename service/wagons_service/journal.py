@@ -8,6 +8,7 @@ written. All but the first have `checkpoint.jsonl`, from which their office begi
 import fcntl
 import json
 import os
+import re
 import shutil
 from array import array
 from collections.abc import Iterator, Sequence
@@ -19,6 +20,7 @@ MOST_LINES = 1_000_000
 MOST_LINE_BYTES = 65_536
 BLANK = b" \t\r"
 CHUNK = 1 << 20
+RECORD = re.compile(rb'\{"number":([0-9]{1,9}),"reply":"[^\0]*\Z')
 
 
 class NotKept(Exception):
@@ -34,7 +36,7 @@ class FolderInUse(Exception):
 
 
 class Unreadable(Exception):
-    """The files of the folder don't belong together, or one isn't as the service writes it."""
+    """The files of the folder don't belong together."""
 
 
 class FileOfLines:
@@ -55,8 +57,7 @@ class FileOfLines:
         # What a crash left of a line that wasn't written to its end.
         self.torn = os.pread(self._file, MOST_LINE_BYTES, self.size)
         if size > self.size:
-            os.ftruncate(self._file, self.size)
-            os.fdatasync(self._file)
+            self.cut(self.count)
 
     @property
     def count(self) -> int:
@@ -66,6 +67,12 @@ class FileOfLines:
     def size(self) -> int:
         """How many bytes the whole lines have."""
         return self._ends[-1]
+
+    def cut(self, count: int) -> None:
+        """Keeps so many lines of the file."""
+        del self._ends[count + 1:]
+        os.ftruncate(self._file, self.size)
+        os.fdatasync(self._file)
 
     def read(self, first: int, last: int) -> bytes:
         """The lines of these numbers, both among them, as they stand in the file."""
@@ -141,11 +148,15 @@ class KeptReplies:
         # By a line's number: how many records there are up to it. A blank line has none.
         self._records = array("Q", [0])
         self._waiting: list[bytes] = []
+        # The first line that a failing machine spoiled: it and those behind it are made again from the journal.
+        self.spoiled: int | None = None
         for record, line in enumerate(self._file.lines(), 1):
-            number = line[:32].removeprefix(b'{"number":').partition(b",")[0]
-            if not number.isdigit() or int(number) <= self.last:
-                raise Unreadable(f"{path}: line {record} is no reply as the service keeps them")
-            self._number_record(int(number))
+            found = RECORD.match(line)
+            if not found or int(found[1]) <= self.last or not line.endswith(b'"}'):
+                self.spoiled = record
+                self._file.cut(record - 1)
+                break
+            self._number_record(int(found[1]))
 
     def _number_record(self, number: int) -> None:
         records = self._records[-1]

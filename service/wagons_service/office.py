@@ -83,6 +83,8 @@ class Office:
         self._tasks: list[asyncio.Task[None]] = []
 
     def start(self) -> None:
+        if self.journal.replies.spoiled:
+            log.warning("replies.jsonl can't be read from its line %d on; it is made again from the journal", self.journal.replies.spoiled)
         for name, torn in ("journal.jsonl", self.journal.lines.torn), ("replies.jsonl", self.journal.replies.torn):
             if torn:
                 log.warning("%s ended in the middle of a line, which was cut off: %r", name, torn[:200])
