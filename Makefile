@@ -116,4 +116,5 @@ install: $(WAGONS)
 uninstall:
 	rm -f $(DESTDIR)$(PREFIX)/bin/wagons $(SHARE)/man/man1/wagons.1 $(SHARE)/bash-completion/completions/wagons \
 	  $(SHARE)/zsh/site-functions/_wagons $(SHARE)/fish/vendor_completions.d/wagons.fish
-	rm -rf $(SHARE)/doc/wagons
+	rm -f $(DESTDIR)$(PREFIX)/bin/wagons-service $(DESTDIR)$(PREFIX)/bin/wagons-xml $(SHARE)/man/man1/wagons-service.1 $(SHARE)/man/man1/wagons-xml.1
+	rm -rf $(SHARE)/doc/wagons $(LIB)
