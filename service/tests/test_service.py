@@ -4,6 +4,7 @@ import json
 import os
 import shutil
 import signal
+import socket
 import subprocess
 import threading
 import time
@@ -50,6 +51,28 @@ def test_replies_that_were_lost_are_made_again(start: Start, tmp_path: Path) -> 
     service = start().until_running()
     assert "replies.jsonl ended in the middle of a line" in "\n".join(service.log)
     assert service.kept == kept
+
+
+def test_a_torn_last_line_is_cut_off(start: Start, tmp_path: Path) -> None:
+    folder = tmp_path / "journal" / "1"
+    folder.mkdir(parents=True)
+    (folder / "journal.jsonl").write_bytes(order("O1") + b'\n{"type":"withdr')
+    service = start().until_running()
+    assert "journal.jsonl ended in the middle of a line, which was cut off: b'{\"type\":\"withdr'" in "\n".join(service.log)
+    assert service.post(order("O2")).replies == ["2 accepted 2"]
+    assert service.journal == order("O1") + b"\n" + order("O2") + b"\n"
+
+
+def test_a_connection_that_dies_finds_its_replies_again(start: Start) -> None:
+    service = start().until_running()
+    lines = order("O1") + b"\n" + order("O2") + b"\n"
+    with socket.create_connection(("127.0.0.1", service.port)) as connection:
+        connection.sendall(b"POST /lines HTTP/1.1\r\nHost: 127.0.0.1\r\nContent-Length: %d\r\n\r\n%s" % (len(lines), lines))
+    for _ in range(500):
+        if found := service.get("/replies?from=1").replies:
+            break
+        time.sleep(0.01)
+    assert found == ["1 accepted 1", "2 accepted 2"] and service.journal == lines
 
 
 def test_a_sheet_alone_is_whole(start: Start) -> None:

@@ -72,6 +72,7 @@ BOMB = b'<!DOCTYPE x [<!ENTITY a "aaaaaaaaaa">' + b"".join(b'<!ENTITY %c "&%c;&%
     (b"<a>\xff</a>", "Line 1, column 4"),
     (b"<a>" * 300, "Line 1, column"),
     (HEAD + b"<Movement/>" * 10_001 + b"</Movements>", "There are 10,001 messages in it; 10,000 are the most."),
+    (b"<a>\n<b " + b" ".join(b"x%d='>'" % k for k in range(20_000)) + b"/></a>", "Line 2, column 2: over 8,192 bytes stand between two `<`."),
     (movement("A", event="lost"), "Line 1: the map has no kind for this Movement."),
     (movement("A", station="Nowhere"), "Line 1: place is 'Nowhere', for which the map has no value."),
     (movement("A" * 257), "Line 1: number has over 256 characters."),

@@ -29,6 +29,7 @@ DECLARATION = re.compile(rb"""<\?xml[^>]*?encoding\s*=\s*["']([A-Za-z0-9._-]*)["
 DOCTYPE = b"<!DOCTYPE"
 # As many as a request may have lines.
 MOST_MESSAGES = 10_000
+MOST_BETWEEN = 8192
 NUMBER = re.compile("0|[1-9][0-9]{0,18}")
 FLAGS = {"true": True, "1": True, "false": False, "0": False}
 
@@ -184,8 +185,13 @@ def parsed(document: bytes) -> Any:
         raise BadXml(f"The encoding must be one of {', '.join(sorted(ENCODINGS))}.")
     at = document.find(DOCTYPE)
     if at >= 0:
-        line, column = document.count(b"\n", 0, at) + 1, at - document.rfind(b"\n", 0, at)
-        raise BadXml(f"Line {line}, column {column}: a document type isn't taken.")
+        raise BadXml(f"{where(document, at)}: a document type isn't taken.")
+    # The reader compares each attribute of an element with each other one, so an element has no room for many.
+    at = 0
+    for part in document.split(b"<"):
+        if len(part) > MOST_BETWEEN:
+            raise BadXml(f"{where(document, at)}: over {MOST_BETWEEN:,} bytes stand between two `<`.")
+        at += len(part) + 1
     parser = etree.XMLParser(encoding=encoding, resolve_entities=False, no_network=True, load_dtd=False, dtd_validation=False,
                              huge_tree=False, remove_comments=True, remove_pis=True)
     try:
@@ -194,6 +200,11 @@ def parsed(document: bytes) -> Any:
         line, column = fault.position
         said = re.sub(r", line \d+, column \d+.*", "", fault.msg or "it can't be read", flags=re.S)
         raise BadXml(f"Line {line}, column {column}: {said[:200]}.") from None
+
+
+def where(document: bytes, at: int) -> str:
+    line, before = document.count(b"\n", 0, at) + 1, document.rfind(b"\n", 0, at)
+    return f"Line {line}, column {at - before}"
 
 
 def texts_of(found: Any) -> list[str]:
