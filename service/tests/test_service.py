@@ -155,6 +155,26 @@ def test_events_tell_each_line_with_its_reply(start: Start) -> None:
     listener.stdout.close()
 
 
+def test_what_the_page_asks_for(start: Start) -> None:
+    service = start().until_running()
+    service.post(LINES[:LINES.index(b'{"type":"begin"')])
+    office = json.loads(service.get("/office").body)
+    assert (office["journal"], office["line"], office["version"], len(office["wagons"]), len(office["orders"])) == (1, 7, 7, 40, 5)
+    assert office["orders"][4] == {"order": "SALT-1", "place": "AT30002", "latest": "2026-03-02T09:00:00Z", "penalty": 300, "state": "waiting",
+                                   "wants": 2, "promised": [], "filled": [], "lacks": 2}
+    assert office["network"] == 1 and office["wagons"][0]["wagon"] == "315466400019"
+    why = json.loads(service.get("/why?line=7&at=2026-03-02T06:00:00Z").body)
+    assert why[0] == ["why", "7", "20", "5", "660", "8", "12", "1"]
+    drawn = service.get("/map.svg")
+    assert drawn.headers["Line"] == "7" and b"DE10003" in drawn.body and b"<svg" in drawn.body
+    entry = json.loads(service.get("/explain/82").body)
+    assert entry["name"] == "WagonChanged" and entry["meaning"].startswith("A wagon of the commit isn't free now")
+    assert entry["remedy"].startswith("plan again.")
+    for path, status in ("/explain/999", 404), ("/explain/x", 404), ("/why?at=now", 400), ("/why?at=--help", 400), ("/static/x", 404), ("/static/..%2Fpage.py", 404):
+        assert service.get(path).status == status, path
+    assert service.journal.count(b"\n") == 7
+
+
 def test_limits_of_a_request(start: Start) -> None:
     service = start().until_running()
     for body, said in [

@@ -11,7 +11,8 @@ from .senders import Sender
 MOST_LINES_A_REQUEST = 10_000
 MOST_BYTES_A_REQUEST = 8_000_000
 JSON_LINES = "application/jsonl"
-PAGE = 1 << 20
+# So much is put together at once, so that others are answered in between.
+PAGE = 1 << 18
 
 
 class Refusal(Exception):

@@ -1,6 +1,7 @@
 """The page, and what its script asks for."""
 
 import json
+from datetime import datetime
 from pathlib import Path
 from urllib.parse import parse_qs
 
@@ -9,7 +10,7 @@ from aiohttp import web
 
 from .answers import Refusal, number_in, sentence, with_lines
 from .senders import Role, Sender
-from .server import COOKIE, Server, one_line
+from .server import COOKIE, Server
 from .texts import TEXTS
 
 FILES = Path(__file__).parent / "page_files"
@@ -87,8 +88,12 @@ class Page:
         self._judge_looks(request)
         line = number_in(request.query.get("line"), "line", self._service.office.answered)
         at = request.query.get("at", "")
-        if not at or at.startswith("-") or one_line(at) != at or not at.isascii():
-            raise Refusal(400, "`at` must be a moment.")
+        try:
+            is_moment = datetime.fromisoformat(at).tzinfo is not None
+        except ValueError:
+            is_moment = False
+        if not is_moment:
+            raise Refusal(400, "`at` must be a moment with Z or an offset.")
         return web.json_response(await self._service.viewer.why(line, at), headers=HEADERS)
 
     async def get_explain(self, request: web.Request) -> web.StreamResponse:

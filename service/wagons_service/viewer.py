@@ -126,7 +126,11 @@ class Viewer:
     async def explain(self, code: str) -> dict[str, str]:
         """The manual's entry of a refusal, in its parts."""
         if code not in self._entries:
-            self._entries[code] = read_entry(code, (await run([self._options.program, "explain", code], b"")).decode())
+            try:
+                entry = await run([self._options.program, "explain", code], b"")
+            except Refusal:
+                raise Refusal(404, f"`wagons explain` has no entry {code}.") from None
+            self._entries[code] = read_entry(code, entry.decode())
         return self._entries[code]
 
     async def _print(self, command: Sequence[str], upto: int) -> bytes:
