@@ -1,5 +1,6 @@
 """One service over the real program: the example day, what is refused, and how it stops and starts again."""
 
+import http.client
 import json
 import os
 import shutil
@@ -186,6 +187,22 @@ def test_limits_of_a_request(start: Start) -> None:
         assert (answer.status, answer.text) == (413, said)
     assert service.journal == b""
     assert len(service.post(b"{}\n" * 10_000).records) == 10_000
+
+
+def test_a_connection_goes_on_or_is_closed_after_a_refusal(start: Start, tokens: Path) -> None:
+    service = start(options=["--tokens", str(tokens)]).until_running()
+    connection = http.client.HTTPConnection("127.0.0.1", service.port, timeout=5)
+    for path, token, size, status, is_closed in [
+        ("/lines", "no-such-token-at-all", 300_000, 401, True), ("/lines", "reader-s-long-token", 300_000, 403, True),
+        ("/lines", "railway-1001-token", 300_000, 413, False), ("/nothing", "dispatcher-s-token", 300_000, 404, True),
+        ("/lines", "reader-s-long-token", 10, 403, True), ("/lines", "railway-1001-token", 10, 400, False),
+    ]:
+        connection.request("POST", path, b"x" * size, {"Authorization": f"Bearer {token}"})
+        answer = connection.getresponse()
+        answer.read()
+        assert (answer.status, answer.getheader("Connection") == "close") == (status, is_closed)
+    connection.close()
+    assert service.journal == b""
 
 
 def test_other_statuses(start: Start) -> None:

@@ -84,9 +84,10 @@ class Server:
                 request["sender"] = sender
             response = await handler(request)
             status = response.status
-            return response
+            return closing(request, response)
         except web.HTTPException as known:
             status = known.status
+            closing(request, known)
             raise
         except ConnectionError:
             status = GONE
@@ -96,7 +97,7 @@ class Server:
             if refusal is None:
                 raise
             status = refusal.status
-            return sentence(status, str(refusal))
+            return closing(request, sentence(status, str(refusal)))
         finally:
             self.metrics.requests[status] += 1
 
@@ -304,6 +305,13 @@ class Server:
         lines = self.office.journal.lines
         text = self.metrics.text(lines.count, lines.size, self.office.state is State.RUNNING)
         return web.Response(body=text.encode(), headers={"Content-Type": "text/plain; version=0.0.4; charset=utf-8"})
+
+
+def closing(request: web.Request, response: web.StreamResponse) -> web.StreamResponse:
+    """An answer that ends its connection where the request's body wasn't read: aiohttp would wait for good behind it."""
+    if request.body_exists and not request.content.at_eof():
+        response.force_close()
+    return response
 
 
 def refusal_of(fault: Exception) -> Refusal | None:
