@@ -16,6 +16,7 @@ from running import DAY, WAGONS, Service, line, message, order
 
 LINES = (DAY / "day.jsonl").read_bytes().splitlines()
 SECONDS = 20
+# The page with a plan, for whoever wants to see it before it is tried.
 PICTURE = ROOT / "out" / "page.png"
 
 
@@ -23,7 +24,7 @@ class Browser:
     def __init__(self, service: Service) -> None:
         self.service = service
         options = webdriver.ChromeOptions()
-        for word in "--headless=new", "--no-sandbox", "--disable-gpu", "--disable-dev-shm-usage", "--window-size=1280,1800":
+        for word in "--headless=new", "--no-sandbox", "--disable-gpu", "--disable-dev-shm-usage", "--window-size=1280,1400":
             options.add_argument(word)
         options.set_capability("goog:loggingPrefs", {"browser": "ALL"})
         self.driver = webdriver.Chrome(options=options, service=webdriver.chrome.service.Service("/usr/bin/chromedriver"))
@@ -138,6 +139,7 @@ def test_the_day_by_clicks(start: Start, browse: Browse) -> None:
     assert page.rows("#missing-table") == [["SALT-1", "1", "300", "Free wagons that suit and are there in time: 1. No plan gives it more."]]
     PICTURE.parent.mkdir(exist_ok=True)
     page.until(lambda: page.find("#map-shown svg"), "a map")
+    page.driver.execute_script("window.scrollTo(0, 0)")
     page.driver.save_screenshot(str(PICTURE))
     page.click("#accept")
     page.until_says("#said", "The plan is accepted: entry 8 of the book.")
