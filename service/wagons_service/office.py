@@ -5,6 +5,7 @@ Lines that come while others are synced to the disk are written and synced toget
 
 import asyncio
 import logging
+import math
 import time
 from bisect import bisect_right
 from collections import deque
@@ -79,7 +80,8 @@ class Office:
         self._is_paused = False
         self._is_over = False
         self._wake = asyncio.Event()
-        self._waiting: dict[asyncio.Future[None], int] = {}
+        # Who waits for the reply to which line, and until when.
+        self._waiting: dict[asyncio.Future[None], tuple[int, float]] = {}
         self._tasks: list[asyncio.Task[None]] = []
 
     def start(self) -> None:
@@ -88,7 +90,7 @@ class Office:
         for name, torn in ("journal.jsonl", self.journal.lines.torn), ("replies.jsonl", self.journal.replies.torn):
             if torn:
                 log.warning("%s ended in the middle of a line, which was cut off: %r", name, torn[:200])
-        self._tasks = [asyncio.create_task(self._write_all()), asyncio.create_task(self._keep_running())]
+        self._tasks = [asyncio.create_task(work) for work in (self._write_all(), self._keep_running(), self._tick())]
         for task in self._tasks:
             task.add_done_callback(self._judge_end)
 
@@ -154,14 +156,14 @@ class Office:
         self._wake.set()
         return await request.numbers
 
-    async def until_answered(self, number: int) -> None:
-        """Waits until the reply to a line is whole. `Stopped` where the office stops before."""
+    async def until_answered(self, number: int, seconds: float = math.inf) -> None:
+        """Waits until the reply to a line is whole. `Stopped` where the office stops before, or where it takes longer."""
         if self.answered >= number:
             return
         if self.state is State.STOPPED or self._is_over:
             raise Stopped(self.words)
         done: asyncio.Future[None] = asyncio.get_running_loop().create_future()
-        self._waiting[done] = number
+        self._waiting[done] = number, time.monotonic() + seconds
         try:
             await done
         finally:
@@ -171,16 +173,22 @@ class Office:
 
     async def _write_all(self) -> None:
         while True:
-            try:
-                await asyncio.wait_for(self._wake.wait(), SECONDS_BETWEEN_TRIES)
-            except asyncio.TimeoutError:
-                self._try_again()
+            await self._wake.wait()
             self._wake.clear()
             while self._queue:
                 self._is_writing = True
                 await self._write(self._next())
                 self._is_writing = False
                 self._end_sheet()
+
+    async def _tick(self) -> None:
+        while True:
+            await asyncio.sleep(SECONDS_BETWEEN_TRIES)
+            self._try_again()
+            now = time.monotonic()
+            for done, (_, deadline) in self._waiting.items():
+                if deadline < now and not done.done():
+                    done.set_exception(Stopped("there is no reply yet"))
 
     def _try_again(self) -> None:
         """What couldn't be written when the disk was full."""
@@ -401,7 +409,7 @@ class Office:
 
     def _end_waiting(self, has_ended: bool = False) -> None:
         """Tells those whose reply is whole and, where the office has ended, all others."""
-        for done, number in self._waiting.items():
+        for done, (number, _) in self._waiting.items():
             if done.done():
                 continue
             if number <= self.answered:

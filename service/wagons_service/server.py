@@ -153,9 +153,16 @@ class Server:
             raise Refusal(415, "The body must be sent as it is, without a Content-Encoding.")
         if (request.content_length or 0) > MOST_BYTES_A_REQUEST:
             raise too_large
+        content = request.content
         try:
+            if content.is_eof():
+                # Mostly the body came with its head.
+                chunk = content.read_nowait()
+                self._hold(len(chunk))
+                body += chunk
+                return
             async with asyncio.timeout(SECONDS_FOR_A_BODY):
-                async for chunk in request.content.iter_any():
+                async for chunk in content.iter_any():
                     self._hold(len(chunk))
                     body += chunk
                     if len(body) > MOST_BYTES_A_REQUEST:
@@ -179,12 +186,10 @@ class Server:
         if awaited is None:
             return web.Response(headers=headers)
         try:
-            async with asyncio.timeout(SECONDS_FOR_REPLIES):
-                await office.until_answered(awaited)
-        except (Stopped, TimeoutError) as fault:
-            why = str(fault) or f"there was no reply within {SECONDS_FOR_REPLIES} seconds"
+            await office.until_answered(awaited, SECONDS_FOR_REPLIES)
+        except Stopped as stopped:
             where = f"/replies?journal={office.journal.number}&from={numbers.start}"
-            raise Refusal(503, f"{why}; lines {numbers.start} to {numbers[-1]} are in the journal, and their replies come at {where}") from None
+            raise Refusal(503, f"{stopped}; lines {numbers.start} to {numbers[-1]} are in the journal, and their replies come at {where}") from None
         self.metrics.time(len(lines), time.monotonic() - start)
         return await self._kept(request, headers, office.journal, numbers.start, awaited)
 
