@@ -91,7 +91,7 @@ def main() -> None:
     app = web.Application(client_max_size=8_000_000)
     app.router.add_post("/lines", lines)
     app.router.add_get("/health", health)
-    web.run_app(app, host="127.0.0.1", port=int(sys.argv[3]), print=None, access_log=None)
+    web.run_app(app, host="127.0.0.1", port=int(sys.argv[3]), print=lambda *_: None, access_log=None)
 
 
 main()
