@@ -35,7 +35,7 @@ class Attacker(threading.Thread):
     def run(self) -> None:
         try:
             for _ in range(self.requests):
-                self.draw.choices([self.lines, self.xml, self.broken, self.get], [60, 10, 20, 10])[0]()
+                self.draw.choices([self.lines, self.xml, self.broken, self.get, self.odd_headers], [55, 10, 15, 10, 10])[0]()
         except BaseException as fault:
             self.fault = fault
             raise
@@ -100,6 +100,18 @@ class Attacker(threading.Thread):
         answer = self.service.get(path + self.draw.choice(["", "x", "-1", "0", "%F0", "9" * 30, "--help", "'\"<"]), self.draw.choice(["", "no-such-token-at-all"]))
         self.statuses[answer.status] += 1
         assert answer.status in (303, 401, 404), (path, answer)
+
+    def odd_headers(self) -> None:
+        method, path = self.draw.choice([("GET", "/replies"), ("GET", "/events?journal=9"), ("GET", "/metrics"), ("POST", "/lines"), ("POST", "/xml"),
+                                         ("POST", "/login"), ("POST", "/next"), ("HEAD", "/replies"), ("DELETE", "/lines"), ("OPTIONS", "/lines"), ("GET", "/office")])
+        headers = {"Authorization": f"Bearer {self.draw.choice(['reader-s-long-token', 'railway-1001-token', ''])}"}
+        for name in self.draw.sample(["Authorization", "Cookie", "Origin", "Last-Event-ID", "Content-Type", "Content-Encoding", "X-Forwarded-Proto", "Host",
+                                      "Accept-Encoding", "If-None-Match", "Range", "Expect"], k=self.draw.randint(1, 4)):
+            headers[name] = self.draw.choice(["", "[::1", "1-", "-", "1-0", "wagons_token=", "expires=1; path", "a=\"b", "=;=;,", "Bearer", "Bearer \xff\xfe", "http://[", "é", "null",
+                                              "bytes=0-", "100-continue", "x" * 3000, "\t", "multipart/form-data; boundary="])
+        answer = self.service.request(method, path, self.draw.choice([None, b"", b"{}", b"token=%FF&token"]), headers)
+        self.statuses[answer.status] += 1
+        assert answer.status != 500, (method, path, headers, answer.text)
 
     def broken(self) -> None:
         """What isn't HTTP, or ends too early."""

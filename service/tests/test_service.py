@@ -211,7 +211,7 @@ def test_other_statuses(start: Start) -> None:
     assert service.get("/nothing").status == 404
     port = service.port
     for headers, status in [
-        ({"Host": "evil.example"}, 403), ({"Host": f"localhost:{port}"}, 200), ({"Host": f"[::1]:{port}"}, 200),
+        ({"Host": "evil.example"}, 403), ({"Host": "[::1"}, 403), ({"Host": "127.0.0.1.evil.example"}, 403), ({"Origin": "http://[::1"}, 403), ({"Host": f"localhost:{port}"}, 200), ({"Host": f"[::1]:{port}"}, 200),
         ({"Origin": "http://evil.example"}, 403), ({"Origin": f"http://127.0.0.1:{port}"}, 200), ({"Origin": "null"}, 403),
         ({"Content-Encoding": "gzip"}, 415),
     ]:

@@ -5,9 +5,10 @@ import logging
 import time
 from collections.abc import AsyncIterator, Awaitable, Callable, Sequence
 from contextlib import asynccontextmanager
+from functools import lru_cache
 from urllib.parse import urlsplit
 
-from aiohttp import web
+from aiohttp import web, web_urldispatcher
 from aiohttp.http_exceptions import BadHttpMessage
 
 from .answers import JSON_LINES, MOST_BYTES_A_REQUEST, Refusal, cut, number_in, page_end, sentence, with_lines
@@ -49,6 +50,8 @@ class Server:
         return self.service.office
 
     def application(self) -> web.Application:
+        # aiohttp's own answers 500 where another `Expect` has bytes that are no UTF-8, also at addresses that aren't there.
+        setattr(web_urldispatcher, "_default_expect_handler", expect)
         app = web.Application(middlewares=[self._answer_errors])
         app.router.add_post("/lines", self.post_lines)
         app.router.add_get("/replies", self.get_replies)
@@ -104,7 +107,7 @@ class Server:
     def _sender(self, request: web.Request) -> Sender | None:
         """Who asks; nobody is known only where none needs to be."""
         if self._tokens is None:
-            if not is_loopback(urlsplit(f"//{request.host}").hostname or ""):
+            if not names_this_machine(request.host):
                 raise Refusal(403, "Without tokens the service is asked by a loopback address alone, as 127.0.0.1 or localhost.")
             return ANYONE
         scheme, _, token = request.headers.get("Authorization", "").partition(" ")
@@ -120,7 +123,7 @@ class Server:
     def _judge_origin(request: web.Request) -> None:
         """A page of another site may not send lines by the browser of one who is at work here."""
         origin = request.headers.get("Origin")
-        if request.method != "GET" and origin is not None and urlsplit(origin).netloc != request.host:
+        if request.method != "GET" and origin is not None and origin.partition("://")[2] != request.host:
             raise Refusal(403, "The request comes from a page of another site.")
 
     # Lines.
@@ -312,6 +315,13 @@ class Server:
         return web.Response(body=text.encode(), headers={"Content-Type": "text/plain; version=0.0.4; charset=utf-8"})
 
 
+async def expect(request: web.Request) -> None:
+    """Lets a sender go on that asks before it sends its body."""
+    if request.headers.get("Expect", "").lower() != "100-continue":
+        raise web.HTTPExpectationFailed(text="The service knows `Expect: 100-continue` alone.\n")
+    await request.writer.write(b"HTTP/1.1 100 Continue\r\n\r\n")
+
+
 def closing(request: web.Request, response: web.StreamResponse) -> web.StreamResponse:
     """An answer that ends its connection where the request's body wasn't read: aiohttp would wait for good behind it."""
     if request.body_exists and not request.content.at_eof():
@@ -333,6 +343,15 @@ def refusal_of(fault: Exception) -> Refusal | None:
         case Stopped():
             return Refusal(503, str(fault))
     return None
+
+
+@lru_cache(maxsize=64)
+def names_this_machine(host: str) -> bool:
+    """Whether a request's `Host` is a loopback address."""
+    try:
+        return is_loopback(urlsplit(f"//{host}").hostname or "")
+    except ValueError:
+        return False
 
 
 def read_id(text: str) -> tuple[int, int]:
