@@ -1,7 +1,7 @@
 # The program and its tests. A machine needs the proof kit's command `rt` (with the Python 3 that it needs itself) and GNU
-# make, nothing else; `bench` needs more (bench/README.md).
+# make, nothing else; `bench` needs more (bench/README.md), and so does the service (docs/SERVICE.md).
 
-.PHONY: run demo prove build claim test quick scripts examples hostile bench install uninstall
+.PHONY: run demo prove build claim test quick scripts examples hostile bench service service-test install uninstall
 
 SHELL := /bin/bash
 .SHELLFLAGS := -o pipefail -c
@@ -83,10 +83,19 @@ bench:
 hostile:
 	@hostile/run
 
-SHARE = $(DESTDIR)$(PREFIX)/share
+# Starts the service over the example day, and says which address to open (docs/SERVICE.md).
+service:
+	@examples/service/start
 
-# The program, its manual page, its other pages with the examples that they use, and completions for bash, zsh and fish,
-# under PREFIX.
+# Tests the service with the real program, a real disk and a real browser; it installs Debian's packages that it needs.
+service-test:
+	@service/tests/run
+
+SHARE = $(DESTDIR)$(PREFIX)/share
+LIB = $(DESTDIR)$(PREFIX)/lib/wagons-service
+
+# The program, its manual page, its other pages with the examples that they use, completions for bash, zsh and fish, and
+# the service, under PREFIX.
 install: $(WAGONS)
 	install -D -m 755 $(WAGONS) $(DESTDIR)$(PREFIX)/bin/wagons
 	install -D -m 644 docs/wagons.1 $(SHARE)/man/man1/wagons.1
@@ -95,6 +104,12 @@ install: $(WAGONS)
 	install -D -m 644 -t $(SHARE)/doc/wagons/examples examples/README.md examples/*.jsonl examples/*.py
 	install -D -m 644 -t $(SHARE)/doc/wagons/examples/day examples/day/*
 	install -D -m 644 -t $(SHARE)/doc/wagons/examples/faults examples/faults/*
+	install -D -m 755 -t $(DESTDIR)$(PREFIX)/bin service/wagons-service service/wagons-xml
+	install -D -m 644 -t $(LIB)/wagons_service service/wagons_service/*.py
+	install -D -m 644 -t $(LIB)/wagons_service/page_files service/wagons_service/page_files/*
+	install -D -m 644 -t $(SHARE)/man/man1 service/wagons-service.1 service/wagons-xml.1
+	install -D -m 644 -t $(SHARE)/doc/wagons/service service/wagons-service.service
+	install -D -m 644 -t $(SHARE)/doc/wagons/examples/service examples/service/README.md examples/service/map.toml examples/service/movements.xml examples/service/tokens
 	install -D -m 644 completions/wagons.bash $(SHARE)/bash-completion/completions/wagons
 	install -D -m 644 completions/_wagons $(SHARE)/zsh/site-functions/_wagons
 	install -D -m 644 completions/wagons.fish $(SHARE)/fish/vendor_completions.d/wagons.fish
@@ -102,4 +117,5 @@ install: $(WAGONS)
 uninstall:
 	rm -f $(DESTDIR)$(PREFIX)/bin/wagons $(SHARE)/man/man1/wagons.1 $(SHARE)/bash-completion/completions/wagons \
 	  $(SHARE)/zsh/site-functions/_wagons $(SHARE)/fish/vendor_completions.d/wagons.fish
-	rm -rf $(SHARE)/doc/wagons
+	rm -f $(DESTDIR)$(PREFIX)/bin/wagons-service $(DESTDIR)$(PREFIX)/bin/wagons-xml $(SHARE)/man/man1/wagons-service.1 $(SHARE)/man/man1/wagons-xml.1
+	rm -rf $(SHARE)/doc/wagons $(LIB)

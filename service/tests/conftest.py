@@ -1,0 +1,46 @@
+"""What the tests share: the program that is tried, and services over folders of their own."""
+
+import os
+import subprocess
+import sys
+from collections.abc import Callable, Iterator
+from pathlib import Path
+from typing import Any
+
+import pytest
+
+ROOT = Path(__file__).resolve().parents[2]
+sys.path[:0] = [str(ROOT / "service"), str(Path(__file__).parent)]
+
+from running import Service  # noqa: E402
+
+Start = Callable[..., Service]
+
+
+def pytest_addoption(parser: pytest.Parser) -> None:
+    parser.addoption("--kills", type=int, default=100, help="how often the service and the program are killed")
+    parser.addoption("--lines", type=int, default=100_000, help="how many lines sixteen senders send in all")
+    parser.addoption("--requests", type=int, default=10_000, help="how many random requests are sent")
+
+
+@pytest.fixture(scope="session")
+def program() -> str:
+    """The real program: the one that `WAGONS` names, or the proved one."""
+    named = [str(ROOT / "tools" / "program"), "wagons", os.environ.get("WAGONS", "")]
+    return subprocess.run(named, check=True, stdout=subprocess.PIPE, text=True).stdout.strip()
+
+
+@pytest.fixture
+def start(program: str, tmp_path: Path) -> Iterator[Start]:
+    """Starts services; all of them are ended with the test."""
+    started: list[Service] = []
+
+    def one(folder: Path | None = None, **options: Any) -> Service:
+        options.setdefault("program", program)
+        service = Service(folder or tmp_path / "journal", **options)
+        started.append(service)
+        return service
+
+    yield one
+    for service in started:
+        service.end()

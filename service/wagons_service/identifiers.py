@@ -1,0 +1,58 @@
+"""Numbers for textual identifiers of messages: each text of a company has one number for good.
+
+They are kept in a file beside the journal, and a number is on the disk before a line that has it is in the journal.
+"""
+
+import json
+
+from .journal import FileOfLines
+
+# Companies that number their messages themselves mostly begin low, so these begin in the upper half.
+FIRST_NUMBER = 2_147_483_648
+LAST_NUMBER = 4_294_967_295
+MOST_LENGTH = 256
+MOST_IDENTIFIERS = 1_000_000
+
+
+class NoNumberLeft(Exception):
+    """There are as many identifiers as are kept."""
+
+
+class Identifiers:
+    def __init__(self, path: str) -> None:
+        self._file = FileOfLines(path)
+        self._numbers: dict[tuple[str, str], int] = {}
+        self._last: dict[str, int] = {}
+        self._new: list[tuple[str, str]] = []
+        for place in range(1, self._file.count + 1):
+            company, text, number = json.loads(self._file.read(place, place))
+            self._numbers[company, text] = number
+            self._last[company] = max(number, self._last.get(company, 0))
+
+    def number(self, company: str, text: str) -> int:
+        """The number of a text; a new one counts from `keep` on."""
+        known = self._numbers.get((company, text))
+        if known is not None:
+            return known
+        number = self._last.get(company, FIRST_NUMBER - 1) + 1
+        if len(self._numbers) >= MOST_IDENTIFIERS or number > LAST_NUMBER:
+            raise NoNumberLeft(f"{MOST_IDENTIFIERS:,} identifiers are kept already; begin a new journal")
+        self._numbers[company, text] = self._last[company] = number
+        self._new.append((company, text))
+        return number
+
+    def keep(self) -> None:
+        """Puts the new numbers on the disk."""
+        if self._new:
+            rows = [json.dumps([company, text, self._numbers[company, text]]).encode() for company, text in self._new]
+            self._file.append(rows, is_synced=True)
+            self._new = []
+
+    def forget(self) -> None:
+        """Takes back the new numbers, of a request that is refused."""
+        for company, text in reversed(self._new):
+            self._last[company] = self._numbers.pop((company, text)) - 1
+        self._new = []
+
+    def close(self) -> None:
+        self._file.close()

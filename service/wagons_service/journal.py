@@ -1,0 +1,326 @@
+"""The journal: the lines as they came, each on disk before the office sees it, and the replies kept beside them.
+
+A folder has a folder for each journal, `1`, `2` and so on, with `journal.jsonl` and `replies.jsonl` in it; the last one is
+written. All but the first have `checkpoint.jsonl`, from which their office begins. Lines are numbered from 1, as
+`wagons run` numbers them, so the journal is what the office read: `wagons run < journal.jsonl` gives the same replies.
+"""
+
+import fcntl
+import json
+import os
+import re
+import shutil
+from array import array
+from collections.abc import Iterator, Sequence
+from itertools import accumulate
+from operator import add
+
+# What one input of `wagons run` may have; past it the program stops with 91 or 92.
+MOST_LINES = 1_000_000
+MOST_LINE_BYTES = 65_536
+BLANK = b" \t\r"
+CHUNK = 1 << 20
+RECORD = re.compile(rb'\{"number":([0-9]{1,9}),"reply":"[^\0]*\Z')
+
+
+class NotKept(Exception):
+    """Nothing was added, and the file is as before: the disk is full, say."""
+
+
+class Broken(Exception):
+    """What is on the disk isn't known any more, so nothing may be added before a new start."""
+
+
+class FolderInUse(Exception):
+    """Another service has the folder."""
+
+
+class Unreadable(Exception):
+    """The files of the folder don't belong together."""
+
+
+class FileOfLines:
+    """A file that grows by whole lines, and where each of its lines ends."""
+
+    def __init__(self, path: str) -> None:
+        # The handle closes the file when nobody reads it any more, though a new journal has begun since.
+        self._handle = os.fdopen(os.open(path, os.O_RDWR | os.O_CREAT | os.O_CLOEXEC, 0o600), "rb+", buffering=0)
+        self._file = self._handle.fileno()
+        self._ends = array("Q", [0])
+        size = 0
+        while chunk := os.pread(self._file, CHUNK, size):
+            at = chunk.find(b"\n")
+            while at >= 0:
+                self._ends.append(size + at + 1)
+                at = chunk.find(b"\n", at + 1)
+            size += len(chunk)
+        # What a crash left of a line that wasn't written to its end.
+        self.torn = os.pread(self._file, MOST_LINE_BYTES, self.size)
+        if size > self.size:
+            self.cut(self.count)
+
+    @property
+    def count(self) -> int:
+        return len(self._ends) - 1
+
+    @property
+    def size(self) -> int:
+        """How many bytes the whole lines have."""
+        return self._ends[-1]
+
+    def cut(self, count: int) -> None:
+        """Keeps so many lines of the file."""
+        del self._ends[count + 1:]
+        os.ftruncate(self._file, self.size)
+        os.fdatasync(self._file)
+
+    def read(self, first: int, last: int) -> bytes:
+        """The lines of these numbers, both among them, as they stand in the file."""
+        start, end = self._ends[first - 1], self._ends[last]
+        parts = []
+        while start < end:
+            part = os.pread(self._file, min(CHUNK, end - start), start)
+            if not part:
+                raise Broken("the file is shorter than it was")
+            parts.append(part)
+            start += len(part)
+        return b"".join(parts)
+
+    def lines(self) -> Iterator[bytes]:
+        first = 1
+        while first <= self.count:
+            last = self.first_bytes(first, CHUNK)
+            yield from self.read(first, last)[:-1].split(b"\n")
+            first = last + 1
+
+    def first_bytes(self, first: int, most: int) -> int:
+        """The number of the last line that still fits in so many bytes from a line on; at least that line."""
+        low, high, limit = first, self.count, self._ends[first - 1] + most
+        while low < high:
+            middle = (low + high + 1) // 2
+            low, high = (middle, high) if self._ends[middle] <= limit else (low, middle - 1)
+        return low
+
+    def append(self, lines: Sequence[bytes], is_synced: bool) -> None:
+        """Adds lines, given without their line feeds: all of them or, with `NotKept`, none."""
+        before = self.size
+        data = b"\n".join([*lines, b""])
+        try:
+            self._write(data, before)
+        except OSError as fault:
+            self._cut(before, str(fault))
+            raise NotKept(str(fault)) from None
+        if is_synced:
+            try:
+                os.fdatasync(self._file)
+            except OSError as fault:
+                self._cut(before, str(fault))
+                raise Broken(f"the journal couldn't be synced to the disk: {fault}") from None
+        # Where each ends: the lengths before it with its own, and a line feed for each.
+        self._ends.extend(map(add, accumulate(map(len, lines)), range(before + 1, before + 1 + len(lines))))
+
+    def _write(self, data: bytes, at: int) -> None:
+        view = memoryview(data)
+        while view:
+            written = os.pwrite(self._file, view, at)
+            view, at = view[written:], at + written
+
+    def _cut(self, size: int, why: str) -> None:
+        try:
+            os.ftruncate(self._file, size)
+            os.fdatasync(self._file)
+        except OSError as fault:
+            raise Broken(f"{why}, and what was written of it couldn't be cut off: {fault}") from None
+
+    def close(self) -> None:
+        self._handle.close()
+
+
+class KeptReplies:
+    """The replies, one a line: `{"number":9,"reply":"9 begun 8 20 5"}`, the text as the program gave it.
+
+    They can be made again from the journal, so they aren't synced. Where the disk is full they wait in memory.
+    """
+
+    def __init__(self, path: str) -> None:
+        self._file = FileOfLines(path)
+        self.torn = self._file.torn
+        # By a line's number: how many records there are up to it. A blank line has none.
+        self._records = array("Q", [0])
+        self._waiting: list[bytes] = []
+        # The first line that a failing machine spoiled: it and those behind it are made again from the journal.
+        self.spoiled: int | None = None
+        for record, line in enumerate(self._file.lines(), 1):
+            found = RECORD.match(line)
+            if not found or int(found[1]) <= self.last or not line.endswith(b'"}'):
+                self.spoiled = record
+                self._file.cut(record - 1)
+                break
+            self._number_record(int(found[1]))
+
+    def _number_record(self, number: int) -> None:
+        records = self._records[-1]
+        self._records.extend([records] * (number - len(self._records)))
+        self._records.append(records + 1)
+
+    @property
+    def last(self) -> int:
+        """The number of the last line that has its reply here."""
+        return len(self._records) - 1
+
+    @property
+    def are_behind(self) -> bool:
+        """Whether some replies couldn't be written yet."""
+        return bool(self._waiting)
+
+    @staticmethod
+    def record(number: int, reply: bytes) -> bytes:
+        return b'{"number":%d,"reply":%b}' % (number, json.dumps(reply.decode("ascii")).encode())
+
+    @classmethod
+    def records(cls, numbers: Sequence[int], replies: Sequence[bytes]) -> list[bytes]:
+        """The records of many replies. Most are words alone, which are their own JSON; so that is looked for once."""
+        texts = b"".join(replies)
+        if any(mark in texts for mark in (b"\n", b'"', b"\\")):
+            return [cls.record(*reply) for reply in zip(numbers, replies)]
+        return [b'{"number":%d,"reply":"%b"}' % reply for reply in zip(numbers, replies)]
+
+    def keep(self, numbers: Sequence[int], records: Sequence[bytes]) -> None:
+        """Adds records of ascending numbers behind the last one."""
+        if numbers and numbers[-1] - self.last == len(numbers):
+            # No blank line stands between them.
+            self._records.extend(range(self._records[-1] + 1, self._records[-1] + len(numbers) + 1))
+        else:
+            for number in numbers:
+                self._number_record(number)
+        self._waiting.extend(records)
+        self.write()
+
+    def write(self) -> None:
+        """Writes what waits; it goes on waiting where the disk is full."""
+        if self._waiting:
+            try:
+                self._file.append(self._waiting, is_synced=False)
+            except NotKept:
+                return
+            self._waiting = []
+
+    def read(self, first: int, last: int) -> bytes:
+        """The records of the lines of these numbers, both among them, each with its line feed."""
+        last = min(last, self.last)
+        if first > last:
+            return b""
+        start, end = self._records[first - 1] + 1, self._records[last]
+        on_disk = self._file.count
+        written = self._file.read(start, min(end, on_disk)) if start <= min(end, on_disk) else b""
+        waiting = self._waiting[max(start - 1 - on_disk, 0):max(end - on_disk, 0)]
+        return written + b"".join(record + b"\n" for record in waiting)
+
+    def until(self, first: int, last: int, most: int) -> int:
+        """The last line so that the records from `first` on, up to its own, have about so many bytes; at most `last`."""
+        last = min(last, self.last)
+        start = self._records[first - 1] + 1
+        if first >= last or start > self._file.count:
+            return last
+        record = self._file.first_bytes(start, most)
+        low, high = first, last
+        while low < high:
+            middle = (low + high + 1) // 2
+            low, high = (middle, high) if self._records[middle] <= record else (low, middle - 1)
+        return low
+
+    def close(self) -> None:
+        self._file.close()
+
+
+class Folder:
+    """A folder of journals, which one service alone has."""
+
+    def __init__(self, path: str) -> None:
+        os.makedirs(path, mode=0o700, exist_ok=True)
+        self._lock = os.open(f"{path}/lock", os.O_RDWR | os.O_CREAT | os.O_CLOEXEC, 0o600)
+        try:
+            fcntl.flock(self._lock, fcntl.LOCK_EX | fcntl.LOCK_NB)
+        except BlockingIOError:
+            os.close(self._lock)
+            raise FolderInUse(f"another service has the folder {path}") from None
+        self.path = path
+        self.last = max((int(name) for name in os.listdir(path) if name.isascii() and name.isdigit()), default=0)
+        if not self.last:
+            self._begin({})
+
+    def journal(self, number: int | None = None) -> "Journal":
+        """The last journal, or the one of a number."""
+        return Journal(f"{self.path}/{number or self.last}", number or self.last)
+
+    def begin_next(self, checkpoint: bytes) -> None:
+        """Begins a new journal from a checkpoint. It is there wholly or, with `OSError`, not at all."""
+        self._begin({"checkpoint.jsonl": checkpoint})
+
+    def _begin(self, files: dict[str, bytes]) -> None:
+        new = f"{self.path}/new"
+        shutil.rmtree(new, ignore_errors=True)
+        os.mkdir(new, 0o700)
+        for name, content in files.items():
+            with open(f"{new}/{name}", "wb") as file:
+                file.write(content)
+                file.flush()
+                os.fsync(file.fileno())
+        sync_folder(new)
+        os.rename(new, f"{self.path}/{self.last + 1}")
+        sync_folder(self.path)
+        self.last += 1
+
+    def close(self) -> None:
+        os.close(self._lock)
+
+
+def sync_folder(path: str) -> None:
+    at = os.open(path, os.O_RDONLY | os.O_DIRECTORY)
+    try:
+        os.fsync(at)
+    finally:
+        os.close(at)
+
+
+class Journal:
+    """The lines and their replies."""
+
+    def __init__(self, folder: str, number: int = 1) -> None:
+        self.number = number
+        checkpoint = f"{folder}/checkpoint.jsonl"
+        self.checkpoint = checkpoint if os.path.exists(checkpoint) else None
+        self.lines = FileOfLines(f"{folder}/journal.jsonl")
+        self.replies = KeptReplies(f"{folder}/replies.jsonl")
+        if self.replies.last > self.lines.count:
+            raise Unreadable(f"{folder}: line {self.replies.last} has a reply, but the journal ends with line {self.lines.count}")
+        sync_folder(folder)
+        self.last_line = self._last_line()
+
+    def _last_line(self) -> int:
+        """The number of the last line that isn't blank, or 0."""
+        for number in range(self.lines.count, 0, -1):
+            if not is_blank(self.line(number)):
+                return number
+        return 0
+
+    def line(self, number: int) -> bytes:
+        return self.lines.read(number, number)[:-1]
+
+    def add(self, lines: Sequence[bytes]) -> None:
+        """Adds lines and syncs them to the disk: all of them, or none."""
+        first = self.lines.count + 1
+        self.lines.append(lines, is_synced=True)
+        for number in range(self.lines.count, first - 1, -1):
+            if not is_blank(lines[number - first]):
+                self.last_line = number
+                return
+
+    def close(self) -> None:
+        self.lines.close()
+        self.replies.close()
+
+
+def is_blank(line: bytes) -> bool:
+    """Whether `wagons run` skips the line: it has spaces, tabs and carriage returns alone."""
+    return not line.strip(BLANK)

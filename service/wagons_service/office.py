@@ -1,0 +1,418 @@
+"""The office: what stands between those who send lines, the journal and the program.
+
+Lines that come while others are synced to the disk are written and synced together, so a sync serves many senders.
+"""
+
+import asyncio
+import logging
+import math
+import time
+from bisect import bisect_right
+from collections import deque
+from collections.abc import Sequence
+from dataclasses import dataclass
+from enum import Enum
+
+from .journal import CHUNK, MOST_LINES, Broken, Journal, KeptReplies, NotKept
+from .metrics import Metrics
+from .program import DONE, NOTHING, Ended, Program, Replies
+
+log = logging.getLogger("wagons-service")
+
+# So often in a row the program may be ended by a signal soon after its start, or before it has read the journal.
+MOST_DEATHS = 10
+SECONDS_OF_A_LIFE = 1.0
+SECONDS_BETWEEN_DEATHS = 0.1
+LAST_REFUSALS = 50
+# The last line of a journal is left for the one by which a sheet ends.
+MOST_TAKEN = MOST_LINES - 1
+SECONDS_TO_END = 10
+TURNS = "a new journal begins"
+SECONDS_BETWEEN_TRIES = 0.5
+
+
+class State(Enum):
+    STARTING = "starting"
+    RUNNING = "running"
+    FULL = "full"
+    STOPPED = "stopped"
+    CLOSING = "closing"
+
+
+class NotTaken(Exception):
+    """Nothing of a request is in the journal; the text says why."""
+
+
+class Stopped(Exception):
+    """The lines are in the journal, but there are no replies to them now; the text says why."""
+
+
+@dataclass(eq=False, slots=True)
+class _Request:
+    lines: Sequence[bytes]
+    numbers: "asyncio.Future[range]"
+    is_ours: bool = False
+
+    def refuse(self, why: Exception) -> None:
+        if not self.numbers.done():
+            self.numbers.set_exception(why)
+
+    def take(self, first: int) -> None:
+        if not self.numbers.done():
+            self.numbers.set_result(range(first, first + len(self.lines)))
+
+
+class Office:
+    def __init__(self, journal: Journal, command: Sequence[str], metrics: Metrics) -> None:
+        self.journal = journal
+        self.metrics = metrics
+        self.state = State.STARTING
+        self.words = "the office is starting: it reads its journal"
+        self.refused: deque[int] = deque(maxlen=LAST_REFUSALS)
+        self._command = command
+        self._program: Program | None = None
+        self._sent = 0
+        self._told = 0
+        self._counted = 0
+        self._full: str | None = None
+        self._queue: list[_Request] = []
+        self._is_writing = False
+        self._is_paused = False
+        self._is_over = False
+        self._wake = asyncio.Event()
+        # Who waits for the reply to which line, and until when.
+        self._waiting: dict[asyncio.Future[None], tuple[int, float]] = {}
+        self._tasks: list[asyncio.Task[None]] = []
+
+    def start(self) -> None:
+        if self.journal.replies.spoiled:
+            log.warning("replies.jsonl can't be read from its line %d on; it is made again from the journal", self.journal.replies.spoiled)
+        for name, torn in ("journal.jsonl", self.journal.lines.torn), ("replies.jsonl", self.journal.replies.torn):
+            if torn:
+                log.warning("%s ended in the middle of a line, which was cut off: %r", name, torn[:200])
+        self._tasks = [asyncio.create_task(work) for work in (self._write_all(), self._keep_running(), self._tick())]
+        for task in self._tasks:
+            task.add_done_callback(self._judge_end)
+
+    def _judge_end(self, task: asyncio.Task[None]) -> None:
+        """Whatever goes wrong in here that nobody thought of, no sender waits for good."""
+        if not task.cancelled() and (fault := task.exception()):
+            self._stop(f"the service failed: {fault!r}")
+
+    async def pause(self) -> None:
+        """Takes no more lines, and waits until all that were taken are answered. `resume` takes lines again."""
+        if self._is_paused or self.state not in (State.RUNNING, State.FULL):
+            raise NotTaken(self.words or TURNS)
+        self._is_paused = True
+        await self._until_written()
+        await self.until_answered(self.journal.last_line)
+
+    def resume(self) -> None:
+        self._is_paused = False
+
+    async def _until_written(self) -> None:
+        while self._queue or self._is_writing:
+            await asyncio.sleep(0.005)
+
+    async def close(self) -> None:
+        """Ends the program after the lines that were taken."""
+        self._set(State.CLOSING, TURNS if self._is_paused else "the service is being stopped")
+        await self._until_written()
+        program = self._program
+        if program:
+            program.close()
+            await asyncio.wait([program.ended], timeout=SECONDS_TO_END)
+            program.kill()
+        for task in self._tasks:
+            task.cancel()
+        await asyncio.gather(*self._tasks, return_exceptions=True)
+        self._is_over = True
+        self._end_waiting(has_ended=True)
+
+    @property
+    def has_turned(self) -> bool:
+        """Whether a new journal has begun behind this one."""
+        return self._is_over and self._is_paused
+
+    @property
+    def answered(self) -> int:
+        """The number of the last line whose reply is whole."""
+        return self.journal.replies.last
+
+    def may_take(self) -> None:
+        """Raises `NotTaken` where no lines are taken now."""
+        if self.state is not State.RUNNING:
+            raise NotTaken(self.words)
+        if self._is_paused:
+            raise NotTaken(TURNS)
+
+    async def take(self, lines: Sequence[bytes]) -> range:
+        """Puts lines into the journal, on the disk, and gives their numbers: all of them or, with `NotTaken`, none."""
+        self.may_take()
+        if not lines:
+            return range(self.journal.lines.count + 1, self.journal.lines.count + 1)
+        request = _Request(lines, asyncio.get_running_loop().create_future())
+        self._queue.append(request)
+        self._wake.set()
+        return await request.numbers
+
+    async def until_answered(self, number: int, seconds: float = math.inf) -> None:
+        """Waits until the reply to a line is whole. `Stopped` where the office stops before, or where it takes longer."""
+        if self.answered >= number:
+            return
+        if self.state is State.STOPPED or self._is_over:
+            raise Stopped(self.words)
+        done: asyncio.Future[None] = asyncio.get_running_loop().create_future()
+        self._waiting[done] = number, time.monotonic() + seconds
+        try:
+            await done
+        finally:
+            self._waiting.pop(done, None)
+
+    # Lines go into the journal.
+
+    async def _write_all(self) -> None:
+        while True:
+            await self._wake.wait()
+            self._wake.clear()
+            while self._queue:
+                self._is_writing = True
+                await self._write(self._next())
+                self._is_writing = False
+                self._end_sheet()
+
+    async def _tick(self) -> None:
+        while True:
+            await asyncio.sleep(SECONDS_BETWEEN_TRIES)
+            self._try_again()
+            now = time.monotonic()
+            for done, (_, deadline) in self._waiting.items():
+                if deadline < now and not done.done():
+                    done.set_exception(Stopped("there is no reply yet"))
+
+    def _try_again(self) -> None:
+        """What couldn't be written when the disk was full."""
+        try:
+            self.journal.replies.write()
+        except Broken as fault:
+            self._stop(str(fault))
+        self._end_sheet()
+
+    def _next(self) -> list[_Request]:
+        """The requests that are taken next; the others that wait are refused."""
+        queue, self._queue = self._queue, []
+        if self.journal.replies.are_behind:
+            self._try_again()
+        batch, room = [], MOST_TAKEN - self.journal.lines.count
+        for request in queue:
+            if request.is_ours and self.state is not State.STOPPED:
+                batch.append(request)
+            elif self.state is not State.RUNNING:
+                request.refuse(NotTaken(self.words))
+            elif self.journal.replies.are_behind:
+                request.refuse(NotTaken("the disk is full: replies couldn't be kept"))
+            elif len(request.lines) > room:
+                request.refuse(NotTaken(f"91: the journal would have over {MOST_TAKEN:,} lines; begin a new one"))
+            else:
+                batch.append(request)
+                room -= len(request.lines)
+        return batch
+
+    async def _write(self, batch: list[_Request]) -> None:
+        lines = [line for request in batch for line in request.lines]
+        if not lines:
+            return
+        first = self.journal.lines.count + 1
+        try:
+            await asyncio.to_thread(self.journal.add, lines)
+        except NotKept as fault:
+            log.error("lines couldn't be added to the journal: %s", fault)
+            for request in batch:
+                request.refuse(NotTaken(f"the journal couldn't be written: {fault}"))
+        except Broken as fault:
+            self._stop(str(fault))
+            for request in batch:
+                request.refuse(Stopped(f"{fault}; whether the lines were taken is known after a new start"))
+        else:
+            self._number(batch, first)
+            await self._feed(first, lines)
+
+    @staticmethod
+    def _number(batch: list[_Request], first: int) -> None:
+        for request in batch:
+            request.take(first)
+            first += len(request.lines)
+
+    async def _feed(self, first: int, lines: Sequence[bytes]) -> None:
+        """Gives lines to the program, unless it still reads the journal and will come to them there."""
+        program = self._program
+        if program:
+            count = self.journal.lines.count
+            is_next = self._sent == first - 1
+            program.send(b"\n".join([*lines, b""]) if is_next else self.journal.lines.read(self._sent + 1, count))
+            self._sent = count
+            await program.drain()
+
+    # The program runs, and reads the journal when it was started.
+
+    async def _keep_running(self) -> None:
+        deaths = 0
+        while deaths < MOST_DEATHS:
+            start = time.monotonic()
+            try:
+                ended, has_read = await self._run()
+            except OSError as fault:
+                self._stop(f"{self._command[0]} couldn't be started: {fault}")
+                return
+            if self.state in (State.CLOSING, State.STOPPED):
+                return
+            if not ended.by_signal:
+                self._stop(ended.words)
+                return
+            log.error("%s; it is started again", ended.words)
+            self.metrics.restarts += 1
+            lived = time.monotonic() - start >= SECONDS_OF_A_LIFE
+            deaths = 0 if has_read and lived else deaths + 1
+            self._set(State.STARTING, f"{ended.words}; it reads the journal again")
+            await asyncio.sleep(SECONDS_BETWEEN_DEATHS * deaths)
+        self._stop(f"{ended.words} {MOST_DEATHS} times, soon after its start")
+
+    async def _run(self) -> tuple[Ended, bool]:
+        """Runs the program to its end: how it ended, and whether it had read the journal."""
+        if not self.journal.last_line:
+            # No reply will say whether the program can run at all, so it runs over no lines first.
+            trial = await Program.start(self._command, lambda _: None)
+            trial.close()
+            ended = await trial.ended
+            if ended.status not in DONE:
+                return ended, False
+        program = await Program.start(self._command, self._take_replies)
+        replay = asyncio.create_task(self._replay(program))
+        try:
+            ended = await program.ended
+            return ended, replay.done()
+        finally:
+            self._program = None
+            program.kill()
+            replay.cancel()
+            await asyncio.gather(replay, return_exceptions=True)
+
+    async def _replay(self, program: Program) -> None:
+        """Gives the program the journal, and takes lines again when all of them are answered."""
+        try:
+            await self._read_journal(program)
+        except Broken as fault:
+            self._stop(str(fault))
+            program.kill()
+            return
+        last = self.journal.last_line
+        self._end_sheet()
+        while self._told < last:
+            await asyncio.sleep(0.005)
+        log.info("the office runs; its journal has %d lines", self.journal.lines.count)
+        self._run_or_be_full()
+
+    def _run_or_be_full(self) -> None:
+        if self._full:
+            self._set(State.FULL, self._full)
+        else:
+            self._set(State.RUNNING, "")
+
+    async def _read_journal(self, program: Program) -> None:
+        lines = self.journal.lines
+        self._sent = self._told = 0
+        while self._sent < lines.count:
+            last = lines.first_bytes(self._sent + 1, CHUNK)
+            program.send(lines.read(self._sent + 1, last))
+            self._sent = last
+            await program.drain()
+        self._program = program
+
+    def _set(self, state: State, words: str) -> None:
+        if self.state is not State.CLOSING and (self.state is not State.STOPPED or state is State.CLOSING):
+            self.state, self.words = state, words
+
+    def _stop(self, words: str) -> None:
+        log.error("the office stopped: %s", words)
+        self._set(State.STOPPED, words)
+        if self._program:
+            self._program.kill()
+        self._end_waiting(has_ended=True)
+
+    # Replies come.
+
+    def _take_replies(self, replies: Replies) -> None:
+        kept = self.journal.replies
+        numbers = replies.numbers
+        if numbers[-1] > self._sent:
+            self._stop(f"the program answered line {numbers[-1]} of {self._sent}")
+            return
+        before = bisect_right(numbers, kept.last)
+        if before and not self._are_as_before(replies.part(0, before)):
+            return
+        self._count(replies.part(bisect_right(numbers, self._counted)))
+        new = replies.part(before)
+        try:
+            kept.keep(new.numbers, KeptReplies.records(new.numbers, new.texts))
+        except Broken as fault:
+            self._stop(str(fault))
+            return
+        self._told = numbers[-1]
+        self._end_sheet()
+        self._end_waiting()
+
+    def _are_as_before(self, replies: Replies) -> bool:
+        """Whether lines are answered as they were before this start. Mostly all are, which is seen at once."""
+        records = KeptReplies.records(replies.numbers, replies.texts)
+        kept = self.journal.replies.read(replies.numbers[0], replies.numbers[-1])
+        return b"\n".join([*records, b""]) == kept or all(map(self._is_as_before, *replies))
+
+    def _is_as_before(self, number: int, kind: bytes, text: bytes) -> bool:
+        """Whether a line is answered as before. A plan may be another one of the same cost."""
+        before = self.journal.replies.read(number, number)
+        if before == KeptReplies.record(number, text) + b"\n":
+            return True
+        head = text.partition(b"\n")[0]
+        if kind == b"plan" and before.startswith(KeptReplies.record(number, head)[:-2] + b"\\n"):
+            log.warning("line %d has another plan of the same cost now; the kept reply stays", number)
+            return True
+        self._stop(f"line {number} was answered {before[:200].decode()!r} before, and is now answered {head.decode()!r}; "
+                   "the program, its files or its options aren't those of this journal")
+        return False
+
+    def _count(self, replies: Replies) -> None:
+        """Counts replies that weren't before, and keeps the refusals among them in mind."""
+        if not replies.numbers:
+            return
+        self._counted = replies.numbers[-1]
+        self.metrics.count(replies)
+        for number, text in replies.refused:
+            if not self._is_our_line(number, text):
+                self.refused.append(number)
+            if text.endswith(b" refused 72") and not self._full:
+                self._full = f"{text.decode()}: the book is full; begin a new journal"
+                if self.state is State.RUNNING:
+                    self._set(State.FULL, self._full)
+
+    def _is_our_line(self, number: int, refusal: bytes) -> bool:
+        return refusal.endswith(b" refused 24 type") and self.journal.line(number) == NOTHING
+
+    def _end_sheet(self) -> None:
+        """A sheet ends where the next reply begins; where no other line comes, one is sent that changes nothing."""
+        program = self._program
+        is_idle = not self._queue and not self._is_writing
+        if program and is_idle and (sheet := program.cutter.open_sheet) and sheet == self.journal.last_line:
+            numbers: asyncio.Future[range] = asyncio.get_running_loop().create_future()
+            numbers.add_done_callback(lambda done: done.exception())
+            self._queue.append(_Request([NOTHING], numbers, is_ours=True))
+            self._wake.set()
+
+    def _end_waiting(self, has_ended: bool = False) -> None:
+        """Tells those whose reply is whole and, where the office has ended, all others."""
+        for done, (number, _) in self._waiting.items():
+            if done.done():
+                continue
+            if number <= self.answered:
+                done.set_result(None)
+            elif has_ended:
+                done.set_exception(Stopped(self.words))

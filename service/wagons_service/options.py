@@ -1,0 +1,66 @@
+"""The arguments of `wagons-service`."""
+
+import argparse
+from collections.abc import Sequence
+from dataclasses import dataclass
+
+from .program import found
+from .senders import is_loopback
+
+PAGE = "docs/SERVICE.md, and `man wagons-service`"
+
+
+@dataclass(frozen=True)
+class Options:
+    journal: str
+    program: str
+    roster: str | None
+    start: str | None
+    networks: Sequence[str]
+    entries: int | None
+    kept: int | None
+    workers: int | None
+    host: str
+    port: int
+    tokens: str | None
+    map: str | None
+
+    def words(self, word: str, checkpoint: str | None) -> list[str]:
+        """The command `wagons WORD` with the options that say which office it is; a journal's own checkpoint comes first."""
+        command, start = [self.program, word], checkpoint or self.start
+        command += ["--from", start] if start else ["--roster", self.roster or ""]
+        for network in self.networks:
+            command += ["--network", network]
+        for name, value in ("--entries", self.entries), ("--kept", self.kept), ("--workers", self.workers):
+            if value is not None:
+                command += [name, str(value)]
+        return command
+
+
+def read(arguments: Sequence[str]) -> Options:
+    """Reads the arguments; what is wrong with them is said on standard error, with status 2."""
+    parser = argparse.ArgumentParser(
+        prog="wagons-service", description="Takes lines for `wagons run` over a network, and answers its replies.",
+        epilog=f"See {PAGE}.")
+    parser.add_argument("--journal", metavar="FOLDER", required=True, help="the folder of the journal; it is made where it isn't there")
+    start = parser.add_mutually_exclusive_group(required=True)
+    start.add_argument("--roster", metavar="FILE", help="the fleet at the start")
+    start.add_argument("--from", metavar="FILE", dest="start", help="the office at the start: a checkpoint of `wagons save`")
+    parser.add_argument("--network", metavar="FILE", action="append", required=True, help="the lines between places; 1 to 8 times")
+    parser.add_argument("--entries", metavar="N", type=int, help="as `wagons run` has it")
+    parser.add_argument("--kept", metavar="N", type=int, help="as `wagons run` has it")
+    parser.add_argument("--workers", metavar="N", type=int, help="as `wagons run` has it")
+    parser.add_argument("--program", metavar="FILE", default="", help="the program `wagons`; without it the one of this repository, or on the path")
+    parser.add_argument("--listen", metavar="HOST:PORT", default="127.0.0.1:8080", help="where requests come; 127.0.0.1:8080 where nothing is said")
+    parser.add_argument("--tokens", metavar="FILE", help="who may send what: a line TOKEN ROLE [COMPANY] for each sender")
+    parser.add_argument("--map", metavar="FILE", help="how the XML of `POST /xml` becomes lines")
+    given = parser.parse_args(arguments)
+    host, _, port = given.listen.rpartition(":")
+    host = host.strip("[]")
+    if not host or not (port.isascii() and port.isdigit() and int(port) < 65536):
+        parser.error(f"argument --listen: {given.listen!r} is no HOST:PORT")
+    if not given.tokens and not is_loopback(host):
+        parser.error("without --tokens only a loopback address is listened to, as 127.0.0.1:8080")
+    return Options(
+        journal=given.journal, program=found(given.program), roster=given.roster, start=given.start, networks=given.network,
+        entries=given.entries, kept=given.kept, workers=given.workers, host=host, port=int(port), tokens=given.tokens, map=given.map)

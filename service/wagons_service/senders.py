@@ -1,0 +1,168 @@
+"""Who may send what: tokens and roles.
+
+What a line says of its sender is never trusted: the token says whose messages it may send.
+"""
+
+import hashlib
+import hmac
+import ipaddress
+import json
+import logging
+import os
+import re
+from collections.abc import Mapping, Sequence
+from dataclasses import dataclass
+from enum import Enum
+from typing import Any
+
+log = logging.getLogger("wagons-service")
+
+MESSAGES = frozenset(
+    ["release", "departure", "yard_arrival", "yard_departure", "exception", "arrival", "delivery"])
+COMPANY = re.compile("[0-9A-Z]{4}")
+LEAST_TOKEN = 16
+
+
+class Role(Enum):
+    RAILWAY = "railway"
+    DISPATCHER = "dispatcher"
+    READER = "reader"
+
+
+class Forbidden(Exception):
+    """The sender may not do this; the text says why."""
+
+
+class NoLine(Exception):
+    """A line can't be judged; the text says why."""
+
+
+class BadTokens(Exception):
+    """A file of tokens that can't be used; the text says why, and has no token."""
+
+
+@dataclass(frozen=True, slots=True)
+class Sender:
+    role: Role
+    company: str | None = None
+
+    @property
+    def may_look(self) -> bool:
+        """Whether all lines and the whole office may be seen."""
+        return self.role is not Role.RAILWAY
+
+    def judge_role(self) -> None:
+        """Raises `Forbidden` where the sender may send nothing at all."""
+        if self.role is Role.READER:
+            raise Forbidden("A reader's token sends no lines.")
+
+    def judge(self, lines: Sequence[bytes]) -> None:
+        """Raises `Forbidden` or `NoLine` for the first line that the sender may not send."""
+        self.judge_role()
+        if self.role is Role.RAILWAY:
+            for place, line in enumerate(lines, 1):
+                self._judge_message(place, line)
+
+    def _judge_message(self, place: int, line: bytes) -> None:
+        try:
+            fields = read(line)
+        except ValueError:
+            raise NoLine(f"Line {place} of the request isn't JSON, so nobody can say whose it is.") from None
+        kind = fields.get("type") if isinstance(fields, dict) else None
+        if not isinstance(kind, str) or kind not in MESSAGES:
+            raise Forbidden(f"Line {place} of the request isn't a movement message; a railway's token sends no other line.")
+        if fields.get("company") != self.company:
+            raise Forbidden(f"Line {place} of the request isn't a message of company {self.company}, which the token is for.")
+
+    def may_see(self, line: bytes) -> bool:
+        """Whether the sender may see a line of the journal and its reply."""
+        if self.may_look:
+            return True
+        try:
+            self._judge_message(0, line)
+        except (Forbidden, NoLine):
+            return False
+        return True
+
+
+# Without tokens only this machine is listened to, and whoever is on it may do all.
+ANYONE = Sender(Role.DISPATCHER)
+
+
+def no_constant(_text: str) -> None:
+    raise ValueError("NaN and Infinity are no JSON")
+
+
+DECODER = json.JSONDecoder(parse_constant=no_constant, parse_int=str, parse_float=str)
+
+
+def read(line: bytes) -> Any:
+    """A line's JSON value, with its numbers as they are written; of a member given twice the last counts, as in the office."""
+    try:
+        return DECODER.decode(line.decode("utf-8"))
+    except RecursionError:
+        raise ValueError("nested too deep") from None
+
+
+class Tokens:
+    """The tokens of a file, each known by its digest alone, so that comparing takes the same time for every text."""
+
+    def __init__(self, senders: Mapping[bytes, Sender]) -> None:
+        self._senders = senders
+
+    @classmethod
+    def read(cls, path: str) -> "Tokens":
+        """Reads lines `TOKEN ROLE [COMPANY]`; blank lines and those that begin with # are skipped."""
+        try:
+            with open(path, encoding="utf-8") as file:
+                lines = file.read().split("\n")
+                if os.fstat(file.fileno()).st_mode & 0o007:
+                    log.warning("whoever is on this machine can read %s; take the right from others (chmod o=)", path)
+        except (OSError, UnicodeDecodeError) as fault:
+            raise BadTokens(f"the tokens couldn't be read: {fault}") from None
+        senders: dict[bytes, Sender] = {}
+        for place, line in enumerate(lines, 1):
+            words = line.split()
+            if words and not words[0].startswith("#"):
+                digest = digest_of(words[0])
+                if digest in senders:
+                    raise BadTokens(f"{path}: line {place} has a token that stands there already")
+                senders[digest] = sender_of(words, f"{path}: line {place}")
+        return cls(senders)
+
+    def __len__(self) -> int:
+        return len(self._senders)
+
+    def find(self, token: str) -> Sender | None:
+        """Whose token it is. All are compared, each in constant time."""
+        digest, found = digest_of(token), None
+        for known, sender in self._senders.items():
+            if hmac.compare_digest(known, digest):
+                found = sender
+        return found
+
+
+def digest_of(token: str) -> bytes:
+    return hashlib.sha256(token.encode("utf-8", "surrogateescape")).digest()
+
+
+def sender_of(words: Sequence[str], where: str) -> Sender:
+    token, *rest = words
+    if len(token) < LEAST_TOKEN:
+        raise BadTokens(f"{where} has a token of under {LEAST_TOKEN} characters")
+    match rest:
+        case ["railway", company] if COMPANY.fullmatch(company):
+            return Sender(Role.RAILWAY, company)
+        case ["railway", *_]:
+            raise BadTokens(f"{where}: behind `railway` stands one company of four characters 0-9, A-Z")
+        case ["dispatcher" | "reader" as role]:
+            return Sender(Role(role))
+    raise BadTokens(f"{where} must be TOKEN dispatcher, TOKEN reader or TOKEN railway COMPANY")
+
+
+def is_loopback(host: str) -> bool:
+    """Whether only this machine is reached, or reaches, by this name."""
+    try:
+        return host == "localhost" or ipaddress.ip_address(host).is_loopback
+    except ValueError:
+        return False

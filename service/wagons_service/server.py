@@ -1,0 +1,364 @@
+"""The addresses to which senders send and at which replies are found."""
+
+import asyncio
+import logging
+import time
+from collections.abc import AsyncIterator, Awaitable, Callable, Sequence
+from contextlib import asynccontextmanager
+from functools import lru_cache
+from urllib.parse import urlsplit
+
+from aiohttp import web, web_urldispatcher
+from aiohttp.http_exceptions import BadHttpMessage
+
+from .answers import JSON_LINES, MOST_BYTES_A_REQUEST, Refusal, cut, number_in, page_end, sentence, with_lines
+from .journal import MOST_LINES, Journal, is_blank
+from .office import NotTaken, Office, State, Stopped
+from .senders import ANYONE, BadTokens, Forbidden, NoLine, Role, Sender, Tokens, is_loopback
+from .service import Service
+
+log = logging.getLogger("wagons-service")
+
+Handler = Callable[[web.Request], Awaitable[web.StreamResponse]]
+COOKIE = "wagons_token"
+# Paths that need no token.
+OPEN_PATHS = ("/health", "/login")
+OPEN_PREFIX = "/static/"
+# Counted for a sender whose connection ended before its answer.
+GONE = 499
+SECONDS_FOR_A_BODY = 30
+SECONDS_FOR_REPLIES = 60
+SECONDS_FOR_A_LISTENER = 60
+SECONDS_OF_SILENCE = 15
+MOST_HELD_BYTES = 64_000_000
+MOST_LISTENERS = 200
+# Lines are numbered anew.
+NEXT = b"event: next\ndata: a new journal begins\n\n"
+
+
+class Server:
+    def __init__(self, service: Service, tokens_file: str | None) -> None:
+        self.service = service
+        self.metrics = service.metrics
+        self._tokens_file = tokens_file
+        self._tokens = Tokens.read(tokens_file) if tokens_file else None
+        self._held = 0
+        self._closing = asyncio.Event()
+
+    @property
+    def office(self) -> Office:
+        return self.service.office
+
+    def application(self) -> web.Application:
+        # aiohttp's own answers 500 where another `Expect` has bytes that are no UTF-8, also at addresses that aren't there.
+        setattr(web_urldispatcher, "_default_expect_handler", expect)
+        app = web.Application(middlewares=[self._answer_errors])
+        app.router.add_post("/lines", self.post_lines)
+        app.router.add_get("/replies", self.get_replies)
+        app.router.add_get("/events", self.get_events, allow_head=False)
+        app.router.add_post("/next", self.post_next)
+        app.router.add_get("/health", self.get_health)
+        app.router.add_get("/metrics", self.get_metrics)
+        return app
+
+    def read_tokens_again(self) -> None:
+        """On SIGHUP. A file that can't be used leaves the tokens as they were."""
+        if self._tokens_file:
+            try:
+                self._tokens = Tokens.read(self._tokens_file)
+                log.info("%d tokens were read", len(self._tokens))
+            except BadTokens as fault:
+                log.error("the tokens stay as they were: %s", fault)
+
+    def knows(self, token: str) -> bool:
+        return self._tokens is None or self._tokens.find(token) is not None
+
+    def end_streams(self) -> None:
+        self._closing.set()
+
+    # Who asks, and what is answered where something is wrong.
+
+    @web.middleware
+    async def _answer_errors(self, request: web.Request, handler: Handler) -> web.StreamResponse:
+        status = 500
+        try:
+            self._judge_origin(request)
+            if sender := self._sender(request):
+                request["sender"] = sender
+            response = await handler(request)
+            status = response.status
+            return closing(request, response)
+        except web.HTTPException as known:
+            status = known.status
+            closing(request, known)
+            raise
+        except ConnectionError:
+            status = GONE
+            raise
+        except Exception as fault:
+            refusal = refusal_of(fault)
+            if refusal is None:
+                raise
+            status = refusal.status
+            return closing(request, sentence(status, str(refusal)))
+        finally:
+            self.metrics.requests[status] += 1
+
+    def _sender(self, request: web.Request) -> Sender | None:
+        """Who asks; nobody is known only where none needs to be."""
+        if self._tokens is None:
+            if not names_this_machine(request.host):
+                raise Refusal(403, "Without tokens the service is asked by a loopback address alone, as 127.0.0.1 or localhost.")
+            return ANYONE
+        scheme, _, token = request.headers.get("Authorization", "").partition(" ")
+        token = token.strip() if scheme.lower() == "bearer" else request.cookies.get(COOKIE, "")
+        sender = self._tokens.find(token)
+        if sender is None and request.method == "GET" and request.path == "/":
+            raise web.HTTPSeeOther("/login")
+        if sender is None and request.path not in OPEN_PATHS and not request.path.startswith(OPEN_PREFIX):
+            raise Refusal(401, "A token is needed that this service knows: send `Authorization: Bearer TOKEN`.")
+        return sender
+
+    @staticmethod
+    def _judge_origin(request: web.Request) -> None:
+        """A page of another site may not send lines by the browser of one who is at work here."""
+        origin = request.headers.get("Origin")
+        if request.method != "GET" and origin is not None and origin.partition("://")[2] != request.host:
+            raise Refusal(403, "The request comes from a page of another site.")
+
+    # Lines.
+
+    async def post_lines(self, request: web.Request) -> web.StreamResponse:
+        async with self.body(request) as body:
+            start = time.monotonic()
+            lines = cut(body)
+            request["sender"].judge(lines)
+            return await self.answer(request, lines, start)
+
+    @asynccontextmanager
+    async def body(self, request: web.Request) -> AsyncIterator[bytes]:
+        """The body of a request that may send, where lines are taken now."""
+        sender: Sender = request["sender"]
+        sender.judge_role()
+        self.office.may_take()
+        body = bytearray()
+        self.metrics.sending += 1
+        try:
+            await self._read(request, body)
+            yield bytes(body)
+        finally:
+            self._held -= len(body)
+            self.metrics.sending -= 1
+
+    async def _read(self, request: web.Request, body: bytearray) -> None:
+        too_large = Refusal(413, f"The request has over {MOST_BYTES_A_REQUEST:,} bytes.")
+        if request.headers.get("Content-Encoding", "identity").lower() != "identity":
+            raise Refusal(415, "The body must be sent as it is, without a Content-Encoding.")
+        if (request.content_length or 0) > MOST_BYTES_A_REQUEST:
+            raise too_large
+        content = request.content
+        try:
+            if content.is_eof():
+                # Mostly the body came with its head.
+                chunk = content.read_nowait()
+                self._hold(len(chunk))
+                body += chunk
+                return
+            async with asyncio.timeout(SECONDS_FOR_A_BODY):
+                async for chunk in content.iter_any():
+                    self._hold(len(chunk))
+                    body += chunk
+                    if len(body) > MOST_BYTES_A_REQUEST:
+                        raise too_large
+        except TimeoutError:
+            raise Refusal(408, f"The body didn't come within {SECONDS_FOR_A_BODY} seconds.") from None
+        except (BadHttpMessage, web.RequestPayloadError):
+            raise Refusal(400, "The body isn't sent as HTTP asks, or ended too early.") from None
+
+    def _hold(self, more: int) -> None:
+        if self._held + more > MOST_HELD_BYTES:
+            raise NotTaken("too many requests are sent at once")
+        self._held += more
+
+    async def answer(self, request: web.Request, lines: Sequence[bytes], start: float) -> web.StreamResponse:
+        """Takes lines, and answers with their replies as they were kept."""
+        office = self.office
+        numbers = await office.take(lines)
+        headers = {"Content-Type": JSON_LINES, "Journal": str(office.journal.number)}
+        awaited = next((number for number in reversed(numbers) if not is_blank(lines[number - numbers.start])), None)
+        if awaited is None:
+            return web.Response(headers=headers)
+        try:
+            await office.until_answered(awaited, SECONDS_FOR_REPLIES)
+        except Stopped as stopped:
+            where = f"/replies?journal={office.journal.number}&from={numbers.start}"
+            raise Refusal(503, f"{stopped}; lines {numbers.start} to {numbers[-1]} are in the journal, and their replies come at {where}") from None
+        self.metrics.time(len(lines), time.monotonic() - start)
+        return await self._kept(request, headers, office.journal, numbers.start, awaited)
+
+    @staticmethod
+    async def _kept(request: web.Request, headers: dict[str, str], journal: Journal, first: int, last: int) -> web.StreamResponse:
+        end = page_end(journal, first, last)
+        if end == last:
+            return web.Response(body=journal.replies.read(first, last), headers=headers)
+        response = web.StreamResponse(headers=headers)
+        await response.prepare(request)
+        while first <= last:
+            end = page_end(journal, first, last)
+            await response.write(journal.replies.read(first, end))
+            first = end + 1
+        return response
+
+    # Replies, once more or as they come.
+
+    async def get_replies(self, request: web.Request) -> web.StreamResponse:
+        now = self.office.journal
+        number = number_in(request.query.get("journal"), "journal", now.number)
+        if number > now.number:
+            raise Refusal(400, f"There is no journal {number}; the last one is {now.number}.")
+        if number == now.number:
+            return await self._replies(request, now)
+        before = await asyncio.to_thread(self.service.folder.journal, number)
+        try:
+            return await self._replies(request, before)
+        finally:
+            before.close()
+
+    @staticmethod
+    async def _replies(request: web.Request, journal: Journal) -> web.StreamResponse:
+        first = number_in(request.query.get("from"), "from", 1)
+        last = min(number_in(request.query.get("to"), "to", MOST_LINES), journal.replies.last)
+        response = web.StreamResponse(headers={"Content-Type": JSON_LINES, "Cache-Control": "no-store", "Journal": str(journal.number)})
+        await response.prepare(request)
+        while first <= last:
+            end = page_end(journal, first, last)
+            records = [record + b"\n" for _, record in with_lines(journal, first, end, request["sender"])]
+            await response.write(b"".join(records))
+            first = end + 1
+        return response
+
+    async def get_events(self, request: web.Request) -> web.StreamResponse:
+        office = self.office
+        journal = number_in(request.query.get("journal"), "journal", office.journal.number)
+        first = number_in(request.query.get("from"), "from", office.answered + 1)
+        if last := request.headers.get("Last-Event-ID"):
+            journal, first = read_id(last)
+        if self.metrics.listening >= MOST_LISTENERS:
+            raise Refusal(503, "Too many listen already; try again later.")
+        response = web.StreamResponse(headers={
+            "Content-Type": "text/event-stream", "Cache-Control": "no-store", "X-Accel-Buffering": "no", "Journal": str(office.journal.number)})
+        await response.prepare(request)
+        self.metrics.listening += 1
+        try:
+            if journal == office.journal.number:
+                await self._tell(response, office, first, request["sender"])
+            else:
+                await self._write(response, NEXT)
+        except (ConnectionError, TimeoutError):
+            pass  # The listener went away, or didn't read.
+        finally:
+            self.metrics.listening -= 1
+        return response
+
+    async def _tell(self, response: web.StreamResponse, office: Office, first: int, sender: Sender) -> None:
+        await self._write(response, b"retry: 1000\n\n")
+        while not self._closing.is_set():
+            while first <= office.answered:
+                end = page_end(office.journal, first, office.answered)
+                told = with_lines(office.journal, first, end, sender)
+                await self._write(response, b"".join(b"id: %d-%d\ndata: %s\n\n" % (office.journal.number, *event) for event in told))
+                first = end + 1
+            try:
+                async with asyncio.timeout(SECONDS_OF_SILENCE):
+                    await self._until_answered(office, first)
+            except TimeoutError:
+                await self._write(response, b": nothing new\n\n")
+            except Stopped as stopped:
+                await self._write(response, NEXT if office.has_turned else f"event: stopped\ndata: {one_line(str(stopped))}\n\n".encode())
+                return
+
+    async def _until_answered(self, office: Office, number: int) -> None:
+        """Waits for a reply, or for the service's end."""
+        closing = asyncio.create_task(self._closing.wait())
+        answered = asyncio.create_task(office.until_answered(number))
+        try:
+            await asyncio.wait([closing, answered], return_when=asyncio.FIRST_COMPLETED)
+            if answered.done():
+                answered.result()
+        finally:
+            closing.cancel()
+            answered.cancel()
+
+    @staticmethod
+    async def _write(response: web.StreamResponse, data: bytes) -> None:
+        async with asyncio.timeout(SECONDS_FOR_A_LISTENER):
+            await response.write(data)
+
+    # A new journal, and how the service is.
+
+    async def post_next(self, request: web.Request) -> web.StreamResponse:
+        if request["sender"].role is not Role.DISPATCHER:
+            raise Forbidden("A dispatcher's token begins a new journal, and no other.")
+        return web.json_response({"journal": await self.service.begin_next()})
+
+    async def get_health(self, _request: web.Request) -> web.StreamResponse:
+        office = self.office
+        state = {"state": office.state.value, "words": office.words, "journal": office.journal.number,
+                 "lines": office.journal.lines.count, "answered": office.answered}
+        return web.json_response(state, status=200 if office.state is State.RUNNING else 503)
+
+    async def get_metrics(self, request: web.Request) -> web.StreamResponse:
+        if not request["sender"].may_look:
+            raise Forbidden("A railway's token doesn't see the metrics.")
+        lines = self.office.journal.lines
+        text = self.metrics.text(lines.count, lines.size, self.office.state is State.RUNNING)
+        return web.Response(body=text.encode(), headers={"Content-Type": "text/plain; version=0.0.4; charset=utf-8"})
+
+
+async def expect(request: web.Request) -> None:
+    """Lets a sender go on that asks before it sends its body."""
+    if request.headers.get("Expect", "").lower() != "100-continue":
+        raise web.HTTPExpectationFailed(text="The service knows `Expect: 100-continue` alone.\n")
+    await request.writer.write(b"HTTP/1.1 100 Continue\r\n\r\n")
+
+
+def closing(request: web.Request, response: web.StreamResponse) -> web.StreamResponse:
+    """An answer that ends its connection where the request's body wasn't read: aiohttp would wait for good behind it."""
+    if request.body_exists and not request.content.at_eof():
+        response.force_close()
+    return response
+
+
+def refusal_of(fault: Exception) -> Refusal | None:
+    """What is answered to a request in which this went wrong."""
+    match fault:
+        case Refusal():
+            return fault
+        case Forbidden():
+            return Refusal(403, str(fault))
+        case NoLine():
+            return Refusal(400, str(fault))
+        case NotTaken():
+            return Refusal(503, f"{fault}; nothing of the request was taken")
+        case Stopped():
+            return Refusal(503, str(fault))
+    return None
+
+
+@lru_cache(maxsize=64)
+def names_this_machine(host: str) -> bool:
+    """Whether a request's `Host` is a loopback address."""
+    try:
+        return is_loopback(urlsplit(f"//{host}").hostname or "")
+    except ValueError:
+        return False
+
+
+def read_id(text: str) -> tuple[int, int]:
+    """The journal and the line that come behind the last event that a listener had."""
+    journal, _, line = text.partition("-")
+    return number_in(journal, "Last-Event-ID", 1), number_in(line, "Last-Event-ID", 1) + 1
+
+
+def one_line(text: str) -> str:
+    return " ".join(text.split())
