@@ -78,6 +78,7 @@ bench:
 	@bench/book/run
 	@bench/save/run
 	@bench/why/run
+	@bench/service/run
 
 # Uses the program as nobody should, and prints what was tried, how often, and what was lost (see docs/HOSTILE.md).
 hostile:
