@@ -233,6 +233,9 @@ def test_a_new_journal(start: Start) -> None:
     service.post(LINES)
     command = ["curl", "-sN", f"http://127.0.0.1:{service.port}/events?from=42"]
     listener = subprocess.Popen(command, stdout=subprocess.PIPE, text=True)
+    # The stream must be open before the new journal begins.
+    while "wagons_listeners 1\n" not in service.get("/metrics").text:
+        time.sleep(0.01)
     before = service.kept
     answer = service.post(b"", path="/next")
     assert (answer.status, answer.text) == (200, '{"journal": 2}')
