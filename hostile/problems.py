@@ -8,10 +8,14 @@ import itertools
 import json
 import math
 import os
+import random
+import tempfile
 
 import office
 from checkpoints import DAY, DAY_FILES, FILES, History, words_of
+from memory import ALL, STARTS
 from program import Table, run
+from threads import is_wagon
 
 HISTORIES = int(os.environ.get("HOSTILE_PROBLEMS", 1_000))
 MOST_PLANS = 20_000
@@ -267,6 +271,68 @@ def reasons_of_the_day(minute):
     return reasons(*day_at(minute))
 
 
+# Where memory is refused, and tables of full size.
+
+MORNING = "2026-03-02T06:00:00Z"
+WORDS = [["table"], ["why"], ["why", "--order", "SALT-1"], ["why", "--wagon", "318127710032", "--json"]]
+
+
+def morning():
+    """The office of the example day at six o'clock, as a checkpoint."""
+    with open(f"{DAY}/day.jsonl", "rb") as file:
+        return run(words_of("save", DAY_FILES), b"".join(file.readlines()[:8])).out
+
+
+def from_morning(asked, text, **refusals):
+    with tempfile.NamedTemporaryFile() as file:
+        file.write(text)
+        file.flush()
+        networks = [word for network in DAY_FILES[1] for word in ("--network", network)]
+        return run([*asked, "--at", MORNING, "--from", file.name, *networks], b"", **refusals)
+
+
+def without_memory(case):
+    """What is told without a refusal, or `wagons: 1` and nothing else."""
+    asked, text, right, refusals = case
+    outcome = from_morning(asked, text, **refusals)
+    if outcome.fault():
+        return outcome.fault()
+    if outcome.status == 2:
+        return None if outcome.err in STARTS and not outcome.out else f"{outcome.err!r} and {outcome.out!r}"
+    return None if outcome.out == right else f"{outcome.out!r} where {right!r} is right"
+
+
+def refused_cases(count):
+    text = morning()
+    for asked in WORDS:
+        right = from_morning(asked, text).out
+        most = from_morning(asked, text, refuse_from=ALL).counts[0]
+        yield from ((asked, text, right, {"refuse_from": n, "refuse_count": count}) for n in range(1, most))
+
+
+def wagon_number(k):
+    digits = str(33_847_961_000 + k)
+    return next(digits + check for check in "0123456789" if is_wagon(digits + check))
+
+
+def full_table(wagons, orders):
+    dice = random.Random(wagons)
+    cells = [[None if dice.random() < 0.1 else dice.randint(1, 9_999) for _ in range(orders)] for _ in range(wagons)]
+    fields = {"wagons": [wagon_number(k) for k in range(wagons)], "orders": [f"O{k}" for k in range(orders)], "cells": cells, "penalties": [20_000] * orders}
+    return json.dumps(fields).encode() + b"\n"
+
+
+def of_full_size(size):
+    """A table of full size is solved and judged; one wagon or order more is refused with 53."""
+    limit = ["--line-bytes", "67108864"]
+    solved = run(["solve", *limit], full_table(*size))
+    if size != (1_000, 500):
+        return None if solved.out == b'{"line":1,"refused":"53"}\n' else f"{solved.out[:200]!r}"
+    cost = json.loads(solved.out)["cost"]
+    checked = run(["check", *limit], solved.out).out.decode()
+    return None if checked == f"1 optimal {cost}\n" else f"{checked!r}"
+
+
 def main():
     table = Table()
     table.try_all("`table` of random histories, and `solve` beside `plan`", of_random, range(HISTORIES))
@@ -275,6 +341,9 @@ def main():
     table.try_all("`why` of the example day at many moments", reasons_of_the_day, range(0, 720, 20))
     table.try_all("`why` of each order and wagon of random histories, as text and JSON, its bounds tried likewise", asked_of_random, range(HISTORIES))
     table.try_all("`why` of each order and wagon of the example day at many moments", asked_of_the_day, range(0, 720, 60))
+    table.try_all("`table` and `why` from a checkpoint: one request for memory refused", without_memory, list(refused_cases(1)))
+    table.try_all("`table` and `why` from a checkpoint: all requests from one on refused", without_memory, list(refused_cases(ALL)))
+    table.try_all("a table of 1,000 by 500 solved and judged, one wagon or order more refused", of_full_size, [(1_000, 500), (1_001, 500), (1_000, 501)])
     table.end()
 
 
