@@ -222,7 +222,7 @@ def test_wagons_are_searched_and_sorted_by_keys(start: Start, browse: Browse) ->
     page.driver.execute_script("document.querySelector('[data-place=\"DE10005\"]').focus()")
     page.driver.switch_to.active_element.send_keys(Keys.ENTER)
     page.until_says("#place-shown", f"DE10005: {shown.count('DE10005')} wagons, 0 open orders")
-    # What is shown anew doesn't take the keyboard away.
+    # What is shown again doesn't take the keyboard away.
     service.post(order("O1", place="DE10005"))
     page.until_says("#place-shown", "1 open orders")
     page.until(lambda: page.driver.switch_to.active_element.get_attribute("data-place") == "DE10005", "the keyboard at its place")

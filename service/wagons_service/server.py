@@ -32,7 +32,7 @@ SECONDS_FOR_A_LISTENER = 60
 SECONDS_OF_SILENCE = 15
 MOST_HELD_BYTES = 64_000_000
 MOST_LISTENERS = 200
-# Lines are numbered anew.
+# Lines are numbered from 1 again.
 NEXT = b"event: next\ndata: a new journal begins\n\n"
 
 

@@ -96,7 +96,7 @@ TEXTS = {
     "refused": "Refused, {code} {name}: {meaning}",
     "next": "Begin a new journal",
     "next_says": "A journal has room for a million lines, and its book for as many events as were said. A new one begins from a checkpoint: all holds, promises and open orders stay.",
-    "next_sure": "Begin a new journal? Lines and versions are counted anew, and a plan that was asked for before can't be accepted.",
+    "next_sure": "Begin a new journal? Lines and versions are counted from 1 again, and a plan that was asked for before can't be accepted.",
     "token": "Token",
     "token_says": "This office asks for a token. It is kept in this browser until it is closed.",
     "token_wrong": "This token isn't known.",

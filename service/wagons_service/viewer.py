@@ -51,7 +51,7 @@ class Follower:
         return sheet.result()
 
     async def _running(self, upto: int) -> Program:
-        """The program, started anew where it has ended, or where its own input would have too many lines."""
+        """The program, started again where it has ended, or where its own input would have too many lines."""
         program = self._program
         if program and not program.ended.done() and self._sent + (upto - self._read) + 2 <= MOST_LINES:
             return program
@@ -106,7 +106,7 @@ class Viewer:
     async def map(self) -> tuple[int, bytes]:
         """The map as SVG, and the line of the journal after which it is so.
 
-        It is drawn anew so seldom that a tenth of the time goes into it at most, however fast lines come.
+        It is drawn again so seldom that a tenth of the time goes into it at most, however fast lines come.
         """
         async with self._turn:
             upto, start = self._lines.count, time.monotonic()

@@ -45,7 +45,7 @@ function fill(table, heads, rows, caption = "") {
 const row = (cells, className = "") => element("tr", cells.map((cell) => cell instanceof HTMLElement && cell.tagName === "TD" ? cell
   : element("td", cell instanceof HTMLElement ? [cell] : cell)), { className });
 
-function keepingFocus(show) { // What is shown anew doesn't take the keyboard from whoever is in it.
+function keepingFocus(show) { // What is shown again doesn't take the keyboard from whoever is in it.
   const key = document.activeElement?.dataset.key;
   show();
   if (key && document.activeElement === document.body) document.querySelector(`[data-key="${CSS.escape(key)}"]`)?.focus({ preventScroll: true });
@@ -390,7 +390,7 @@ function follow(from) {
     }
     refreshSoon();
   };
-  events.addEventListener("next", () => location.reload()); // Lines are numbered anew.
+  events.addEventListener("next", () => location.reload()); // Lines are numbered from 1 again.
   events.addEventListener("stopped", (event) => { isLive = false; showState(text("stopped", { words: event.data })); });
   events.onerror = () => { if (isLive) { isLive = false; showState(text("lost")); } };
 }
