@@ -1,7 +1,7 @@
 # The program and its tests. A machine needs the proof kit's command `rt` (with the Python 3 that it needs itself) and GNU
 # make, nothing else; `bench` needs more (bench/README.md), and so does the service (docs/SERVICE.md).
 
-.PHONY: run demo prove build claim test quick scripts examples hostile bench service service-test install uninstall
+.PHONY: run demo prove build claim test quick scripts examples hostile bench service service-test test-streams install uninstall
 
 SHELL := /bin/bash
 .SHELLFLAGS := -o pipefail -c
@@ -33,20 +33,23 @@ $(WAGONS): $(SOURCES)
 	@$(PROVE) wagons
 
 # Compares the manual of refusals with what `wagons explain` must print; tries what this file says of sources, the completion
-# for bash, and that the definitions of the headline are found; proves every crate from nothing, tries the edits that must fail, runs every test and the programs on their stored files; then tries
-# the program that was built so on the pages' commands. `make` need not build it again. The last line is that of `rt ci`.
+# for bash, and that the definitions of the headline are found; proves every crate from nothing, tries the edits that must
+# fail, runs every test and the programs on their stored files; then tries the program that was built so on the pages'
+# commands and under the service. `make` need not build it again. The last line is that of `rt ci`.
 test:
+	@tools/try_pages
 	@sed '1,/^\$$ wagons explain$$/d;$$d' crates/wagons_scripts/data/explain.script | cmp docs/REFUSALS.md -
 	@tools/try_make
 	@tools/try_completions
 	@tools/claim
 	@mkdir -p out && touch out/tested
-	@echo "== rt ci: every proof from nothing (see docs/GATE.md for its time)"
+	@echo "== rt ci: every proof from nothing (bench/README.md has its time)"
 	@rt ci | tee out/test.log
 	@cp crates/wagons/out/wagons $(WAGONS).new && touch -r out/tested $(WAGONS).new && mv $(WAGONS).new $(WAGONS)
 	@tools/try_replies $(WAGONS)
 	@tools/scripts $(WAGONS)
 	@examples/try
+	@service/tests/run
 	@tail -n 1 out/test.log
 
 # Writes out/claim.md: all that one must believe of the headline beside the kit, on one page.
@@ -79,6 +82,7 @@ bench:
 	@bench/save/run
 	@bench/why/run
 	@bench/service/run
+	@bench/streams/run
 
 # Uses the program as nobody should, and prints what was tried, how often, and what was lost (see docs/HOSTILE.md).
 hostile:
@@ -92,6 +96,10 @@ service:
 service-test:
 	@service/tests/run
 
+# Tests offices behind Redis Streams: servers, offices and routers are killed (docs/STREAMS.md). It installs what it needs too.
+test-streams:
+	@service/stream_tests/run
+
 SHARE = $(DESTDIR)$(PREFIX)/share
 LIB = $(DESTDIR)$(PREFIX)/lib/wagons-service
 
@@ -100,16 +108,17 @@ LIB = $(DESTDIR)$(PREFIX)/lib/wagons-service
 install: $(WAGONS)
 	install -D -m 755 $(WAGONS) $(DESTDIR)$(PREFIX)/bin/wagons
 	install -D -m 644 docs/wagons.1 $(SHARE)/man/man1/wagons.1
-	install -D -m 644 -t $(SHARE)/doc/wagons README.md
-	install -D -m 644 -t $(SHARE)/doc/wagons/docs docs/*.md docs/day.svg docs/page.png
+	install -D -m 644 -t $(SHARE)/doc/wagons README.md CHANGELOG.md
+	install -D -m 644 -t $(SHARE)/doc/wagons/docs docs/*.md docs/day.svg docs/fleet.svg docs/page.png
 	install -D -m 644 -t $(SHARE)/doc/wagons/examples examples/README.md examples/*.jsonl examples/*.py
 	install -D -m 644 -t $(SHARE)/doc/wagons/examples/day examples/day/*
 	install -D -m 644 -t $(SHARE)/doc/wagons/examples/faults examples/faults/*
-	install -D -m 755 -t $(DESTDIR)$(PREFIX)/bin service/wagons-service service/wagons-xml
+	install -D -m 755 -t $(DESTDIR)$(PREFIX)/bin service/wagons-service service/wagons-router service/wagons-xml
 	install -D -m 644 -t $(LIB)/wagons_service service/wagons_service/*.py
 	install -D -m 644 -t $(LIB)/wagons_service/page_files service/wagons_service/page_files/*
-	install -D -m 644 -t $(SHARE)/man/man1 service/wagons-service.1 service/wagons-xml.1
-	install -D -m 644 -t $(SHARE)/doc/wagons/service service/wagons-service.service
+	install -D -m 644 -t $(SHARE)/man/man1 service/wagons-service.1 service/wagons-router.1 service/wagons-xml.1
+	install -D -m 644 -t $(SHARE)/doc/wagons/service service/*.service service/offices.csv
+	install -D -m 755 -t $(SHARE)/doc/wagons/examples/service examples/service/railway.py
 	install -D -m 644 -t $(SHARE)/doc/wagons/examples/service examples/service/README.md examples/service/map.toml examples/service/movements.xml examples/service/tokens
 	install -D -m 644 completions/wagons.bash $(SHARE)/bash-completion/completions/wagons
 	install -D -m 644 completions/_wagons $(SHARE)/zsh/site-functions/_wagons
@@ -118,5 +127,6 @@ install: $(WAGONS)
 uninstall:
 	rm -f $(DESTDIR)$(PREFIX)/bin/wagons $(SHARE)/man/man1/wagons.1 $(SHARE)/bash-completion/completions/wagons \
 	  $(SHARE)/zsh/site-functions/_wagons $(SHARE)/fish/vendor_completions.d/wagons.fish
-	rm -f $(DESTDIR)$(PREFIX)/bin/wagons-service $(DESTDIR)$(PREFIX)/bin/wagons-xml $(SHARE)/man/man1/wagons-service.1 $(SHARE)/man/man1/wagons-xml.1
+	rm -f $(DESTDIR)$(PREFIX)/bin/wagons-service $(DESTDIR)$(PREFIX)/bin/wagons-router $(DESTDIR)$(PREFIX)/bin/wagons-xml \
+	  $(SHARE)/man/man1/wagons-service.1 $(SHARE)/man/man1/wagons-router.1 $(SHARE)/man/man1/wagons-xml.1
 	rm -rf $(SHARE)/doc/wagons $(LIB)

@@ -1,7 +1,7 @@
 # Completion of wagons for bash.
 _wagons() {
     local current=${COMP_WORDS[COMP_CWORD]} previous=${COMP_WORDS[COMP_CWORD - 1]} word=${COMP_WORDS[1]}
-    local words='check solve run feed map table why save explain'
+    local words='check solve run feed map plan table why review save explain'
     local office='--roster --from --network --entries --kept --workers --help'
     # bash parts `--roster=FILE` at its sign.
     if [ "$current" = = ]; then
@@ -15,11 +15,13 @@ _wagons() {
         return
     fi
     case $previous in
-        --roster | --from | --network | --with) mapfile -t COMPREPLY < <(compgen -f -- "$current"); return ;;
-        --entries | --kept | --workers | --at | --upto | --without | --order | --wagon | --line-bytes) return ;;
+        --roster | --from | --network | --with | --places) mapfile -t COMPREPLY < <(compgen -f -- "$current"); return ;;
+        --entries | --kept | --workers | --at | --upto | --without | --order | --wagon | --class | --zone | --line-bytes) return ;;
     esac
     case $word in
-        run | map) ;;
+        run | review) ;;
+        map) office+=' --busy --order --class' ;;
+        plan) office+=' --at --places --zone --csv' ;;
         table) office+=' --at' ;;
         why) office+=' --at --order --wagon --json' ;;
         save) office+=' --upto --with --without' ;;

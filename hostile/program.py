@@ -2,6 +2,7 @@
 
 import multiprocessing
 import os
+import re
 import struct
 import subprocess
 import sys
@@ -29,12 +30,17 @@ def script(name):
         return file.read()
 
 
+# A line for people: printable ASCII characters and Latin letters, and no control character.
+TOLD = re.compile(rb"([ -~]|[\xC3-\xC8][\x80-\xBF])+\n")
+
+
 class Outcome:
-    """What the program wrote and how it ended. `counts` are its requests for memory, watched reads,
-    writes, and starts of threads."""
+    """What the program wrote and how it ended. `err` is the first line of standard error, which is for programs, `told` what
+    stands below it for people. `counts` are its requests for memory, watched reads, writes, and starts of threads."""
 
     def __init__(self, status, out, err, counts=None):
-        self.status, self.out, self.err, self.counts = status, out, err, counts
+        first, feed, self.told = err.partition(b"\n")
+        self.status, self.out, self.err, self.counts = status, out, first + feed, counts
 
     def fault(self):
         """What is wrong with it whatever the input was."""
@@ -42,6 +48,8 @@ class Outcome:
             return f"status {self.status}, {self.err[:200]!r}"
         if self.status != 2 and self.err:
             return f"status {self.status} and {self.err[:200]!r}"
+        if self.err.startswith(b"wagons: ") and not TOLD.fullmatch(self.told):
+            return f"told {self.told[:300]!r}"
         return None
 
 

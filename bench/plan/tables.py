@@ -39,16 +39,58 @@ def clusters(wagons, orders):
     return [[between[i % 10][j % 10] for j in range(orders)] for i in range(wagons)]
 
 
-def write(name, rows, penalty=1_000_000_000, lack=1, orders=None):
-    orders = len(rows[0]) if orders is None else orders
+def network(places):
+    """The kilometres between places of a network like a railway's: each has lines to the two nearest and to one before it."""
+    at = [(random.randrange(600), random.randrange(600)) for _ in range(places)]
+    km = [[0 if a == b else 1_000_000 for b in range(places)] for a in range(places)]
+    for a, (x, y) in enumerate(at):
+        near = sorted((int(1.2 * ((x - other_x) ** 2 + (y - other_y) ** 2) ** 0.5) + 1, b) for b, (other_x, other_y) in enumerate(at) if b != a)
+        for way, b in near[:2] + [entry for entry in near if entry[1] < a][:1]:
+            km[a][b] = km[b][a] = way
+    for middle in range(places):
+        for row in km:
+            row[:] = [min(way, row[middle] + further) for way, further in zip(row, km[middle])]
+    return km
+
+
+def office(wagons, orders, cut):
+    """What an office plans: its rows, penalties and lacks. Wagons stand at 60 places, in cuts of up to so many alike. They
+    have one of eight classes and of five load limits, and a third of them is ready at once, the others within two days.
+    An order lists one to three classes; about half of the pairs that suit are in time. All orders lack 500 wagons at most."""
+    km = network(60)
+    fleet = []
+    while len(fleet) < wagons:
+        wagon = (random.randrange(60), random.randrange(8), random.choice([20, 25, 40, 55, 60]), 60 * max(0, random.randrange(72) - 24))
+        fleet += [wagon] * min(random.randint(1, cut), wagons - len(fleet))
+    random.shuffle(fleet)
+    rows, penalties, lacks, left = [[] for _ in fleet], [], [], 500 - orders
+    for _ in range(orders):
+        place, load, latest = random.randrange(60), random.choice([15, 20, 25, 40, 55]), 60 * random.randrange(62)
+        classes = random.sample(range(8), random.randint(1, 3))
+        for row, (at, of_class, limit, ready) in zip(rows, fleet):
+            way = km[at][place]
+            row.append(way if of_class in classes and load <= limit and ready + way * 3 // 2 <= latest else None)
+        more = min(random.randrange(3), left)
+        left -= more
+        lacks.append(1 + more)
+        penalties.append(100 * random.randint(5, 30))
+    return rows, penalties, lacks
+
+
+def write_all(name, rows, penalties, lacks):
     line = {
-        "wagons": [], "orders": [], "cells": rows, "penalties": [penalty] * orders,
-        "lacks": [lack] * orders, "pairs": [], "u": [], "v": [],
+        "wagons": [], "orders": [], "cells": rows, "penalties": penalties,
+        "lacks": lacks, "pairs": [], "u": [], "v": [],
     }
     with open(f"{FOLDER}/{name}.json", "w") as file:
         json.dump(line, file, separators=(",", ":"))
     with open(f"{FOLDER}/{name}.txt", "w") as file:
         file.write(numbers_of(line))
+
+
+def write(name, rows, penalty=1_000_000_000, lack=1):
+    orders = len(rows[0])
+    write_all(name, rows, [penalty] * orders, [lack] * orders)
 
 
 random.seed(20_260_301)
@@ -67,3 +109,5 @@ write("along_a_line", along_a_line(1_000, 500))
 write("a_hundredth", thinned(full(1_000, 500, MOST), 0.01))
 write("near_diagonal", near_diagonal(1_000, 500))
 write("clusters", clusters(1_000, 500))
+write_all("office", *office(1_000, 300, 1))
+write_all("office_cuts", *office(1_000, 300, 20))

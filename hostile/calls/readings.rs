@@ -9,7 +9,7 @@ use commit_book::{Book, Limits, Snap};
 use cost_table::{Cells, Plan};
 use dispatch_sheet::{certificate_line, plan_text, sheet_text};
 use line_network::{Networks, OpenGate, Tables, tables, tables_by_workers};
-use dispatch_sheet::map_text;
+use office_map::{Choice, map_text};
 use line_network::{Network, read_lines};
 use move_messages::{Command, Event, read_line};
 use operating_db::OfficeState;
@@ -258,7 +258,7 @@ fn sheets(rt: &HostRuntime, alloc: Global, start: &Start) -> Option<()> {
     let (version, state) = (start.book.len(), start.book.state());
     let sheet = tried!(rt, "sheet_text", sheet_text(alloc, version, state));
     say(rt, &sheet);
-    let map = tried!(rt, "map_text", map_text(alloc, state, &start.longer));
+    let map = tried!(rt, "map_text", map_text(alloc, state, &start.longer, &Choice::all()));
     say(rt, &map);
     Some(())
 }

@@ -40,9 +40,9 @@ class Answer:
 class Service:
     """A service over a folder, on a port of its own."""
 
-    def __init__(self, folder: Path, program: str, roster: Path = DAY / "roster.csv", networks: Sequence[Path] = tuple(NETWORKS),
+    def __init__(self, folder: Path | str, program: str, roster: Path = DAY / "roster.csv", networks: Sequence[Path] = tuple(NETWORKS),
                  options: Sequence[str] = (), until: str = "listens on", is_awaited: bool = True) -> None:
-        self.folder = folder
+        self.folder = Path(folder)
         self.program = program
         self.office = ["--roster", str(roster), *(word for path in networks for word in ("--network", str(path)))]
         self.options = list(options)
@@ -55,7 +55,7 @@ class Service:
         self._reader = threading.Thread(target=self._read, args=(until,), daemon=True)
         self._reader.start()
         if is_awaited:
-            assert self._told.wait(20), self.log
+            assert self._told.wait(120), self.log
 
     def _read(self, until: str) -> None:
         assert self.process.stderr is not None

@@ -74,6 +74,21 @@ def test_a_new_journal_is_there_wholly_or_not_at_all(tmp_path: Path) -> None:
     assert journal.number == 2 and journal.checkpoint and Path(journal.checkpoint).read_bytes() == b"saved"
 
 
+def test_a_journal_begins_again(tmp_path: Path) -> None:
+    folder = Folder(str(tmp_path))
+    folder.begin_next(b"two")
+    folder.begin_next(b"three")
+    folder.journal(2).add([b"{}"])
+    folder.begin_again(2, b"other")
+    assert folder.last == 2 and folder.has(1) and not folder.has(3)
+    journal = folder.journal()
+    assert journal.lines.count == 0 and journal.checkpoint and Path(journal.checkpoint).read_bytes() == b"other"
+    folder.drop_before(2)
+    assert not folder.has(1) and folder.has(2)
+    folder.begin_again(1, None)
+    assert folder.last == 1 and folder.journal().checkpoint is None
+
+
 def test_replies_are_found_by_their_lines_number(tmp_path: Path) -> None:
     path = str(tmp_path / "replies.jsonl")
     replies = KeptReplies(path)

@@ -450,8 +450,10 @@ def test_a_roster_that_is_wrong(start: Start, tmp_path: Path) -> None:
     roster = tmp_path / "roster.csv"
     roster.write_text("wagon,class,load,status,place,moment\nx,Eanos,1,empty,DE10001,2026-03-01T00:00:00Z\n")
     service = start(roster=roster)
-    assert service.until_state("stopped")["words"] == "wagons: 78 2"
-    assert service.post(b"{}").text == "wagons: 78 2; nothing of the request was taken\n"
+    words = service.until_state("stopped")["words"]
+    told = f'{roster}, record 2, wagon: "x" is no wagon number: twelve digits, of which the last is the check digit of the others'
+    assert words.splitlines() == ["wagons: 78 2", told]
+    assert service.post(b"{}").text == f"{words}; nothing of the request was taken\n"
     assert service.journal == b""
 
 
@@ -459,7 +461,7 @@ def test_a_line_that_is_too_long_stops_the_office(start: Start, tmp_path: Path) 
     (tmp_path / "journal" / "1").mkdir(parents=True)
     (tmp_path / "journal" / "1" / "journal.jsonl").write_bytes(order("O1") + b"\n" + b"x" * 65_537 + b"\n{}\n")
     service = start()
-    assert service.until_state("stopped")["words"] == "wagons: 92 2"
+    assert service.until_state("stopped")["words"].splitlines() == ["wagons: 92 2", "standard input, line 2: it has over 65536 bytes"]
     assert service.post(b"{}").status == 503
     assert service.get("/replies?from=1").replies == ["1 accepted 1"]
 

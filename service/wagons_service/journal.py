@@ -257,6 +257,24 @@ class Folder:
         """Begins a new journal from a checkpoint. It is there wholly or, with `OSError`, not at all."""
         self._begin({"checkpoint.jsonl": checkpoint})
 
+    def begin_again(self, number: int, checkpoint: bytes | None) -> None:
+        """Begins the journal of a number from nothing; those behind it go with what it had."""
+        while self.last >= number:
+            shutil.rmtree(f"{self.path}/{self.last}", ignore_errors=True)
+            self.last -= 1
+        self.last = number - 1
+        self._begin({"checkpoint.jsonl": checkpoint} if checkpoint is not None else {})
+
+    def drop_before(self, number: int) -> None:
+        """Drops the journals before the one of a number."""
+        for name in os.listdir(self.path):
+            if name.isascii() and name.isdigit() and int(name) < number:
+                shutil.rmtree(f"{self.path}/{name}", ignore_errors=True)
+
+    def has(self, number: int) -> bool:
+        """Whether the journal of a number is kept here."""
+        return os.path.isdir(f"{self.path}/{number}")
+
     def _begin(self, files: dict[str, bytes]) -> None:
         new = f"{self.path}/new"
         shutil.rmtree(new, ignore_errors=True)
@@ -315,6 +333,11 @@ class Journal:
             if not is_blank(lines[number - first]):
                 self.last_line = number
                 return
+
+    def copy(self, lines: Sequence[bytes]) -> None:
+        """Adds lines that are kept elsewhere; none of them is blank."""
+        self.lines.append(lines, is_synced=False)
+        self.last_line = self.lines.count
 
     def close(self) -> None:
         self.lines.close()

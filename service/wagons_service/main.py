@@ -32,13 +32,20 @@ def is_ours(record: logging.LogRecord) -> bool:
     return not isinstance(fault, (BadHttpMessage, ConnectionError))
 
 
+def of_stream(given: Options) -> Service:
+    # Only a stream needs `hiredis`.
+    from .stream_service import StreamService
+    assert given.address
+    return StreamService(given, given.address)
+
+
 async def serve(given: Options) -> None:
     """Runs until SIGTERM or SIGINT."""
     stop = asyncio.Event()
     loop = asyncio.get_running_loop()
     for number in signal.SIGTERM, signal.SIGINT:
         loop.add_signal_handler(number, stop.set)
-    service = Service(given)
+    service = of_stream(given) if given.address else Service(given)
     server = Server(service, given.tokens)
     loop.add_signal_handler(signal.SIGHUP, server.read_tokens_again)
     app = server.application()

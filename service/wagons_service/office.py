@@ -97,7 +97,7 @@ class Office:
     def _judge_end(self, task: asyncio.Task[None]) -> None:
         """Whatever goes wrong in here that nobody thought of, no sender waits for good."""
         if not task.cancelled() and (fault := task.exception()):
-            self._stop(f"the service failed: {fault!r}")
+            self.stop(f"the service failed: {fault!r}")
 
     async def pause(self) -> None:
         """Takes no more lines, and waits until all that were taken are answered. `resume` takes lines again."""
@@ -195,7 +195,7 @@ class Office:
         try:
             self.journal.replies.write()
         except Broken as fault:
-            self._stop(str(fault))
+            self.stop(str(fault))
         self._end_sheet()
 
     def _next(self) -> list[_Request]:
@@ -230,7 +230,7 @@ class Office:
             for request in batch:
                 request.refuse(NotTaken(f"the journal couldn't be written: {fault}"))
         except Broken as fault:
-            self._stop(str(fault))
+            self.stop(str(fault))
             for request in batch:
                 request.refuse(Stopped(f"{fault}; whether the lines were taken is known after a new start"))
         else:
@@ -262,12 +262,12 @@ class Office:
             try:
                 ended, has_read = await self._run()
             except OSError as fault:
-                self._stop(f"{self._command[0]} couldn't be started: {fault}")
+                self.stop(f"{self._command[0]} couldn't be started: {fault}")
                 return
             if self.state in (State.CLOSING, State.STOPPED):
                 return
             if not ended.by_signal:
-                self._stop(ended.words)
+                self.stop(ended.words)
                 return
             log.error("%s; it is started again", ended.words)
             self.metrics.restarts += 1
@@ -275,7 +275,7 @@ class Office:
             deaths = 0 if has_read and lived else deaths + 1
             self._set(State.STARTING, f"{ended.words}; it reads the journal again")
             await asyncio.sleep(SECONDS_BETWEEN_DEATHS * deaths)
-        self._stop(f"{ended.words} {MOST_DEATHS} times, soon after its start")
+        self.stop(f"{ended.words} {MOST_DEATHS} times, soon after its start")
 
     async def _run(self) -> tuple[Ended, bool]:
         """Runs the program to its end: how it ended, and whether it had read the journal."""
@@ -302,7 +302,7 @@ class Office:
         try:
             await self._read_journal(program)
         except Broken as fault:
-            self._stop(str(fault))
+            self.stop(str(fault))
             program.kill()
             return
         last = self.journal.last_line
@@ -332,7 +332,8 @@ class Office:
         if self.state is not State.CLOSING and (self.state is not State.STOPPED or state is State.CLOSING):
             self.state, self.words = state, words
 
-    def _stop(self, words: str) -> None:
+    def stop(self, words: str) -> None:
+        """Takes no more lines; the words say why."""
         log.error("the office stopped: %s", words)
         self._set(State.STOPPED, words)
         if self._program:
@@ -345,7 +346,7 @@ class Office:
         kept = self.journal.replies
         numbers = replies.numbers
         if numbers[-1] > self._sent:
-            self._stop(f"the program answered line {numbers[-1]} of {self._sent}")
+            self.stop(f"the program answered line {numbers[-1]} of {self._sent}")
             return
         before = bisect_right(numbers, kept.last)
         if before and not self._are_as_before(replies.part(0, before)):
@@ -355,7 +356,7 @@ class Office:
         try:
             kept.keep(new.numbers, KeptReplies.records(new.numbers, new.texts))
         except Broken as fault:
-            self._stop(str(fault))
+            self.stop(str(fault))
             return
         self._told = numbers[-1]
         self._end_sheet()
@@ -376,7 +377,7 @@ class Office:
         if kind == b"plan" and before.startswith(KeptReplies.record(number, head)[:-2] + b"\\n"):
             log.warning("line %d has another plan of the same cost now; the kept reply stays", number)
             return True
-        self._stop(f"line {number} was answered {before[:200].decode()!r} before, and is now answered {head.decode()!r}; "
+        self.stop(f"line {number} was answered {before[:200].decode()!r} before, and is now answered {head.decode()!r}; "
                    "the program, its files or its options aren't those of this journal")
         return False
 

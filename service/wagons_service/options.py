@@ -4,9 +4,16 @@ import argparse
 from collections.abc import Sequence
 from dataclasses import dataclass
 
+from .address import Address, BadAddress
 from .program import found
 from .senders import is_loopback
 
+# As `wagons run` has it.
+DEFAULT_ENTRIES = 100_000
+# In milliseconds.
+DEFAULT_LEASE = 3000
+LEAST_LEASE = 100
+MOST_JOURNAL_LINES = 1_000_000
 PAGE = "docs/SERVICE.md, and `man wagons-service`"
 
 
@@ -24,6 +31,10 @@ class Options:
     port: int
     tokens: str | None
     map: str | None
+    address: Address | None = None
+    copy: str | None = None
+    lease: int = DEFAULT_LEASE
+    journal_lines: int | None = None
 
     def words(self, word: str, checkpoint: str | None) -> list[str]:
         """The command `wagons WORD` with the options that say which office it is; a journal's own checkpoint comes first."""
@@ -42,7 +53,8 @@ def read(arguments: Sequence[str]) -> Options:
     parser = argparse.ArgumentParser(
         prog="wagons-service", description="Takes lines for `wagons run` over a network, and answers its replies.",
         epilog=f"See {PAGE}.")
-    parser.add_argument("--journal", metavar="FOLDER", required=True, help="the folder of the journal; it is made where it isn't there")
+    parser.add_argument("--journal", metavar="FOLDER", required=True,
+                        help="the folder of the journal; it is made where it isn't there. Or redis://HOST:PORT/STREAM (docs/STREAMS.md)")
     start = parser.add_mutually_exclusive_group(required=True)
     start.add_argument("--roster", metavar="FILE", help="the fleet at the start")
     start.add_argument("--from", metavar="FILE", dest="start", help="the office at the start: a checkpoint of `wagons save`")
@@ -54,7 +66,22 @@ def read(arguments: Sequence[str]) -> Options:
     parser.add_argument("--listen", metavar="HOST:PORT", default="127.0.0.1:8080", help="where requests come; 127.0.0.1:8080 where nothing is said")
     parser.add_argument("--tokens", metavar="FILE", help="who may send what: a line TOKEN ROLE [COMPANY] for each sender")
     parser.add_argument("--map", metavar="FILE", help="how the XML of `POST /xml` becomes lines")
+    parser.add_argument("--copy", metavar="FOLDER", help="of a stream: where its journals are kept as files too")
+    parser.add_argument("--lease", metavar="MILLISECONDS", type=int, default=DEFAULT_LEASE, help="of a stream: after so long without a sign another service answers")
+    parser.add_argument("--journal-lines", metavar="N", type=int, help="of a new stream: after each N lines a checkpoint is made and a new journal begins")
     given = parser.parse_args(arguments)
+    address = None
+    if "://" in given.journal:
+        try:
+            address = Address.read(given.journal)
+        except BadAddress as fault:
+            parser.error(f"argument --journal: {fault}")
+        if given.map:
+            parser.error("argument --map: XML is taken where the journal is a folder")
+        if given.lease < LEAST_LEASE:
+            parser.error(f"argument --lease: {LEAST_LEASE} milliseconds are the least")
+        if given.journal_lines is not None and not 0 < given.journal_lines <= MOST_JOURNAL_LINES:
+            parser.error(f"argument --journal-lines: 1 to {MOST_JOURNAL_LINES}")
     host, _, port = given.listen.rpartition(":")
     host = host.strip("[]")
     if not host or not (port.isascii() and port.isdigit() and int(port) < 65536):
@@ -63,4 +90,5 @@ def read(arguments: Sequence[str]) -> Options:
         parser.error("without --tokens only a loopback address is listened to, as 127.0.0.1:8080")
     return Options(
         journal=given.journal, program=found(given.program), roster=given.roster, start=given.start, networks=given.network,
-        entries=given.entries, kept=given.kept, workers=given.workers, host=host, port=int(port), tokens=given.tokens, map=given.map)
+        entries=given.entries, kept=given.kept, workers=given.workers, host=host, port=int(port), tokens=given.tokens, map=given.map,
+        address=address, copy=given.copy, lease=given.lease, journal_lines=given.journal_lines)

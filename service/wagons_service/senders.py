@@ -60,19 +60,19 @@ class Sender:
         """Raises `Forbidden` or `NoLine` for the first line that the sender may not send."""
         self.judge_role()
         if self.role is Role.RAILWAY:
-            for place, line in enumerate(lines, 1):
-                self._judge_message(place, line)
+            for number, line in enumerate(lines, 1):
+                self._judge_message(number, line)
 
-    def _judge_message(self, place: int, line: bytes) -> None:
+    def _judge_message(self, number: int, line: bytes) -> None:
         try:
             fields = read(line)
         except ValueError:
-            raise NoLine(f"Line {place} of the request isn't JSON, so nobody can say whose it is.") from None
+            raise NoLine(f"Line {number} of the request isn't JSON, so nobody can say whose it is.") from None
         kind = fields.get("type") if isinstance(fields, dict) else None
         if not isinstance(kind, str) or kind not in MESSAGES:
-            raise Forbidden(f"Line {place} of the request isn't a movement message; a railway's token sends no other line.")
+            raise Forbidden(f"Line {number} of the request isn't a movement message; a railway's token sends no other line.")
         if fields.get("company") != self.company:
-            raise Forbidden(f"Line {place} of the request isn't a message of company {self.company}, which the token is for.")
+            raise Forbidden(f"Line {number} of the request isn't a message of company {self.company}, which the token is for.")
 
     def may_see(self, line: bytes) -> bool:
         """Whether the sender may see a line of the journal and its reply."""
@@ -121,13 +121,13 @@ class Tokens:
         except (OSError, UnicodeDecodeError) as fault:
             raise BadTokens(f"the tokens couldn't be read: {fault}") from None
         senders: dict[bytes, Sender] = {}
-        for place, line in enumerate(lines, 1):
+        for number, line in enumerate(lines, 1):
             words = line.split()
             if words and not words[0].startswith("#"):
                 digest = digest_of(words[0])
                 if digest in senders:
-                    raise BadTokens(f"{path}: line {place} has a token that stands there already")
-                senders[digest] = sender_of(words, f"{path}: line {place}")
+                    raise BadTokens(f"{path}: line {number} has a token that stands there already")
+                senders[digest] = sender_of(words, f"{path}: line {number}")
         return cls(senders)
 
     def __len__(self) -> int:

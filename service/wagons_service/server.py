@@ -182,31 +182,38 @@ class Server:
 
     async def answer(self, request: web.Request, lines: Sequence[bytes], start: float) -> web.StreamResponse:
         """Takes lines, and answers with their replies as they were kept."""
-        office = self.office
-        numbers = await office.take(lines)
-        headers = {"Content-Type": JSON_LINES, "Journal": str(office.journal.number)}
-        awaited = next((number for number in reversed(numbers) if not is_blank(lines[number - numbers.start])), None)
-        if awaited is None:
-            return web.Response(headers=headers)
+        parts = await self.service.take(lines)
+        number = (parts[0].office if parts else self.office).journal.number
+        headers = {"Content-Type": JSON_LINES, "Journal": str(number)}
+        kept = []
+        for office, numbers, taken in parts:
+            if (awaited := last_number(numbers, taken)) is not None:
+                await self._until_answered(office, numbers, awaited)
+                kept.append((office.journal, numbers.start, awaited))
+        self.metrics.time(len(lines), time.monotonic() - start)
+        return await self._kept(request, headers, kept)
+
+    @staticmethod
+    async def _until_answered(office: Office, numbers: range, awaited: int) -> None:
         try:
             await office.until_answered(awaited, SECONDS_FOR_REPLIES)
         except Stopped as stopped:
             where = f"/replies?journal={office.journal.number}&from={numbers.start}"
             raise Refusal(503, f"{stopped}; lines {numbers.start} to {numbers[-1]} are in the journal, and their replies come at {where}") from None
-        self.metrics.time(len(lines), time.monotonic() - start)
-        return await self._kept(request, headers, office.journal, numbers.start, awaited)
 
     @staticmethod
-    async def _kept(request: web.Request, headers: dict[str, str], journal: Journal, first: int, last: int) -> web.StreamResponse:
-        end = page_end(journal, first, last)
-        if end == last:
+    async def _kept(request: web.Request, headers: dict[str, str], kept: Sequence[tuple[Journal, int, int]]) -> web.StreamResponse:
+        """The replies to the lines of these numbers."""
+        if len(kept) == 1 and page_end(*kept[0]) == kept[0][2]:
+            journal, first, last = kept[0]
             return web.Response(body=journal.replies.read(first, last), headers=headers)
         response = web.StreamResponse(headers=headers)
         await response.prepare(request)
-        while first <= last:
-            end = page_end(journal, first, last)
-            await response.write(journal.replies.read(first, end))
-            first = end + 1
+        for journal, first, last in kept:
+            while first <= last:
+                end = page_end(journal, first, last)
+                await response.write(journal.replies.read(first, end))
+                first = end + 1
         return response
 
     # Replies, once more or as they come.
@@ -218,6 +225,8 @@ class Server:
             raise Refusal(400, f"There is no journal {number}; the last one is {now.number}.")
         if number == now.number:
             return await self._replies(request, now)
+        if not self.service.folder.has(number):
+            raise Refusal(400, f"The journal {number} isn't kept here.")
         before = await asyncio.to_thread(self.service.folder.journal, number)
         try:
             return await self._replies(request, before)
@@ -270,14 +279,14 @@ class Server:
                 first = end + 1
             try:
                 async with asyncio.timeout(SECONDS_OF_SILENCE):
-                    await self._until_answered(office, first)
+                    await self._until_next(office, first)
             except TimeoutError:
                 await self._write(response, b": nothing new\n\n")
             except Stopped as stopped:
                 await self._write(response, NEXT if office.has_turned else f"event: stopped\ndata: {one_line(str(stopped))}\n\n".encode())
                 return
 
-    async def _until_answered(self, office: Office, number: int) -> None:
+    async def _until_next(self, office: Office, number: int) -> None:
         """Waits for a reply, or for the service's end."""
         closing = asyncio.create_task(self._closing.wait())
         answered = asyncio.create_task(office.until_answered(number))
@@ -305,6 +314,8 @@ class Server:
         office = self.office
         state = {"state": office.state.value, "words": office.words, "journal": office.journal.number,
                  "lines": office.journal.lines.count, "answered": office.answered}
+        if self.service.role:
+            state["role"] = self.service.role
         return web.json_response(state, status=200 if office.state is State.RUNNING else 503)
 
     async def get_metrics(self, request: web.Request) -> web.StreamResponse:
@@ -320,6 +331,11 @@ async def expect(request: web.Request) -> None:
     if request.headers.get("Expect", "").lower() != "100-continue":
         raise web.HTTPExpectationFailed(text="The service knows `Expect: 100-continue` alone.\n")
     await request.writer.write(b"HTTP/1.1 100 Continue\r\n\r\n")
+
+
+def last_number(numbers: range, lines: Sequence[bytes]) -> int | None:
+    """The number of the last line that gets a reply."""
+    return next((number for number in reversed(numbers) if not is_blank(lines[number - numbers.start])), None)
 
 
 def closing(request: web.Request, response: web.StreamResponse) -> web.StreamResponse:

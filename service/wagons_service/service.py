@@ -2,6 +2,8 @@
 
 import asyncio
 import logging
+from collections.abc import Sequence
+from typing import NamedTuple
 
 from .answers import Refusal
 from .journal import Folder
@@ -13,13 +15,35 @@ from .viewer import Viewer
 log = logging.getLogger("wagons-service")
 
 
+class Part(NamedTuple):
+    """Lines of a request that were taken: in which office, and their numbers there."""
+
+    office: Office
+    numbers: range
+    lines: Sequence[bytes]
+
+
 class Service:
     def __init__(self, options: Options) -> None:
         self.options = options
         self.metrics = Metrics()
-        self.folder = Folder(options.journal)
+        self.folder = Folder(self._path)
         self._turn = asyncio.Lock()
         self._open()
+
+    @property
+    def _path(self) -> str:
+        return self.options.journal
+
+    @property
+    def role(self) -> str | None:
+        """Whether this one of several services answers."""
+        return None
+
+    async def take(self, lines: Sequence[bytes]) -> list[Part]:
+        """Puts the lines of a request into the journal."""
+        office = self.office
+        return [Part(office, await office.take(lines), lines)]
 
     def _open(self) -> None:
         journal = self.folder.journal()

@@ -74,7 +74,7 @@ TEXTS = {
     "status_arrived_empty": "arrived, empty",
     "status_unloading": "unloading",
     "map": "Map",
-    "map_says": "Green places have free wagons, orange ones a waiting order. Choose a place to see its wagons and orders.",
+    "map_says": "Green are free wagons, blue promised ones, orange orders that lack wagons. Choose a place to see its wagons and orders.",
     "map_none": "The map isn't here now: {words}",
     "at_place": "{place}: {wagons} wagons, {orders} open orders",
     "refusals": "Last refusals",

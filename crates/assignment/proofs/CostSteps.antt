@@ -4,9 +4,8 @@ use Rattle.std.proofs.lemmas.Bool.{cases_eq, cases_lt}
 use Rattle.std.proofs.lemmas.Bool.Decides.{nat_tests}
 use Rattle.std.proofs.lemmas.List.{take_more, take_all}
 use Rattle.std.proofs.lemmas.Nat.{mul-add-lt, div-mul-add, mod-mul-add}
-use Rattle.std.proofs.Math.Nat.{mul-le-mul_left}
 use Rattle.cost_table.specs.Table.{Table, cost_at, cost_in, row_at, wagon_count, order_count}
-use Rattle.cost_table.specs.TableLimits.{IsTable, IsRow}
+use Rattle.cost_table.specs.TableLimits.{IsRow}
 use Rattle.assignment.specs.inner.Costs.{cell_cost, AreCostsOf, cost_before, cost_within}
 use Rattle.assignment.proofs.Writes.{same_at, other_at, written_length}
 
@@ -121,26 +120,18 @@ cost_place t n m costs ln is lm count =
     let swap : order_count t * wagon_count t ≡ wagon_count t * order_count t = grind arith in
     omega (arith, bound, swap, count)
 
-pub costs_limit : (t : Table) → IsTable t → order_count t * wagon_count t ≤ 500000
-costs_limit t h =
-    let wagons = h.wagons in
-    let orders = h.orders in
-    let most = mul-le-mul_left (order_count t) wagons in
-    omega (arith, most, orders)
-
 -- the same where the row and the number of wagons were read
 pub place_read : (t : Table) (n m w : ℕ) (row : List (ℕ × ℕ)) (costs : List ℕ) → row ≡ row_at t n → w ≡ wagon_count t → n < wagon_count t → IsRow (order_count t) 0 row → m < length row → length costs ≡ order_count t * wagon_count t → (get_or row m (0, 0)).0 * w + n < length costs
 place_read t n m w row costs re we ln is lm count =
     subst (λ (r : List (ℕ × ℕ)). IsRow (order_count t) 0 r → m < length r → (get_or r m (0, 0)).0 * w + n < length costs) (sym re)
     (λ is' lm'. subst (λ (x : ℕ). (get_or (row_at t n) m (0, 0)).0 * x + n < length costs) (sym we) (cost_place t n m costs ln is' lm' count)) is lm
 
--- and it is a small number
-pub place_low : (t : Table) (n m w : ℕ) (row : List (ℕ × ℕ)) (costs : List ℕ) → IsTable t → row ≡ row_at t n → w ≡ wagon_count t → n < wagon_count t → IsRow (order_count t) 0 row → m < length row → length costs ≡ order_count t * wagon_count t
-    → (get_or row m (0, 0)).0 * w + n < 500000
-place_low t n m w row costs table re we ln is lm count =
-    let index = place_read t n m w row costs re we ln is lm count in
-    let limit = costs_limit t table in
-    omega (arith, index, limit, count)
+-- where the cost of an order stands
+pub place_within : (orders wagons j i len : ℕ) → len ≡ orders * wagons → j < orders → i < wagons → j * wagons + i < len
+place_within orders wagons j i len e lj li =
+    let bound = mul-add-lt j wagons i orders lj li in
+    let swap : orders * wagons ≡ wagons * orders = grind arith in
+    omega (arith, e, bound, swap)
 
 pub more_read : (t : Table) (n m w : ℕ) (row : List (ℕ × ℕ)) (costs costs' : List ℕ) → row ≡ row_at t n → w ≡ wagon_count t → n < wagon_count t → IsRow (order_count t) 0 row → m < length row → AreCostsOf t (cost_within t n m) costs → costs' ≡ set costs ((get_or row m (0, 0)).0 * w + n) (get_or row m (0, 0)).1 → AreCostsOf t (cost_within t n (m + 1)) costs'
 more_read t n m w row costs costs' re we ln is lm h e =

@@ -5,7 +5,7 @@ use Rattle.cost_table.specs.TableLimits.{IsTable, IsRow}
 use Rattle.assignment.specs.inner.Costs.{cell_cost, ArePricesOf, AreColumnsOf, cost_before, cost_within, cost_two}
 use Rattle.assignment.specs.inner.State.{Kept, IsKept, order_at, orders_of}
 use Rattle.assignment.proofs.CostSteps.{before_is, within_new, within_kept, within_whole, row_from}
-use Rattle.assignment.proofs.TwoRows.{two_new, two_kept}
+use Rattle.assignment.proofs.TwoRows.{two_below, two_new, two_kept}
 use Rattle.assignment.proofs.Writes.{same_at, other_at, written_length}
 use Rattle.assignment.proofs.Limits.{cell_order, cell_wagon}
 
@@ -22,6 +22,9 @@ columns_whole t n m costs v nearest all = columns_same t (cost_within t n m) (co
 
 pub columns_all : (t : Table) (n : ℕ) (costs v nearest : List ℕ) → wagon_count t ≤ n → AreColumnsOf t (cost_before t n) costs v nearest → AreColumnsOf t (cost_at t) costs v nearest
 columns_all t n costs v nearest all = columns_same t (cost_before t n) (cost_at t) costs v nearest (λ i j li lj. sym (before_is t n i j (omega arith)))
+
+pub columns_both : (t : Table) (n m : ℕ) (costs v nearest : List ℕ) → order_count t ≤ m → AreColumnsOf t (cost_two t n m) costs v nearest → AreColumnsOf t (cost_before t (n + 2)) costs v nearest
+columns_both t n m costs v nearest all = columns_same t (cost_two t n m) (cost_before t (n + 2)) costs v nearest (λ i j li lj. sym (two_below t n m i j (omega (arith, lj, all))))
 
 -- one price is lowered
 prices_lowered : (t : Table) (cell cell' : ℕ → ℕ → Option ℕ) (v v' : List ℕ) (k price : ℕ) → k < order_count t → v' ≡ set v k price → price ≤ get_or v k 0 → ((i j : ℕ) → j ≢ k → cell' i j ≡ cell i j) → ((i c : ℕ) → i < wagon_count t → cell' i k ≡ Some c → price ≤ c) → ArePricesOf t cell v → ArePricesOf t cell' v'

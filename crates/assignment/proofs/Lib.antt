@@ -24,3 +24,16 @@ pub mod Clearing
 pub mod TwoRows
 pub mod AtHand
 pub mod Tracing
+pub mod Grouping
+pub mod Labels
+pub mod Idle
+pub mod Closing
+pub mod GroupLimits
+pub mod Walking
+pub mod Ending
+pub mod Walk
+pub mod Bounds
+pub mod UnitTaken
+pub mod Comparing
+pub mod Joining
+pub mod FirstState

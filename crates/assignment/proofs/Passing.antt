@@ -1,8 +1,8 @@
-use Rattle.std.proofs.Common.{◌≡◌, ◌+◌, ◌-◌, ◌<◌, ◌≤◌, ℕ, Bool, true, false, cond, List, length, take, drop, get_or, set, get_or-set_same, get_or-set_other, refl, sym, ◌∙◌, ap, arith, inl, inr, subst, min}
+use Rattle.std.proofs.Common.{◌≡◌, ◌+◌, ◌-◌, ◌%◌, ◌<◌, ◌≤◌, ℕ, Bool, true, false, cond, List, length, take, drop, get_or, set, get_or-set_same, get_or-set_other, refl, sym, ◌∙◌, ap, arith, inl, inr, subst, min}
 use Rattle.std.specs.Prelude.{◌==◌}
 use Rattle.std.proofs.lemmas.Bool.{cases_eq, cases_lt}
 use Rattle.std.proofs.lemmas.List.{get_or-take, get_or-drop, length-take-le, length-drop}
-use Rattle.assignment.specs.inner.Passes.{IsAmong, IsLeastLabel}
+use Rattle.assignment.specs.inner.Passes.{IsAmong, IsLeastLabel, IsNearest}
 
 -- the first n items are written anew, each as `f` says
 pub record IsPassed (f : ℕ → ℕ) (old new : List ℕ) (n : ℕ) : Type 0 where
@@ -53,3 +53,27 @@ none_in_block label orders is_idle w n least i none long from to is among =
     let index : w + (i - w) ≡ i = omega (arith, from) in
     let read : (xs : List ℕ) → get_or (take ((w + n) - w) (drop w xs)) (i - w) 0 ≡ get_or xs i 0 = λ xs. get_or-take ((w + n) - w) (drop w xs) (i - w) 0 (omega (arith, from, to)) ∙ get_or-drop w xs (i - w) 0 ∙ ap (λ x. get_or xs x 0) index in
     none (i - w) (omega (arith, count, from, to)) (read label ∙ is) (subst (λ (x : ℕ). (x == 4294967295) ≡ is_idle) (sym (read orders)) among)
+
+-- one less than a number, and the greatest number where it is 0
+pub record IsLess (number less : ℕ) : Type 0 where
+  pub none : number ≡ 0 → less ≡ 4294967295
+  pub some : 0 < number → less + 1 ≡ number
+
+pub is_less : (n : ℕ) → n < 4294967296 → IsLess n ((n + (4294967296 - 1)) % 4294967296)
+is_less n l = record { none = λ e. omega (arith, e); some = λ p. omega (arith, l, p) }
+
+-- one group more
+pub nearest_more : (f : ℕ → ℕ) (onward n number less next : ℕ) → IsNearest f onward n → number ≡ f n → IsLess number less → next ≡ min onward less → IsNearest f next (n + 1)
+nearest_more f onward n number less next h new is m = record {
+  below = λ g l leads. elim (cases_eq g n) [
+    | inl same ↦ let e = ap f same in let s = is.some (omega (arith, leads, e, new)) in omega (arith, new, m, e, s)
+    | inr apart ↦ let b = h.below g (omega (arith, l, apart)) leads in omega (arith, m, b)
+  ];
+  attained = λ near. elim (cases_lt less onward) [
+    | inl lower ↦
+        let one : 0 < number = elim (cases_lt 0 number) [ inl some ↦ some | inr none ↦ absurd (let e = is.none (omega (arith, none)) in omega (arith, e, m, near, lower)) ] in
+        let s = is.some one in
+        record { index = n; within = omega arith; is = omega (arith, new, m, s, lower) }
+    | inr more ↦ let at = h.attained (omega (arith, m, near, more)) in let to = at.within in let e = at.is in record { index = at.index; within = omega (arith, to); is = omega (arith, m, e, more) }
+  ];
+}

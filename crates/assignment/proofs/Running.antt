@@ -1,17 +1,17 @@
-use Rattle.std.proofs.Common.{◌≡◌, ◌<◌, ◌≤◌, ℕ, false, true, List, Some, None, length, get_or, refl, ◌∙◌, ap, arith, inl, inr, min, subst}
-use Rattle.std.proofs.lemmas.Bool.{cases_lt, eqb-true, eqb-false, ne_eqb}
-use Rattle.std.proofs.lemmas.Bool.Decides.{eqb_tells}
+use Rattle.std.proofs.Common.{◌≡◌, ◌+◌, ◌<◌, ◌≤◌, ℕ, Bool, true, false, cond, Some, length, refl, ◌∙◌, ap, arith, inl, inr, List, set, get_or}
+use Rattle.std.proofs.lemmas.Bool.{cases_eq, cases_lt}
+use Rattle.std.proofs.lemmas.List.{get_or_read}
 use Rattle.cost_table.specs.Table.{wagon_count, order_count}
-use Rattle.assignment.specs.declared.passes.Nearest.{Nearest}
 use Rattle.assignment.specs.declared.search.Search.{Search}
 use Rattle.assignment.specs.declared.search.Next.{Next}
-use Rattle.assignment.specs.declared.search.End.TheVariants.{Wagon, Refusal}
-use Rattle.assignment.specs.inner.Passes.{IsAmong, IsLeastLabel}
-use Rattle.assignment.specs.inner.State.{Kept, IsKept, order_at, orders_of}
-use Rattle.assignment.specs.inner.Search.{IsSearch, IsNext, IsFrom, IsShortestPath, label_at, distance_at, settled_at}
+use Rattle.assignment.specs.declared.search.End.{End}
+use Rattle.assignment.specs.declared.state.State.{State}
+use Rattle.assignment.specs.inner.State.{IsHead, IsState, Kept, IsKept, kept, order_at}
+use Rattle.assignment.specs.inner.Search.{IsSearch, IsNext, IsNearer, IsFrom, IsLedFrom, IsShortestPath, ahead_of, closed_of, group_at, distance_at, settled_at}
+use Rattle.assignment.proofs.Labels.{label_open}
 use Rattle.assignment.proofs.Limits.{held_order}
-use Rattle.assignment.proofs.Numbers.{orders_length, some_at, none_at}
 use Rattle.assignment.proofs.Settle.{next_of}
+use Rattle.assignment.proofs.Writes.{same_at, other_at, written_length}
 
 -- a search that began at order j, and settles an order next
 pub record IsRunning (s : Kept) (f : Search) (j : ℕ) (next : Next) : Type 0 where
@@ -20,82 +20,61 @@ pub record IsRunning (s : Kept) (f : Search) (j : ℕ) (next : Next) : Type 0 wh
   pub begins : length f.orders.items ≡ 0 → next.order ≡ j
   pub began : 0 < length f.orders.items → settled_at f 0 ≡ j
 
--- a wagon that leads to an order that isn't settled is among those that lead on
-leads_among : (s : Kept) (f : Search) (i q : ℕ) → IsKept s → IsSearch s f (length f.orders.items) → i < wagon_count s.table → order_at s.order_of i ≡ Some q → 4294967295 ≤ distance_at f q → IsAmong f.target.items false i
-leads_among s f i q k h l is far =
-    let to = (h.opens i l).stays q is far in
-    let within = held_order s i q k is in
-    let orders = k.table.orders in
-    ne_eqb (get_or f.target.items i 0) 4294967295 (λ e. omega (arith, to, within, orders, e))
+-- no group that leads on is nearer
+abbrev pub IsBelow : Search → ℕ → Type 0
+IsBelow f onward = (g : ℕ) → g < length f.ahead.items → 0 < ahead_of f g → onward < ahead_of f g
 
--- a wagon without an order is among those without one
-idle_among : (s : Kept) (numbers : List ℕ) (i : ℕ) → s.order_of ≡ orders_of numbers → i < length numbers → order_at s.order_of i ≡ None → IsAmong numbers true i
-idle_among s numbers i hs l none = elim (eqb_tells (get_or numbers i 0) 4294967295) [
-  | inl same ↦ same.0
-  | inr other ↦ absurd (let some = some_at numbers i l other.1 in let e = ap (λ x. order_at x i) hs in cc)
-]
+-- no group that leads on is nearer than the least distance
+pub from_nearest : (s : Kept) (f : Search) (onward limit i : ℕ) → IsBelow f onward → limit ≤ onward → group_at s i < length f.ahead.items → IsFrom s f limit i
+from_nearest s f onward limit i nearest below l = λ leads.
+    let m = nearest (group_at s i) l leads in
+    let label = label_open (ahead_of f (group_at s i)) (closed_of f (group_at s i)) leads in
+    omega (arith, m, label, below)
 
--- no wagon that leads on or has no order is nearer than a distance that passes neither least label
-pub from_limit : (s : Kept) (numbers : List ℕ) (f : Search) (nearest : Nearest) (limit i : ℕ) → IsKept s → s.order_of ≡ orders_of numbers → IsSearch s f (length f.orders.items) → IsLeastLabel (label_at f) f.target.items false nearest.onward (length f.label.items) → IsLeastLabel (label_at f) numbers true nearest.idle (length f.label.items) → limit ≤ nearest.onward → limit ≤ nearest.idle → i < wagon_count s.table → IsFrom s f limit i
-from_limit s numbers f nearest limit i k hs h onward idle below_onward below_idle l =
-    let labels = h.room.labels in
-    let held = k.held.wagons in
-    let count = ap length hs ∙ orders_length numbers in
+-- an order that isn't settled, of a wagon of the nearest group
+pub next_found : (s : Kept) (f : Search) (onward g i order : ℕ) → IsKept s → IsSearch s f (length f.orders.items) → 0 < length f.orders.items → ((i : ℕ) → i < wagon_count s.table → group_at s i < s.group_count) → IsBelow f onward → onward < f.end.distance → ahead_of f g ≡ onward + 1 → IsNearer s f g i → order_at s.order_of i ≡ Some order → 4294967295 ≤ distance_at f order → IsNext s f (next_of order onward i)
+next_found s f onward g i order k h some grouped nearest less at nearer held far =
+    let l = nearer.within in
+    let room = h.room.ahead in
+    let top = h.end.limit some in
+    let same : ahead_of f (group_at s i) ≡ onward + 1 = ap (ahead_of f) nearer.group ∙ at in
+    let label = label_open (ahead_of f (group_at s i)) (closed_of f (group_at s i)) (omega (arith, same)) in
+    let front = (h.known i l).front (omega (arith, same)) in
     record {
-      idle = λ none. let m = idle.below i (omega (arith, l, labels)) (idle_among s numbers i hs (omega (arith, l, held, count)) none) in omega (arith, m, below_idle);
-      held = λ q is far. let m = onward.below i (omega (arith, l, labels)) (leads_among s f i q k h l is far) in omega (arith, m, below_onward);
-    }
-
-pub next_found : (s : Kept) (numbers : List ℕ) (f : Search) (nearest : Nearest) (wagon : ℕ) → IsKept s → s.order_of ≡ orders_of numbers → IsSearch s f (length f.orders.items) → 0 < length f.orders.items → IsLeastLabel (label_at f) f.target.items false nearest.onward (length f.label.items) → IsLeastLabel (label_at f) numbers true nearest.idle (length f.label.items) → nearest.onward < min nearest.idle f.refusal.distance → wagon < wagon_count s.table → label_at f wagon ≡ nearest.onward → IsAmong f.target.items false wagon → IsNext s f (next_of (get_or f.target.items wagon 0) nearest.onward wagon)
-next_found s numbers f nearest wagon k hs h some onward idle less l at among =
-    let led = (h.opens wagon l).leads (eqb-false (get_or f.target.items wagon 0) 4294967295 among) in
-    let top = h.refusal.limit some in
-    let far = led.1 in
-    let beyond = (h.beyond wagon l).held (get_or f.target.items wagon 0) led.0 in
-    let front = h.refusal.beyond in
-    record {
-      within = held_order s wagon (get_or f.target.items wagon 0) k led.0;
+      within = held_order s i order k held;
       far = far;
       limit = omega (arith, less, top);
-      front = omega (arith, far, beyond, front, top, at);
-      refusal = omega (arith, less);
-      led = λ _. (l, led.0, at);
+      front = omega (arith, front, label, same);
+      end = omega (arith, less);
+      led = λ _. (l, held, omega (arith, label, same));
       first = λ none. absurd (omega (arith, none, some));
-      beyond = λ i li. from_limit s numbers f nearest nearest.onward i k hs h onward idle (omega arith) (omega (arith, less)) li;
+      beyond = λ w lw. from_nearest s f onward onward w nearest (omega arith) (let lg = grouped w lw in omega (arith, lg, room));
     }
 
--- the path ends at the nearest wagon without an order
-pub path_to_wagon : (s : Kept) (numbers : List ℕ) (f : Search) (idle wagon : ℕ) → IsKept s → s.order_of ≡ orders_of numbers → IsSearch s f (length f.orders.items) → 0 < length f.orders.items → ((i : ℕ) → i < wagon_count s.table → IsFrom s f (min idle f.refusal.distance) i) → idle ≤ f.refusal.distance → wagon < wagon_count s.table → label_at f wagon ≡ idle → IsAmong numbers true wagon → IsShortestPath s f (record { distance = idle; end = Wagon wagon })
-path_to_wagon s numbers f idle wagon k hs h some beyond le l at among =
-    let top = h.refusal.limit some in
-    let held = k.held.wagons in
-    let count = ap length hs ∙ orders_length numbers in
-    let none : order_at s.order_of wagon ≡ None = ap (λ x. order_at x wagon) hs ∙ none_at numbers wagon (omega (arith, l, held, count)) (eqb-true (get_or numbers wagon 0) 4294967295 among) in
-    let front = (h.beyond wagon l).idle none in
-    let same : min idle f.refusal.distance ≡ idle = omega (arith, le) in
+-- where no group that leads on is nearer than the nearest end, the path ends there
+pub path_found : (s : Kept) (f : Search) (onward : ℕ) → IsSearch s f (length f.orders.items) → 0 < length f.orders.items → ((i : ℕ) → i < wagon_count s.table → group_at s i < s.group_count) → IsBelow f onward → f.end.distance ≤ onward → IsShortestPath s f
+path_found s f onward h some grouped nearest beyond =
+    let room = h.room.ahead in
     record {
+      scanned = length f.orders.items;
       search = h;
       some = some;
-      limit = omega (arith, le, top);
-      front = omega (arith, front, at);
-      refusal = le;
-      beyond = λ i li. subst (λ (x : ℕ). IsFrom s f x i) same (beyond i li);
-      end = (l, none, at);
+      relaxed = λ x lx. inl (h.relaxed x lx);
+      beyond = λ i l. from_nearest s f onward f.end.distance i nearest beyond (let lg = grouped i l in omega (arith, lg, room));
     }
 
--- the path ends at the nearest refusal
-pub path_to_refusal : (s : Kept) (f : Search) (idle : ℕ) → IsSearch s f (length f.orders.items) → 0 < length f.orders.items → ((i : ℕ) → i < wagon_count s.table → IsFrom s f (min idle f.refusal.distance) i) → f.refusal.distance ≤ idle → IsShortestPath s f (record { distance = f.refusal.distance; end = Refusal f.refusal.index })
-path_to_refusal s f idle h some beyond le =
-    let same : min idle f.refusal.distance ≡ f.refusal.distance = omega (arith, le) in
-    record {
-      search = h;
-      some = some;
-      limit = h.refusal.limit some;
-      front = h.refusal.beyond;
-      refusal = omega arith;
-      beyond = λ i li. subst (λ (x : ℕ). IsFrom s f x i) same (beyond i li);
-      end = (h.refusal.within some, h.refusal.exact some);
-    }
+-- so it does where an end is as near as the order settled last
+pub path_at_front : (s : Kept) (f : Search) (n : ℕ) → IsSearch s f n → n + 1 ≡ length f.orders.items → f.end.distance ≤ f.front → IsShortestPath s f
+path_at_front s f n h count near = record {
+  scanned = n;
+  search = h;
+  some = omega (arith, count);
+  relaxed = λ x lx. elim (cases_eq x n) [
+    | inl last ↦ inr (let far = h.settled.last x (omega (arith, last, count)) in omega (arith, far, near))
+    | inr other ↦ inl (h.relaxed x (omega (arith, lx, other, count)))
+  ];
+  beyond = λ i l leads. let front = (h.known i l).front leads in omega (arith, front, near);
+}
 
 -- the first order
 pub next_first : (s : Kept) (f : Search) (j : ℕ) → j < order_count s.table → IsSearch s f 0 → length f.orders.items ≡ 0 → f.front ≡ 0 → IsNext s f (next_of j 0 0)
@@ -107,8 +86,46 @@ next_first s f j l h none front = record {
   ];
   limit = omega arith;
   front = omega (arith, front);
-  refusal = omega arith;
+  end = omega arith;
   led = λ some. absurd (omega (arith, some, none));
   first = λ _. refl;
-  beyond = λ i li. record { idle = λ is. omega arith; held = λ q is far. omega arith };
+  beyond = λ i li leads. omega arith;
 }
+
+-- a group with the nearest distance leads on
+pub led_from : (s : Kept) (f : Search) (onward g : ℕ) → length f.ahead.items ≡ s.group_count → g < length f.ahead.items → ahead_of f g ≡ onward + 1 → f.front < f.end.distance → IsLedFrom s f g
+led_from s f onward g count l at before = record { within = omega (arith, l, count); ahead = omega (arith, at); before = before }
+
+-- no group that leads on is nearer, once one of them is closed
+pub below_closed : (ahead ahead' : List ℕ) (onward g : ℕ) → ((k : ℕ) → k < length ahead → 0 < get_or ahead k 0 → onward < get_or ahead k 0) → g < length ahead → ahead' ≡ set ahead g 0 → (k : ℕ) → k < length ahead' → 0 < get_or ahead' k 0 → onward < get_or ahead' k 0
+below_closed ahead ahead' onward g below lg e k l leads =
+    let long = written_length ahead ahead' g 0 e in
+    elim (cases_eq k g) [
+      | inl same ↦ absurd (let at : get_or ahead' k 0 ≡ 0 = ap (λ y. get_or ahead' y 0) same ∙ same_at ahead ahead' g 0 0 lg e in omega (arith, at, leads))
+      | inr other ↦ let at = other_at ahead ahead' g 0 0 k e other in let m = below k (omega (arith, l, long)) (omega (arith, leads, at)) in omega (arith, m, at)
+    ]
+
+-- the nearer of two ends has a wagon that is the first of its group, where both have
+pub head_nearer : (state : State) (b : Bool) (end other : End) → IsHead state end.wagon → IsHead state other.wagon → IsHead state (cond b end other).wagon
+head_nearer state true end other h k = h
+head_nearer state false end other h k = k
+
+-- the order that a search began with is the first that is settled
+pub began_with : (f f' : Search) (j order : ℕ) → (length f.orders.items ≡ 0 → order ≡ j) → (0 < length f.orders.items → settled_at f 0 ≡ j) → (length f.orders.items ≡ 0 → settled_at f' 0 ≡ order) → (0 < length f.orders.items → settled_at f' 0 ≡ settled_at f 0) → settled_at f' 0 ≡ j
+began_with f f' j order begins began first others = elim (cases_eq (length f.orders.items) 0) [
+  | inl none ↦ first none ∙ begins none
+  | inr some ↦ let l : 0 < length f.orders.items = omega (arith, some) in others l ∙ began l
+]
+
+-- the group of a wagon that a search has reached
+pub record IsGroupRead (state : State) (f : Search) (group : ℕ) : Type 0 where
+  pub within : group < length f.ahead.items
+  pub led : 0 < ahead_of f group → f.front < f.end.distance → IsLedFrom (kept state) f group
+
+pub group_read : (state : State) (f : Search) (n wagon group : ℕ) → IsState state → IsSearch (kept state) f n → wagon < wagon_count state.cells.now → group ≡ get_or state.groups.of.items wagon group → IsGroupRead state f group
+group_read state f n wagon group h search lw read =
+    let grouped = h.groups.grouped in
+    let is : group ≡ get_or state.groups.of.items wagon 0 = get_or_read state.groups.of.items wagon group (omega (arith, lw, grouped)) read 0 in
+    let lg = h.groups.group wagon lw in
+    let room = search.room.ahead in
+    record { within = omega (arith, is, lg, room); led = λ leads before. record { within = omega (arith, is, lg); ahead = leads; before = before } }

@@ -40,7 +40,7 @@ full_at t i j row e is full l =
     let here : j ≡ 0 + j = omega arith in
     ap (λ r. cost_in r j) (sym e) ∙ ap (cost_in row) here ∙ full_from (order_count t) 0 j row is (omega (arith, long)) (omega (arith, l, long))
 
-two_below : (t : Table) (n m i j : ℕ) → j < m → cost_two t n m i j ≡ cost_before t (n + 2) i j
+pub two_below : (t : Table) (n m i j : ℕ) → j < m → cost_two t n m i j ≡ cost_before t (n + 2) i j
 two_below t n m i j l = grind (arith, nat_tests, l)
 
 two_above : (t : Table) (n m i j : ℕ) → m ≤ j → cost_two t n m i j ≡ cost_before t n i j

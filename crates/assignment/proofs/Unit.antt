@@ -1,14 +1,11 @@
-use Rattle.std.proofs.Common.{◌≡◌, ◌+◌, ◌<◌, ℕ, List, Option, Some, get_or, ◌∙◌, ap, arith, inl, inr, subst}
+use Rattle.std.proofs.Common.{◌≡◌, ◌+◌, ◌<◌, ℕ, List, Option, Some, None, get_or, ◌∙◌, ap, arith, inl, inr, subst}
 use Rattle.std.proofs.lemmas.Bool.{cases_eq, cases_lt}
 use Rattle.std.proofs.lemmas.Bool.Decides.{nat_tests}
 use Rattle.cost_table.specs.Table.{penalty_at, order_count}
 use Rattle.assignment.specs.declared.search.Search.{Search}
-use Rattle.assignment.specs.declared.search.Path.{Path}
-use Rattle.assignment.specs.declared.search.End.{End}
-use Rattle.assignment.specs.declared.search.End.TheVariants.{Wagon, Refusal}
-use Rattle.assignment.specs.inner.State.{Kept, IsKept, AreCounted, served, more}
-use Rattle.assignment.specs.inner.Search.{IsShortestPath, IsEnd, settled_at}
-use Rattle.assignment.specs.inner.Path.{one_if, given_up}
+use Rattle.assignment.specs.inner.State.{Kept, IsKept, IsEndAt, AreCounted, served, more}
+use Rattle.assignment.specs.inner.Search.{IsShortestPath, distance_at, settled_at}
+use Rattle.assignment.specs.inner.Path.{one_if, given_up, given_up_at}
 use Rattle.assignment.proofs.Raised.{AreRaised, raised, priced_raised}
 
 more-is : (j : ℕ) (taken : ℕ → ℕ) (k : ℕ) → more j 1 taken k ≡ taken k + one_if k (Some j)
@@ -31,32 +28,33 @@ one_if-same k q h = elim (cases_eq q k) [
 ]
 
 -- the order that refuses a unit is at its penalty
-refused_at : (s : Kept) (f : Search) (path : Path) (u v : List ℕ) (end : End) (k : ℕ) → IsKept s → IsShortestPath s f path → AreRaised s f path.distance u v → IsEnd s f path.distance end → 0 < one_if k (given_up f end) → get_or v k 0 ≡ penalty_at s.table k
-refused_at s f path u v (Wagon w) k keeps h r end one = absurd (omega arith)
-refused_at s f path u v (Refusal x) k keeps h r end one =
+refused_at : (s : Kept) (f : Search) (u v : List ℕ) (end : Option ℕ) (k : ℕ) → IsKept s → IsShortestPath s f → AreRaised s f u v → IsEndAt s (settled_at f f.end.index) (distance_at f (settled_at f f.end.index)) f.end.distance end → 0 < one_if k (given_up_at f end) → get_or v k 0 ≡ penalty_at s.table k
+refused_at s f u v (Some w) k keeps h r end one = absurd (omega (arith, one))
+refused_at s f u v None k keeps h r end one =
+    let x = f.end.index in
+    let lx = h.search.end.within h.some in
     let q = settled_at f x in
     let same : q ≡ k = one_if-same k q one in
-    let lq : q < order_count s.table = h.search.settled.order x end.0 in
-    let le = h.search.settled.near x end.0 in
-    let front = h.front in
+    let lq : q < order_count s.table = h.search.settled.order x lx in
+    let le = h.search.settled.near x lx in
+    let front = h.search.end.beyond in
     let o = keeps.priced.orders in
     let a = r.orders q (omega (arith, lq, o)) in
-    let e = end.1 in
-    let here : get_or v q 0 ≡ penalty_at s.table q = omega (arith, le, front, a, e) in
+    let here : get_or v q 0 ≡ penalty_at s.table q = omega (arith, le, front, a, end) in
     subst (λ (y : ℕ). get_or v y 0 ≡ penalty_at s.table y) same here
 
 -- one more unit is taken in
-pub counted_more : (s : Kept) (f : Search) (path : Path) (u v : List ℕ) (order_of : List (Option ℕ)) (j : ℕ) (taken : ℕ → ℕ) → IsKept s → IsShortestPath s f path → AreRaised s f path.distance u v → settled_at f 0 ≡ j → ((k : ℕ) → served k order_of + one_if k (given_up f path.end) ≡ served k s.order_of + one_if k (Some (settled_at f 0))) → AreCounted s taken → AreCounted (raised s u v order_of) (more j 1 taken)
-counted_more s f path u v order_of j taken keeps h r first count c =
-    let priced = priced_raised s f path u v order_of keeps h r in
-    let counts : (k : ℕ) → served k order_of + one_if k (given_up f path.end) ≡ served k s.order_of + one_if k (Some j) = λ k. count k ∙ ap (λ x. served k s.order_of + one_if k (Some x)) first in
+pub counted_more : (s : Kept) (f : Search) (u v : List ℕ) (order_of : List (Option ℕ)) (j : ℕ) (taken : ℕ → ℕ) → IsKept s → IsShortestPath s f → AreRaised s f u v → settled_at f 0 ≡ j → ((k : ℕ) → served k order_of + one_if k (given_up f) ≡ served k s.order_of + one_if k (Some (settled_at f 0))) → AreCounted s taken → AreCounted (raised s u v order_of) (more j 1 taken)
+counted_more s f u v order_of j taken keeps h r first count c =
+    let priced = priced_raised s f u v order_of keeps h r in
+    let counts : (k : ℕ) → served k order_of + one_if k (given_up f) ≡ served k s.order_of + one_if k (Some j) = λ k. count k ∙ ap (λ x. served k s.order_of + one_if k (Some x)) first in
     record {
       within = λ k lk. let a = counts k in let b = c.within k lk in let e = more-is j taken k in omega (arith, a, b, e);
       refused = λ k lk less.
           let a = counts k in
           let e = more-is j taken k in
-          elim (cases_lt 0 (one_if k (given_up f path.end))) [
-            | inl one ↦ refused_at s f path u v path.end k keeps h r h.end one
+          elim (cases_lt 0 (one_if k (given_up f))) [
+            | inl one ↦ refused_at s f u v f.end.wagon k keeps h r (h.search.end.is h.some) one
             | inr none ↦
                 let was = c.refused k lk (omega (arith, a, e, less, none)) in
                 let o = keeps.priced.orders in

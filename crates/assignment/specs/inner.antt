@@ -1,5 +1,6 @@
 -- What only proofs and private functions need: no public clause cites any of it.
 pub mod Costs
+pub mod Groups
 pub mod Placing
 pub mod State
 pub mod Passes

@@ -2,6 +2,7 @@
 #![tactic(auto)]
 
 mod costs;
+mod groups;
 mod pair_list;
 mod passes;
 mod path;
@@ -9,5 +10,6 @@ mod planner;
 mod search;
 mod sequence;
 mod state;
+mod units;
 
 pub use planner::{Planner, certified_plan, plan};

@@ -1,18 +1,32 @@
-//! The planner and what it answers.
+//! The planner: successive shortest paths over groups of wagons that have the same row.
+//!
+//! Each group has a price and each order has one. Each unit that an order lacks is taken in by a search for the shortest
+//! path from that order (Dijkstra's, over reduced costs). A path ends where an order gets a wagon without an order, or
+//! refuses a unit. The wagons on it are handed on, and each order and group nearer than the end is priced up by how much
+//! nearer it is (`Search`, `walk_back`, `raise`).
+//!
+//! Kept between searches: no order's price is above a cell's cost and its group's price, nor above the penalty. A wagon and
+//! its order have exactly that cost. A group with a wagon without an order has no price. A refused unit's order is priced at
+//! its penalty. So the prices are a certificate at the end. Wagons without an order get no distance in a search: each order
+//! has a lower bound on what they cost, found again only where it would end the search.
+//!
+//! A search costs orders times groups, so all cost units times orders times groups at most; the memory is one number for
+//! each order and group.
 ghost use Rattle.std.specs.Prelude.{◌≡◌, ◌<◌, ◌≤◌, IfOk};
 ghost use Rattle.cost_table.specs.Table.{order_count, lack_at};
 ghost use Rattle.cost_table.specs.Plan.{IsOptimal, cost_of};
 ghost use Rattle.price_checker.specs.Certificate.{IsCertificate};
-ghost use Rattle.assignment.specs.inner.State.{IsState};
+ghost use Rattle.assignment.specs.inner.State.{IsState, kept};
 ghost use Rattle.assignment.specs.inner.Taken.{HasTaken};
 ghost use Rattle.assignment.specs.inner.Search.{HasRoom};
 
 use crate::pair_list::write_pairs;
-use crate::passes::{raise, widen};
+use crate::passes::{raise, spread, widen};
 use crate::path::{count_unit, walk_back};
 use crate::search::Search;
 use crate::sequence::dearest_first;
 use crate::state::State;
+use crate::units::Units;
 use cost_table::{Cells, Plan};
 use price_checker::{Certified, Prices, check};
 use std::alloc::{AllocError, Global};
@@ -23,6 +37,7 @@ use std::marker::Model;
 pub struct Planner<'a> {
     state: State<'a>,
     search: Search,
+    units: Units,
     sequence: Vec<(u32, usize)>,
     prices: Prices,
     pairs: Vec<(usize, usize)>,
@@ -46,7 +61,8 @@ impl<'a> Planner<'a> {
         ensures { IfOk result (λ planner. planner ≡ cells.now) }
     {
         let state = State::new(alloc, cells)?;
-        let search = Search::new(alloc, cells.wagons(), cells.orders())?;
+        let search = Search::new(alloc, state.groups.first.len(), cells.orders())?;
+        let units = Units::new(alloc, cells.wagons(), cells.orders())?;
         let sequence = dearest_first(alloc, &state.v)?;
         let prices = Prices {
             u: Vec::from_elem(alloc, 0, cells.wagons())?,
@@ -56,6 +72,7 @@ impl<'a> Planner<'a> {
         Ok(Planner {
             state,
             search,
+            units,
             sequence,
             prices,
             pairs,
@@ -71,16 +88,17 @@ impl<'a> Planner<'a> {
         let Planner {
             mut state,
             mut search,
+            mut units,
             sequence,
             mut prices,
             mut pairs,
         } = self;
         'orders: for entry in &sequence {
-            serve_order(&mut state, &mut search, entry.1);
+            serve_order(&mut state, &mut search, &mut units, entry.1);
         }
         let count = write_pairs(&mut pairs, &mut state);
         pairs.truncate(count);
-        widen(&mut prices.u, &state.u);
+        spread(&mut prices.u, &state.groups.of, &state.u);
         widen(&mut prices.v, &state.v);
         (Plan::new(pairs), prices)
     }
@@ -96,55 +114,56 @@ pub fn plan(alloc: Global, cells: &Cells) -> Result<(Plan, Prices), AllocError>
 }
 
 /// Takes in the units of order `j` one at a time.
-fn serve_order(state: &mut State, search: &mut Search, j: usize)
+fn serve_order(state: &mut State, search: &mut Search, units: &mut Units, j: usize)
     requires state { IsState state.old }
-    requires room { HasRoom state.old.cells.now search.old }
+    requires room { HasRoom (kept state.old) search.old }
     requires order { j < order_count state.old.cells.now }
     ensures taken { HasTaken state.old state.new j (lack_at state.old.cells.now j) }
-    ensures room { HasRoom state.new.cells.now search.new }
+    ensures room { HasRoom (kept state.new) search.new }
 {
-    let units = serve_at_hand(state, j);
-    'units: for _unit in units..state.cells.lack(j) {
-        serve_unit(state, search, j);
+    let served = serve_at_hand(state, units, j);
+    'units: for _unit in served..state.cells.lack(j) {
+        serve_unit(state, search, units, j);
     }
 }
 
 /// Serves units of order `j` by wagons without an order whose cost is the order's price, since no path is shorter, and
 /// says how many.
-fn serve_at_hand(state: &mut State, j: usize) -> u32
+fn serve_at_hand(state: &mut State, units: &mut Units, j: usize) -> u32
     requires state { IsState state.old }
     requires order { j < order_count state.old.cells.now }
     ensures taken { HasTaken state.old state.new j result }
     ensures limit { result ≤ lack_at state.old.cells.now j }
 {
     let lack = state.cells.lack(j);
-    let mut units = 0;
-    let mut start = state.nearest[j];
-    'units: while units < lack {
-        let Some(wagon) = state.at_hand(j, start) else {
-            return units;
+    let mut served = 0;
+    'units: while served < lack {
+        let Some(wagon) = state.at_hand(j) else {
+            return served;
         };
         state.order_of[wagon] = j as u32;
         state.served[j] += 1;
-        start = wagon + 1;
-        units += 1;
+        state.take(Some(wagon));
+        units.give(j, served as usize, wagon);
+        served += 1;
     }
-    units
+    served
 }
 
 /// Takes in one more unit of order `j`: a wagon more serves it, or a unit is refused.
-fn serve_unit(state: &mut State, search: &mut Search, j: usize)
+fn serve_unit(state: &mut State, search: &mut Search, units: &mut Units, j: usize)
     requires state { IsState state.old }
-    requires room { HasRoom state.old.cells.now search.old }
+    requires room { HasRoom (kept state.old) search.old }
     requires order { j < order_count state.old.cells.now }
     ensures taken { HasTaken state.old state.new j 1 }
-    ensures room { HasRoom state.new.cells.now search.new }
+    ensures room { HasRoom (kept state.new) search.new }
 {
-    let path = search.run(state, j);
-    walk_back(state, search, path);
-    raise(&mut state.v, &search.order_distance, path.distance);
-    raise(&mut state.u, &search.label, path.distance);
-    count_unit(&mut state.served, search, path.end);
+    search.run(state, units, j);
+    walk_back(state, units, search);
+    raise(&mut state.v, &search.order_distance, search.end.distance);
+    raise(&mut state.u, &search.closed_at, search.end.distance);
+    count_unit(&mut state.served, search);
+    state.take(search.end.wagon);
 }
 
 /// A plan of a table at the lowest total cost, prices in kilometres that are a certificate of it, and what the checker

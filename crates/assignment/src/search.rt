@@ -1,35 +1,23 @@
 //! The search for the shortest path from an order.
-ghost use Rattle.std.specs.Prelude.{◌≡◌, ◌≢◌, ◌<◌, ◌≤◌, ◌+◌, ◌-◌, ◌==◌, ◌↔◌, ℕ, true, false, min, nat_lt, if◌then◌else◌, length, slice_index, IfOk, IfSome, IfNone};
+ghost use Rattle.std.specs.Prelude.{◌≡◌, ◌<◌, ◌≤◌, ◌+◌, ◌-◌, ℕ, None, nat_lt, if◌then◌else◌, length, slice_index, IfOk, IfSome, IfNone, slice_set};
 ghost use Rattle.cost_table.specs.Table.{Table, wagon_count, order_count};
-ghost use Rattle.assignment.specs.inner.State.{IsState, kept};
-ghost use Rattle.assignment.specs.inner.Search.{HasRoom, IsSearch, IsShortestPath, IsNext, IsFrom, IsWagonReached, IsReachedFrom, IsSearchOf, label_at};
-ghost use Rattle.assignment.specs.inner.Passes.{AreNearest, IsLeastLabel};
+ghost use Rattle.assignment.specs.inner.State.{IsState, IsEndFound, IsHead, Kept, kept};
+ghost use Rattle.assignment.specs.inner.Search.{HasRoom, IsSearch, IsShortestPath, IsNext, IsNearer, IsClosable, IsWalking, IsWagonReached, IsReachedFrom, IsSearchOf, IsLedFrom, distance_at, settled_at};
+ghost use Rattle.assignment.specs.inner.Passes.{IsNearest};
 
-use crate::passes::{FAR, Nearest, close, find, relax};
-use crate::state::{NO_ORDER, State};
+use crate::groups::NO_WAGON;
+use crate::passes::{FAR, find, nearest, open, relax};
+use crate::state::State;
+use crate::units::Units;
 use std::alloc::{AllocError, Global};
 
-/// How a path ends.
+/// Where a path may end: its length in kilometres, the index of the settled order at its end, and the wagon without an
+/// order that this order gets. Where there is no wagon, the order refuses a unit.
 #[derive(Clone, Copy)]
-pub(crate) enum End {
-    /// At a wagon without an order.
-    Wagon(usize),
-    /// The order settled at this index refuses a unit.
-    Refusal(usize),
-}
-
-/// A shortest path: its length in kilometres, and how it ends.
-#[derive(Clone, Copy)]
-pub(crate) struct Path {
-    pub(crate) distance: u32,
-    pub(crate) end: End,
-}
-
-/// The nearest refusal that was found: its distance in kilometres, and the index of the order that refuses.
-#[derive(Clone, Copy)]
-pub(crate) struct Refusal {
+pub(crate) struct End {
     pub(crate) distance: u32,
     pub(crate) index: usize,
+    pub(crate) wagon: Option<usize>,
 }
 
 /// What is settled next: an order, its distance in kilometres, and the wagon that leads to it.
@@ -43,11 +31,14 @@ pub(crate) struct Next {
 /// What a search has reached; distances are in kilometres.
 #[derive(Drop)]
 pub(crate) struct Search {
-    /// The distance of each wagon over the orders that are settled.
-    pub(crate) label: Vec<u32>,
-    /// The order of each wagon, to which it leads on while that isn't settled.
-    pub(crate) target: Vec<u32>,
-    /// The distance of each order that is settled.
+    /// One more than the distance of each group that leads on, 0 for each other group. A group leads on while no wagon of
+    /// it is without an order, and it isn't closed.
+    pub(crate) ahead: Vec<u32>,
+    /// The distance of each group that is closed, since all its wagons' orders are settled; `FAR` for each other group.
+    pub(crate) closed_at: Vec<u32>,
+    /// Of each group that leads on a wagon before which all wagons' orders are settled.
+    pub(crate) cursor: Vec<u32>,
+    /// The distance of each order that is settled, `FAR` for each other order.
     pub(crate) order_distance: Vec<u32>,
     /// The orders settled, by index.
     pub(crate) orders: Vec<u32>,
@@ -55,25 +46,27 @@ pub(crate) struct Search {
     pub(crate) via: Vec<usize>,
     /// The distance of the order settled last.
     pub(crate) front: u32,
-    /// The nearest refusal.
-    pub(crate) refusal: Refusal,
+    /// The nearest end.
+    pub(crate) end: End,
 }
 
 impl Search {
-    /// Memory for the searches of a table of so many wagons and orders.
-    pub(crate) fn new(alloc: Global, wagons: usize, orders: usize) -> Result<Search, AllocError>
-        ensures { IfOk result (λ s. (t : Table) → wagon_count t ≡ wagons → order_count t ≡ orders → HasRoom t s) }
+    /// Memory for the searches of a table of so many groups and orders.
+    pub(crate) fn new(alloc: Global, groups: usize, orders: usize) -> Result<Search, AllocError>
+        ensures { IfOk result (λ f. (s : Kept) → s.group_count ≡ groups → order_count s.table ≡ orders → HasRoom s f) }
     {
         Ok(Search {
-            label: Vec::from_elem(alloc, FAR, wagons)?,
-            target: Vec::from_elem(alloc, 0, wagons)?,
+            ahead: Vec::from_elem(alloc, 0, groups)?,
+            closed_at: Vec::from_elem(alloc, FAR, groups)?,
+            cursor: Vec::from_elem(alloc, 0, groups)?,
             order_distance: Vec::from_elem(alloc, FAR, orders)?,
             orders: Vec::with_capacity(alloc, orders)?,
             via: Vec::with_capacity(alloc, orders)?,
             front: 0,
-            refusal: Refusal {
+            end: End {
                 distance: FAR,
                 index: 0,
+                wagon: None,
             },
         })
     }
@@ -81,142 +74,226 @@ impl Search {
     /// Forgets what was reached.
     fn clear(&mut self, state: &State)
         requires state { IsState state.now }
-        requires room { HasRoom state.now.cells.now self.old }
+        requires room { HasRoom (kept state.now) self.old }
         ensures search { IsSearch (kept state.now) self.new 0 }
         ensures none { length self.new.orders.items ≡ 0 }
         ensures front { self.new.front ≡ 0 }
+        ensures end { self.new.end.wagon ≡ None }
     {
-        self.label.fill(FAR);
+        open(&mut self.ahead, &state.idle);
+        self.closed_at.fill(FAR);
+        self.cursor.copy_from_slice(&state.groups.first);
         self.order_distance.fill(FAR);
-        self.target.copy_from_slice(&state.order_of);
         self.orders.clear();
         self.via.clear();
         self.front = 0;
-        self.refusal = Refusal {
+        self.end = End {
             distance: FAR,
             index: 0,
+            wagon: None,
         };
     }
 
-    /// Settles an order.
-    fn settle(&mut self, state: &State, next: Next)
+    /// Settles an order, at which a path may end.
+    fn settle(&mut self, state: &State, next: Next, end: End)
         requires state { IsState state.now }
         requires search { IsSearch (kept state.now) self.old (length self.old.orders.items) }
         requires next { IsNext (kept state.now) self.old next }
+        requires end { IsEndFound (kept state.now) next.order next.distance self.old.end.distance end }
+        requires index { end.index ≡ length self.old.orders.items }
         ensures search { IsSearch (kept state.now) self.new (length self.old.orders.items) }
         ensures count { length self.new.orders.items ≡ length self.old.orders.items + 1 }
         ensures first { length self.old.orders.items ≡ 0 → slice_index self.new.orders.items 0 ≡ next.order }
         ensures others { 0 < length self.old.orders.items → slice_index self.new.orders.items 0 ≡ slice_index self.old.orders.items 0 }
+        ensures ahead { self.new.ahead ≡ self.old.ahead }
+        ensures front { self.new.front ≡ next.distance }
+        ensures end { self.new.end ≡ (if nat_lt end.distance self.old.end.distance then end else self.old.end) }
     {
-        let order = next.order as usize;
-        let index = self.orders.len();
-        let penalty = state.cells.penalty(order) as u32;
-        let refusal = Refusal {
-            distance: next.distance + (penalty - state.v[order]),
-            index,
-        };
-        self.refusal = nearer(self.refusal, refusal);
-        self.order_distance[order] = next.distance;
+        self.end = nearer(self.end, end);
+        self.order_distance[next.order as usize] = next.distance;
         self.orders.push_reserved(next.order);
         self.via.push_reserved(next.wagon);
         self.front = next.distance;
-        close_next(&mut self.target, next, state.served[order], index == 0);
     }
 
-    /// Relaxes the cells of the order settled last, and answers what is nearest then.
-    fn relax_last(&mut self, state: &State) -> Nearest
+    /// Relaxes the cells of the order settled last, and answers the least distance of a group that leads on.
+    fn relax_last(&mut self, state: &State) -> u32
         requires state { IsState state.now }
         requires some { 0 < length self.old.orders.items }
         requires search { IsSearch (kept state.now) self.old (length self.old.orders.items - 1) }
         ensures search { IsSearch (kept state.now) self.new (length self.new.orders.items) }
         ensures orders { self.new.orders.items ≡ self.old.orders.items }
-        ensures nearest { AreNearest (label_at self.new) self.new.target.items state.now.order_of.items result (length self.new.label.items) }
+        ensures end { self.new.end ≡ self.old.end }
+        ensures front { self.new.front ≡ self.old.front }
+        ensures nearest { IsNearest (slice_index self.new.ahead.items) result (length self.new.ahead.items) }
     {
         let order = self.orders[self.orders.len() - 1] as usize;
         relax(
-            &mut self.label,
+            &mut self.ahead,
             state.column(order),
             &state.u,
-            &self.target,
-            &state.order_of,
             self.front,
             state.v[order],
         )
     }
 
-    /// The nearest order that isn't settled, if it is nearer than each wagon without an order and each refusal.
-    fn next(&self, state: &State, nearest: Nearest) -> Option<Next>
+    /// The nearest order that isn't settled, if it is nearer than the nearest end. `onward` is the least distance of a group
+    /// that leads on. A group whose orders are all settled is closed.
+    fn next(&mut self, state: &State, onward: u32) -> Option<Next>
         requires state { IsState state.now }
-        requires search { IsSearch (kept state.now) self.now (length self.now.orders.items) }
-        requires some { 0 < length self.now.orders.items }
-        requires nearest { AreNearest (label_at self.now) self.now.target.items state.now.order_of.items nearest (length self.now.label.items) }
-        ensures next { IfSome result (λ next. IsNext (kept state.now) self.now next) }
-        ensures none { IfNone result ((i : ℕ) → i < wagon_count state.now.cells.now → IsFrom (kept state.now) self.now (min nearest.idle self.now.refusal.distance) i) }
+        requires search { IsSearch (kept state.now) self.old (length self.old.orders.items) }
+        requires some { 0 < length self.old.orders.items }
+        requires before { self.old.front < self.old.end.distance }
+        requires nearest { IsNearest (slice_index self.old.ahead.items) onward (length self.old.ahead.items) }
+        ensures search { IsSearch (kept state.now) self.new (length self.new.orders.items) }
+        ensures orders { self.new.orders.items ≡ self.old.orders.items }
+        ensures end { self.new.end ≡ self.old.end }
+        ensures next { IfSome result (λ next. IsNext (kept state.now) self.new next) }
+        ensures none { IfNone result (IsShortestPath (kept state.now) self.new) }
     {
-        if nearest.onward >= nearest.idle.min(self.refusal.distance) {
-            return None;
+        let mut onward = onward;
+        // Of the groups at this distance those before this one are closed.
+        let mut start = 0;
+        'groups: while onward < self.end.distance {
+            match find(&self.ahead, &self.ahead, false, onward + 1, start) {
+                Some(group) => {
+                    if let Some(wagon) = self.lead_on(state, group) {
+                        return Some(Next {
+                            order: state.order_of[wagon],
+                            distance: onward,
+                            wagon,
+                        });
+                    }
+                    start = group + 1;
+                }
+                None => {
+                    onward = nearest(&self.ahead);
+                    start = 0;
+                }
+            }
         }
-        let wagon = find(&self.label, &self.target, false, nearest.onward, 0)?;
-        Some(Next {
-            order: self.target[wagon],
-            distance: nearest.onward,
-            wagon,
-        })
+        None
     }
 
-    /// The path to the nearest wagon without an order, whose label is `idle`, or to the nearest refusal.
-    fn path(&self, state: &State, idle: u32) -> Path
+    /// A wagon of a group that leads on, whose order isn't settled. Where there is none, the group is closed at the front.
+    fn lead_on(&mut self, state: &State, group: usize) -> Option<usize>
         requires state { IsState state.now }
-        requires search { IsSearch (kept state.now) self.now (length self.now.orders.items) }
-        requires some { 0 < length self.now.orders.items }
-        requires least { IsLeastLabel (label_at self.now) state.now.order_of.items true idle (length self.now.label.items) }
-        requires beyond { (i : ℕ) → i < wagon_count state.now.cells.now → IsFrom (kept state.now) self.now (min idle self.now.refusal.distance) i }
-        ensures { IsShortestPath (kept state.now) self.now result }
+        requires some { 0 < length self.old.orders.items }
+        requires search { IsSearch (kept state.now) self.old (length self.old.orders.items - 1) }
+        requires group { IsLedFrom (kept state.now) self.old group }
+        ensures same { self.new ≡ record self.old { ahead = self.new.ahead; closed_at = self.new.closed_at; cursor = self.new.cursor } }
+        ensures search { (n : ℕ) → length self.old.orders.items ≤ n + 1 → IsSearch (kept state.now) self.old n → IsSearch (kept state.now) self.new n }
+        ensures some { IfSome result (λ i. IsNearer (kept state.now) self.new group i) }
+        ensures ahead { IfSome result (λ i. self.new.ahead ≡ self.old.ahead) }
+        ensures none { IfNone result (self.new.ahead.items ≡ slice_set self.old.ahead.items group 0) }
     {
-        if idle > self.refusal.distance {
-            return Path {
-                distance: self.refusal.distance,
-                end: End::Refusal(self.refusal.index),
-            };
-        }
-        match find(&self.label, &state.order_of, true, idle, 0) {
-            Some(wagon) => Path {
-                distance: idle,
-                end: End::Wagon(wagon),
-            },
-            None => unreachable!(),
+        match self.open_wagon(state, group) {
+            Some(wagon) => {
+                self.cursor[group] = wagon as u32;
+                Some(wagon)
+            }
+            None => {
+                self.closed_at[group] = self.front;
+                self.ahead[group] = 0;
+                None
+            }
         }
     }
 
-    /// The index of the first order over whose cell the wagon is as far as its label says; it lies before `end`.
-    pub(crate) fn index_of(&self, state: &State, wagon: usize, end: usize) -> usize
+    /// The first wagon of a group that leads on, whose order isn't settled. The walk goes on where it stood.
+    fn open_wagon(&self, state: &State, group: usize) -> Option<usize>
+        requires state { IsState state.now }
+        requires search { IsSearch (kept state.now) self.now (length self.now.orders.items - 1) }
+        requires group { IsLedFrom (kept state.now) self.now group }
+        ensures some { IfSome result (λ i. IsNearer (kept state.now) self.now group i) }
+        ensures walked { IfSome result (λ i. IsWalking (kept state.now) self.now group i) }
+        ensures none { IfNone result (IsClosable (kept state.now) self.now group) }
+    {
+        let mut wagon = self.cursor[group];
+        'wagons: while wagon != NO_WAGON {
+            let i = wagon as usize;
+            if self.order_distance[state.order_of[i] as usize] >= FAR {
+                return Some(i);
+            }
+            wagon = state.groups.next[i];
+        }
+        None
+    }
+
+    /// Closes the groups of the wagons of the order settled last, where the orders of all their wagons are settled.
+    fn close_last(&mut self, state: &State, units: &Units)
+        requires state { IsState state.now }
+        requires some { 0 < length self.old.orders.items }
+        requires search { IsSearch (kept state.now) self.old (length self.old.orders.items - 1) }
+        requires before { self.old.front < self.old.end.distance }
+        ensures search { IsSearch (kept state.now) self.new (length self.new.orders.items - 1) }
+        ensures orders { self.new.orders.items ≡ self.old.orders.items }
+        ensures end { self.new.end ≡ self.old.end }
+        ensures front { self.new.front ≡ self.old.front }
+    {
+        let order = self.orders[self.orders.len() - 1] as usize;
+        let served = state.served[order] as usize;
+        'units: for unit in 0..served {
+            self.close_of(state, units.wagon(order, unit));
+        }
+    }
+
+    /// Closes the group of a wagon, if there is such a wagon and the orders of all wagons of its group are settled.
+    fn close_of(&mut self, state: &State, wagon: Option<usize>)
+        requires state { IsState state.now }
+        requires some { 0 < length self.old.orders.items }
+        requires search { IsSearch (kept state.now) self.old (length self.old.orders.items - 1) }
+        requires before { self.old.front < self.old.end.distance }
+        ensures search { IsSearch (kept state.now) self.new (length self.new.orders.items - 1) }
+        ensures orders { self.new.orders.items ≡ self.old.orders.items }
+        ensures end { self.new.end ≡ self.old.end }
+        ensures front { self.new.front ≡ self.old.front }
+    {
+        if let Some(wagon) = wagon {
+            if wagon < state.groups.of.len() {
+                let group = state.groups.of[wagon];
+                if self.ahead[group] > 0 {
+                    self.lead_on(state, group);
+                }
+            }
+        }
+    }
+
+    /// The index of the first order over whose cell the wagon that led to the order at index `end` is as far as that order.
+    pub(crate) fn index_of(&self, state: &State, end: usize) -> usize
         requires search { IsSearchOf state.now self.now }
-        requires wagon { wagon < wagon_count state.now.cells.now }
-        requires end { end ≤ length self.now.orders.items }
-        requires reached { IsWagonReached (kept state.now) self.now end wagon }
+        requires end { end < length self.now.orders.items }
+        requires wagon { slice_index self.now.via.items end < wagon_count state.now.cells.now }
+        requires reached { IsWagonReached (kept state.now) self.now (distance_at self.now (settled_at self.now end)) end (slice_index self.now.via.items end) }
         ensures before { result < end }
-        ensures from { IsReachedFrom (kept state.now) self.now wagon result }
+        ensures from { IsReachedFrom (kept state.now) self.now (distance_at self.now (settled_at self.now end)) (slice_index self.now.via.items end) result }
     {
-        let label = u64::from(self.label[wagon]);
-        let price = u64::from(state.u[wagon]);
+        let wagon = self.via[end];
+        let group = state.groups.of[wagon];
+        let groups = state.groups.first.len();
+        let far = u64::from(self.order_distance[self.orders[end] as usize]);
+        let price = u64::from(state.u[group]);
         'indexes: for index in 0..end {
             let order = self.orders[index] as usize;
-            let cost = u64::from(state.costs[order * state.cells.wagons() + wagon]);
+            let cost = u64::from(state.costs[order * groups + group]);
             let distance = u64::from(self.order_distance[order]) + cost + price;
-            if label + u64::from(state.v[order]) == distance {
+            if far + u64::from(state.v[order]) == distance {
                 return index;
             }
         }
         unreachable!()
     }
 
-    /// The shortest path from order `j` to a wagon without an order or to a refusal.
-    pub(crate) fn run(&mut self, state: &State, j: usize) -> Path
-        requires state { IsState state.now }
-        requires room { HasRoom state.now.cells.now self.old }
-        requires order { j < order_count state.now.cells.now }
-        ensures path { IsShortestPath (kept state.now) self.new result }
+    /// Searches for the shortest path from order `j` to a wagon without an order or to a refusal: the nearest end.
+    pub(crate) fn run(&mut self, state: &mut State, units: &Units, j: usize)
+        requires state { IsState state.old }
+        requires room { HasRoom (kept state.old) self.old }
+        requires order { j < order_count state.old.cells.now }
+        ensures state { IsState state.new }
+        ensures same { state.new ≡ record state.old { bound = state.new.bound; nearest = state.new.nearest } }
+        ensures path { IsShortestPath (kept state.old) self.new }
         ensures first { slice_index self.new.orders.items 0 ≡ j }
+        ensures head { IsHead state.old self.new.end.wagon }
     {
         self.clear(state);
         let mut next = Next {
@@ -225,38 +302,34 @@ impl Search {
             wagon: 0,
         };
         'settling: loop {
-            self.settle(state, next);
-            let nearest = self.relax_last(state);
-            let Some(following) = self.next(state, nearest) else {
-                return self.path(state, nearest.idle);
+            let end = state.end(
+                next.order as usize,
+                next.distance,
+                self.orders.len(),
+                self.end.distance,
+            );
+            self.settle(state, next, end);
+            // An end as near as the order itself needs no pass.
+            if self.end.distance <= self.front {
+                return;
+            }
+            self.close_last(state, units);
+            let onward = self.relax_last(state);
+            let Some(following) = self.next(state, onward) else {
+                return;
             };
             next = following;
         }
     }
 }
 
-/// The nearer of two refusals, the first where they are as far.
-fn nearer(refusal: Refusal, other: Refusal) -> Refusal
-    ensures { result ≡ (if nat_lt other.distance refusal.distance then other else refusal) }
+/// The nearer of two ends, the first where they are as far.
+fn nearer(end: End, other: End) -> End
+    ensures { result ≡ (if nat_lt other.distance end.distance then other else end) }
 {
-    if other.distance < refusal.distance {
+    if other.distance < end.distance {
         other
     } else {
-        refusal
-    }
-}
-
-/// Closes an order that so many wagons have: no wagon leads on to it any more. The only wagon of an order that isn't the
-/// first one settled is the wagon that led to it.
-fn close_next(target: &mut [u32], next: Next, served: u32, is_first: bool)
-    requires wagon { is_first ≡ false → next.wagon < length target.old }
-    requires none { served ≡ 0 → (i : ℕ) → i < length target.old → slice_index target.old i ≢ next.order }
-    requires one { served ≡ 1 → is_first ≡ false → (i : ℕ) → i < length target.old → (slice_index target.old i ≡ next.order) ↔ (i ≡ next.wagon) }
-    ensures { (i : ℕ) → i < length target.old → slice_index target.new i ≡ (if slice_index target.old i == next.order then NO_ORDER else slice_index target.old i) }
-{
-    if served == 1 && !is_first {
-        target[next.wagon] = NO_ORDER;
-    } else if served > 0 {
-        close(target, next.order);
+        end
     }
 }

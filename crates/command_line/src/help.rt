@@ -26,8 +26,12 @@ pub(crate) enum Arguments {
     Office,
     /// The options of an office, and files.
     OfficeAndFiles,
+    /// The options of an office, and what of it is shown.
+    OfficeAndChoice,
     /// The options of an office, and a moment.
     OfficeAndMoment,
+    /// The options of an office, a moment, and how the plan is printed.
+    OfficeAndPlan,
     /// The options of an office, a moment, and what reasons are asked for.
     OfficeAndReasons,
     /// The options of an office, up to which line, and what changes of the fleet.
@@ -109,14 +113,34 @@ pub(crate) const MAP: WordHelp = WordHelp {
     about: "Draws a fleet: commands in, a Graphviz graph out",
     long_about: "Reads the fleet and the network from files, then commands from standard input\n\
      as `run` does, without a reply. At the end prints the office as a graph in the\n\
-     DOT language: places with their wagons, lines with kilometres and minutes,\n\
-     waiting orders, and promised wagons as arrows. Graphviz makes a picture of it.\n\
+     DOT language, of which Graphviz makes a picture: places with their free, their\n\
+     promised and their other wagons and with what orders lack, lines with kilometres\n\
+     and minutes, and promised wagons as arrows.\n\
      Exits with 0, with 1 where a line was refused, with 2 where it could not run or\n\
      stopped; then there is no graph.",
-    example: "Example:\n  \
+    example: "Examples:\n  \
      wagons map --roster roster.csv --network network.csv < day.jsonl |\n    \
-     neato -Tsvg > day.svg",
-    arguments: Arguments::Office,
+     neato -Tsvg > day.svg\n  \
+     wagons map --busy --class Eanos --roster roster.csv --network network.csv \\\n    \
+     < day.jsonl | neato -Tpdf > eanos.pdf",
+    arguments: Arguments::OfficeAndChoice,
+};
+
+/// The help of `plan`.
+pub(crate) const PLAN: WordHelp = WordHelp {
+    name: "plan",
+    about: "Prints a plan for people: commands in, a table out",
+    long_about: "Reads the fleet and the network from files, then commands from standard input\n\
+     as `run` does, without a reply. At the end plans the problem at a moment and\n\
+     prints a table: each wagon that goes, from where to where, its kilometres and\n\
+     minutes, when it is there, and its order; then each order that misses wagons,\n\
+     with the penalty of each and why; then the sum. The office is not changed.\n\
+     Exits with 0, with 1 where a line was refused, with 2 where it could not run or\n\
+     stopped; then there is no table.",
+    example: "Example:\n  \
+     wagons plan --at 2026-03-02T11:00:00Z --roster roster.csv \\\n    \
+     --network network.csv --places places.csv < day.jsonl",
+    arguments: Arguments::OfficeAndPlan,
 };
 
 /// The help of `table`.
@@ -153,6 +177,21 @@ pub(crate) const WHY: WordHelp = WordHelp {
     arguments: Arguments::OfficeAndReasons,
 };
 
+/// The help of `review`.
+pub(crate) const REVIEW: WordHelp = WordHelp {
+    name: "review",
+    about: "Notes what passes in silence: commands in, notes out",
+    long_about: "Reads the fleet and the network from files, then commands from standard input\n\
+     as `run` does, and in place of replies prints a note for what is seldom meant:\n\
+     an order whose place, class or load nothing fits or whose latest moment is past,\n\
+     an unknown member, a message a day ahead of those around it, a byte order mark,\n\
+     JSON over several lines, a last line without its end, a book nearly full. Exits\n\
+     with 0, with 1 where there is a note, with 2 where it could not run or stopped.",
+    example: "Example:\n  \
+     wagons review --roster roster.csv --network network.csv < day.jsonl",
+    arguments: Arguments::Office,
+};
+
 /// The help of `save`.
 pub(crate) const SAVE: WordHelp = WordHelp {
     name: "save",
@@ -174,14 +213,15 @@ pub(crate) const SAVE: WordHelp = WordHelp {
 pub(crate) const EXPLAIN: WordHelp = WordHelp {
     name: "explain",
     about: "Says what a refusal means, and what to do about it",
-    long_about: "Says what the code of a refusal means, in which words it comes, its usual cause\n\
-     and what to do about it. Without a code it says this of all refusals.",
-    example: "Example:\n  wagons explain 82",
+    long_about: "Says what a refusal means, by its code or its name, in which words it comes, its\n\
+     usual cause and what to do about it. Without a code it says this of all\n\
+     refusals.",
+    example: "Examples:\n  wagons explain 82\n  wagons explain WagonChanged",
     arguments: Arguments::Code,
 };
 
 /// What the code of `explain` is.
-pub(crate) const CODE: &str = "The number behind `refused`, or behind `wagons:`";
+pub(crate) const CODE: &str = "The number behind `refused` or `wagons:`, or a refusal's name";
 
 /// What the files of `feed` are.
 pub(crate) const FILES: &str = "Files of commands, one JSON object a line; 1 to 16";
@@ -191,13 +231,38 @@ pub(crate) const FILES_LONG: &str =
      opened stops the program before it begins; one that fails while it is\n\
      read doesn't stop the others";
 
-/// What the option of `table` and `why` is.
+/// What the options of `plan` are.
+pub(crate) const PLACES: &str = "The names of places, a CSV file";
+
+pub(crate) const PLACES_LONG: &str =
+    "The names of places: a CSV file with the header `place,name,x,y`";
+
+pub(crate) const ZONE: &str = "The time zone of the moments, such as Europe/Berlin";
+
+pub(crate) const ZONE_LONG: &str =
+    "The time zone in which moments are shown, by its name, such as\n\
+     Europe/Berlin: a file below /usr/share/zoneinfo. Without it they are\n\
+     shown in UTC";
+
+pub(crate) const CSV: &str = "Prints CSV for a spreadsheet";
+
+/// What the option of `plan`, `table` and `why` is.
 pub(crate) const AT: &str = "The moment at which the wagons may start";
 
 pub(crate) const AT_LONG: &str = "The moment of the problem, at which the wagons may start, as\n\
      2026-03-02T11:00:00Z";
 
 /// What the options of `why` are.
+pub(crate) const BUSY: &str = "Leaves out places with nothing on them";
+
+pub(crate) const BUSY_LONG: &str =
+    "Leaves out places with no wagon and no order on the map, and the\n\
+     lines that lead there";
+
+pub(crate) const MAP_ORDER: &str = "Only this order, with the wagons promised to it";
+
+pub(crate) const MAP_CLASS: &str = "Only wagons of this class, with the orders that accept it";
+
 pub(crate) const ORDER: &str = "Only this order, with each free wagon";
 
 pub(crate) const ORDER_LONG: &str =

@@ -1,14 +1,22 @@
 //! The command line of the program: its words, their options and their help.
 #![tactic(auto)]
 
+mod explained;
 mod help;
+mod hints;
 mod line_options;
+mod map_options;
 mod office_options;
+mod plan_options;
 mod values;
 mod why_options;
 mod words;
 
+pub use explained::Explained;
+pub use hints::hint;
 pub use line_options::LineOptions;
+pub use map_options::MapOptions;
 pub use office_options::{FeedOptions, OfficeOptions, ProblemOptions, SaveOptions, Start};
+pub use plan_options::PlanOptions;
 pub use why_options::{Asked, WhyOptions};
 pub use words::{Word, not_utf8, read_words};

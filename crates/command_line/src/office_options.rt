@@ -270,7 +270,7 @@ fn network_option<'a>(alloc: Global) -> Arg<'a> {
 }
 
 /// An option that names a file.
-fn file_option<'a>(alloc: Global, name: &'a str) -> Arg<'a> {
+pub(crate) fn file_option<'a>(alloc: Global, name: &'a str) -> Arg<'a> {
     Arg::new(alloc, name)
         .long(name)
         .value_name("FILE")

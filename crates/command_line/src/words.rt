@@ -1,35 +1,32 @@
 //! The command line: its words, and the faults of arguments.
 
+use crate::explained::{CODE, Explained, read_explained};
 use crate::help;
 use crate::help::{Arguments, WordHelp};
 use crate::line_options::{LineOptions, with_line_options};
+use crate::map_options::{MapOptions, with_map_options};
 use crate::office_options::{
     FeedOptions, OfficeOptions, ProblemOptions, SaveOptions, with_files, with_office_options,
     with_problem_options, with_save_options,
 };
+use crate::plan_options::{PlanOptions, with_plan_options};
 use crate::why_options::{WhyOptions, with_why_options};
-use clap::builder::ValueParser;
 use clap::error::ErrorKind;
 use clap::{Arg, ArgMatches, Command, Error};
-use faults::entry_text;
 use std::alloc::{AllocError, Global};
 use std::convert::AsStr;
 
-/// The argument of `explain`.
-const CODE: &str = "code";
-
-/// The largest number that an argument of `explain` may be.
-const MAX_CODE: u64 = 999;
-
 /// The words, in the order in which help lists them.
-const WORDS: [WordHelp; 9] = [
+const WORDS: [WordHelp; 11] = [
     help::CHECK,
     help::SOLVE,
     help::RUN,
     help::FEED,
     help::MAP,
+    help::PLAN,
     help::TABLE,
     help::WHY,
+    help::REVIEW,
     help::SAVE,
     help::EXPLAIN,
 ];
@@ -49,15 +46,19 @@ pub enum Word<'a> {
     /// Bring the command lines of files to an office, all at once.
     Feed(FeedOptions<'a>),
     /// Bring the command lines of standard input to an office, and draw it.
-    Map(OfficeOptions<'a>),
+    Map(MapOptions<'a>),
+    /// Bring the command lines of standard input to an office, plan it, and print the plan for people.
+    Plan(PlanOptions<'a>),
     /// Bring the command lines of standard input to an office, and print its problem as a table line.
     Table(ProblemOptions<'a>),
     /// Bring the command lines of standard input to an office, plan it, and say why the plan is as it is.
     Why(WhyOptions<'a>),
+    /// Bring the command lines of standard input to an office, and note what passes in silence.
+    Review(OfficeOptions<'a>),
     /// Bring the command lines of standard input to an office, and save it.
     Save(SaveOptions<'a>),
-    /// Print this entry of the manual of refusals, or the whole manual.
-    Explain(Option<&'static str>),
+    /// Print entries of the manual of refusals, or the whole manual.
+    Explain(Explained),
 }
 
 /// What the words ask for, the program's name first; without a word it is `Check`. Else the error is a request for help
@@ -74,35 +75,16 @@ pub fn read_words<'a, S: AsStr>(alloc: Global, words: &'a [S]) -> Result<Word<'a
 fn read_word<'a>(alloc: Global, name: &str, options: &ArgMatches<'a>) -> Result<Word<'a>, Error> {
     match name {
         "run" => Ok(Word::Run(OfficeOptions::read(alloc, options)?)),
-        "map" => Ok(Word::Map(OfficeOptions::read(alloc, options)?)),
+        "map" => Ok(Word::Map(MapOptions::read(alloc, options)?)),
+        "plan" => Ok(Word::Plan(PlanOptions::read(alloc, options)?)),
         "table" => Ok(Word::Table(ProblemOptions::read(alloc, "wagons table", options)?)),
         "why" => Ok(Word::Why(WhyOptions::read(alloc, options)?)),
+        "review" => Ok(Word::Review(OfficeOptions::read(alloc, options)?)),
         "save" => Ok(Word::Save(SaveOptions::read(alloc, options)?)),
         "feed" => Ok(Word::Feed(FeedOptions::read(alloc, options)?)),
-        "explain" => read_code(alloc, options),
+        "explain" => Ok(Word::Explain(read_explained(alloc, options)?)),
         "solve" => Ok(Word::Solve(LineOptions::read(options))),
         _ => Ok(Word::Check(LineOptions::read(options))),
-    }
-}
-
-/// What `explain` is asked for; a number that stands for no refusal is a fault of the arguments.
-fn read_code<'a>(alloc: Global, matches: &ArgMatches<'a>) -> Result<Word<'a>, Error> {
-    let Some(code) = matches.get_one::<u64>(CODE) else {
-        return Ok(Word::Explain(None));
-    };
-    let entry = match u32::try_from(code) {
-        Ok(number) => entry_text(number),
-        Err(_) => None,
-    };
-    match entry {
-        Some(entry) => Ok(Word::Explain(Some(entry))),
-        None => {
-            let text = format!(in alloc;
-                "no refusal has the code {code}; `wagons explain` lists those there are"
-            )?;
-            let mut command = word_command(alloc, help::EXPLAIN)?.bin_name("wagons explain")?;
-            Err(command.error(ErrorKind::InvalidValue, text.as_str())?)
-        }
     }
 }
 
@@ -136,7 +118,7 @@ fn program<'a>(alloc: Global) -> Result<Command<'a>, AllocError> {
 }
 
 /// A word with its help and what it takes.
-fn word_command<'a>(alloc: Global, help: WordHelp) -> Result<Command<'a>, AllocError> {
+pub(crate) fn word_command<'a>(alloc: Global, help: WordHelp) -> Result<Command<'a>, AllocError> {
     let word = Command::new(alloc, help.name)
         .about(help.about)
         .long_about(help.long_about)
@@ -146,8 +128,13 @@ fn word_command<'a>(alloc: Global, help: WordHelp) -> Result<Command<'a>, AllocE
         Arguments::Code => with_code(alloc, word),
         Arguments::Office => with_office_options(alloc, word),
         Arguments::OfficeAndFiles => with_files(alloc, with_office_options(alloc, word)?),
+        Arguments::OfficeAndChoice => { with_map_options(alloc, with_office_options(alloc, word)?) }
         Arguments::OfficeAndMoment => {
             with_problem_options(alloc, with_office_options(alloc, word)?)
+        }
+        Arguments::OfficeAndPlan => {
+            let word = with_problem_options(alloc, with_office_options(alloc, word)?)?;
+            with_plan_options(alloc, word)
         }
         Arguments::OfficeAndReasons => {
             let word = with_problem_options(alloc, with_office_options(alloc, word)?)?;
@@ -157,12 +144,7 @@ fn word_command<'a>(alloc: Global, help: WordHelp) -> Result<Command<'a>, AllocE
     }
 }
 
-/// A word that may have the code of a refusal.
+/// A word that may have the number or the name of a refusal.
 fn with_code<'a>(alloc: Global, word: Command<'a>) -> Result<Command<'a>, AllocError> {
-    word.arg(
-        Arg::new(alloc, CODE)
-            .value_name("CODE")
-            .value_parser(ValueParser::unsigned(1, MAX_CODE))
-            .help(help::CODE),
-    )
+    word.arg(Arg::new(alloc, CODE).value_name("CODE").help(help::CODE))
 }

@@ -3,3 +3,4 @@ pub mod Collecting
 pub mod FieldLemmas
 pub mod Remaining
 pub mod Saying
+pub mod StopLemmas

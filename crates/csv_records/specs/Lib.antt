@@ -3,3 +3,4 @@ pub mod Files
 pub mod Reading
 pub mod Requests
 pub mod Refusing
+pub mod Stopping

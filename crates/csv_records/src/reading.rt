@@ -5,7 +5,9 @@ ghost use Rattle.csv.specs.Records.{fields_of};
 ghost use Rattle.csv.specs.declared.parser.State.TheVariants as st;
 ghost use Rattle.csv_records.specs.Fields.{Record};
 ghost use Rattle.csv_records.specs.Requests.{AreLeft, AsksAtMost, IsOutcome, IsRequest, IsSetUp};
+ghost use Rattle.csv_records.specs.Stopping.{StopsAt};
 
+use crate::fault_at::{FaultAt, RecordAt};
 use crate::{FromRecords, RecordFault};
 use csv::{ByteRecord, Error, Reader, ReaderBuilder};
 use std::alloc::Global;
@@ -24,30 +26,53 @@ pub fn open_records<R: Read>(alloc: Global, reader: R) -> Reader<R>
         .from_reader(alloc, reader)
 }
 
-/// Collects a value from a header and the records below it, which are numbered from 2. At most two records more
-/// are asked for than a file may have below its header, so it returns wherever `csv` answers each request for a
-/// record.
+/// Collects a value from a header and the records below it, which are numbered from 2; or says why the file is refused,
+/// and at which record. At most two records more are asked for than a file may have below its header, so it returns
+/// wherever `csv` answers each request for a record.
 pub fn read_records<R: Read, T: FromRecords>(
     alloc: Global,
     reader: &mut Reader<R>,
-) -> Result<T, T::Fault>
+) -> Result<T, FaultAt<T::Fault>>
     requires { IsSetUp reader.old }
-    ensures meaning { (all : List Record) × AreLeft R.remaining reader.old all × IsOutcome T.made_of T.refuses result all }
+    ensures meaning { (all : List Record) × AreLeft R.remaining reader.old all × IsOutcome T.made_of (λ stop. T.refuses stop.fault) result all
+        × IfErr result (λ stop. StopsAt T.Fault.from_gives T.made_of T.refuses all stop.fault stop.at) }
+    ensures stopped { IfErr result (λ stop. T.Fault.from_gives RecordFault.ReadFailed stop.fault → has_failed reader.new ≡ true) }
+    ensures asked { AsksAtMost R.remaining reader.old (T.MOST_RECORDS + 2) reader.new }
+{
+    let mut at = RecordAt::first(alloc);
+    match collect(alloc, reader, &mut at) {
+        Ok(made) => Ok(made),
+        Err(fault) => Err(FaultAt { fault, at }),
+    }
+}
+
+/// The same, with the record at which it stopped in `at`, which is record 1 before.
+fn collect<R: Read, T: FromRecords>(
+    alloc: Global,
+    reader: &mut Reader<R>,
+    at: &mut RecordAt,
+) -> Result<T, T::Fault>
+    requires reader { IsSetUp reader.old }
+    requires first { at.old.number ≡ 1 }
+    ensures meaning { (all : List Record) × AreLeft R.remaining reader.old all × IsOutcome T.made_of T.refuses result all
+        × IfErr result (λ fault. StopsAt T.Fault.from_gives T.made_of T.refuses all fault at.new) }
     ensures stopped { IfErr result (λ fault. T.Fault.from_gives RecordFault.ReadFailed fault → has_failed reader.new ≡ true) }
     ensures asked { AsksAtMost R.remaining reader.old (T.MOST_RECORDS + 2) reader.new }
 {
-    let mut fields = ByteRecord::new(alloc);
-    if !next_record(reader, &mut fields)? {
+    if !next_record(reader, &mut at.fields)? {
+        at.fields.clear();
         return Err(T::no_header());
     }
-    let mut made = T::of_header(alloc, &fields)?;
+    let mut made = T::of_header(alloc, &at.fields)?;
     for number in 2..T::MOST_RECORDS + 2 {
-        if !next_record(reader, &mut fields)? {
+        at.number = number;
+        if !next_record(reader, &mut at.fields)? {
             return Ok(made);
         }
-        made = made.with_record(number, &fields)?;
+        made = made.with_record(number, &at.fields)?;
     }
-    if next_record(reader, &mut fields)? {
+    at.number = T::MOST_RECORDS + 2;
+    if next_record(reader, &mut at.fields)? {
         return Err(T::too_many());
     }
     Ok(made)

@@ -1,4 +1,3 @@
-pub mod Lines
 pub mod PlanLines
 pub mod PlanPairs
 pub mod Lists
@@ -6,7 +5,3 @@ pub mod Certificates
 pub mod CommitTokens
 pub mod Moments
 pub mod InRange
-pub mod Arrows
-pub mod MapLineParts
-pub mod MapLoops
-pub mod MapNames

@@ -1,19 +1,11 @@
--- Lists that a loop goes over, and the list of an order's wagons.
-use Rattle.std.proofs.Common.{◌≡◌, ℕ, suc, List, [], ◌∷◌, ◌++◌, ◌+◌, ◌<◌, length, get_or, map, take, Bool, true, false, refl, sym, ap, ap₂, ◌∙◌, append_assoc, append-nil, arith}
+-- The list of an order's wagons.
+use Rattle.std.proofs.Common.{◌≡◌, ℕ, suc, List, [], ◌∷◌, ◌++◌, length, map, Bool, true, false, refl, sym, ap, ap₂, ◌∙◌, append_assoc, append-nil, arith}
 use Rattle.std.specs.Prelude.{if◌then◌else◌, ◌==◌, not}
 use Rattle.std.specs.List.{join_with_byte}
 use Rattle.std.proofs.lemmas.Bool.Decides.{nat_tests}
-use Rattle.std.proofs.lemmas.List.{map-append, take_more}
 use Rattle.dispatch_sheet.specs.Sheet.{list_word}
-use Rattle.dispatch_sheet.specs.Words.{next_word}
+use Rattle.reply_texts.specs.Words.{next_word}
 use Rattle.dispatch_sheet.specs.inner.Pushed.{listed}
-
--- one element more
-pub taken_more : {A : Type 0} (xs : List A) (i : ℕ) (x d : A) → i < length xs → x ≡ get_or xs i d → take (i + 1) xs ≡ take i xs ++ x ∷ []
-taken_more xs i x d lt is = take_more xs i d lt ∙ ap (λ y. take i xs ++ y ∷ []) (sym is)
-
-pub map-taken_more : {A B : Type 0} (f : A → B) (xs : List A) (i : ℕ) (x d : A) → i < length xs → x ≡ get_or xs i d → map f (take (i + 1) xs) ≡ map f (take i xs) ++ f x ∷ []
-map-taken_more f xs i x d lt is = ap (map f) (taken_more xs i x d lt is) ∙ map-append f (take i xs) (x ∷ [])
 
 -- whether a list has wagons
 abbrev pub has_some : List (List ℕ) → Bool

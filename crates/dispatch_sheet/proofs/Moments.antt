@@ -6,9 +6,10 @@ use Rattle.wagons_and_orders.specs.OrderRow.{OrderRowValue}
 use Rattle.std.specs.Prelude.{decimal}
 use Rattle.wagons_and_orders.specs.States.{state_of}
 use Rattle.dispatch_sheet.specs.Sheet.{hold_word, list_word, listed_wagons, order_text, promise_word, state_word, wagon_text, IsOrderLine, IsWagonLine}
-use Rattle.dispatch_sheet.specs.Words.{next_word}
-use Rattle.dispatch_sheet.specs.inner.Parts.{IsMomentWord, order_back, order_front, wagon_back, wagon_front}
-use Rattle.dispatch_sheet.specs.inner.Pushed.{Adds}
+use Rattle.reply_texts.specs.Words.{next_word}
+use Rattle.reply_texts.specs.Words.{IsMomentWord}
+use Rattle.dispatch_sheet.specs.inner.Parts.{order_back, order_front, wagon_back, wagon_front}
+use Rattle.reply_texts.specs.Lines.{Adds}
 
 joined : (old front middle back : List ℕ) → ((old ++ front) ++ middle) ++ back ≡ old ++ (front ++ middle ++ back)
 joined old front middle back = simp append_assoc refl

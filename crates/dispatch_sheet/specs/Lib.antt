@@ -1,15 +1,5 @@
-pub mod Words
 pub mod PlanText
 pub mod Sheet
 pub mod Certificate
 pub mod ReportText
-pub mod MapWords
-pub mod MapFrame
-pub mod MapWagons
-pub mod MapPlaces
-pub mod MapOutside
-pub mod MapLines
-pub mod MapPromises
-pub mod Map
-pub mod MapLaws
 pub mod inner

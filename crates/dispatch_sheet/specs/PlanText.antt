@@ -6,7 +6,7 @@ use Rattle.cost_table.specs.Plan.{pair_cost, serves}
 use Rattle.cost_table.specs.Problem.{ProblemValue, order_names, wagon_names, lacks_of, penalties_of}
 use Rattle.cost_table.specs.Table.{Table, lack_at, penalty_at, wagon_count}
 use Rattle.price_checker.specs.NamedFaults.{name_at}
-use Rattle.dispatch_sheet.specs.Words.{next_word}
+use Rattle.reply_texts.specs.Words.{next_word}
 
 -- The table has as many wagons as the problem, and its orders' penalties and lacks.
 pub record FitsProblem (problem : ProblemValue) (t : Table) : Type 0 where

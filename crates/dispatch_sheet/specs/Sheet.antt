@@ -1,7 +1,7 @@
 -- The sheet of an office: lines for its version, for each wagon, for each order and, among several, for its network.
 -- Each line ends with a line feed, and its words are parted by one space.
 use Rattle.std.specs.Prelude.{◌≡◌, ℕ, Bool, true, false, List, [], ◌∷◌, ◌++◌, length, map, Option, Some, None, nat_lt, if◌then◌else◌, codes, decimal}
-use Rattle.std.specs.List.{AllZip, concat, join_with_byte}
+use Rattle.std.specs.List.{join_with_byte}
 use Rattle.rail_codes.specs.Moment.{IsMomentText}
 use Rattle.wagons_and_orders.specs.declared.wagon_row.WagonRow.{WagonRow}
 use Rattle.wagons_and_orders.specs.StatusTable.{place_of}
@@ -11,9 +11,10 @@ use Rattle.wagons_and_orders.specs.declared.order_state.OrderState.TheVariants.{
 use Rattle.wagons_and_orders.specs.States.{state_of}
 use Rattle.wagons_and_orders.specs.OrderRow.{OrderRowValue}
 use Rattle.operating_db.specs.State.{StateValue}
+use Rattle.reply_texts.specs.Lines.{AreLines}
+use Rattle.reply_texts.specs.Words.{next_word}
 use Rattle.commit_book.specs.Books.{BookValue}
 use Rattle.commit_book.specs.History.{replay}
-use Rattle.dispatch_sheet.specs.Words.{next_word}
 
 -- ---- wagons
 
@@ -72,12 +73,6 @@ pub record IsOrderLine (row : OrderRowValue) (line : List ℕ) : Type 0 where
   pub text : line ≡ order_text row latest
 
 -- ---- the sheet
-
--- a text of lines, one for each row, one after the other
-pub record AreLines {A : Type 0} (IsLine : A → List ℕ → Type 0) (rows : List A) (text : List ℕ) : Type 0 where
-  pub lines : List (List ℕ)
-  pub each : AllZip IsLine rows lines
-  pub whole : text ≡ concat lines
 
 -- the office of a book's present version
 abbrev pub present_office : BookValue → StateValue

@@ -3,4 +3,3 @@ pub mod PairLines
 pub mod Parts
 pub mod Pushed
 pub mod Readable
-pub mod PartsOf

@@ -5,7 +5,7 @@ ghost use Rattle.dispatch_sheet.specs.inner.Parts.{order_back, order_front};
 
 use crate::row_lines::Lined;
 use crate::wagon_list::push_wagon_list;
-use crate::words::{push_code, push_moment, push_number, push_word};
+use reply_texts::line_words::{push_code, push_moment, push_number, push_word};
 use std::alloc::AllocError;
 use wagons_and_orders::{OrderRow, OrderState};
 

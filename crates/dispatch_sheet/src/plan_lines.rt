@@ -6,10 +6,10 @@ ghost use Rattle.cost_table.specs.Table.{lack_at};
 ghost use Rattle.dispatch_sheet.specs.PlanText.{assign_line, plan_text_of, refuse_line, FitsProblem};
 ghost use Rattle.dispatch_sheet.specs.inner.PairLines.{lines_of_pairs};
 
-use crate::words::{push_code, push_number};
 use commit_book::Snap;
 use cost_table::{Cells, Plan, Problem};
 use price_checker::{order_name, wagon_name};
+use reply_texts::line_words::{push_code, push_number};
 use std::alloc::{AllocError, Global};
 
 /// The lines of a plan: order by order as placed, `assign WAGON ORDER KM` for each wagon that the plan gives it, in

@@ -1,7 +1,6 @@
 //! Lines that are added to a text, one for each row.
 ghost use Rattle.std.specs.Prelude.{List, ℕ, OnOk, string_bytes};
-ghost use Rattle.dispatch_sheet.specs.Sheet.{AreLines};
-ghost use Rattle.dispatch_sheet.specs.inner.Pushed.{Adds};
+ghost use Rattle.reply_texts.specs.Lines.{Adds, AreLines};
 
 use std::alloc::AllocError;
 

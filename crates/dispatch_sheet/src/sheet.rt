@@ -3,8 +3,8 @@ ghost use Rattle.std.specs.Prelude.{◌≡◌, ◌++◌, IfOk, OnOk, string_byte
 ghost use Rattle.dispatch_sheet.specs.Sheet.{network_line, version_line, IsSheetText};
 
 use crate::row_lines::push_lines;
-use crate::words::push_number;
 use operating_db::OfficeState;
+use reply_texts::line_words::push_number;
 use std::alloc::{AllocError, Global};
 
 /// The sheet of an office: `sheet VERSION`, a line for each wagon, ascending by number, a line for each order, as

@@ -3,12 +3,12 @@ ghost use Rattle.std.specs.Prelude.{◌≡◌, ◌++◌, OnOk, string_bytes};
 ghost use Rattle.wagons_and_orders.specs.StatusTable.{place_of};
 ghost use Rattle.wagons_and_orders.specs.StatusWords.{status_word};
 ghost use Rattle.dispatch_sheet.specs.Sheet.{hold_word, promise_word, IsWagonLine};
-ghost use Rattle.dispatch_sheet.specs.Words.{next_word};
+ghost use Rattle.reply_texts.specs.Words.{next_word};
 ghost use Rattle.dispatch_sheet.specs.inner.Parts.{wagon_back, wagon_front};
 
 use crate::row_lines::Lined;
-use crate::words::{push_code, push_moment, push_number, push_word};
 use rail_codes::OrderId;
+use reply_texts::line_words::{push_code, push_moment, push_number, push_word};
 use std::alloc::AllocError;
 use wagons_and_orders::{Status, WagonRow};
 

@@ -1,11 +1,11 @@
 //! The list of an order's wagons.
 ghost use Rattle.std.specs.Prelude.{◌≡◌, ◌++◌, ◌∷◌, if◌then◌else◌, map, OnOk, string_bytes};
 ghost use Rattle.dispatch_sheet.specs.Sheet.{list_word, listed_wagons};
-ghost use Rattle.dispatch_sheet.specs.Words.{next_word};
+ghost use Rattle.reply_texts.specs.Words.{next_word};
 ghost use Rattle.dispatch_sheet.specs.inner.Pushed.{listed};
 
-use crate::words::push_word;
 use rail_codes::{WagonNumber, push_ascii};
+use reply_texts::line_words::push_word;
 use std::alloc::AllocError;
 use wagons_and_orders::OrderRow;
 

@@ -1,5 +1,5 @@
 -- The rows that are read record by record are those of the records, and their roster is the only one.
-use Rattle.std.proofs.Common.{◌≡◌, ◌∙◌, ℕ, false, List, [], ◌∷◌, ◌++◌, Option, IfOk, IfSome, IsTrue, Result, Ok, Err, refl, ap, sym, subst, inl, inr}
+use Rattle.std.proofs.Common.{◌≡◌, ◌∙◌, ℕ, false, List, [], ◌∷◌, ◌++◌, Option, IfErr, IfOk, IfSome, IsTrue, Result, Ok, Err, refl, ap, sym, subst, inl, inr}
 use Rattle.std.proofs.lemmas.Bool.{cases_Bool}
 use Rattle.std.proofs.lemmas.Cmp.{nat_eq_equiv, lists_equiv, on_equiv}
 use Rattle.std.proofs.lemmas.List.{append-nil, append_assoc}
@@ -12,6 +12,10 @@ use Rattle.csv_records.proofs.Saying.{IsCollected-is_read, IsCollected-read, wit
 use Rattle.csv_records.specs.Fields.{Record}
 use Rattle.csv_records.specs.Files.{AreBelowHeader, AreRecordsOf}
 use Rattle.csv_records.specs.Reading.{Stops}
+use Rattle.csv_records.specs.Stopping.{StopsAt}
+use Rattle.csv_records.specs.declared.fault_at.FaultAt.{FaultAt}
+use Rattle.fleet_rows.specs.Stops.{AreRowsOf, IsFailureOf, IsReadTo, Refuses, plain}
+use Rattle.fleet_rows.specs.declared.roster_refusal.RosterRefusal.{RosterRefusal}
 use Rattle.wagons_and_orders.specs.declared.wagon_row.WagonRow.{WagonRow}
 use Rattle.fleet_rows.proofs.RosterLemmas.{by_number_total, same_order}
 use Rattle.fleet_rows.specs.Reading.{Gives, is_failure, roster_rule, rows_of}
@@ -45,6 +49,13 @@ are_taken rows (row ∷ more) end apart e = elim (cases_Bool (has_wagon rows row
 none_twice : IsDistinct have_one_number []
 unfolding IsDistinct
 none_twice = tt
+
+-- rows that are read are those of the records below the header
+pub file_of_rows : (records : List Record) (rows : List WagonRow) → rows_of records ≡ Ok rows → AreBelowHeader is_header wagon_record max_roster_wagons records rows
+file_of_rows records rows e =
+    let read = IsCollected-read roster_rule records rows e in
+    let taken = are_taken [] read.entries rows none_twice read.taken in
+    subst (AreBelowHeader is_header wagon_record max_roster_wagons records) (sym taken.all) read.file
 
 -- a roster of what is read is that of the records
 IsRosterOf-read : (records : List Record) (rows roster : List WagonRow) → rows_of records ≡ Ok rows → IsPermutation rows roster → IsRoster roster → IsRosterOf records roster
@@ -107,3 +118,12 @@ pub IsReadFrom-gives : (known : Option (List ℕ)) (records : List Record) (resu
     → IfOk result IsRoster → IsReadFrom known result
 IsReadFrom-gives known records result all gives kept =
     record { records = records; all_records = all; first_fault = gives; exact = exact_from records result gives kept; complete = complete_from records result gives kept }
+
+plain_ok : (result : Result (List WagonRow) (FaultAt RosterRefusal)) → IfOk result IsRoster → IfOk (plain result) IsRoster
+plain_ok (Ok roster) kept = kept
+plain_ok (Err stop) kept = tt
+
+pub IsReadTo-gives : (known : Option (List ℕ)) (records : List Record) (result : Result (List WagonRow) (FaultAt RosterRefusal)) → IfSome known (λ bytes. AreRecordsOf bytes records)
+    → Gives (plain result) (rows_of records) → IfOk result IsRoster → IfErr result (λ stop. StopsAt IsFailureOf AreRowsOf Refuses records stop.fault stop.at) → IsReadTo known result
+unfolding IsReadFrom-gives
+IsReadTo-gives known records result all gives kept stop = record { read = IsReadFrom-gives known records (plain result) all gives (plain_ok result kept); stop = stop }

@@ -8,4 +8,6 @@ pub mod Kept
 pub mod Rows
 pub mod WaitingOrders
 pub mod KeptOrders
+pub mod Stops
+pub mod Unfit
 pub mod inner

@@ -1,18 +1,22 @@
 //! Reading a roster from CSV.
-ghost use Rattle.std.specs.Prelude.{◌≡◌, ◌+◌, IfOk, IsErrOf, true, List};
+ghost use Rattle.std.specs.Prelude.{◌≡◌, ◌+◌, IfErr, IfOk, None, true, List};
 ghost use Rattle.csv.specs.Reading.{has_failed};
 ghost use Rattle.csv_records.specs.Fields.{Record};
 ghost use Rattle.csv_records.specs.Requests.{AreLeft, AsksAtMost, IsSetUp};
+ghost use Rattle.csv_records.specs.Stopping.{StopsAt};
 ghost use Rattle.fleet_rows.specs.Reading.{Gives, rows_of};
 ghost use Rattle.fleet_rows.specs.Roster.{IsRoster};
 ghost use Rattle.fleet_rows.specs.Kept.{max_roster_wagons};
 ghost use Rattle.fleet_rows.specs.RosterOf.{IsReadFrom};
+ghost use Rattle.fleet_rows.specs.Stops.{AreRowsOf, IsFailureOf, IsReadTo, Refuses, plain};
 
 use crate::limits::MAX_ROSTER_WAGONS;
+use crate::roster_refusal::RosterRefusal;
+use crate::roster_so_far::RosterSoFar;
 use crate::wagon_record::{is_header, read_wagon};
 use crate::{Roster, RosterFault};
 use csv::{ByteRecord, Reader};
-use csv_records::{FromRecords, open_records, read_records};
+use csv_records::{FaultAt, FromRecords, open_records, read_records};
 use std::alloc::Global;
 use std::io::Read;
 
@@ -34,63 +38,96 @@ impl Roster {
     pub fn read_rows<R: Read + Drop>(alloc: Global, reader: R) -> Result<Roster, RosterFault>
         ensures { IsReadFrom (R.remaining reader) result }
     {
-        let mut records = open_records(alloc, reader);
-        read_all(alloc, &mut records)
+        match read_roster(alloc, reader) {
+            Ok(roster) => Ok(roster),
+            Err(stop) => Err(stop.fault.fault),
+        }
     }
 }
 
-/// Reads the header and the records below it.
-fn read_all<R: Read>(alloc: Global, records: &mut Reader<R>) -> Result<Roster, RosterFault>
-    requires { IsSetUp records.old }
-    ensures meaning { (all : List Record) × AreLeft R.remaining records.old all × Gives result (rows_of all) }
-    ensures roster { IfOk result IsRoster }
-    ensures stopped { IsErrOf result RosterFault.ReadFailed → has_failed records.new ≡ true }
-    ensures asked { AsksAtMost R.remaining records.old (max_roster_wagons + 2) records.new }
+/// Reads a roster as `Roster::read_rows` does; a refusal comes with the record at which reading stopped, and for a wagon that
+/// stands twice with the number of the record that says it first. Where memory or the reader failed, nothing is said of the record.
+pub fn read_roster<R: Read + Drop>(
+    alloc: Global,
+    reader: R,
+) -> Result<Roster, FaultAt<RosterRefusal>>
+    ensures { IsReadTo (R.remaining reader) result }
 {
-    read_records(alloc, records)
+    let mut records = open_records(alloc, reader);
+    read_all(alloc, &mut records)
 }
 
-impl FromRecords for Roster {
-    ghost use Rattle.std.proofs.Common.{lit<};
-    ghost use Rattle.csv_records.specs.Reading.{Stops};
-    ghost use Rattle.fleet_rows.specs.Reading.{is_failure};
-    ghost use Rattle.fleet_rows.specs.inner.Reading.{IsReadSoFar, stops_failure, told_apart};
+/// Reads the header and the records below it.
+fn read_all<R: Read>(
+    alloc: Global,
+    records: &mut Reader<R>,
+) -> Result<Roster, FaultAt<RosterRefusal>>
+    requires { IsSetUp records.old }
+    ensures meaning { (all : List Record) × AreLeft R.remaining records.old all × Gives (plain result) (rows_of all)
+        × IfErr result (λ stop. StopsAt IsFailureOf AreRowsOf Refuses all stop.fault stop.at) }
+    ensures roster { IfOk result IsRoster }
+    ensures stopped { IfErr result (λ stop. stop.fault.fault ≡ RosterFault.ReadFailed → has_failed records.new ≡ true) }
+    ensures asked { AsksAtMost R.remaining records.old (max_roster_wagons + 2) records.new }
+{
+    match read_records::<R, RosterSoFar>(alloc, records) {
+        Ok(so_far) => Ok(so_far.roster),
+        Err(stop) => Err(stop),
+    }
+}
 
-    type Fault = RosterFault;
+impl FromRecords for RosterSoFar {
+    ghost use Rattle.std.proofs.Common.{lit<};
+    ghost use Rattle.fleet_rows.specs.Stops.{Refuses};
+    ghost use Rattle.fleet_rows.specs.inner.Reading.{IsNumberedSoFar, refuses_failure, told_apart};
+
+    type Fault = RosterRefusal;
 
     const MOST_RECORDS: u32 = MAX_ROSTER_WAGONS;
 
     ghost MOST_RECORDS = { max_roster_wagons };
 
-    ghost made_of = { λ roster records. IsReadSoFar roster records };
+    ghost made_of = { λ so_far records. IsNumberedSoFar so_far records };
 
-    ghost refuses = { λ fault records. Stops is_failure fault (rows_of records) };
+    ghost refuses = { λ refusal records. Refuses refusal records };
 
     ghost counted = { lit< tt };
 
-    ghost failures = { λ failure fault records gives. stops_failure failure fault (rows_of records) gives };
+    ghost failures = { λ failure refusal records gives. refuses_failure failure refusal.fault refusal.first records gives };
 
-    ghost told_apart = { λ fault memory reader. told_apart fault memory reader };
+    ghost told_apart = { λ refusal memory reader. told_apart refusal.fault memory reader };
 
-    fn of_header(alloc: Global, header: &ByteRecord) -> Result<Roster, RosterFault> {
+    fn of_header(alloc: Global, header: &ByteRecord) -> Result<RosterSoFar, RosterRefusal> {
         if !is_header(header) {
-            return Err(RosterFault::BadRosterRow(1));
+            return Err(bad_row(1));
         }
-        Ok(Roster::empty(alloc))
+        Ok(RosterSoFar::empty(alloc))
     }
 
-    fn with_record(self, number: u32, fields: &ByteRecord) -> Result<Roster, RosterFault> {
+    fn with_record(self, number: u32, fields: &ByteRecord) -> Result<RosterSoFar, RosterRefusal> {
         let Some(row) = read_wagon(fields) else {
-            return Err(RosterFault::BadRosterRow(number));
+            return Err(bad_row(number));
         };
-        self.with_wagon(row)
+        self.with_row(row)
     }
 
-    fn no_header() -> RosterFault {
-        RosterFault::BadRosterRow(1)
+    fn no_header() -> RosterRefusal {
+        bad_row(1)
     }
 
-    fn too_many() -> RosterFault {
-        RosterFault::TooLarge
+    fn too_many() -> RosterRefusal {
+        RosterRefusal {
+            fault: RosterFault::TooLarge,
+            first: None,
+        }
+    }
+}
+
+/// The refusal of a record that says no wagon.
+fn bad_row(number: u32) -> RosterRefusal
+    ensures { result ≡ record { fault = RosterFault.BadRosterRow number; first = None } }
+{
+    RosterRefusal {
+        fault: RosterFault::BadRosterRow(number),
+        first: None,
     }
 }

@@ -13,13 +13,13 @@ use wagons_and_orders::{Status, WagonRow};
 
 /// The six fields of a record, in the header's order.
 #[derive(Clone, Copy)]
-struct Fields<'a> {
-    wagon: &'a [u8],
-    class: &'a [u8],
-    load: &'a [u8],
-    status: &'a [u8],
-    place: &'a [u8],
-    moment: &'a [u8],
+pub(crate) struct Fields<'a> {
+    pub(crate) wagon: &'a [u8],
+    pub(crate) class: &'a [u8],
+    pub(crate) load: &'a [u8],
+    pub(crate) status: &'a [u8],
+    pub(crate) place: &'a [u8],
+    pub(crate) moment: &'a [u8],
 }
 
 /// The row of the wagon that a record of six fields says, if each field is as its rule asks.
@@ -60,7 +60,7 @@ pub fn is_header(row: &ByteRecord) -> bool
 
 /// The fields of a record that has six.
 #[tactic(auto, using(crate::proofs::RecordLemmas::of_six))]
-fn six_fields(row: &ByteRecord) -> Option<Fields<'_>>
+pub(crate) fn six_fields(row: &ByteRecord) -> Option<Fields<'_>>
     ensures six { IfSome result (λ f. fields_of row.now ≡ f.wagon.now ∷ f.class.now ∷ f.load.now ∷ f.status.now ∷ f.place.now ∷ f.moment.now ∷ []) }
     ensures other { IfNone result (length (fields_of row.now) ≢ 6) }
 {
@@ -78,7 +78,7 @@ fn six_fields(row: &ByteRecord) -> Option<Fields<'_>>
 }
 
 /// The kg that a field says, in 1 to 7 digits, at most 200,000.
-fn read_load(field: &[u8]) -> Option<u32>
+pub(crate) fn read_load(field: &[u8]) -> Option<u32>
     ensures meaning { result ≡ load_in field.now }
     ensures within { IfSome result (λ n. n ≤ max_load) }
 {

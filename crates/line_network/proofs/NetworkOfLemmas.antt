@@ -1,5 +1,5 @@
 -- The network that is read record by record is the network of the records.
-use Rattle.std.proofs.Common.{◌≡◌, ◌∙◌, ℕ, ◌≤◌, true, List, [], ◌∷◌, ◌++◌, length, Option, IfOk, IfSome, Result, Ok, Err, fold, refl, ap, sym, subst, inl, inr, arith, nat_lt, le-ltb, lit≤, ltb-false}
+use Rattle.std.proofs.Common.{◌≡◌, ◌∙◌, ℕ, ◌≤◌, true, List, [], ◌∷◌, ◌++◌, length, Option, IfErr, IfOk, IfSome, Result, Ok, Err, fold, refl, ap, sym, subst, inl, inr, arith, nat_lt, le-ltb, lit≤, ltb-false}
 use Rattle.std.proofs.lemmas.Bool.{cases_Bool}
 use Rattle.std.proofs.lemmas.List.{append-nil, append_assoc}
 use Rattle.std.specs.List.{flat_map, list_any}
@@ -12,6 +12,9 @@ use Rattle.csv_records.proofs.Saying.{IsCollected-is_read, IsCollected-read, wit
 use Rattle.csv_records.specs.Fields.{Record}
 use Rattle.csv_records.specs.Files.{AreRecordsOf}
 use Rattle.csv_records.specs.Reading.{Gives}
+use Rattle.csv_records.specs.Stopping.{StopsAt}
+use Rattle.csv_records.specs.declared.fault_at.FaultAt.{FaultAt}
+use Rattle.line_network.specs.Stops.{IsFailureOf, IsReadTo, IsSaidBy, Refuses, plain}
 use Rattle.line_network.specs.declared.line.Line.{Line}
 use Rattle.line_network.specs.declared.line_record.LineRecord.{LineRecord}
 use Rattle.faults.specs.declared.faults.NetworkFault.{NetworkFault}
@@ -113,3 +116,8 @@ pub IsReadFrom-gives : (known : Option (List ℕ)) (rows : List Record) (result 
     → IsReadFrom known result
 IsReadFrom-gives known rows result all gives =
     record { rows = rows; all_rows = all; first_fault = gives; exact = exact_from rows result gives; complete = complete_from rows result gives }
+
+pub IsReadTo-gives : (known : Option (List ℕ)) (rows : List Record) (result : Result NetworkValue (FaultAt NetworkFault)) → IfSome known (λ bytes. AreRecordsOf bytes rows)
+    → Gives is_failure (plain result) (network_of rows) → IfErr result (λ stop. StopsAt IsFailureOf IsSaidBy Refuses rows stop.fault stop.at) → IsReadTo known result
+unfolding IsReadFrom-gives
+IsReadTo-gives known rows result all gives stop = record { read = IsReadFrom-gives known rows (plain result) all gives; stop = stop }

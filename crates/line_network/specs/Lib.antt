@@ -10,4 +10,6 @@ pub mod Networks
 pub mod NetworkCount
 pub mod Walk
 pub mod Workers
+pub mod Stops
+pub mod Unfit
 pub mod inner

@@ -35,12 +35,12 @@ pub struct LineRecord {
 
 /// The five fields of a record, in the header's order.
 #[derive(Clone, Copy)]
-struct Fields<'a> {
-    from: &'a [u8],
-    to: &'a [u8],
-    km: &'a [u8],
-    minutes: &'a [u8],
-    way: &'a [u8],
+pub(crate) struct Fields<'a> {
+    pub(crate) from: &'a [u8],
+    pub(crate) to: &'a [u8],
+    pub(crate) km: &'a [u8],
+    pub(crate) minutes: &'a [u8],
+    pub(crate) way: &'a [u8],
 }
 
 impl LineRecord {
@@ -78,7 +78,7 @@ pub fn is_header(row: &ByteRecord) -> bool
 
 /// The fields of a record that has five.
 #[tactic(auto, using(crate::proofs::RecordLemmas::of_five))]
-fn five_fields(row: &ByteRecord) -> Option<Fields<'_>>
+pub(crate) fn five_fields(row: &ByteRecord) -> Option<Fields<'_>>
     ensures five { IfSome result (λ f. fields_of row.now ≡ f.from.now ∷ f.to.now ∷ f.km.now ∷ f.minutes.now ∷ f.way.now ∷ []) }
     ensures other { IfNone result (length (fields_of row.now) ≢ 5) }
 {
@@ -95,7 +95,7 @@ fn five_fields(row: &ByteRecord) -> Option<Fields<'_>>
 }
 
 /// The whole number that a field says, from 1 to a limit.
-fn read_length(field: &[u8], most: u32) -> Option<u32>
+pub(crate) fn read_length(field: &[u8], most: u32) -> Option<u32>
     ensures meaning { result ≡ length_in most field.now }
     ensures within { IfSome result (λ n. (1 ≤ n) × (n ≤ most)) }
 {
@@ -107,7 +107,7 @@ fn read_length(field: &[u8], most: u32) -> Option<u32>
 }
 
 /// The way that a word says.
-fn read_way(field: &[u8]) -> Option<Way>
+pub(crate) fn read_way(field: &[u8]) -> Option<Way>
     ensures { result ≡ way_in field.now }
 {
     if is_text("one", field) {

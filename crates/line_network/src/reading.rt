@@ -1,17 +1,19 @@
 //! Reading a network from CSV.
-ghost use Rattle.std.specs.Prelude.{◌≡◌, ◌+◌, IsErrOf, true, List};
+ghost use Rattle.std.specs.Prelude.{◌≡◌, ◌+◌, IfErr, true, List};
 ghost use Rattle.csv.specs.Reading.{has_failed};
 ghost use Rattle.csv_records.specs.Fields.{Record};
 ghost use Rattle.csv_records.specs.Reading.{Gives};
 ghost use Rattle.csv_records.specs.Requests.{AreLeft, AsksAtMost, IsSetUp};
+ghost use Rattle.csv_records.specs.Stopping.{StopsAt};
 ghost use Rattle.line_network.specs.NetworkOf.{IsReadFrom};
 ghost use Rattle.line_network.specs.Reading.{is_failure, max_line_records, network_of};
+ghost use Rattle.line_network.specs.Stops.{IsFailureOf, IsReadTo, IsSaidBy, Refuses, plain};
 
 use crate::limits::MAX_LINE_RECORDS;
 use crate::line_record::{LineRecord, is_header};
 use crate::{Network, NetworkFault};
 use csv::{ByteRecord, Reader};
-use csv_records::{FromRecords, open_records, read_records};
+use csv_records::{FaultAt, FromRecords, open_records, read_records};
 use std::alloc::Global;
 use std::io::Read;
 
@@ -28,15 +30,30 @@ use std::io::Read;
 pub fn read_lines<R: Read + Drop>(alloc: Global, reader: R) -> Result<Network, NetworkFault>
     ensures { IsReadFrom (R.remaining reader) result }
 {
+    match read_network(alloc, reader) {
+        Ok(network) => Ok(network),
+        Err(stop) => Err(stop.fault),
+    }
+}
+
+/// Reads a network as `read_lines` does; a refusal comes with the record at which reading stopped. Where memory or the reader
+/// failed, nothing is said of the record.
+pub fn read_network<R: Read + Drop>(
+    alloc: Global,
+    reader: R,
+) -> Result<Network, FaultAt<NetworkFault>>
+    ensures { IsReadTo (R.remaining reader) result }
+{
     let mut rows = open_records(alloc, reader);
     read_rows(alloc, &mut rows)
 }
 
 /// Reads the header and the records below it.
-fn read_rows<R: Read>(alloc: Global, rows: &mut Reader<R>) -> Result<Network, NetworkFault>
+fn read_rows<R: Read>(alloc: Global, rows: &mut Reader<R>) -> Result<Network, FaultAt<NetworkFault>>
     requires { IsSetUp rows.old }
-    ensures meaning { (all : List Record) × AreLeft R.remaining rows.old all × Gives is_failure result (network_of all) }
-    ensures stopped { IsErrOf result NetworkFault.ReadFailed → has_failed rows.new ≡ true }
+    ensures meaning { (all : List Record) × AreLeft R.remaining rows.old all × Gives is_failure (plain result) (network_of all)
+        × IfErr result (λ stop. StopsAt IsFailureOf IsSaidBy Refuses all stop.fault stop.at) }
+    ensures stopped { IfErr result (λ stop. stop.fault ≡ NetworkFault.ReadFailed → has_failed rows.new ≡ true) }
     ensures asked { AsksAtMost R.remaining rows.old (max_line_records + 2) rows.new }
 {
     read_records(alloc, rows)

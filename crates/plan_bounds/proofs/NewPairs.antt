@@ -89,7 +89,7 @@ not_counted i j ps none has =
     omega (arith, none, term, here, one)
 
 -- each pair of a plan is allowed
-allowed_at : (t : Table) (ps : List (ℕ × ℕ)) (k : ℕ) (d : ℕ × ℕ) → AllAllowed t ps → k < length ps → IsAllowed t (get_or ps k d)
+pub allowed_at : (t : Table) (ps : List (ℕ × ℕ)) (k : ℕ) (d : ℕ × ℕ) → AllAllowed t ps → k < length ps → IsAllowed t (get_or ps k d)
 allowed_at t [] k d all l = absurd (omega arith)
 allowed_at t (q ∷ ps) zero d all l = all.0
 allowed_at t (q ∷ ps) (suc k) d all l = allowed_at t ps k d all.1 (omega (arith, l))

@@ -5,7 +5,7 @@ use Rattle.std.specs.Prelude.{◌↔◌, IsTrue}
 use Rattle.std.specs.List.{AllZip}
 use Rattle.std.proofs.lemmas.List.Sums.{count_by-le-length, sum_by-append}
 use Rattle.wagons_and_orders.specs.declared.free_wagon.FreeWagon.{FreeWagon}
-use Rattle.dispatch_sheet.proofs.Lists.{taken_more}
+use Rattle.reply_texts.proofs.Lines.{taken_more}
 use Rattle.plan_reasons.specs.Reasons.{IsCount}
 
 -- a mark as a number

@@ -1,7 +1,7 @@
 -- Fields from their parts.
 use Rattle.std.proofs.Common.{◌≡◌, ℕ, List, ◌++◌, refl, ap, ◌∙◌, append_assoc}
 use Rattle.rail_codes.specs.Moment.{IsMomentText}
-use Rattle.dispatch_sheet.specs.inner.Pushed.{Adds}
+use Rattle.reply_texts.specs.Lines.{Adds}
 use Rattle.plan_reasons.specs.declared.style.Style.{Style}
 use Rattle.plan_reasons.specs.Fields.{field, naming, quote, quoted}
 use Rattle.plan_reasons.specs.inner.Added.{IsMomentField, IsMomentValue}

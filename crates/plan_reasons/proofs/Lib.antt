@@ -3,6 +3,7 @@ pub mod Counted
 pub mod Arrivals
 pub mod Fields
 pub mod Lines
+pub mod OrderCounts
 pub mod Columns
 pub mod Narrow
 pub mod Passing

@@ -7,7 +7,7 @@ use Rattle.wagons_and_orders.specs.Wanted.{WantedOrder}
 use Rattle.cost_table.specs.Problem.{ProblemValue}
 use Rattle.plan_reasons.specs.declared.reasons.Counts.{Counts}
 use Rattle.plan_reasons.specs.Reasons.{AreCounts}
-use Rattle.dispatch_sheet.specs.inner.Pushed.{Adds}
+use Rattle.reply_texts.specs.Lines.{Adds}
 use Rattle.plan_reasons.specs.declared.style.Style.{Style}
 use Rattle.plan_reasons.specs.Fields.{field, quoted}
 use Rattle.plan_reasons.specs.WhyText.{IsArrival, IsOrderLine, IsWagonLine, count_fields, order_fields, order_line, price_fields, wagon_fields, wagon_line, without_fields}

@@ -4,7 +4,7 @@ use Rattle.std.specs.Prelude.{◌==◌, if◌then◌else◌, Err, codes, false, 
 use Rattle.std.specs.List.{join_with_byte}
 use Rattle.std.proofs.lemmas.Bool.Decides.{nat_tests}
 use Rattle.std.proofs.lemmas.List.{length-map}
-use Rattle.dispatch_sheet.proofs.Lists.{map-taken_more}
+use Rattle.reply_texts.proofs.Lines.{map-taken_more}
 use Rattle.rail_codes.specs.declared.code_fault.CodeFault.{CodeFault}
 use Rattle.rail_codes.specs.Moment.{first_second, last_second, moment_of_seconds, IsMoment, IsMomentText}
 use Rattle.move_messages.specs.Order.{Order}
@@ -15,7 +15,7 @@ use Rattle.line_network.specs.Distance.{IsDistance}
 use Rattle.problem_table.specs.Allowed.{Reaches}
 use Rattle.cost_table.specs.Problem.{ProblemValue}
 use Rattle.plan_bounds.specs.PricedPlan.{PricedPlan}
-use Rattle.dispatch_sheet.specs.inner.Pushed.{Adds}
+use Rattle.reply_texts.specs.Lines.{Adds}
 use Rattle.plan_reasons.specs.declared.style.Style.{Style}
 use Rattle.plan_reasons.specs.Fields.{ending, field, nothing, quoted}
 use Rattle.plan_reasons.specs.declared.reasons.Test.{Test}

@@ -16,8 +16,7 @@ use Rattle.cost_table.specs.Problem.{ProblemValue}
 use Rattle.cost_table.specs.Table.{Table}
 use Rattle.cost_table.specs.Plan.{AllAllowed, IsAllowed}
 use Rattle.plan_bounds.specs.PricedPlan.{PricedPlan}
-use Rattle.dispatch_sheet.specs.Sheet.{AreLines}
-use Rattle.dispatch_sheet.specs.inner.Pushed.{Adds}
+use Rattle.reply_texts.specs.Lines.{Adds, AreLines}
 use Rattle.plan_reasons.specs.declared.style.Style.{Style}
 use Rattle.plan_reasons.specs.declared.planned_problem.PlannedProblem.{PlannedProblem}
 use Rattle.plan_reasons.specs.WhyText.{IsOrderLine, IsWagonLine}

@@ -1,4 +1,5 @@
 pub mod Reasons
+pub mod OrderCounts
 pub mod Fields
 pub mod Planned
 pub mod WhyText

@@ -9,7 +9,7 @@ use Rattle.cost_table.specs.Problem.{ProblemValue, wagon_names}
 use Rattle.cost_table.specs.Table.{Table, cost_at, penalty_at}
 use Rattle.price_checker.specs.NamedFaults.{name_at}
 use Rattle.plan_bounds.specs.PricedPlan.{PricedPlan}
-use Rattle.dispatch_sheet.specs.Sheet.{AreLines}
+use Rattle.reply_texts.specs.Lines.{AreLines}
 use Rattle.plan_reasons.specs.declared.style.Style.{Style}
 use Rattle.plan_reasons.specs.Fields.{ending, first_field, quoted}
 use Rattle.plan_reasons.specs.WhyText.{IsOrderLine, IsWagonLine}

@@ -14,7 +14,7 @@ use Rattle.price_checker.specs.NamedFaults.{name_at}
 use Rattle.plan_bounds.specs.PricedPlan.{PricedPlan, certified_cost}
 use Rattle.plan_bounds.specs.Slack.{missed}
 use Rattle.plan_bounds.specs.LeastSlack.{least_new_slack}
-use Rattle.dispatch_sheet.specs.Sheet.{AreLines}
+use Rattle.reply_texts.specs.Lines.{AreLines}
 use Rattle.plan_reasons.specs.declared.style.Style.{Style}
 use Rattle.plan_reasons.specs.declared.reasons.Counts.{Counts}
 use Rattle.plan_reasons.specs.Fields.{ending, field, first_field, nothing, quoted}

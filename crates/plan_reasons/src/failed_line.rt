@@ -2,7 +2,7 @@
 ghost use Rattle.std.specs.Prelude.{◌≡◌, ◌<◌, ◌≤◌, ◌==◌, [], ◌∷◌, ◌++◌, OnOk, codes, if◌then◌else◌, map, string_bytes};
 ghost use Rattle.std.specs.List.{join_with_byte};
 ghost use Rattle.rail_codes.specs.Moment.{first_second};
-ghost use Rattle.dispatch_sheet.specs.inner.Pushed.{Adds};
+ghost use Rattle.reply_texts.specs.Lines.{Adds};
 ghost use Rattle.plan_reasons.specs.Fields.{field, quoted};
 ghost use Rattle.plan_reasons.specs.Pairs.{
   IsCostlyLine,

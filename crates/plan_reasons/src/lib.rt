@@ -6,6 +6,7 @@
 #![tactic(auto)]
 
 mod cell_counts;
+mod counts_by_order;
 mod failed_line;
 mod finders;
 mod laws;
@@ -21,10 +22,12 @@ mod tested_wagons;
 mod wagon_line;
 mod why_lines;
 
+pub use counts_by_order::order_counts;
 pub use finders::{find_order, find_wagon};
 pub use laws::{fits_are_cheaper, in_time_are_allowed, numbers_are_bounds, tests_narrow};
 pub use one_text::{order_text, wagon_text};
 pub use planned_problem::PlannedProblem;
-pub use reasons::Counts;
+pub use reasons::{Counts, way_of};
 pub use style::Style;
+pub use wagon_line::arrival_of;
 pub use why_lines::why_text;

@@ -99,7 +99,7 @@ pub(crate) fn first_failed(
 }
 
 /// The kilometres and minutes of the way from a wagon to an order's place.
-pub(crate) fn way_of(tables: &Tables, wagon: &FreeWagon, order: &OrderText) -> (u32, u32)
+pub fn way_of(tables: &Tables, wagon: &FreeWagon, order: &OrderText) -> (u32, u32)
     requires { HasWay tables.now wagon.now order.now }
     ensures { IsDistance tables.now wagon.now.place order.now.place result }
 {

@@ -2,7 +2,7 @@
 //! line may be there then.
 ghost use Rattle.std.specs.Prelude.{◌≡◌, ◌++◌, codes, decimal, OnOk, string_bytes};
 ghost use Rattle.std.specs.Str.{IsAscii};
-ghost use Rattle.dispatch_sheet.specs.inner.Pushed.{Adds};
+ghost use Rattle.reply_texts.specs.Lines.{Adds};
 ghost use Rattle.plan_reasons.specs.Fields.{ending, field, first_field, naming, nothing, opening, quote, quoted};
 ghost use Rattle.plan_reasons.specs.inner.Added.{IsMomentField, IsMomentValue};
 

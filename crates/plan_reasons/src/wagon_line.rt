@@ -58,8 +58,8 @@ fn push_wagon_fields(
     number_field(text, style, "km", planned.cells.cell(i, j).unwrap_or(0))
 }
 
-/// When the wagon of a pair is at the order's place.
-fn arrival_of(planned: &PlannedProblem, pair: (usize, usize)) -> Moment
+/// When the wagon of a pair is at the order's place: it starts at the problem's moment, or when it is ready.
+pub fn arrival_of(planned: &PlannedProblem, pair: (usize, usize)) -> Moment
     requires planned { IsPlannedProblem planned.now }
     requires allowed { IsAllowed planned.now.cells.now pair }
     ensures { IsArrival planned.now.tables.now planned.now.problem.now pair result }

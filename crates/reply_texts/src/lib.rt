@@ -2,6 +2,7 @@
 #![tactic(auto)]
 
 mod details;
+pub mod line_words;
 mod replies;
 mod words;
 

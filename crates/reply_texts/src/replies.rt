@@ -1,7 +1,7 @@
 //! Whole replies, behind the line's number. `Err` only when out of memory; part of the text may be there then.
 ghost use Rattle.std.specs.Prelude.{◌≡◌, ◌+◌, ◌≤◌, ◌++◌, [], ◌∷◌, decimal, length, IsOk, OnOk};
 ghost use Rattle.line_engine.specs.Replies.{least_room, max_head_bytes};
-ghost use Rattle.reply_texts.specs.Details.{then};
+ghost use Rattle.reply_texts.specs.Words.{next_word};
 ghost use Rattle.reply_texts.specs.ReplyTexts.{accepted_text, book_refused_text, begun_text, counted, line_refused_text, planned_text, refused_text, repeated_text};
 
 use crate::details::Detailed;
@@ -27,7 +27,7 @@ pub fn push_refused<T: Detailed>(
 
 /// Adds a word, a number behind it, and the line feed.
 pub fn push_counted(reply: &mut ReplyText, word: &[u8], number: u128) -> Result<(), AllocError>
-    ensures text { OnOk result (reply.new ≡ reply.old ++ (word.now ++ then (decimal number) ++ 10 ∷ [])) }
+    ensures text { OnOk result (reply.new ≡ reply.old ++ (word.now ++ next_word (decimal number) ++ 10 ∷ [])) }
     ensures room { length reply.old + length word.now + 42 ≤ least_room → IsOk result }
 {
     reply.push_bytes(word)?;

@@ -1,7 +1,7 @@
 -- What a run that checks replies to a table line, behind the line's number.
 use Rattle.std.specs.Prelude.{◌≡◌, ℕ, Bool, List, [], ◌∷◌, ◌++◌, codes, decimal, Result, Ok, Err, IfOk, is_err}
 use Rattle.line_engine.specs.Replies.{Numbered, Replying}
-use Rattle.reply_texts.specs.Details.{then}
+use Rattle.reply_texts.specs.Words.{next_word}
 use Rattle.reply_texts.specs.ReplyTexts.{refused_text}
 use Rattle.table_lines.specs.TableCost.{CertifiesLine, cost_of_line}
 use Rattle.table_lines.specs.TableDetails.{table_line_details}
@@ -10,7 +10,7 @@ use Rattle.table_lines.specs.declared.table_refusal.TableRefusal.{TableRefusal}
 
 -- the cost of a plan that passes, in km
 abbrev pub optimal_text : ℕ → List ℕ
-optimal_text cost = codes "optimal" ++ then (decimal cost) ++ 10 ∷ []
+optimal_text cost = codes "optimal" ++ next_word (decimal cost) ++ 10 ∷ []
 
 abbrev pub table_refused_text : TableRefusal → List ℕ
 table_refused_text refusal = refused_text (table_refusal_number refusal) (table_line_details refusal)

@@ -2,15 +2,16 @@
 use Rattle.std.specs.Prelude.{ℕ, List, []}
 use Rattle.faults.specs.declared.faults.TableFault.{TableFault}
 use Rattle.faults.specs.declared.faults.TableFault.TheVariants as table
-use Rattle.reply_texts.specs.Details.{then, check_details, line_details}
+use Rattle.reply_texts.specs.Details.{check_details, line_details}
+use Rattle.reply_texts.specs.Words.{next_word}
 use Rattle.table_lines.specs.declared.table_refusal.TableRefusal.{TableRefusal}
 use Rattle.table_lines.specs.declared.table_refusal.TableRefusal.TheVariants.{OutOfMemory, Line, Table, Check, PlanTooLong}
 
 -- of a table: the wagon or the order that is listed twice
 abbrev pub table_details : TableFault → List ℕ
 table_details table.OutOfMemory = []
-table_details (table.DuplicateWagon wagon) = then wagon
-table_details (table.DuplicateOrder order) = then order
+table_details (table.DuplicateWagon wagon) = next_word wagon
+table_details (table.DuplicateOrder order) = next_word order
 table_details table.TooLarge = []
 table_details table.UnevenRows = []
 

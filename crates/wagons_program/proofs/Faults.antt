@@ -14,6 +14,7 @@ use Rattle.faults.specs.declared.faults.CheckpointFault.TheVariants as checkpoin
 use Rattle.faults.specs.declared.faults.FleetFault.TheVariants as fleet
 use Rattle.line_engine.specs.declared.run.RunFault.TheVariants as run
 use Rattle.faults.specs.declared.faults.NetworkFault.TheVariants as network
+use Rattle.place_names.specs.declared.places_fault.PlacesFault.TheVariants as places
 use Rattle.faults.specs.declared.faults.WorkFault.TheVariants as work
 use Rattle.faults.specs.declared.faults.TableFault.TheVariants as table
 use Rattle.faults.specs.declared.faults.CheckFault.TheVariants as check
@@ -24,7 +25,7 @@ use Rattle.faults.specs.declared.faults.Refusal.TheVariants as call
 use Rattle.faults.specs.declared.faults.PlanFault.TheVariants as plan
 use Rattle.sessions.specs.declared.close_fault.CloseFault.TheVariants as close
 use Rattle.faults.specs.declared.faults.FeedFault.TheVariants as feed
-use Rattle.wagons_program.specs.Laws.{AnyFault, of_code, of_field, of_line, of_step, of_record, of_roster, of_checkpoint, of_fleet, of_run, of_network, of_networks, of_work, of_table, of_check, of_named, of_table_line, of_event, of_call, of_plan, of_closing, of_feed, EachFaultIsListed, EachNumberIsAFaults, AreFaults, number_of}
+use Rattle.wagons_program.specs.Laws.{AnyFault, of_code, of_field, of_line, of_step, of_record, of_roster, of_checkpoint, of_fleet, of_run, of_network, of_networks, of_places, of_work, of_table, of_check, of_named, of_table_line, of_event, of_call, of_plan, of_closing, of_feed, EachFaultIsListed, EachNumberIsAFaults, AreFaults, number_of}
 
 -- each computes: a case of each type, and at the end one that stands for all others
 pub listed : (L : Type 0) → EachFaultIsListed L
@@ -39,6 +40,7 @@ listed L (of_checkpoint (checkpoint.BadCheckpointLine n)) = refl
 listed L (of_fleet fleet.OutOfMemory) = refl
 listed L (of_run run.OutOfMemory) = refl
 listed L (of_network network.OutOfMemory) = refl
+listed L (of_places places.OutOfMemory) = refl
 listed L (of_work work.OutOfMemory) = refl
 listed L (of_table table.OutOfMemory) = refl
 listed L (of_check check.WrongLengths) = refl

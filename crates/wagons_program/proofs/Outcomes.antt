@@ -9,6 +9,11 @@ use Rattle.wagons_program.specs.Status.{outcome_of_run, status_of_count}
 use Rattle.wagons_program.specs.declared.stop.Stop.{Stop}
 use Rattle.wagons_program.specs.declared.stop.Stop.TheVariants as stop
 
+-- what holds of a status holds of the same one with what people are told of a stop
+pub ok_kept : {E G : Type 0} (outcome : Result ℕ E) (result : Result ℕ G) (P : ℕ → Type 0) → IfOk outcome P → IfOk result (λ status. outcome ≡ Ok status) → IfOk result P
+ok_kept outcome (Err told) P holds same = tt
+ok_kept outcome (Ok status) P holds same = rw same at holds
+
 -- a run that came to its end
 pub status_of_ended : (result : Result ℕ Stop) (count : Result RunCount RunFault) (P : RunCount → Type 0) (Q : ℕ → Type 0) → result ≡ outcome_of_run count → IfOk count P
     → ((n : RunCount) → P n → Q (status_of_count n)) → IfOk result Q

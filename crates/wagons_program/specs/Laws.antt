@@ -16,6 +16,8 @@ use Rattle.line_engine.specs.declared.run.RunFault.{RunFault}
 use Rattle.line_engine.specs.RunFault as run
 use Rattle.faults.specs.declared.faults.NetworkFault.{NetworkFault}
 use Rattle.line_network.specs.declared.networks_fault.NetworksFault.{NetworksFault}
+use Rattle.place_names.specs.Faults.{places_fault_number}
+use Rattle.place_names.specs.declared.places_fault.PlacesFault.{PlacesFault}
 use Rattle.faults.specs.declared.faults.WorkFault.{WorkFault}
 use Rattle.faults.specs.declared.faults.TableFault.{TableFault}
 use Rattle.faults.specs.declared.faults.CheckFault.{CheckFault}
@@ -45,6 +47,7 @@ pub data AnyFault (L : Type 0) : Type 0 where
   of_run : RunFault → AnyFault L
   of_network : NetworkFault → AnyFault L
   of_networks : NetworksFault → AnyFault L
+  of_places : PlacesFault → AnyFault L
   of_work : WorkFault → AnyFault L
   of_table : TableFault → AnyFault L
   of_check : CheckFault → AnyFault L
@@ -70,6 +73,7 @@ number_of (of_fleet fault) = fleet_fault_number fault
 number_of (of_run fault) = run.number_of fault
 number_of (of_network fault) = network_fault_number fault
 number_of (of_networks fault) = 47
+number_of (of_places fault) = places_fault_number fault
 number_of (of_work fault) = work_fault_number fault
 number_of (of_table fault) = table_fault_number fault
 number_of (of_check fault) = check_fault_number fault

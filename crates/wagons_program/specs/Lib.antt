@@ -1,7 +1,9 @@
 pub mod Stop
+pub mod Told
 pub mod Status
 pub mod FirstBook
 pub mod Brought
 pub mod Laws
 pub mod TableOfLast
 pub mod ReasonsOfLast
+pub mod PlanOfLast

@@ -6,6 +6,7 @@ use Rattle.line_engine.specs.declared.run.RunFault.{RunFault}
 use Rattle.dispatch_sheet.specs.declared.feed_report.FileCount.{FileCount}
 use Rattle.wagons_program.specs.declared.stop.Stop.{Stop}
 use Rattle.wagons_program.specs.declared.stop.Stop.TheVariants.{Run}
+use Rattle.wagons_program.specs.declared.stopped.Stopped.{Stopped}
 
 -- of a run over lines that came to its end: 0 where no line was refused, else 1
 abbrev pub status_of_count : RunCount → ℕ
@@ -22,6 +23,6 @@ status_of_files files =
     if list_any (λ file. is_some file.failed) files then 2 else if list_any (λ file. nat_lt 0 file.refused) files then 1 else 0
 
 -- of the program: what a word came to, or 2 where it could not run or stopped
-abbrev pub exit_status : Result ℕ Stop → ℕ
+abbrev pub exit_status : Result ℕ Stopped → ℕ
 exit_status (Ok status) = status
-exit_status (Err stop) = 2
+exit_status (Err stopped) = 2

@@ -9,9 +9,10 @@ ghost use Rattle.wagons_program.specs.FirstBook.{BeginsWith, IsFirstBook};
 use crate::new_book::{NewBook, OfficeFiles, new_book, read_files};
 use crate::status::status_of_run;
 use crate::stop::Stop;
+use crate::stopped::{Stopped, told_of_lines};
 use command_line::OfficeOptions;
 use commit_book::Book;
-use line_engine::StdDevice;
+use line_engine::{LineLimit, StdDevice};
 use line_network::{Network, Networks};
 use std::alloc::Global;
 use std::io::{Read, Write};
@@ -37,7 +38,7 @@ pub(crate) fn bring<R: Files + Threads + Wait + AllocGlobal, I: Read + Drop, O: 
     options: &OfficeOptions<'_>,
     input: I,
     output: O,
-) -> Result<Brought, Stop>
+) -> Result<Brought, Stopped>
     ensures networks { IfOk result (λ brought. brought.distances.value ≡ brought.book.setting.networks) }
     ensures brought { IfOk result (λ brought. (office : Office) × (first : BookValue) × BeginsWith options.now.start office
         × IsFirstBook office brought.networks.items options.now.limits first
@@ -48,13 +49,27 @@ pub(crate) fn bring<R: Files + Threads + Wait + AllocGlobal, I: Read + Drop, O: 
         mut book,
         networks: distances,
     } = new_book(rt, options, first, &networks)?;
-    let status = bring_lines(rt.alloc(), input, output, &mut book)?;
+    let status = bring_told_lines(rt.alloc(), input, output, &mut book)?;
     Ok(Brought {
         book,
         networks,
         distances,
         status,
     })
+}
+
+/// The same as `bring_lines`; where the run stops, with what people are told.
+fn bring_told_lines<I: Read + Drop, O: Write + Drop>(
+    alloc: Global,
+    input: I,
+    output: O,
+    book: &mut Book,
+) -> Result<u8, Stopped>
+    ensures setting { book.new.setting ≡ book.old.setting }
+    ensures ok { IfOk result (AreAnswered ToCommands (lines_over max_line_bytes (I.remaining input) (O.contents output) book.old book.new)) }
+{
+    let outcome = bring_lines(alloc, input, output, book);
+    told_of_lines(alloc, LineLimit::standard(), outcome)
 }
 
 /// Brings the command lines of an input to a book: status 0, or 1 where a line was refused.

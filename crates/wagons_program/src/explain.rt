@@ -3,16 +3,29 @@
 use crate::printing::print_whole;
 use crate::status::DONE;
 use crate::stop::Stop;
+use crate::stopped::Stopped;
+use command_line::Explained;
 use faults::manual_text;
 
-/// Prints an entry of the manual of refusals, or the whole manual: status 0.
+/// Prints entries of the manual of refusals, with an empty line between two, or the whole manual: status 0.
 pub(crate) fn explain<R: Print + AllocGlobal>(
     rt: &R,
-    entry: Option<&'static str>,
-) -> Result<u8, Stop> {
-    match entry {
-        Some(entry) => print_whole(rt, entry)?,
-        None => print_whole(rt, &manual_text(rt.alloc())?)?,
+    explained: &Explained,
+) -> Result<u8, Stopped> {
+    match explained {
+        Explained::Manual => print_whole(rt, &manual_text(rt.alloc())?)?,
+        Explained::Entries(entries) => print_entries(rt, entries)?,
     }
     Ok(DONE)
+}
+
+/// Prints entries of the manual.
+fn print_entries<R: Print>(rt: &R, entries: &[&str]) -> Result<(), Stop> {
+    for (index, entry) in entries.iter().enumerate() {
+        if index > 0 {
+            print_whole(rt, "\n")?;
+        }
+        print_whole(rt, entry)?;
+    }
+    Ok(())
 }

@@ -4,10 +4,12 @@ ghost use Rattle.std.specs.List.{list_any};
 ghost use Rattle.wagons_program.specs.Status.{status_of_files};
 
 use crate::bringing::leave;
-use crate::new_book::{NewBook, OfficeFiles, new_book, open, read_files};
+use crate::new_book::{NewBook, OfficeFiles, new_book, read_files};
 use crate::printing::print_whole;
 use crate::status::{DONE, REFUSED, STOPPED};
 use crate::stop::Stop;
+use crate::stopped::Stopped;
+use crate::told_file::open_plain;
 use book_feed::{FeedReport, report_text};
 use command_line::FeedOptions;
 use line_engine::{MAX_FILES, Source, StdDevice};
@@ -21,7 +23,7 @@ use std::thread::Threads;
 pub(crate) fn feed<R: Print + Files + Threads + Wait + AllocGlobal + Sync>(
     rt: &R,
     options: &FeedOptions<'_>,
-) -> Result<u8, Stop>
+) -> Result<u8, Stopped>
 where
     R::File: Send,
 {
@@ -30,15 +32,15 @@ where
     let NewBook { book, networks } = new_book(rt, &options.office, first, &networks)?;
     // The command line lets 1 to 16 files through.
     if readers.is_empty() || readers.len() > MAX_FILES {
-        return Err(Stop::OpenFailed);
+        return Err(Stopped::from(Stop::OpenFailed));
     }
     match book_feed::feed(rt, rt.alloc(), readers, book, &networks) {
         Ok(report) => {
             let status = print_report(rt, &report);
             leave(report.book);
-            status
+            Ok(status?)
         }
-        Err(fault) => Err(Stop::Feed(fault)),
+        Err(fault) => Err(Stopped::from(Stop::Feed(fault))),
     }
 }
 
@@ -46,12 +48,12 @@ where
 fn open_files<R: Files + AllocGlobal>(
     rt: &R,
     paths: &[&str],
-) -> Result<Vec<StdDevice<R::File>>, Stop>
+) -> Result<Vec<StdDevice<R::File>>, Stopped>
     ensures { IfOk result (λ readers. All (λ reader. ⟦<StdDevice<R::File> as Source>⟧.has_failed reader ≡ false) readers.items) }
 {
     let mut readers = Vec::with_capacity(rt.alloc(), paths.len())?;
     for path in paths {
-        readers.push(StdDevice::new(open(rt, path)?))?;
+        readers.push(StdDevice::new(open_plain(rt, path)?))?;
     }
     Ok(readers)
 }

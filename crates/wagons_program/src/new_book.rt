@@ -4,16 +4,18 @@ ghost use Rattle.line_network.specs.NetworkCount.{max_networks};
 ghost use Rattle.wagons_program.specs.FirstBook.{BeginsWith, IsFirstBook};
 
 use crate::stop::Stop;
+use crate::stopped::Stopped;
+use crate::told_file::open;
+use crate::told_files::{told_of_checkpoint, told_of_network, told_of_roster};
 use checkpoint::read_checkpoint;
 use command_line::{OfficeOptions, Start};
 use commit_book::Book;
 use fleet_rows::Roster;
 use line_engine::StdDevice;
 use line_network::{
-    MAX_NETWORKS, Network, Networks, NetworksFault, OpenGate, Tables, read_lines, tables_by_workers,
+    MAX_NETWORKS, Network, Networks, NetworksFault, OpenGate, Tables, tables_by_workers,
 };
 use operating_db::OfficeState;
-use std::fs;
 use std::rt::Files;
 use std::sync::{Arc, Wait};
 use std::thread::Threads;
@@ -37,13 +39,13 @@ pub(crate) struct NewBook {
 pub(crate) fn read_files<R: Files + AllocGlobal>(
     rt: &R,
     options: &OfficeOptions<'_>,
-) -> Result<OfficeFiles, Stop>
+) -> Result<OfficeFiles, Stopped>
     ensures begins { IfOk result (λ files. BeginsWith options.now.start files.first.office) }
     ensures counted { IfOk result (λ files. files.first.networks ≡ length files.networks.items) }
 {
     let count = options.networks.len();
     if count == 0 || count > MAX_NETWORKS as usize {
-        return Err(Stop::Networks(NetworksFault::BadNetworkCount));
+        return Err(Stopped::from(Stop::Networks(NetworksFault::BadNetworkCount)));
     }
     let first = read_start(rt, options.start, count as u32)?;
     let networks = read_networks(rt, &options.networks)?;
@@ -55,7 +57,7 @@ fn read_start<R: Files + AllocGlobal>(
     rt: &R,
     start: Start<'_>,
     networks: u32,
-) -> Result<OfficeState, Stop>
+) -> Result<OfficeState, Stopped>
     requires from_one { 1 ≤ networks }
     requires few { networks ≤ max_networks }
     ensures begins { IfOk result (λ first. BeginsWith start.entry first.office) }
@@ -66,10 +68,24 @@ fn read_start<R: Files + AllocGlobal>(
             let roster = read_roster(rt, path)?;
             Ok(OfficeState::new(rt.alloc(), &roster, networks)?)
         }
-        Start::Checkpoint(path) => {
-            let mut reader = StdDevice::new(open(rt, path)?);
-            read_checkpoint(rt.alloc(), &mut reader, networks).map_err(Stop::Checkpoint)
-        }
+        Start::Checkpoint(path) => read_office(rt, path, networks),
+    }
+}
+
+/// The office that a checkpoint says, where there are so many networks.
+fn read_office<R: Files + AllocGlobal>(
+    rt: &R,
+    path: &str,
+    networks: u32,
+) -> Result<OfficeState, Stopped>
+    requires from_one { 1 ≤ networks }
+    requires few { networks ≤ max_networks }
+    ensures counted { IfOk result (λ first. first.networks ≡ networks) }
+{
+    let mut reader = StdDevice::new(open(rt, path)?);
+    match read_checkpoint(rt.alloc(), &mut reader, networks) {
+        Ok(state) => Ok(state),
+        Err(fault) => Err(told_of_checkpoint(rt.alloc(), path, fault, &reader.device)),
     }
 }
 
@@ -94,12 +110,16 @@ pub(crate) fn new_book<R: Threads + Wait + AllocGlobal>(
 }
 
 /// The roster that a file says.
-pub(crate) fn read_roster<R: Files + AllocGlobal>(rt: &R, path: &str) -> Result<Roster, Stop> {
-    Roster::read_rows(rt.alloc(), open(rt, path)?).map_err(Stop::Roster)
+pub(crate) fn read_roster<R: Files + AllocGlobal>(rt: &R, path: &str) -> Result<Roster, Stopped> {
+    let mut file = open(rt, path)?;
+    match fleet_rows::read_roster(rt.alloc(), &mut file) {
+        Ok(roster) => Ok(roster),
+        Err(stop) => Err(told_of_roster(rt.alloc(), path, &stop, &file)),
+    }
 }
 
 /// The networks that files say, in their order.
-fn read_networks<R: Files + AllocGlobal>(rt: &R, paths: &[&str]) -> Result<Vec<Network>, Stop>
+fn read_networks<R: Files + AllocGlobal>(rt: &R, paths: &[&str]) -> Result<Vec<Network>, Stopped>
     ensures { IfOk result (λ networks. length networks.items ≡ length paths.now) }
 {
     let mut networks = Vec::with_capacity(rt.alloc(), paths.len())?;
@@ -110,13 +130,12 @@ fn read_networks<R: Files + AllocGlobal>(rt: &R, paths: &[&str]) -> Result<Vec<N
 }
 
 /// The network that a file says.
-fn read_network<R: Files + AllocGlobal>(rt: &R, path: &str) -> Result<Network, Stop> {
-    read_lines(rt.alloc(), open(rt, path)?).map_err(Stop::Network)
-}
-
-/// A file that is open for reading.
-pub(crate) fn open<R: Files>(rt: &R, path: &str) -> Result<R::File, Stop> {
-    fs::open(rt, path).map_err(|_| Stop::OpenFailed)
+fn read_network<R: Files + AllocGlobal>(rt: &R, path: &str) -> Result<Network, Stopped> {
+    let mut file = open(rt, path)?;
+    match line_network::read_network(rt.alloc(), &mut file) {
+        Ok(network) => Ok(network),
+        Err(stop) => Err(told_of_network(rt.alloc(), path, &stop, &file)),
+    }
 }
 
 /// The distances in each network.

@@ -6,18 +6,22 @@ use crate::check::check;
 use crate::explain::explain;
 use crate::feed::feed;
 use crate::map::map;
+use crate::plan::plan;
+use crate::review::review;
 use crate::run::run;
 use crate::save::save;
 use crate::solve::solve;
 use crate::status::{DONE, STOPPED};
 use crate::stop::Stop;
+use crate::stopped::{Stopped, told_of_lines};
 use crate::table::table;
+use crate::terminal::TerminalInput;
 use crate::why::why;
 use clap::Error;
 use clap::error::ErrorKind;
-use command_line::{Word, not_utf8, read_words};
+use command_line::{Word, hint, not_utf8, read_words};
 use std::convert::AsStr;
-use std::io::Read;
+use std::io::{IsTerminal, Read};
 use std::process::ExitCode;
 use std::rt::Runtime;
 use std::sync::Wait;
@@ -25,13 +29,19 @@ use std::thread::Threads;
 use std::{env, io};
 
 /// Does what the program's arguments ask for. The status is 0, or 1 where a line was refused, or 2 where the program
-/// could not run or stopped; standard error says why then.
+/// could not run or stopped; standard error says why then. It also says, once, that lines are read from a terminal, where they are.
 pub fn run_program<R: Runtime + Threads + Wait + AllocGlobal + Sync>(rt: &R) -> ExitCode
 where
     R::File: Send,
+    R::Reader: IsTerminal,
 {
+    let reader = rt.reader();
+    let is_terminal = reader.is_terminal();
     let status = match words_of(rt) {
-        Ok(words) => run_words(rt, words.as_slice(), rt.reader()),
+        Ok(words) => {
+            let input = TerminalInput::new(rt, reader, is_terminal);
+            run_words(rt, words.as_slice(), input)
+        }
         Err(error) => told(rt, refuse_arguments(rt, error)),
     };
     ExitCode::from(status)
@@ -48,29 +58,35 @@ where
     R::File: Send,
 {
     let status = match read_words(rt.alloc(), words) {
-        Ok(Word::Check(options)) => check(rt, options.limit, input),
+        Ok(Word::Check(options)) => {
+            told_of_lines(rt.alloc(), options.limit, check(rt, options.limit, input))
+        }
         Ok(Word::Run(options)) => run(rt, &options, input),
         Ok(Word::Feed(options)) => feed(rt, &options),
-        Ok(Word::Solve(options)) => solve(rt, options.limit, input),
+        Ok(Word::Solve(options)) => {
+            told_of_lines(rt.alloc(), options.limit, solve(rt, options.limit, input))
+        }
         Ok(Word::Map(options)) => map(rt, &options, input),
+        Ok(Word::Plan(options)) => plan(rt, &options, input),
         Ok(Word::Table(options)) => table(rt, &options, input),
         Ok(Word::Why(options)) => why(rt, &options, input),
+        Ok(Word::Review(options)) => review(rt, &options, input),
         Ok(Word::Save(options)) => save(rt, &options, input),
-        Ok(Word::Explain(entry)) => explain(rt, entry),
+        Ok(Word::Explain(explained)) => explain(rt, &explained),
         Err(error) => print_text(rt, &error),
     };
     told(rt, status)
 }
 
 /// The status; where the program could not run or stopped, standard error says why.
-fn told<R: Eprint>(rt: &R, status: Result<u8, Stop>) -> u8
+fn told<R: Eprint>(rt: &R, status: Result<u8, Stopped>) -> u8
     ensures { result ≡ exit_status status }
 {
     match status {
         Ok(status) => status,
-        Err(stop) => {
+        Err(stopped) => {
             // Where standard error fails too, nobody is left to tell.
-            let _ = eprintln!(rt; "{stop}");
+            let _ = eprintln!(rt; "{stopped}");
             STOPPED
         }
     }
@@ -83,9 +99,12 @@ fn words_of<R: Runtime + AllocGlobal>(rt: &R) -> io::Result<Vec<String>> {
 }
 
 /// Says why the arguments could not be read: out of memory, or one that isn't UTF-8.
-fn refuse_arguments<R: Print + Eprint + AllocGlobal>(rt: &R, error: io::Error) -> Result<u8, Stop> {
+fn refuse_arguments<R: Print + Eprint + AllocGlobal>(
+    rt: &R,
+    error: io::Error,
+) -> Result<u8, Stopped> {
     match error.kind() {
-        io::ErrorKind::OutOfMemory => Err(Stop::OutOfMemory),
+        io::ErrorKind::OutOfMemory => Err(Stopped::from(Stop::OutOfMemory)),
         _ => {
             let fault = not_utf8(rt.alloc())?;
             print_text(rt, &fault)
@@ -93,17 +112,20 @@ fn refuse_arguments<R: Print + Eprint + AllocGlobal>(rt: &R, error: io::Error) -
     }
 }
 
-/// Prints help, the version, or a fault of the arguments.
-fn print_text<R: Print + Eprint>(rt: &R, error: &Error) -> Result<u8, Stop> {
+/// Prints help, the version, or a fault of the arguments with a hint where there is one.
+fn print_text<R: Print + Eprint + AllocGlobal>(rt: &R, error: &Error) -> Result<u8, Stopped> {
     if error.kind() == ErrorKind::OutOfMemory {
-        return Err(Stop::OutOfMemory);
+        return Err(Stopped::from(Stop::OutOfMemory));
     }
     if error.print(rt).is_err() {
-        return Err(Stop::WriteFailed);
+        return Err(Stopped::from(Stop::WriteFailed));
     }
-    if error.use_stderr() {
-        Ok(STOPPED)
-    } else {
-        Ok(DONE)
+    if !error.use_stderr() {
+        return Ok(DONE);
     }
+    if let Ok(Some(hint)) = hint(rt.alloc(), error) {
+        // The fault itself is told; where standard error fails now, nobody is left to tell.
+        let _ = eprintln!(rt; "{hint}");
+    }
+    Ok(STOPPED)
 }

@@ -8,7 +8,7 @@ ghost use Rattle.wagons_program.specs.Brought.{AreAnswered, Lines, ToCommands};
 ghost use Rattle.wagons_program.specs.FirstBook.{BeginsWith, IsFirstBook};
 
 use crate::bringing::{Brought, bring, leave};
-use crate::stop::Stop;
+use crate::stopped::Stopped;
 use command_line::OfficeOptions;
 use std::io;
 use std::io::Read;
@@ -21,7 +21,7 @@ pub(crate) fn run<R: Print + Files + Threads + Wait + AllocGlobal, I: Read + Dro
     rt: &R,
     options: &OfficeOptions<'_>,
     input: I,
-) -> Result<u8, Stop>
+) -> Result<u8, Stopped>
     ensures { IfOk result (λ status. (office : Office) × (networks : List NetworkValue) × (lines : Lines BookValue) × (lines.input ≡ I.remaining input) × (lines.most ≡ max_line_bytes)
         × BeginsWith options.now.start office × IsFirstBook office networks options.now.limits lines.old × AreAnswered ToCommands lines status) }
 {

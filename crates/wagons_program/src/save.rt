@@ -5,6 +5,7 @@ use crate::first_lines::FirstLines;
 use crate::new_book::read_roster;
 use crate::printing::print_whole;
 use crate::stop::Stop;
+use crate::stopped::Stopped;
 use checkpoint::checkpoint_text;
 use command_line::SaveOptions;
 use fleet_rows::Roster;
@@ -24,7 +25,7 @@ pub(crate) fn save<R: Print + Files + Threads + Wait + AllocGlobal, I: Read + Dr
     rt: &R,
     options: &SaveOptions<'_>,
     input: I,
-) -> Result<u8, Stop> {
+) -> Result<u8, Stopped> {
     let added = match options.with {
         Some(path) => Some(read_roster(rt, path)?),
         None => None,

@@ -9,6 +9,7 @@ use faults::FleetFault;
 use fleet_rows::RosterFault;
 use line_network::{NetworkFault, NetworksFault, WorkFault};
 use office::RunFault;
+use place_names::PlacesFault;
 use rail_codes::{OrderId, WagonNumber};
 use std::alloc::{AllocError, AllocFailed};
 use std::fmt;
@@ -22,7 +23,7 @@ pub enum Stop {
     OutOfMemory,
     /// More than 8 networks were given (47).
     Networks(NetworksFault),
-    /// A file could not be opened (93).
+    /// A file could not be opened, or has no time zone (93).
     OpenFailed,
     /// The roster could not be read (1, 51, 53, 78 or 93).
     Roster(RosterFault),
@@ -32,6 +33,8 @@ pub enum Stop {
     Fleet(FleetFault),
     /// A network could not be read (1, 41 to 43 or 93).
     Network(NetworkFault),
+    /// The names of places could not be read (1, 41, 42 or 93).
+    Places(PlacesFault),
     /// The distances could not be worked out (1 or 46).
     Tables(WorkFault),
     /// No waiting order of the problem has this name (84).
@@ -59,6 +62,7 @@ impl Stop {
             Stop::Checkpoint(fault) => fault.number(),
             Stop::Fleet(fault) => fault.number(),
             Stop::Network(fault) => fault.number(),
+            Stop::Places(fault) => fault.number(),
             Stop::Tables(fault) => fault.number(),
             Stop::OrderNotInProblem(_) | Stop::WagonNotInProblem(_) => 84,
             Stop::WriteFailed => 94,
@@ -72,6 +76,9 @@ impl Stop {
         match self {
             Stop::Roster(RosterFault::BadRosterRow(record)) => Some(u64::from(record)),
             Stop::Network(NetworkFault::BadRow(record)) => Some(u64::from(record)),
+            Stop::Places(PlacesFault::BadRow(record) | PlacesFault::DuplicatePlace(record)) => {
+                Some(u64::from(record))
+            }
             Stop::Checkpoint(fault) => fault.line(),
             Stop::Run(fault) => fault.line(),
             _ => None,

@@ -6,6 +6,7 @@ ghost use Rattle.wagons_program.specs.TableOfLast.{IsTableOfLast};
 use crate::bringing::{Brought, bring, leave};
 use crate::printing::print_whole;
 use crate::stop::Stop;
+use crate::stopped::Stopped;
 use command_line::ProblemOptions;
 use commit_book::{Book, Snap};
 use rail_codes::Moment;
@@ -23,7 +24,7 @@ pub(crate) fn table<R: Print + Files + Threads + Wait + AllocGlobal, I: Read + D
     rt: &R,
     options: &ProblemOptions<'_>,
     input: I,
-) -> Result<u8, Stop> {
+) -> Result<u8, Stopped> {
     let Brought {
         mut book,
         networks: _,

@@ -6,6 +6,7 @@ ghost use Rattle.wagons_program.specs.ReasonsOfLast.{AreReasonsOfLast, IsAnswer,
 use crate::bringing::{Brought, bring, leave};
 use crate::printing::print_whole;
 use crate::stop::Stop;
+use crate::stopped::Stopped;
 use command_line::{Asked, WhyOptions};
 use commit_book::Book;
 use line_network::Networks;
@@ -25,7 +26,7 @@ pub(crate) fn why<R: Print + Files + Threads + Wait + AllocGlobal, I: Read + Dro
     rt: &R,
     options: &WhyOptions<'_>,
     input: I,
-) -> Result<u8, Stop> {
+) -> Result<u8, Stopped> {
     let Brought {
         mut book,
         networks: _,

@@ -1,41 +1,46 @@
--- Passes over all wagons.
-use Rattle.std.specs.Prelude.{◌≡◌, ◌+◌, ◌-◌, ◌<◌, ◌≤◌, ◌==◌, ℕ, Bool, true, false, List, length, min, slice_index}
-use Rattle.assignment.specs.declared.state.TheConstants.{NO_ORDER}
+-- Passes over all groups.
+use Rattle.std.specs.Prelude.{◌≡◌, ◌+◌, ◌-◌, ◌<◌, ◌≤◌, ◌==◌, ℕ, Bool, List, length, min, slice_index}
+use Rattle.assignment.specs.declared.groups.TheConstants.{NO_WAGON}
 use Rattle.assignment.specs.declared.passes.TheConstants.{FAR}
-use Rattle.assignment.specs.declared.passes.Nearest.{Nearest}
 
--- the distance of a wagon at a price over its cell of an order at a distance and a price
+-- the distance of a group at a price over its cell of an order at a distance and a price
 abbrev pub through : ℕ → ℕ → ℕ → ℕ → ℕ
 through distance order_price cost price = ((cost + price) - order_price) + distance
 
--- each label is the lesser of what it was and the distance of the wagon over its cell
+-- one of the first n has this number
+pub record IsAttained (number_of : ℕ → ℕ) (number n : ℕ) : Type 0 where
+  pub index : ℕ
+  pub within : index < n
+  pub is : number_of index ≡ number
+
+-- Each number is one more than a distance: the lesser of what it was, and of the distance over the cell.
 abbrev pub AreRelaxed : (distance order_price : ℕ) → (costs prices old new : List ℕ) → Type 0
 AreRelaxed distance order_price costs prices old new =
-    (i : ℕ) → i < length old → slice_index new i ≡ min (slice_index old i) (through distance order_price (slice_index costs i) (slice_index prices i))
+    (g : ℕ) → g < length old → slice_index new g ≡ min (slice_index old g) (through (distance + 1) order_price (slice_index costs g) (slice_index prices g))
 
--- a wagon without an order, or one with an order
+-- Of the numbers that aren't 0, one more than distances, the least distance; FAR where there is none.
+pub record IsNearest (ahead : ℕ → ℕ) (onward n : ℕ) : Type 0 where
+  pub below : (g : ℕ) → g < n → 0 < ahead g → onward < ahead g
+  pub attained : onward < FAR → IsAttained ahead (onward + 1) n
+
+-- a group with no idle wagon (`is_full`), or one with an idle wagon
 abbrev pub IsAmong : List ℕ → Bool → ℕ → Type 0
-IsAmong orders is_idle i = (slice_index orders i == NO_ORDER) ≡ is_idle
+IsAmong idle is_full i = (slice_index idle i == NO_WAGON) ≡ is_full
 
--- this one of the first n wagons, without an order, or with an order, has this label
-pub record IsFound (label : ℕ → ℕ) (orders : List ℕ) (is_idle : Bool) (least n i : ℕ) : Type 0 where
+-- this one of the first n groups is among them, and has this number
+pub record IsFound (label : ℕ → ℕ) (idle : List ℕ) (is_full : Bool) (least n i : ℕ) : Type 0 where
   pub within : i < n
   pub is : label i ≡ least
-  pub among : IsAmong orders is_idle i
+  pub among : IsAmong idle is_full i
 
--- among the first n wagons, one without an order, or one with an order, has this label
-pub record HasLabel (label : ℕ → ℕ) (orders : List ℕ) (is_idle : Bool) (least n : ℕ) : Type 0 where
+-- one of the first n groups is among them, and has this number
+pub record HasLabel (label : ℕ → ℕ) (idle : List ℕ) (is_full : Bool) (least n : ℕ) : Type 0 where
   pub index : ℕ
   pub within : index < n
   pub is : label index ≡ least
-  pub among : IsAmong orders is_idle index
+  pub among : IsAmong idle is_full index
 
--- the least label of such wagons, FAR where there is none
-pub record IsLeastLabel (label : ℕ → ℕ) (orders : List ℕ) (is_idle : Bool) (least n : ℕ) : Type 0 where
-  pub below : (i : ℕ) → i < n → IsAmong orders is_idle i → least ≤ label i
-  pub attained : least < FAR → HasLabel label orders is_idle least n
-
--- the least labels of the wagons that lead on to a target, and of those without an order
-pub record AreNearest (label : ℕ → ℕ) (target orders : List ℕ) (nearest : Nearest) (n : ℕ) : Type 0 where
-  pub onward : IsLeastLabel label target false nearest.onward n
-  pub idle : IsLeastLabel label orders true nearest.idle n
+-- the least number of such groups, FAR where there is none
+pub record IsLeastLabel (label : ℕ → ℕ) (idle : List ℕ) (is_full : Bool) (least n : ℕ) : Type 0 where
+  pub below : (i : ℕ) → i < n → IsAmong idle is_full i → least ≤ label i
+  pub attained : least < FAR → HasLabel label idle is_full least n

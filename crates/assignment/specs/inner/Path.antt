@@ -1,33 +1,32 @@
 -- The way back from the end of a path to its first order.
-use Rattle.std.specs.Prelude.{◌≡◌, ◌<◌, ◌+◌, ◌⊎◌, ◌==◌, ℕ, if◌then◌else◌, List, length, Option, Some, None, slice_index}
+use Rattle.std.specs.Prelude.{◌≡◌, ◌<◌, ◌+◌, ◌⊎◌, ◌==◌, ℕ, if◌then◌else◌, List, length, min, Option, Some, None, slice_index}
 use Rattle.assignment.specs.declared.search.Search.{Search}
-use Rattle.assignment.specs.declared.search.End.{End}
-use Rattle.assignment.specs.declared.search.End.TheVariants.{Wagon, Refusal}
 use Rattle.assignment.specs.inner.State.{Kept, order_at, served}
-use Rattle.assignment.specs.inner.Search.{IsReachedFrom}
+use Rattle.assignment.specs.inner.Search.{IsReachedFrom, label_at}
 
--- the order that a path's end takes a unit from: one that refuses it
-abbrev pub given_up : Search → End → Option ℕ
-given_up f (Wagon i) = None
-given_up f (Refusal x) = Some (slice_index f.orders.items x)
+-- the order that an end takes a unit from: one that refuses it
+abbrev pub given_up_at : Search → Option ℕ → Option ℕ
+given_up_at f (Some i) = None
+given_up_at f None = Some (slice_index f.orders.items f.end.index)
 
--- an order that refuses a unit is a settled one
-abbrev pub IsSettledEnd : Search → End → Type 0
-IsSettledEnd f (Wagon i) = Unit {0}
-IsSettledEnd f (Refusal x) = x < length f.orders.items
+abbrev pub given_up : Search → Option ℕ
+given_up f = given_up_at f f.end.wagon
 
--- the wagon is the path's end, or one that led to an order
+-- the wagon is the one that ends the way, or one that led to an order
 abbrev pub IsOnWay : Search → ℕ → ℕ → Type 0
 IsOnWay f end i = (i ≡ end) ⊎ ((x : ℕ) × (0 < x) × (x < length f.orders.items) × (slice_index f.via.items x ≡ i))
 
-abbrev pub IsOnPath : Search → End → ℕ → Type 0
-IsOnPath f (Wagon end) i = IsOnWay f end i
-IsOnPath f (Refusal end) i = (x : ℕ) × (0 < x) × (x < length f.orders.items) × (slice_index f.via.items x ≡ i)
+abbrev pub IsOnPathTo : Search → Option ℕ → ℕ → Type 0
+IsOnPathTo f (Some end) i = IsOnWay f end i
+IsOnPathTo f None i = (x : ℕ) × (0 < x) × (x < length f.orders.items) × (slice_index f.via.items x ≡ i)
 
--- the wagon has the order at an index from which it was reached
+abbrev pub IsOnPath : Search → ℕ → Type 0
+IsOnPath f i = IsOnPathTo f f.end.wagon i
+
+-- The wagon has the order at an index from which it was reached: at its distance, or at the path's length if that is less.
 pub record IsGiven (s : Kept) (f : Search) (order_of : List (Option ℕ)) (i : ℕ) : Type 0 where
   pub index : ℕ
-  pub from : IsReachedFrom s f i index
+  pub from : IsReachedFrom s f (min (label_at s f i) f.end.distance) i index
   pub order : order_at order_of i ≡ Some (slice_index f.orders.items index)
 
 -- each wagon has its order still, or it is one of those on the way and has the order that it was reached from

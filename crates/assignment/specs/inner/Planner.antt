@@ -10,7 +10,7 @@ use Rattle.assignment.specs.inner.Sequence.{IsSequence}
 pub record IsReady (p : Inside) : Type 0 where
   pub state : IsState p.state
   pub counted : AreCounted (kept p.state) (λ k. 0)
-  pub search : HasRoom p.state.cells.now p.search
+  pub search : HasRoom (kept p.state) p.search
   pub sequence : IsSequence (order_count p.state.cells.now) p.sequence.items
   pub wagon_prices : length p.prices.u.items ≡ wagon_count p.state.cells.now
   pub order_prices : length p.prices.v.items ≡ order_count p.state.cells.now

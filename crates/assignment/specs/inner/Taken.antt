@@ -8,3 +8,4 @@ pub record HasTaken (before after : State) (j units : ℕ) : Type 0 where
   pub state : IsState after
   pub counted : (taken : ℕ → ℕ) → AreCounted (kept before) taken → AreCounted (kept after) (more j units taken)
   pub table : after.cells.now ≡ before.cells.now
+  pub groups : after.groups ≡ before.groups

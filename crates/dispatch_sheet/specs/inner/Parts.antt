@@ -1,19 +1,12 @@
 -- The parts of the lines of a sheet, before and behind the text of their moment.
-use Rattle.std.specs.Prelude.{◌≡◌, ℕ, List, ◌∷◌, [], ◌++◌, codes, decimal}
-use Rattle.rail_codes.specs.Moment.{IsMomentText}
+use Rattle.std.specs.Prelude.{ℕ, List, ◌∷◌, [], ◌++◌, codes, decimal}
 use Rattle.wagons_and_orders.specs.StatusTable.{place_of}
 use Rattle.wagons_and_orders.specs.StatusWords.{status_word}
 use Rattle.wagons_and_orders.specs.declared.wagon_row.WagonRow.{WagonRow}
 use Rattle.wagons_and_orders.specs.States.{state_of}
 use Rattle.wagons_and_orders.specs.OrderRow.{OrderRowValue}
 use Rattle.dispatch_sheet.specs.Sheet.{hold_word, list_word, listed_wagons, promise_word, state_word}
-use Rattle.dispatch_sheet.specs.Words.{next_word}
-
--- a moment behind a space
-pub record IsMomentWord (seconds : ℕ) (word : List ℕ) : Type 0 where
-  pub text : List ℕ
-  pub moment : IsMomentText seconds text
-  pub whole : word ≡ next_word text
+use Rattle.reply_texts.specs.Words.{next_word}
 
 abbrev pub wagon_front : WagonRow → List ℕ
 wagon_front row =

@@ -1,15 +1,18 @@
 -- What reading a roster keeps from record to record, and why a wagon is not added.
-use Rattle.std.specs.Prelude.{◌≡◌, ◌+◌, true, List, length, Result}
+use Rattle.std.specs.Prelude.{◌≡◌, ℕ, ◌+◌, true, List, length, map, Option, option_map}
+use Rattle.std.specs.List.{position}
 use Rattle.std.specs.List.Sorted.{IsPermutation}
 use Rattle.csv_records.specs.Fields.{Record}
-use Rattle.csv_records.specs.Reading.{SaysSoFar, Stops}
+use Rattle.csv_records.specs.Reading.{SaysSoFar}
 use Rattle.faults.specs.ReadingFaults.{roster_fault_of}
 use Rattle.faults.specs.declared.faults.RecordFault.{RecordFault}
 use Rattle.faults.specs.declared.faults.RecordFault.TheVariants as rf
 use Rattle.wagons_and_orders.specs.declared.wagon_row.WagonRow.{WagonRow}
-use Rattle.fleet_rows.specs.Reading.{is_failure, roster_rule}
+use Rattle.fleet_rows.specs.Reading.{roster_rule}
 use Rattle.fleet_rows.specs.Roster.{IsRoster}
-use Rattle.fleet_rows.specs.SameWagons.{has_wagon}
+use Rattle.fleet_rows.specs.SameWagons.{has_wagon, is_same_number}
+use Rattle.fleet_rows.specs.Stops.{Refuses}
+use Rattle.fleet_rows.specs.declared.roster_so_far.RosterSoFar.{RosterSoFar}
 use Rattle.faults.specs.declared.faults.RosterFault.{RosterFault}
 use Rattle.faults.specs.declared.faults.RosterFault.TheVariants.{OutOfMemory, DuplicateWagon, TooLarge, BadRosterRow, ReadFailed}
 
@@ -21,6 +24,15 @@ pub record IsReadSoFar (roster : List WagonRow) (records : List Record) : Type 0
   pub few : length roster + 1 ≡ length records
   pub kept : IsRoster roster
 
+-- The same, and these are their wagons in the records' order.
+pub record IsNumberedSoFar (so_far : RosterSoFar) (records : List Record) : Type 0 where
+  pub read : IsReadSoFar so_far.roster records
+  pub in_order : so_far.named.items ≡ map (λ (row : WagonRow). row.number) read.rows
+
+-- the number of the first record that names a wagon, where these are the wagons of the records behind the header
+abbrev pub first_record : (named : List (List ℕ)) → (wagon : List ℕ) → Option ℕ
+first_record named wagon = option_map (λ k. k + 2) (position (is_same_number wagon) named)
+
 -- why a wagon was not added
 abbrev pub RefusesWagon : RosterFault → List WagonRow → WagonRow → Type 0
 RefusesWagon OutOfMemory rows row = Unit {0}
@@ -29,10 +41,10 @@ RefusesWagon TooLarge rows row = ⊥
 RefusesWagon (BadRosterRow n) rows row = ⊥
 RefusesWagon ReadFailed rows row = ⊥
 
--- a failure says nothing of the records
-pub stops_failure : (failure : RecordFault) (fault : RosterFault) (answer : Result (List WagonRow) RosterFault) → fault ≡ roster_fault_of failure → Stops is_failure fault answer
-stops_failure rf.OutOfMemory fault answer e = rw e tt
-stops_failure rf.ReadFailed fault answer e = rw e tt
-
 pub told_apart : (fault : RosterFault) → fault ≡ OutOfMemory → fault ≡ ReadFailed → ⊥
 told_apart fault memory reader = cc (memory, reader)
+
+-- a failure says nothing of the records
+pub refuses_failure : (failure : RecordFault) (fault : RosterFault) (first : Option ℕ) (records : List Record) → fault ≡ roster_fault_of failure → Refuses (record { fault = fault; first = first }) records
+refuses_failure rf.OutOfMemory fault first records e = rw e (tt, tt)
+refuses_failure rf.ReadFailed fault first records e = rw e (tt, tt)

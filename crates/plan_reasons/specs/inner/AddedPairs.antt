@@ -2,8 +2,7 @@
 use Rattle.std.specs.Prelude.{◌≡◌, ◌<◌, ◌==◌, if◌then◌else◌, ℕ, IsTrue, false, List, [], ◌∷◌, length, codes}
 use Rattle.std.specs.List.{find}
 use Rattle.cost_table.specs.Problem.{ProblemValue}
-use Rattle.dispatch_sheet.specs.Sheet.{AreLines}
-use Rattle.dispatch_sheet.specs.inner.Pushed.{Adds}
+use Rattle.reply_texts.specs.Lines.{Adds, AreLines}
 use Rattle.plan_reasons.specs.declared.style.Style.{Style}
 use Rattle.plan_reasons.specs.declared.planned_problem.PlannedProblem.{PlannedProblem}
 use Rattle.plan_reasons.specs.Fields.{field}

@@ -6,5 +6,5 @@ use Rattle.assignment.proofs.passes.find.Goals as goal
 pub wagons-preserved-then-not-has : goal.wagons-preserved-then-not-has
 wagons-preserved-then-not-has c = λ i start to is among. elim (cases_lt i c.wagons.w) [
   | inl before ↦ c.wagons.invariant i start before is among
-  | inr from ↦ let long = c.if-label-w-ge-BLOCK.true in none_in_block c.args.label.now c.args.orders.now c.args.is_idle c.wagons.w 32 c.args.least i (c.has.ensures c.if-not-has.true) (omega (arith, long)) from to is among
+  | inr from ↦ let long = c.if-label-w-ge-BLOCK.true in none_in_block c.args.label.now c.args.idle.now c.args.is_full c.wagons.w 32 c.args.least i (c.has.ensures c.if-not-has.true) (omega (arith, long)) from to is among
 ]

@@ -4,9 +4,9 @@ use Rattle.assignment.proofs.planner.serve_at_hand.Given as goal
 
 abbrev pub invariant-units : goal.invariant-units
 invariant-units l = record {
-  taken : HasTaken l.initial.state l.state l.j l.units;
-  limit : l.units ≤ l.lack;
+  taken : HasTaken l.initial.state l.state l.j l.served;
+  limit : l.served ≤ l.lack;
 }
 
 abbrev pub decreases-units : goal.decreases-units
-decreases-units l = l.lack - l.units
+decreases-units l = l.lack - l.served

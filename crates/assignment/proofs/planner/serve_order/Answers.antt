@@ -1,14 +1,13 @@
-use Rattle.std.proofs.Common.{◌≡◌, ℕ, sym, ◌∙◌, ap, arith, subst}
+use Rattle.std.proofs.Common.{◌≡◌, ℕ, ◌∙◌, ap, arith, subst}
 use Rattle.cost_table.specs.Table.{Table, lack_at}
 use Rattle.assignment.specs.inner.Taken.{HasTaken}
-use Rattle.assignment.specs.inner.Search.{HasRoom}
-use Rattle.assignment.proofs.Taking.{HasTaken-more}
+use Rattle.assignment.proofs.Taking.{HasTaken-more, room_kept}
 use Rattle.assignment.proofs.planner.serve_order.Goals as goal
 
 pub units-init : goal.units-init
 units-init c =
-    let at_hand = c.serve_at_hand-units.ensures.taken in
-    record { taken = at_hand; room = subst (λ (t : Table). HasRoom t c.args.search.now) (sym at_hand.table) c.requires.room }
+    let at_hand = c.serve_at_hand-served.ensures.taken in
+    record { taken = at_hand; room = room_kept c.args.state.now c.serve_at_hand-served.new.state c.args.search.now at_hand.table at_hand.groups c.requires.room }
 
 pub serve_unit-requires-clause-order : goal.serve_unit-requires-clause-order
 serve_unit-requires-clause-order c = rw c.units.invariant.taken.table c.requires.order
@@ -22,7 +21,7 @@ units-preserved c = record {
 pub returns-clause-taken : goal.returns-clause-taken
 returns-clause-taken c =
     let j = c.args.j in
-    let at_hand = c.serve_at_hand-units.ensures in
+    let at_hand = c.serve_at_hand-served.ensures in
     let limit = at_hand.limit in
     let lack : c.lack-unit-end.result ≡ lack_at c.args.state.now.cells.now j = c.lack-unit-end.ensures.value ∙ ap (λ (t : Table). lack_at t j) at_hand.taken.table in
     let most = c.units.auto._unit-end (omega (arith, limit, lack)) in

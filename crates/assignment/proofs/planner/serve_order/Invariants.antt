@@ -1,3 +1,4 @@
+use Rattle.assignment.specs.inner.State.{kept}
 use Rattle.assignment.specs.inner.Taken.{HasTaken}
 use Rattle.assignment.specs.inner.Search.{HasRoom}
 use Rattle.assignment.proofs.planner.serve_order.Given as goal
@@ -5,5 +6,5 @@ use Rattle.assignment.proofs.planner.serve_order.Given as goal
 abbrev pub invariant-units : goal.invariant-units
 invariant-units l = record {
   taken : HasTaken l.fn.state l.state l.j l._unit;
-  room : HasRoom l.state.cells.now l.search;
+  room : HasRoom (kept l.state) l.search;
 }

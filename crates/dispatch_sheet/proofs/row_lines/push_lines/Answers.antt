@@ -1,6 +1,6 @@
 use Rattle.std.proofs.Common.{◌+◌, take, sym, string_bytes, arith}
-use Rattle.dispatch_sheet.proofs.Lines.{Adds-line, Adds-lines-along}
-use Rattle.dispatch_sheet.proofs.Lists.{taken_more}
+use Rattle.reply_texts.proofs.Lines.{Adds-line, Adds-lines-along}
+use Rattle.reply_texts.proofs.Lines.{taken_more}
 use Rattle.dispatch_sheet.proofs.row_lines.push_lines.Goals as goal
 
 pub loop-row-preserved : goal.loop-row-preserved

@@ -1,6 +1,5 @@
 use Rattle.std.proofs.Common.{take, string_bytes}
-use Rattle.dispatch_sheet.specs.Sheet.{AreLines}
-use Rattle.dispatch_sheet.specs.inner.Pushed.{Adds}
+use Rattle.reply_texts.specs.Lines.{Adds, AreLines}
 use Rattle.dispatch_sheet.proofs.row_lines.push_lines.Given as goal
 
 abbrev pub invariant-loop-row : goal.invariant-loop-row

@@ -1,7 +1,7 @@
 use Rattle.std.proofs.Common.{◌≡◌, ℕ, List, ◌++◌, map, true, codes, sym, ap₂, ◌∙◌, string_bytes}
 use Rattle.std.proofs.lemmas.Result.{on_ok_weaker}
 use Rattle.dispatch_sheet.specs.Sheet.{list_word}
-use Rattle.dispatch_sheet.specs.Words.{next_word}
+use Rattle.reply_texts.specs.Words.{next_word}
 use Rattle.dispatch_sheet.proofs.Lists.{has_some, has_some-left, has_some-right, list-pushed}
 use Rattle.dispatch_sheet.proofs.wagon_list.push_wagon_list.Goals as goal
 use Rattle.dispatch_sheet.proofs.wagon_list.push_wagon_list.Goals.{else-is_empty-via-then-is_empty+else-is_empty-2, else-is_empty-via-else-is_empty}

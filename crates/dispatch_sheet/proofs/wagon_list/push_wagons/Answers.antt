@@ -1,6 +1,7 @@
 use Rattle.std.proofs.Common.{ℕ, List, ◌++◌, map, take, sym, ap, ◌∙◌, string_bytes, arith}
 use Rattle.dispatch_sheet.specs.inner.Pushed.{listed}
-use Rattle.dispatch_sheet.proofs.Lists.{later, listed-more, later-more, map-taken_more}
+use Rattle.dispatch_sheet.proofs.Lists.{later, listed-more, later-more}
+use Rattle.reply_texts.proofs.Lines.{map-taken_more}
 use Rattle.dispatch_sheet.proofs.wagon_list.push_wagons.Goals as goal
 
 pub loop-number-preserved : goal.loop-number-preserved

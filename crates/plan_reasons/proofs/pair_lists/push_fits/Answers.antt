@@ -1,6 +1,5 @@
 use Rattle.std.proofs.Common.{◌+◌, ℕ, take, get_or, refl, sym, string_bytes, arith}
-use Rattle.dispatch_sheet.proofs.Lines.{Adds-line, Adds-lines-along}
-use Rattle.dispatch_sheet.proofs.Lists.{taken_more}
+use Rattle.reply_texts.proofs.Lines.{Adds-line, Adds-lines-along, taken_more}
 use Rattle.plan_reasons.specs.Pairs.{IsFitsLine}
 use Rattle.plan_reasons.specs.Planned.{priced_plan}
 use Rattle.plan_reasons.proofs.pair_lists.push_fits.Goals as goal

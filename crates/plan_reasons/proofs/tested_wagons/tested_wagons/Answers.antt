@@ -1,6 +1,6 @@
 use Rattle.std.proofs.Common.{◌+◌, ◌++◌, ◌∷◌, [], List, take, refl, subst, sym}
 use Rattle.wagons_and_orders.specs.declared.free_wagon.FreeWagon.{FreeWagon}
-use Rattle.dispatch_sheet.proofs.Lists.{taken_more}
+use Rattle.reply_texts.proofs.Lines.{taken_more}
 use Rattle.plan_reasons.specs.declared.tested_wagons.TestedWagon.{TestedWagon}
 use Rattle.plan_reasons.specs.inner.Tallied.{AreTested}
 use Rattle.plan_reasons.proofs.Tested.{one_tested}

@@ -1,6 +1,6 @@
 use Rattle.std.proofs.Common.{◌+◌, sym, string_bytes}
 use Rattle.std.specs.List.{range_with_len}
-use Rattle.dispatch_sheet.proofs.Lines.{Adds-line, Adds-lines-along}
+use Rattle.reply_texts.proofs.Lines.{Adds-line, Adds-lines-along}
 use Rattle.plan_reasons.specs.WhyText.{IsOrderLine}
 use Rattle.plan_reasons.specs.Planned.{priced_plan}
 use Rattle.plan_reasons.proofs.Columns.{range_next}

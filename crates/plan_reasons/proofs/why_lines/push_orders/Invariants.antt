@@ -1,7 +1,6 @@
 use Rattle.std.proofs.Common.{string_bytes}
 use Rattle.std.specs.List.{range_with_len}
-use Rattle.dispatch_sheet.specs.Sheet.{AreLines}
-use Rattle.dispatch_sheet.specs.inner.Pushed.{Adds}
+use Rattle.reply_texts.specs.Lines.{Adds, AreLines}
 use Rattle.plan_reasons.specs.WhyText.{IsOrderLine}
 use Rattle.plan_reasons.specs.Planned.{priced_plan}
 use Rattle.plan_reasons.proofs.why_lines.push_orders.Given as goal

@@ -1,8 +1,7 @@
 use Rattle.std.proofs.Common.{◌+◌, ℕ, take, get_or, refl, sym, subst, string_bytes, arith}
 use Rattle.cost_table.specs.Plan.{AllAllowed}
-use Rattle.dispatch_sheet.proofs.Lines.{Adds-line, Adds-lines-along}
-use Rattle.dispatch_sheet.proofs.Lists.{taken_more}
-use Rattle.dispatch_sheet.proofs.PlanLines.{IsAllowed-at}
+use Rattle.reply_texts.proofs.Lines.{Adds-line, Adds-lines-along, taken_more}
+use Rattle.plan_bounds.proofs.NewPairs.{allowed_at}
 use Rattle.plan_reasons.specs.WhyText.{IsWagonLine}
 use Rattle.plan_reasons.specs.Planned.{priced_plan}
 use Rattle.plan_reasons.proofs.why_lines.push_wagons.Goals as goal
@@ -11,7 +10,7 @@ pub push_wagon_line-requires-clause-allowed : goal.push_wagon_line-requires-clau
 push_wagon_line-requires-clause-allowed c =
     let cells = c.args.planned.now.cells.now in
     let allowed = subst (AllAllowed cells) (sym c.pairs-pair-items.ensures.pairs) c.requires.certified.plan.allowed in
-    IsAllowed-at cells c.pairs-pair-items.result.now c.loop-pair.pair-index (0, 0) allowed (omega arith)
+    allowed_at cells c.pairs-pair-items.result.now c.loop-pair.pair-index (0, 0) allowed (omega arith)
 
 pub loop-pair-preserved : goal.loop-pair-preserved
 loop-pair-preserved c =

@@ -1,6 +1,5 @@
 use Rattle.std.proofs.Common.{take, string_bytes}
-use Rattle.dispatch_sheet.specs.Sheet.{AreLines}
-use Rattle.dispatch_sheet.specs.inner.Pushed.{Adds}
+use Rattle.reply_texts.specs.Lines.{Adds, AreLines}
 use Rattle.plan_reasons.specs.WhyText.{IsWagonLine}
 use Rattle.plan_reasons.specs.Planned.{priced_plan}
 use Rattle.plan_reasons.proofs.why_lines.push_wagons.Given as goal

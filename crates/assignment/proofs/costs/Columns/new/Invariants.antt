@@ -1,12 +1,13 @@
 use Rattle.std.proofs.Common.{◌-◌, ◌≤◌}
 use Rattle.assignment.specs.inner.Costs.{AreColumnsOf, cost_before}
+use Rattle.assignment.specs.inner.Groups.{group_table}
 use Rattle.assignment.proofs.costs.Columns.new.Given as goal
 
-abbrev pub invariant-wagons : goal.invariant-wagons
-invariant-wagons l = record {
-  within : l.i ≤ l.wagons;
-  columns : AreColumnsOf l.cells (cost_before l.cells l.i) l.costs.items l.v.items l.nearest.items;
+abbrev pub invariant-groups : goal.invariant-groups
+invariant-groups l = record {
+  within : l.g ≤ l.count;
+  columns : AreColumnsOf (group_table l.cells l.groups.first.items) (cost_before (group_table l.cells l.groups.first.items) l.g) l.costs.items l.v.items l.nearest.items;
 }
 
-abbrev pub decreases-wagons : goal.decreases-wagons
-decreases-wagons l = l.wagons - l.i
+abbrev pub decreases-groups : goal.decreases-groups
+decreases-groups l = l.count - l.g

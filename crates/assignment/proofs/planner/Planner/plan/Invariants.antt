@@ -7,7 +7,7 @@ use Rattle.assignment.proofs.planner.Planner.plan.Given as goal
 abbrev pub invariant-orders : goal.invariant-orders
 invariant-orders l = record {
   state : IsState l.state;
-  room : HasRoom l.state.cells.now l.search;
+  room : HasRoom (kept l.state) l.search;
   counted : AreCounted (kept l.state) (taken_in l.state.cells.now (take l.entry-index l.entry-items));
   table : l.state.cells.now ≡ l.initial.state.cells.now;
 }

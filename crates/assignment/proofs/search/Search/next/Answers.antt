@@ -1,42 +1,69 @@
-use Rattle.std.proofs.Common.{ℕ, refl, sym, arith, min, subst}
+use Rattle.std.proofs.Common.{◌≡◌, ◌+◌, ◌<◌, ℕ, Vec, length, get_or, sym, ◌∙◌, ap, arith, subst}
+use Rattle.std.specs.declared.alloc.Global.{Global}
 use Rattle.std.proofs.lemmas.List.{get_or_read}
+use Rattle.assignment.specs.declared.search.Search.{Search}
+use Rattle.assignment.specs.declared.search.End.{End}
 use Rattle.assignment.specs.inner.State.{kept}
-use Rattle.assignment.specs.inner.Search.{IsNext}
-use Rattle.assignment.proofs.Running.{next_found, from_limit}
+use Rattle.assignment.specs.inner.Search.{IsNext, IsSearch, ahead_of}
+use Rattle.assignment.proofs.Numbers.{number_some, orders_length}
+use Rattle.assignment.proofs.Running.{IsBelow, below_closed, next_found}
 use Rattle.assignment.proofs.Settle.{next_of}
 use Rattle.assignment.proofs.search.Search.next.Goals as goal
 
-pub returns-in_err-wagon-clause-none : goal.returns-in_err-wagon-clause-none
-returns-in_err-wagon-clause-none c =
-    let f = c.args.self.now in
-    let top = c.requires.search.refusal.limit c.requires.some in
-    let limit = c.min.ensures in
-    let less = c.if-nearest-min.false in
-    let at = c.requires.nearest.onward.attained (omega (arith, limit, less, top)) in
-    let none = rw (c.deref.ensures.value, c.deref-2.ensures.value) at c.in_err-wagon.ensures.none in
-    absurd (none at.index (omega arith) at.within at.is at.among)
+pub returns-in-Some-lead_on-clause-search : goal.returns-in-Some-lead_on-clause-search
+returns-in-Some-lead_on-clause-search c =
+    let f = c.groups.self in
+    let f' = c.lead_on.new.self in
+    let n = length f.orders.items in
+    let orders : f'.orders ≡ f.orders = ap (λ (x : Search). x.orders) c.lead_on.ensures.same in
+    let done = c.lead_on.ensures.search n (omega arith) c.groups.invariant.search in
+    subst (λ (m : ℕ). IsSearch (kept c.args.state.now) f' m) (ap (λ (x : Vec ℕ Global). length x.items) (sym orders)) done
 
-pub returns-clause-next : goal.returns-clause-next
-returns-clause-next c =
-    let s = kept c.args.state.now in
-    let f = c.args.self.now in
-    let nearest = c.args.nearest in
-    let room = c.requires.search.room in
-    let labels = room.labels in
-    let targets = room.targets in
-    let wagon = c.in_ok-wagon.wagon in
-    let limit = c.min.ensures in
-    let less = c.if-nearest-min.false in
-    let found = rw (c.deref.ensures.value, c.deref-2.ensures.value) at c.in_ok-wagon.ensures.found in
-    let within = found.within in
-    let read = get_or_read f.target.items wagon c.index.result.now (omega (arith, within, labels, targets)) c.index.ensures 0 in
-    let is_next = next_found s c.args.state.now.order_of.items f nearest wagon c.requires.state.keeps refl c.requires.search c.requires.some c.requires.nearest.onward c.requires.nearest.idle (omega (arith, limit, less)) (omega (arith, within, labels)) found.is found.among in
-    subst (λ (x : ℕ). IsNext s f (next_of x nearest.onward wagon)) (sym read) is_next
+pub returns-in-Some-lead_on-clause-next : goal.returns-in-Some-lead_on-clause-next
+returns-in-Some-lead_on-clause-next c =
+    let state = c.args.state.now in
+    let s = kept state in
+    let f = c.groups.self in
+    let f' = c.lead_on.new.self in
+    let h = c.groups.invariant in
+    let same = c.lead_on.ensures.same in
+    let onward = c.groups.onward in
+    let group = c.in-Some.group in
+    let wagon = c.in-Some-lead_on.wagon in
+    let found = rw (c.deref.ensures.value) at c.in-Some.ensures.found in
+    let nearer = c.in-Some-lead_on.ensures.some in
+    let within = nearer.within in
+    let len = c.requires.state.keeps.held.wagons in
+    let long = orders_length state.order_of.items in
+    let lo : wagon < length state.order_of.items = omega (arith, within, len, long) in
+    let read = get_or_read state.order_of.items wagon c.index.result.now lo c.index.ensures 0 in
+    let number = number_some state.order_of.items wagon nearer.order lo nearer.held in
+    let orders : f'.orders ≡ f.orders = ap (λ (x : Search). x.orders) same in
+    let ahead : f'.ahead ≡ f.ahead = c.in-Some-lead_on.ensures.ahead in
+    let ends : f'.end ≡ f.end = ap (λ (x : Search). x.end) same in
+    let count = ap (λ (x : Vec ℕ Global). length x.items) orders in
+    let some : 0 < length f'.orders.items = (let was = c.requires.some in let e = ap length h.orders in omega (arith, was, e, count)) in
+    let less : onward < f'.end.distance = (let e = ap (λ (x : End). x.distance) ends in omega (arith, e, c.groups-test.true)) in
+    let below : IsBelow f' onward = subst (λ (a : Vec ℕ Global). (g : ℕ) → g < length a.items → 0 < get_or a.items g 0 → onward < get_or a.items g 0) (sym ahead) h.below in
+    let at : ahead_of f' group ≡ onward + 1 = ap (λ (a : Vec ℕ Global). get_or a.items group 0) ahead ∙ found.is in
+    let next = next_found s f' onward group wagon nearer.order c.requires.state.keeps (returns-in-Some-lead_on-clause-search c) some (λ i l. c.requires.state.groups.group i l) below less at nearer nearer.held nearer.far in
+    subst (λ (x : ℕ). IsNext s f' (next_of x onward wagon)) (sym (read ∙ number)) next
 
-pub returns-then-nearest-min-clause-none : goal.returns-then-nearest-min-clause-none
-returns-then-nearest-min-clause-none c = λ i l.
-    let s = kept c.args.state.now in
-    let f = c.args.self.now in
-    let limit = c.min.ensures in
-    let most = c.if-nearest-min.true in
-    from_limit s c.args.state.now.order_of.items f c.args.nearest (min c.args.nearest.idle f.refusal.distance) i c.requires.state.keeps refl c.requires.search c.requires.nearest.onward c.requires.nearest.idle (omega (arith, limit, most)) (omega arith) l
+pub groups-preserved-in-Some : goal.groups-preserved-in-Some
+groups-preserved-in-Some c =
+    let f = c.groups.self in
+    let f' = c.lead_on.new.self in
+    let h = c.groups.invariant in
+    let same = c.lead_on.ensures.same in
+    let found = rw (c.deref.ensures.value) at c.in-Some.ensures.found in
+    let n = length f.orders.items in
+    let orders : f'.orders ≡ f.orders = ap (λ (x : Search). x.orders) same in
+    let done = c.lead_on.ensures.search n (omega arith) h.search in
+    record {
+      search = subst (λ (m : ℕ). IsSearch (kept c.args.state.now) f' m) (ap (λ (x : Vec ℕ Global). length x.items) (sym orders)) done;
+      orders = ap (λ (x : Vec ℕ Global). x.items) orders ∙ h.orders;
+      end = ap (λ (x : Search). x.end) same ∙ h.end;
+      front = ap (λ (x : Search). x.front) same ∙ h.front;
+      below = below_closed f.ahead.items f'.ahead.items c.groups.onward c.in-Some.group h.below found.within c.in_default.ensures.none;
+      nearest = λ e. absurd (omega (arith, e));
+    }

@@ -1,28 +1,34 @@
-use Rattle.std.proofs.Common.{◌≡◌, ℕ, None, length, get_or, replicate, sym, ◌∙◌, ap, rules}
+use Rattle.std.proofs.Common.{◌≡◌, length, get_or, replicate, ◌∙◌, ap, rules, arith}
 use Rattle.std.proofs.lemmas.List.{length-replicate}
-use Rattle.cost_table.specs.Table.{order_count}
-use Rattle.assignment.specs.inner.State.{IsKept, Kept, order_at, orders_of}
-use Rattle.assignment.proofs.Counting.{counted_begun, served_begun}
-use Rattle.assignment.proofs.FirstPrices.{kept_first, no_orders, all_same}
-use Rattle.assignment.proofs.Numbers.{orders_length}
+use Rattle.assignment.specs.inner.State.{order_at, orders_of}
+use Rattle.assignment.proofs.Counting.{counted_begun}
+use Rattle.assignment.proofs.FirstPrices.{all_same, no_orders}
+use Rattle.assignment.proofs.FirstState.{first_state}
 use Rattle.assignment.proofs.state.State.new.Goals as goal
 
 pub returns-clause-state : goal.returns-clause-state
 returns-clause-state c =
-    let u : c.in_ok-from_elem.field-0.items ≡ replicate c.wagons.result 0 = search rules in
-    let h : c.in_ok-from_elem-2.field-0.items ≡ replicate c.wagons-2.result 4294967295 = search rules in
-    let none : (i : ℕ) → order_at (orders_of c.in_ok-from_elem-2.field-0.items) i ≡ None = λ i. ap (λ x. order_at (orders_of x) i) h ∙ no_orders c.wagons-2.result i in
-    let k : Kept = record { table = c.args.cells.now; u = c.in_ok-from_elem.field-0.items; v = c.in_ok-costs.field-0.v.items; order_of = orders_of c.in_ok-from_elem-2.field-0.items } in
-    let done : IsKept k = kept_first k c.wagons.ensures.table (ap length u ∙ length-replicate c.wagons.result 0 ∙ c.wagons.ensures.count) (orders_length c.in_ok-from_elem-2.field-0.items ∙ ap length h ∙ length-replicate c.wagons-2.result 4294967295 ∙ c.wagons-2.ensures.count) (λ i. ap (λ x. get_or x i 0) u ∙ all_same c.wagons.result i 0) (λ i q is. let e = sym (none i) ∙ is in cc) c.in_ok-costs.ensures.prices in
+    let groups = c.in_ok-groups.groups in
+    let u : c.in_ok-from_elem.field-0.items ≡ replicate c.len-3.result 0 = search rules in
+    let h : c.in_ok-from_elem-2.field-0.items ≡ replicate c.wagons.result 4294967295 = search rules in
     let n : c.in_ok-from_elem-3.field-0.items ≡ replicate c.orders.result 0 = search rules in
-    record {
-      keeps = done;
-      costs = c.in_ok-costs.ensures.costs;
-      hints = c.in_ok-costs.ensures.hints;
-      served = served_begun (order_count c.args.cells.now) _ c.in_ok-from_elem-3.field-0.items (ap length n ∙ length-replicate c.orders.result 0 ∙ c.orders.ensures.count) (λ k. ap (λ x. get_or x k 0) n ∙ all_same c.orders.result k 0) none;
-    }
+    let count : c.len-3.result ≡ length groups.first.items = omega (arith, c.len-3.ensures, groups.first.ok.0) in
+    let wagons = c.wagons.ensures.count in
+    first_state _ (record {
+      table = c.wagons.ensures.table;
+      are_groups = c.in_ok-groups.ensures;
+      columns = c.in_ok-costs.ensures;
+      u_is = u ∙ ap (λ x. replicate x 0) count;
+      u_count = ap length u ∙ length-replicate c.len-3.result 0 ∙ count;
+      bound_is = c.copy_from_slice.ensures.items ∙ c.deref.ensures.value;
+      idle_is = c.copy_from_slice-2.ensures.items ∙ c.deref-2.ensures.value;
+      orders_is = h ∙ ap (λ x. replicate x 4294967295) wagons;
+      orders_count = ap length h ∙ length-replicate c.wagons.result 4294967295 ∙ wagons;
+      served_is = λ k. ap (λ x. get_or x k 0) n ∙ all_same c.orders.result k 0;
+      served_count = ap length n ∙ length-replicate c.orders.result 0 ∙ c.orders.ensures.count;
+    })
 
 pub returns-clause-counted : goal.returns-clause-counted
 returns-clause-counted c =
-    let h : c.in_ok-from_elem-2.field-0.items ≡ replicate c.wagons-2.result 4294967295 = search rules in
-    counted_begun _ (λ i. ap (λ x. order_at (orders_of x) i) h ∙ no_orders c.wagons-2.result i)
+    let h : c.in_ok-from_elem-2.field-0.items ≡ replicate c.wagons.result 4294967295 = search rules in
+    counted_begun _ (λ i. ap (λ x. order_at (orders_of x) i) h ∙ no_orders c.wagons.result i)

@@ -1,8 +1,8 @@
 use Rattle.std.proofs.Common.{ℕ, ap, ◌∙◌, string_bytes, subst}
 use Rattle.std.proofs.lemmas.Result.{on_ok_weaker}
 use Rattle.move_messages.specs.Order.{Order}
-use Rattle.dispatch_sheet.specs.inner.Parts.{IsMomentWord}
-use Rattle.dispatch_sheet.specs.inner.Pushed.{Adds}
+use Rattle.reply_texts.specs.Words.{IsMomentWord}
+use Rattle.reply_texts.specs.Lines.{Adds}
 use Rattle.dispatch_sheet.proofs.Moments.{order_line}
 use Rattle.dispatch_sheet.proofs.order_line.OrderRowLined.push_line.Goals as goal
 

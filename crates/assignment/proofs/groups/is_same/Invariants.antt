@@ -1,0 +1,8 @@
+use Rattle.std.proofs.Common.{◌≡◌, ◌<◌, ◌-◌, ℕ, get_or, length}
+use Rattle.assignment.proofs.groups.is_same.Given as goal
+
+abbrev pub invariant-parts : goal.invariant-parts
+invariant-parts l = (k : ℕ) → k < l.x → get_or l.row k (0, 0) ≡ get_or l.other k (0, 0)
+
+abbrev pub decreases-parts : goal.decreases-parts
+decreases-parts l = length l.row - l.x

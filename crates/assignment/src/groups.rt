@@ -1,0 +1,142 @@
+//! Groups of wagons that have the same row.
+ghost use Rattle.std.specs.Prelude.{◌≡◌, ◌<◌, ◌≤◌, ◌+◌, ℕ, IfOk, length, true, slice_index, slice_index_or};
+ghost use Rattle.cost_table.specs.Table.{row_at, wagon_count};
+ghost use Rattle.cost_table.specs.TableLimits.{IsTable};
+ghost use Rattle.assignment.specs.inner.Groups.{AreGroups, AreGrouped, HasRoomFor};
+
+use cost_table::Cells;
+use std::alloc::{AllocError, Global};
+
+/// Stands for a wagon where there is none.
+pub(crate) const NO_WAGON: u32 = u32::MAX;
+
+/// Wagons of one group have the same row. Wagons with the same row are mostly of one group; nothing rests on that.
+#[derive(Drop)]
+pub(crate) struct Groups {
+    /// The group of each wagon.
+    pub(crate) of: Vec<usize>,
+    /// The first wagon of each group.
+    pub(crate) first: Vec<u32>,
+    /// The last wagon of each group.
+    pub(crate) last: Vec<usize>,
+    /// After each wagon the next one of its group, `NO_WAGON` after the last.
+    pub(crate) next: Vec<u32>,
+}
+
+impl Groups {
+    /// The groups of a table's wagons. Each wagon joins the group seen last with its sample, if that has its row: one
+    /// comparison of rows a wagon at most.
+    pub(crate) fn new(alloc: Global, cells: &Cells) -> Result<Groups, AllocError>
+        ensures { IfOk result (λ groups. AreGroups cells.now groups) }
+    {
+        let wagons = cells.wagons();
+        let mut groups = Groups {
+            of: Vec::with_capacity(alloc, wagons)?,
+            first: Vec::with_capacity(alloc, wagons)?,
+            last: Vec::with_capacity(alloc, wagons)?,
+            next: Vec::from_elem(alloc, NO_WAGON, wagons)?,
+        };
+        let mut seen = Vec::from_elem(alloc, usize::MAX, 2 * wagons + 1)?;
+        'wagons: for i in 0..wagons {
+            let slot = sample(cells.row(i)) % seen.len();
+            let group = seen[slot];
+            if groups.has_row(cells, group, i) {
+                groups.join(cells, i, group);
+            } else {
+                seen[slot] = groups.first.len();
+                groups.begin(cells, i);
+            }
+        }
+        Ok(groups)
+    }
+
+    /// Whether there is such a group, and its wagons have the row of wagon `i`.
+    fn has_row(&self, cells: &Cells, group: usize, i: usize) -> bool
+        requires groups { AreGrouped cells.now i self.now }
+        requires wagon { i < wagon_count cells.now }
+        ensures within { result ≡ true → group < length self.now.first.items }
+        ensures same { result ≡ true → row_at cells.now i ≡ row_at cells.now (slice_index self.now.first.items group) }
+    {
+        group < self.first.len() && is_same(cells.row(i), cells.row(self.first[group] as usize))
+    }
+
+    /// Wagon `i` joins a group.
+    fn join(&mut self, cells: &Cells, i: usize, group: usize)
+        requires table { IsTable cells.now }
+        requires groups { AreGrouped cells.now i self.old }
+        requires room { HasRoomFor (wagon_count cells.now) self.old }
+        requires wagon { i < wagon_count cells.now }
+        requires within { group < length self.old.first.items }
+        requires same { row_at cells.now i ≡ row_at cells.now (slice_index self.old.first.items group) }
+        ensures groups { AreGrouped cells.now (i + 1) self.new }
+        ensures room { HasRoomFor (wagon_count cells.now) self.new }
+    {
+        let last = self.last[group];
+        self.next[last] = i as u32;
+        self.last[group] = i;
+        self.of.push_reserved(group);
+    }
+
+    /// Wagon `i` begins a group.
+    fn begin(&mut self, cells: &Cells, i: usize)
+        requires table { IsTable cells.now }
+        requires groups { AreGrouped cells.now i self.old }
+        requires room { HasRoomFor (wagon_count cells.now) self.old }
+        requires wagon { i < wagon_count cells.now }
+        ensures groups { AreGrouped cells.now (i + 1) self.new }
+        ensures room { HasRoomFor (wagon_count cells.now) self.new }
+    {
+        self.of.push_reserved(self.first.len());
+        self.first.push_reserved(i as u32);
+        self.last.push_reserved(i);
+    }
+}
+
+/// The same number for rows that are the same. It reads three cells, as rows that differ do so nearly everywhere.
+fn sample(row: &[(u32, u32)]) -> usize {
+    if row.is_empty() {
+        return 0;
+    }
+    let last = row.len() - 1;
+    let (first, middle, end) = (row[0], row[last / 2], row[last]);
+    mix(mix(mix(row.len() as u64, first), middle), end) as usize
+}
+
+/// A number mixed with a cell.
+fn mix(number: u64, cell: (u32, u32)) -> u64 {
+    let joined = number ^ u64::from(cell.0) ^ (u64::from(cell.1) << 20);
+    joined.wrapping_mul(0x9E37_79B9_7F4A_7C15).rotate_left(29)
+}
+
+/// How many cells are compared together.
+const PART: usize = 16;
+
+/// Whether two rows are the same.
+fn is_same(row: &[(u32, u32)], other: &[(u32, u32)]) -> bool
+    ensures { result ≡ true → row.now ≡ other.now }
+{
+    if row.len() != other.len() {
+        return false;
+    }
+    let mut x = 0;
+    'parts: while x < row.len() {
+        let end = row.len().min(x + PART);
+        if !is_same_part(&row[x..end], &other[x..end]) {
+            return false;
+        }
+        x = end;
+    }
+    true
+}
+
+/// Whether the cells of two rows are the same. It has no branch in its loop, so that the compiler makes vector code of it.
+fn is_same_part(row: &[(u32, u32)], other: &[(u32, u32)]) -> bool
+    requires lengths { length other.now ≡ length row.now }
+    ensures { result ≡ true → (x : ℕ) → x < length row.now → slice_index_or row.now x (0, 0) ≡ slice_index_or other.now x (0, 0) }
+{
+    let mut is_same = true;
+    for x in 0..row.len() {
+        is_same &= (row[x].0 == other[x].0) & (row[x].1 == other[x].1);
+    }
+    is_same
+}

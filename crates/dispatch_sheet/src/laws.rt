@@ -1,8 +1,0 @@
-//! What names on a map can't do.
-ghost use Rattle.dispatch_sheet.specs.MapLaws.{NamesStayInQuotes};
-
-/// States that no place, class or name of an order has a quote or a backslash, so that none can end the quotes that it
-/// stands in; it does nothing.
-pub fn names_stay_in_quotes()
-    ensures { NamesStayInQuotes }
-{}

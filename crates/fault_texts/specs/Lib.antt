@@ -1,0 +1,7 @@
+pub mod Shown
+pub mod Where
+pub mod HeaderText
+pub mod RosterText
+pub mod NetworkText
+pub mod LineText
+pub mod CheckpointText

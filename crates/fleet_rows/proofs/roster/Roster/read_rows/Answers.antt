@@ -1,9 +1,0 @@
-use Rattle.csv_records.proofs.Remaining.{from_start}
-use Rattle.fleet_rows.proofs.RosterOfLemmas.{IsReadFrom-gives}
-use Rattle.fleet_rows.proofs.roster.Roster.read_rows.Goals as goal
-
-pub returns : goal.returns
-returns g c =
-    let (records, left, gives) = c.read_all.ensures.meaning in
-    let all = from_start g.R.Read.remaining c.open_records-records.result (g.R.Read.remaining c.args.reader) records c.open_records-records.ensures.source c.open_records-records.ensures.state left in
-    IsReadFrom-gives _ records c.read_all.result all gives c.read_all.ensures.roster

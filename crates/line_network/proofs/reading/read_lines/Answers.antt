@@ -1,9 +1,0 @@
-use Rattle.csv_records.proofs.Remaining.{from_start}
-use Rattle.line_network.proofs.NetworkOfLemmas.{IsReadFrom-gives}
-use Rattle.line_network.proofs.reading.read_lines.Goals as goal
-
-pub returns : goal.returns
-returns g c =
-    let (rows, left, gives) = c.read_rows.ensures.meaning in
-    let all = from_start g.R.Read.remaining c.open_records-rows.result (g.R.Read.remaining c.args.reader) rows c.open_records-rows.ensures.source c.open_records-rows.ensures.state left in
-    IsReadFrom-gives _ rows c.read_rows.result all gives

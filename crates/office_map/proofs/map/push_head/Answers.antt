@@ -1,0 +1,9 @@
+use Rattle.std.proofs.Common.{string_bytes}
+use Rattle.std.proofs.lemmas.Result.{on_ok_weaker}
+use Rattle.office_map.proofs.Pushed.{pushed}
+use Rattle.office_map.proofs.map.push_head.Goals as goal
+
+pub returns : goal.returns
+returns c =
+    let old = string_bytes c.args.text.now in
+    on_ok_weaker c.push_network.result (λ last. pushed old _ _ _ _ c.in_ok-push_room.ensures last) c.push_network.ensures

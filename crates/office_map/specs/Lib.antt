@@ -1,0 +1,12 @@
+pub mod Words
+pub mod Frame
+pub mod Shown
+pub mod Wagons
+pub mod Orders
+pub mod Places
+pub mod Outside
+pub mod Lines
+pub mod Promises
+pub mod Map
+pub mod Laws
+pub mod inner

@@ -1,0 +1,7 @@
+pub mod Limits
+pub mod Texts
+pub mod Records
+pub mod Reading
+pub mod PlacesOf
+pub mod Faults
+pub mod inner

@@ -1,0 +1,48 @@
+-- The text of a plan for people: of which version it is and at which moment; a table of the wagons that go; a table of the
+-- orders that miss wagons, if any does; the sum of all kilometres and penalties.
+use Rattle.std.specs.Prelude.{◌≡◌, ℕ, List, [], ◌∷◌, ◌++◌, map, codes, decimal}
+use Rattle.std.specs.List.{AllZip}
+use Rattle.place_names.specs.declared.named_place.NamedPlace.{NamedPlace}
+use Rattle.plan_table.specs.declared.aligned.Side.{Side}
+use Rattle.plan_table.specs.declared.aligned.Side.TheVariants.{Left, Right}
+use Rattle.plan_table.specs.declared.clock.Clock.{Clock}
+use Rattle.plan_table.specs.declared.plan_list.PlanList.{PlanList}
+use Rattle.plan_table.specs.declared.plan_list.Shortfall.{Shortfall}
+use Rattle.plan_table.specs.Aligned.{aligned_text}
+use Rattle.plan_table.specs.Cells.{IsJourneyRow, Row, journey_titles, shortfall_row, shortfall_titles}
+use Rattle.plan_table.specs.Clock.{IsShown}
+
+-- numbers stand at the right
+abbrev pub journey_sides : List Side
+journey_sides = Left ∷ Left ∷ Left ∷ Left ∷ Right ∷ Right ∷ Left ∷ Left ∷ []
+
+abbrev pub shortfall_sides : List Side
+shortfall_sides = Left ∷ Right ∷ Right ∷ Left ∷ []
+
+abbrev pub version_words : (version : ℕ) → List ℕ
+version_words version = codes "plan of version " ++ decimal version
+
+abbrev pub moment_words : (at : List ℕ) → List ℕ
+moment_words at = codes " at " ++ at ++ codes "\n\n"
+
+-- the first line, and an empty one
+abbrev pub head_line : (version : ℕ) → (at : List ℕ) → List ℕ
+head_line version at = version_words version ++ moment_words at
+
+abbrev pub journeys_text : List Row → List ℕ
+journeys_text rows = aligned_text journey_sides (journey_titles ∷ rows)
+
+-- nothing where no order misses a wagon
+abbrev pub shortfalls_text : List Shortfall → List ℕ
+shortfalls_text [] = []
+shortfalls_text (first ∷ others) = 10 ∷ aligned_text shortfall_sides (shortfall_titles ∷ map shortfall_row (first ∷ others))
+
+abbrev pub sum_line : (sum : ℕ) → List ℕ
+sum_line sum = codes "\nsum " ++ decimal sum ++ codes " km\n"
+
+pub record IsTableText (places : List NamedPlace) (clock : Clock) (plan : PlanList) (text : List ℕ) : Type 0 where
+  pub at : List ℕ
+  pub at_shown : IsShown clock plan.at at
+  pub rows : List Row
+  pub each : AllZip (IsJourneyRow places clock) plan.journeys.items rows
+  pub whole : text ≡ head_line plan.version at ++ journeys_text rows ++ shortfalls_text plan.shortfalls.items ++ sum_line plan.sum

@@ -1,0 +1,21 @@
+//! A plan for people: a table of the wagons that go and of the orders that miss wagons, as text or as CSV.
+//!
+//! `Err` only when out of memory.
+#![tactic(auto)]
+
+mod aligned;
+mod clock;
+mod listing;
+mod phrases;
+mod plan_list;
+mod row;
+mod rows;
+mod spreadsheet;
+mod table;
+
+pub use aligned::Side;
+pub use clock::Clock;
+pub use listing::list_of_plan;
+pub use plan_list::{Journey, PlanList, Reason, Shortfall};
+pub use spreadsheet::csv_text;
+pub use table::table_text;

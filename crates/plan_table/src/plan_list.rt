@@ -1,0 +1,73 @@
+//! A plan as a list: the wagons that go, and the orders that miss wagons.
+
+use rail_codes::{ClassCode, Moment, OrderId, Place, WagonNumber};
+
+/// A wagon that goes to an order.
+#[derive(Clone, Copy, Debug, PartialEq, Eq)]
+pub struct Journey {
+    /// The wagon.
+    pub wagon: WagonNumber,
+    /// Its class.
+    pub class: ClassCode,
+    /// Where it stands.
+    pub from: Place,
+    /// Where the order wants it.
+    pub to: Place,
+    /// The kilometres between the two.
+    pub km: u32,
+    /// The minutes between the two.
+    pub minutes: u32,
+    /// When it is there.
+    pub arrival: Moment,
+    /// The order.
+    pub order: OrderId,
+}
+
+/// The first test that no wagon passes for an order, but those that it gets. A wagon that passes a test passes those before it.
+#[derive(Clone, Copy, Debug, PartialEq, Eq)]
+pub enum Reason {
+    /// The order lists the wagon's class.
+    Class,
+    /// The wagon carries the order's load.
+    Load,
+    /// A way leads to the order's place.
+    Way,
+    /// The wagon is there by the latest moment.
+    InTime,
+    /// It costs less than the order's penalty.
+    Cheaper,
+    /// Others pass each test, and go to other orders.
+    Elsewhere,
+}
+
+/// An order that misses wagons.
+#[derive(Clone, Copy, Debug, PartialEq, Eq)]
+pub struct Shortfall {
+    /// The order.
+    pub order: OrderId,
+    /// Where it wants wagons.
+    pub place: Place,
+    /// How many wagons the plan gives it.
+    pub gets: u64,
+    /// How many it misses.
+    pub missing: u64,
+    /// The penalty of each that it misses, in km.
+    pub penalty: u64,
+    /// Why it misses them.
+    pub reason: Reason,
+}
+
+/// A plan of a version's problem at a moment.
+#[derive(Debug, Drop)]
+pub struct PlanList {
+    /// The version.
+    pub version: u64,
+    /// The moment.
+    pub at: Moment,
+    /// The wagons that go, in the plan's order.
+    pub journeys: Vec<Journey>,
+    /// The orders that miss wagons, as placed.
+    pub shortfalls: Vec<Shortfall>,
+    /// All kilometres, and the penalties of all wagons that are missing.
+    pub sum: u128,
+}

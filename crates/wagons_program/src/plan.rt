@@ -1,0 +1,135 @@
+//! The word `plan`.
+ghost use Rattle.std.specs.Prelude.{◌≡◌, IfOk};
+ghost use Rattle.plan_table.specs.declared.clock.Clock.{Clock};
+ghost use Rattle.wagons_program.specs.PlanOfLast.{IsPlanOfLast, IsPlanTextOfLast, IsPrinted};
+
+use crate::bringing::{Brought, bring, leave};
+use crate::printing::print_bytes;
+use crate::stop::Stop;
+use crate::stopped::Stopped;
+use crate::told_file::open;
+use crate::told_files::told_of_places;
+use crate::zone::{ZoneFile, clock_of, read_zone};
+use command_line::PlanOptions;
+use commit_book::Book;
+use line_network::Networks;
+use place_names::Places;
+use plan_reasons::PlannedProblem;
+use plan_table::{Clock, PlanList, csv_text, list_of_plan, table_text};
+use rail_codes::Moment;
+use std::alloc::Global;
+use std::io;
+use std::io::Read;
+use std::rt::Files;
+use std::sync::Wait;
+use std::thread::Threads;
+
+/// Opens an office, brings the command lines of an input to it without replies, plans the problem of its last version at a
+/// moment, and prints the plan for people: status 0, or 1 where a line was refused. The names of places and the time zone are
+/// read first.
+pub(crate) fn plan<R: Print + Files + Threads + Wait + AllocGlobal, I: Read + Drop>(
+    rt: &R,
+    options: &PlanOptions<'_>,
+    input: I,
+) -> Result<u8, Stopped> {
+    let places = read_places(rt, options.places)?;
+    let zone = read_zone(rt, options.zone)?;
+    let Brought {
+        mut book,
+        networks: _,
+        distances,
+        status,
+    } = bring(rt, &options.problem.office, input, io::sink())?;
+    let text = last_text(rt.alloc(), &mut book, &distances, options, &places, &zone);
+    leave(book);
+    print_bytes(rt, &text?)?;
+    Ok(status)
+}
+
+/// The names of places that a file says; none where no file is given.
+fn read_places<R: Files + AllocGlobal>(rt: &R, path: Option<&str>) -> Result<Places, Stopped> {
+    let Some(path) = path else {
+        return Ok(Places::empty(rt.alloc()));
+    };
+    let mut file = open(rt, path)?;
+    match Places::read_names(rt.alloc(), &mut file) {
+        Ok(places) => Ok(places),
+        Err(fault) => Err(told_of_places(rt.alloc(), path, fault, &file)),
+    }
+}
+
+/// The plan of a book's last version at a moment, over the network in force, for people.
+fn last_text(
+    alloc: Global,
+    book: &mut Book,
+    distances: &Networks,
+    options: &PlanOptions<'_>,
+    places: &Places,
+    zone: &ZoneFile,
+) -> Result<Vec<u8>, Stop>
+    requires { distances.now ≡ book.old.setting.networks }
+    ensures { IfOk result (λ text. (clock : Clock) × IsPlanTextOfLast book.old.setting book.old.state.history options.now.problem.at options.now.csv places.now clock text.items) }
+{
+    let list = last_plan(alloc, book, distances, options.problem.at)?;
+    printed_in(alloc, options.csv, places, zone, &list)
+}
+
+/// A plan of a book's last version at a moment, over the network in force, as a list.
+fn last_plan(
+    alloc: Global,
+    book: &mut Book,
+    distances: &Networks,
+    at: Moment,
+) -> Result<PlanList, Stop>
+    requires { distances.now ≡ book.old.setting.networks }
+    ensures { IfOk result (IsPlanOfLast book.old.setting book.old.state.history at) }
+{
+    let (snap, index) = book.begin_indexed(alloc, at)?;
+    // A book's network in force is one of its networks.
+    let Some(tables) = distances.get(snap.network()) else {
+        return Err(Stop::OpenFailed);
+    };
+    let cells = book.kept_table(index);
+    let (plan, prices) = assignment::plan(alloc, cells)?;
+    let planned = PlannedProblem {
+        problem: snap.problem(),
+        tables,
+        cells,
+        plan: &plan,
+        prices: &prices,
+    };
+    Ok(list_of_plan(alloc, snap.version(), &planned)?)
+}
+
+/// What is printed of a list, with moments as they are shown in a time zone.
+fn printed_in(
+    alloc: Global,
+    csv: bool,
+    places: &Places,
+    zone: &ZoneFile,
+    plan: &PlanList,
+) -> Result<Vec<u8>, Stop>
+    ensures { IfOk result (λ text. (clock : Clock) × IsPrinted csv places.now clock plan.now text.items) }
+{
+    match clock_of(zone) {
+        Ok(clock) => printed(alloc, csv, places, &clock, plan),
+        Err(stop) => Err(stop),
+    }
+}
+
+/// What is printed of a list, with moments as a clock shows them.
+fn printed(
+    alloc: Global,
+    csv: bool,
+    places: &Places,
+    clock: &Clock<'_>,
+    plan: &PlanList,
+) -> Result<Vec<u8>, Stop>
+    ensures { IfOk result (λ text. IsPrinted csv places.now clock.now plan.now text.items) }
+{
+    if csv {
+        return Ok(csv_text(alloc, places, clock, plan)?);
+    }
+    let text = table_text(alloc, places, clock, plan)?;
+    Ok(text.into_bytes())
+}

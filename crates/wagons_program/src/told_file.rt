@@ -1,0 +1,72 @@
+//! A file that keeps why its reading failed, and what people are told then.
+
+use crate::stop::Stop;
+use crate::stopped::Stopped;
+use fault_texts::file_text;
+use std::alloc::{AllocError, Global};
+use std::io::Read;
+use std::rt::Files;
+use std::{fs, io};
+
+/// A file that keeps why its reading failed.
+#[derive(Drop)]
+pub(crate) struct ToldFile<F> {
+    file: F,
+    /// The last failure of a read, where there was one.
+    failure: Option<io::Error>,
+}
+
+impl<F> ToldFile<F> {
+    /// What the system said of the last read that failed, as people are told of it.
+    pub(crate) fn failure_text(&self, alloc: Global, path: &str) -> Result<String, AllocError> {
+        match &self.failure {
+            Some(error) => system_text(alloc, path, error),
+            None => file_text(alloc, path, "it couldn't be read"),
+        }
+    }
+}
+
+impl<F: Read> Read for ToldFile<F> {
+    fn read(&mut self, buf: &mut [u8]) -> io::Result<usize> {
+        match self.file.read(buf) {
+            Ok(count) => Ok(count),
+            Err(error) => {
+                self.failure = Some(error);
+                Err(error)
+            }
+        }
+    }
+}
+
+/// A file that is open for reading, and keeps why its reading failed.
+pub(crate) fn open<R: Files + AllocGlobal>(
+    rt: &R,
+    path: &str,
+) -> Result<ToldFile<R::File>, Stopped> {
+    Ok(ToldFile {
+        file: open_plain(rt, path)?,
+        failure: None,
+    })
+}
+
+/// A file that is open for reading. `OpenFailed` (93) where it couldn't be opened.
+pub(crate) fn open_plain<R: Files + AllocGlobal>(rt: &R, path: &str) -> Result<R::File, Stopped> {
+    match fs::open(rt, path) {
+        Ok(file) => Ok(file),
+        Err(error) => Err(Stopped::told(Stop::OpenFailed, system_text(rt.alloc(), path, &error))),
+    }
+}
+
+/// A file and what the system says of it, without the error's number.
+fn system_text(alloc: Global, path: &str, error: &io::Error) -> Result<String, AllocError> {
+    let said = format!(in alloc; "{error}")?;
+    file_text(alloc, path, without_number(said.as_str()))
+}
+
+/// What the system says, without the number behind it.
+fn without_number(said: &str) -> &str {
+    match said.split_once(" (os error ") {
+        Some((words, _)) => words,
+        None => said,
+    }
+}

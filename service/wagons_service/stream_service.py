@@ -1,0 +1,373 @@
+"""What runs behind the addresses where the journal is a stream: any number of services read it, and one of them writes.
+
+A session lasts as long as its connections. It begins by looking whether what was read before is still there; where it
+isn't, say since the server lost its last second, the office begins again from what is there. The lease only spares work: a
+service that believes it holds it and doesn't writes the same replies under the same ids, which Redis refuses.
+"""
+
+import asyncio
+import logging
+import os
+import secrets
+import shutil
+import socket
+import tempfile
+import time
+from bisect import bisect_left
+from collections.abc import Sequence
+from contextlib import suppress
+from dataclasses import dataclass
+from typing import Any
+
+from .address import Address
+from .answers import Refusal
+from .journal import NotKept
+from .office import NotTaken, State, Stopped
+from .options import DEFAULT_ENTRIES, Options
+from .redis_link import Link, Lost, Refused, good, number, pack
+from .service import Part, Service
+from .stream_office import NOT_READ, StreamOffice
+from .streams import (
+    LIBRARY, MOST_ENTRIES, START, Checkpoint, Keys, Trimmed, add_lines, add_replies, are_added, field, is_whole,
+    keep_checkpoint, last_checkpoint, last_id, lines_of, order, read_behind, wait)
+from .viewer import Viewer
+
+log = logging.getLogger("wagons-service")
+
+MILLISECONDS_OF_WAITING = 1000
+SECONDS_BETWEEN_LOOKS = 0.002
+SECONDS_BETWEEN_SESSIONS = 0.2
+MOST_SECONDS_BETWEEN_SESSIONS = 1.0
+SECONDS_TO_BE_READ = 60
+
+
+class Unfit(Exception):
+    """The stream can't be served with these options; the text says why."""
+
+
+@dataclass(eq=False, slots=True)
+class _Request:
+    lines: Sequence[bytes]
+    ids: "asyncio.Future[list[bytes]]"
+
+    def refuse(self, why: Exception) -> None:
+        if not self.ids.done():
+            self.ids.set_exception(why)
+
+
+class StreamService(Service):
+    office: StreamOffice
+
+    def __init__(self, options: Options, address: Address) -> None:
+        self._address = address
+        self._keys = Keys(address.stream)
+        self._target = Keys(address.inbox or address.stream).lines
+        self._is_temporary = not options.copy
+        self._copy = options.copy or tempfile.mkdtemp(prefix="wagons-service-")
+        self._token = f"{socket.gethostname()}:{os.getpid()}:{secrets.token_hex(8)}".encode()
+        self._task: asyncio.Task[None] | None = None
+        self._grew = asyncio.Event()
+        self._to_append: asyncio.Queue[_Request] = asyncio.Queue()
+        # Who waits for the line of which id to be read.
+        self._awaited: dict[bytes, "asyncio.Future[tuple[StreamOffice, int]]"] = {}
+        # The office of the journal before.
+        self._before: StreamOffice | None = None
+        # What was read last, and up to which line is read before anything is written.
+        self._line = self._reply = self._end = START
+        self._is_new = True
+        self._is_caught_up = False
+        self._checkpoint: Checkpoint | None = None
+        self._journal_lines = 0
+        self.is_first = False
+        super().__init__(options)
+
+    @property
+    def _path(self) -> str:
+        return self._copy
+
+    def _open(self) -> None:
+        journal = self.folder.journal()
+        self.office = StreamOffice(journal, self.options.words("run", journal.checkpoint), self.metrics, self._grew.set, self._append_ours)
+        self.viewer = Viewer(self.office, self.options)
+
+    def start(self) -> None:
+        self._task = asyncio.create_task(self._serve())
+
+    async def begin_next(self) -> int:
+        raise Refusal(400, "The journals of a stream begin by themselves.")
+
+    async def close(self) -> None:
+        if self._task:
+            self._task.cancel()
+            await asyncio.gather(self._task, return_exceptions=True)
+        await super().close()
+        if self._is_temporary:
+            shutil.rmtree(self._copy, ignore_errors=True)
+
+    @property
+    def role(self) -> str | None:
+        return "first" if self.is_first else "standby"
+
+    # Lines are appended.
+
+    async def take(self, lines: Sequence[bytes]) -> list[Part]:
+        self.office.may_take()
+        if not lines:
+            return []
+        ids = await self._append(lines)
+        office, first = await self._place(ids[0])
+        last_office, last = await self._place(ids[-1])
+        if office is last_office:
+            return [Part(office, range(first, last + 1), lines)]
+        # A new journal began among them.
+        many = len(office.ids) + 1 - first
+        return [Part(office, range(first, first + many), lines[:many]), Part(last_office, range(1, last + 1), lines[many:])]
+
+    async def _append(self, lines: Sequence[bytes]) -> list[bytes]:
+        request = _Request(lines, asyncio.get_running_loop().create_future())
+        self._to_append.put_nowait(request)
+        return await request.ids
+
+    def _append_ours(self, line: bytes) -> None:
+        """The line by which a sheet ends; where another service appends it too, it does no harm."""
+        if self.is_first:
+            request = _Request([line], asyncio.get_running_loop().create_future())
+            request.ids.add_done_callback(lambda done: done.cancelled() or done.exception())
+            self._to_append.put_nowait(request)
+
+    async def _place(self, id: bytes) -> tuple[StreamOffice, int]:
+        """In which office a line was read, and its number there."""
+        for office in (self.office, self._before):
+            if office and office.ids and order(office.ids[0]) <= order(id) <= order(office.ids[-1]):
+                return office, bisect_left(office.ids, order(id), key=order) + 1
+        read = self._awaited.setdefault(id, asyncio.get_running_loop().create_future())
+        try:
+            async with asyncio.timeout(SECONDS_TO_BE_READ):
+                return await asyncio.shield(read)
+        except TimeoutError:
+            raise Stopped(f"the line {id.decode()} is in the stream, and isn't read yet") from None
+        finally:
+            self._awaited.pop(id, None)
+
+    async def _append_all(self, link: Link) -> None:
+        """Appends what is asked for. The lines of a request stand behind one another, and are there all or not at all."""
+        while True:
+            requests = [await self._to_append.get()]
+            while not self._to_append.empty():
+                requests.append(self._to_append.get_nowait())
+            try:
+                for request in requests:
+                    ids = await link.transaction(add_lines(self._target, request.lines, self._address.inbox and self._address.stream))
+                    for id in ids:
+                        good(id)
+                    if not request.ids.done():
+                        request.ids.set_result(ids)
+            except (Lost, Refused, asyncio.CancelledError) as fault:
+                for request in requests:
+                    request.refuse(Stopped(f"{fault or 'the connection was closed'}; the stream will tell whether the lines are in it"))
+                raise
+
+    # A session.
+
+    async def _serve(self) -> None:
+        pause = SECONDS_BETWEEN_SESSIONS
+        while True:
+            start = time.monotonic()
+            try:
+                await self._session()
+                return
+            except Trimmed as fault:
+                self._is_new, why = True, f"the office begins again: {fault}"
+            except Unfit as fault:
+                self.office.stop(str(fault))
+                return
+            except (Lost, Refused, NotKept, OSError) as fault:
+                why = f"the stream can't be reached: {fault}"
+            except Exception as fault:
+                self.office.stop(f"the service failed: {fault!r}")
+                raise
+            log.warning("%s", why)
+            self._interrupt(why)
+            pause = SECONDS_BETWEEN_SESSIONS if time.monotonic() - start > 1 else min(2 * pause, MOST_SECONDS_BETWEEN_SESSIONS)
+            await asyncio.sleep(pause)
+
+    def _interrupt(self, why: str) -> None:
+        self.is_first = self._is_caught_up = False
+        self.office.may_lead(why)
+        while not self._to_append.empty():
+            self._to_append.get_nowait().refuse(NotTaken(why))
+
+    async def _session(self) -> None:
+        links: list[Link] = []
+        try:
+            # The one that reads comes first, so that it isn't newer than the one by which all is compared.
+            for key in self._keys.lines, self._keys.lines, self._target:
+                links.append(await Link.open(self._address, key))
+            reader, writer, appender = links
+            await self._begin(writer)
+            works = [self._follow(reader), self._write(writer), self._hold(writer), self._append_all(appender), appender.until_lost()]
+            tasks = [asyncio.create_task(work) for work in works]
+            try:
+                done, _ = await asyncio.wait(tasks, return_when=asyncio.FIRST_COMPLETED)
+                for task in done:
+                    task.result()
+                await self._release(writer)
+            except asyncio.CancelledError:
+                await self._release(writer)
+                raise
+            finally:
+                for task in tasks:
+                    task.cancel()
+                await asyncio.gather(*tasks, return_exceptions=True)
+        finally:
+            for link in links:
+                link.close()
+
+    async def _begin(self, link: Link) -> None:
+        """Compares what was read before with what is there; where it isn't there any more, all is read anew."""
+        await self._agree(link)
+        if not self._is_new:
+            for key, last in (self._keys.lines, self._line), (self._keys.replies, self._reply):
+                if last != START:
+                    await read_behind(link, key, last, 0)
+        else:
+            checkpoint = await last_checkpoint(link, self._keys)
+            if checkpoint is None and not (await is_whole(link, self._keys.lines) and await is_whole(link, self._keys.replies)):
+                raise Unfit(f"{self._keys.lines.decode()} doesn't begin with its first line any more, and there is no checkpoint")
+            await self._open_office(checkpoint)
+            self._is_new = False
+        self._end = await last_id(link, self._keys.lines)
+        self.office.forget_sheet()
+
+    async def _agree(self, link: Link) -> None:
+        """How many lines a journal has is the same for all who read the stream, from its first service on."""
+        entries = self.options.entries or DEFAULT_ENTRIES
+        wanted = self.options.journal_lines
+        await link.one(pack(b"SET", self._keys.journal_lines, number(wanted or min(entries, DEFAULT_ENTRIES)), b"NX"))
+        self._journal_lines = int(await link.one(pack(b"GET", self._keys.journal_lines)))
+        if wanted not in (None, self._journal_lines):
+            raise Unfit(f"a journal of this stream has {self._journal_lines} lines, and not {wanted}: that was said when it began")
+        if self._journal_lines > entries:
+            raise Unfit(f"a journal of this stream has {self._journal_lines} lines, so the book must have room for as many: --entries {self._journal_lines}")
+        await link.one(pack(b"FUNCTION", b"LOAD", b"REPLACE", LIBRARY))
+
+    async def _open_office(self, checkpoint: Checkpoint | None) -> None:
+        """Begins a journal: from a checkpoint, or the first one."""
+        self._before = self.office
+        await self._close()
+        number = checkpoint.journal if checkpoint else 1
+        self.folder.begin_again(number, checkpoint.text if checkpoint else None)
+        if self._is_temporary:
+            self.folder.drop_before(number - 1)
+        self._open()
+        self.office.start()
+        self._line = self._reply = checkpoint.id if checkpoint else START
+
+    async def _follow(self, link: Link) -> None:
+        """Reads lines; and replies, while another service writes them."""
+        while (office := self.office).state is not State.STOPPED:
+            room = min(MOST_ENTRIES, self._journal_lines - len(office.ids))
+            keys = {self._keys.lines: self._line} if room else {}
+            if not self.is_first:
+                keys[self._keys.replies] = self._reply
+            if keys:
+                waited = wait(list(keys), list(keys.values()), MILLISECONDS_OF_WAITING)
+                await self._read(office, await read_behind(link, self._keys.lines, self._line, room, waited))
+            else:
+                await asyncio.sleep(SECONDS_BETWEEN_LOOKS)
+            if self._keys.replies in keys:
+                await self._read_replies(office, link)
+            # A journal that is full is left when its replies are written, by whoever writes.
+            if not self._is_caught_up and (not room or order(self._line) >= order(self._end)):
+                self._is_caught_up = True
+                office.may_lead(None)
+            if not room and office.is_computed:
+                await self._next_journal(office, link)
+
+    async def _read(self, office: StreamOffice, entries: list[Any]) -> None:
+        if not entries:
+            return
+        read = lines_of(entries)
+        first = len(office.ids) + 1
+        # Both before anything is waited for: a session may end there, and no line may be read twice.
+        office.add(read)
+        self._line = read.ids[-1]
+        for id in self._awaited.keys() & set(read.ids) if self._awaited else ():
+            if not self._awaited[id].done():
+                self._awaited[id].set_result((office, first + read.ids.index(id)))
+        await office.feed(read)
+
+    async def _read_replies(self, office: StreamOffice, link: Link) -> None:
+        last = self._reply
+        entries = await read_behind(link, self._keys.replies, last, MOST_ENTRIES)
+        # A reply may have been read whose line comes with the next ones.
+        entries = entries[:len(office.ids) - office.answered]
+        if entries and self._reply == last:
+            office.confirm([id for id, _ in entries], [field(fields, b"reply") for _, fields in entries])
+            self._reply = entries[-1][0]
+
+    async def _next_journal(self, office: StreamOffice, link: Link) -> None:
+        """The journal has all its lines: when each has its reply, the next one begins from a checkpoint."""
+        if not office.has_ended_program and not await office.end_program():
+            raise Trimmed("the program was ended from outside when a new journal began")
+        if office.answered < self._journal_lines:
+            return
+        try:
+            text = await self.viewer.checkpoint()
+        except Refusal as fault:
+            office.stop(f"no new journal begins: {fault}")
+            return
+        self._checkpoint = Checkpoint(self._line, office.journal.number + 1, text)
+        await self._open_office(self._checkpoint)
+        self.office.may_lead(None if self._is_caught_up else NOT_READ)
+        log.info("journal %d begins from a checkpoint of the one before", self._checkpoint.journal)
+        if self.is_first:
+            await keep_checkpoint(link, self._keys, self._checkpoint)
+
+    async def _write(self, link: Link) -> None:
+        """Writes the replies that aren't in the stream yet, where this service holds the lease."""
+        while True:
+            await self._grew.wait()
+            self._grew.clear()
+            while self.is_first and (replies := self.office.unwritten()).ids:
+                office, last = self.office, self._reply
+                are_new = are_added(await link.transaction(add_replies(self._keys, replies.ids, replies.texts)))
+                if are_new and self._reply == last:
+                    office.confirm(replies.ids, replies.texts)
+                    self._reply = replies.ids[-1]
+                else:
+                    # Another service has written some of them.
+                    await self._read_replies(office, link)
+
+    # The lease.
+
+    async def _hold(self, link: Link) -> None:
+        while not self._is_caught_up:
+            await asyncio.sleep(0.01)
+        while True:
+            is_held = await self._ask_lease(link)
+            if is_held and not self.is_first:
+                log.info("this service writes the replies now")
+                if self._checkpoint:
+                    await keep_checkpoint(link, self._keys, self._checkpoint)
+            elif self.is_first and not is_held:
+                log.info("another service writes the replies now")
+            self.is_first = is_held
+            if is_held:
+                self._grew.set()
+            await asyncio.sleep(self.options.lease / 3000)
+
+    async def _ask_lease(self, link: Link) -> bool:
+        there = await link.one(pack(b"GET", self._keys.lease))
+        if there is not None and there != self._token:
+            return False
+        how = b"NX" if there is None else b"XX"
+        return await link.one(pack(b"SET", self._keys.lease, self._token, how, b"PX", number(self.options.lease))) is not None
+
+    async def _release(self, link: Link) -> None:
+        """Lets another service write at once."""
+        if self.is_first:
+            self.is_first = False
+            with suppress(Lost, Refused):
+                if await link.one(pack(b"GET", self._keys.lease)) == self._token:
+                    await link.one(pack(b"DEL", self._keys.lease))

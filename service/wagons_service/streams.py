@@ -1,0 +1,214 @@
+"""The streams of an office in Redis, and how they are read and written.
+
+`{north}:lines` has the lines of the office north, an entry each, with the field `line`. `{north}:replies` has the reply to
+each of them under the line's own id. Redis refuses an id that isn't above all before it, so each reply is there once,
+whoever wrote it and however often. The braces keep the keys of an office on one server of a cluster.
+"""
+
+from collections.abc import Sequence
+from dataclasses import dataclass
+from typing import Any, NamedTuple
+
+from .journal import MOST_LINE_BYTES, is_blank
+from .redis_link import Link, Refused, good, number, pack
+
+# Before the first entry.
+START = b"0-0"
+# So much is read or written at once.
+MOST_ENTRIES = 1000
+# An id that isn't above the last one.
+NOT_ABOVE = "ERR The ID specified in XADD is equal or smaller"
+# What the program is given in place of an entry that is no line of its own: it refuses it with 21.
+NO_LINE = b"?"
+TOO_LONG = b"refused 92"
+
+# Appends lines once for each number of a sender: KEYS are the lines and the sender's mark, ARGV its number and the lines.
+# The answer is the ids of the lines. The number that was last once more gives the same ids and appends nothing.
+LIBRARY = b"""#!lua name=wagons
+redis.register_function('append', function(keys, arguments)
+  local mark = redis.call('GET', keys[2])
+  if mark then
+    local last, ids = string.match(mark, '^(%d+) ?(.*)$')
+    if tonumber(last) > tonumber(arguments[1]) then
+      return redis.error_reply('ERR number ' .. arguments[1] .. ' is below the last one, ' .. last)
+    end
+    if tonumber(last) == tonumber(arguments[1]) then
+      local found = {}
+      for id in string.gmatch(ids, '%S+') do found[#found + 1] = id end
+      return found
+    end
+  end
+  local ids = {}
+  for index = 2, #arguments do ids[#ids + 1] = redis.call('XADD', keys[1], '*', 'line', arguments[index]) end
+  redis.call('SET', keys[2], arguments[1] .. ' ' .. table.concat(ids, ' '))
+  return ids
+end)
+"""
+
+
+class Entries(NamedTuple):
+    """Entries that were read: their ids, the lines that the program is given, and the refusals of those that are no lines
+    for it, by their indices."""
+
+    ids: list[bytes]
+    lines: list[bytes]
+    refusals: dict[int, bytes]
+
+
+class Checkpoint(NamedTuple):
+    """The office after the line of an id, with which a journal of this number begins."""
+
+    id: bytes
+    journal: int
+    text: bytes
+
+
+@dataclass(frozen=True)
+class Keys:
+    name: str
+
+    def _key(self, part: str) -> bytes:
+        return f"{{{self.name}}}:{part}".encode()
+
+    @property
+    def lines(self) -> bytes:
+        return self._key("lines")
+
+    @property
+    def replies(self) -> bytes:
+        return self._key("replies")
+
+    @property
+    def checkpoints(self) -> bytes:
+        return self._key("checkpoints")
+
+    @property
+    def lease(self) -> bytes:
+        return self._key("lease")
+
+    @property
+    def journal_lines(self) -> bytes:
+        """How many lines a journal of this stream has, for good."""
+        return self._key("journal-lines")
+
+
+class Trimmed(Exception):
+    """What was read last isn't there any more, so what came behind it may be missing: the server lost it, or trimmed it."""
+
+
+def add_copies(key: bytes, ids: Sequence[bytes], lines: Sequence[bytes]) -> list[bytes]:
+    """The commands that append lines under ids which they have already."""
+    return [pack(b"XADD", key, id, b"line", line) for id, line in zip(ids, lines)]
+
+
+def add_replies(keys: Keys, ids: Sequence[bytes], texts: Sequence[bytes]) -> list[bytes]:
+    """The commands that write replies. They are many, so only what differs is packed for each."""
+    form = b"*5\r\n$4\r\nXADD\r\n$%d\r\n%b\r\n" % (len(keys.replies), keys.replies.replace(b"%", b"%%")) + b"$%d\r\n%b\r\n$5\r\nreply\r\n$%d\r\n%b\r\n"
+    return [form % (len(id), id, len(text), text) for id, text in zip(ids, texts)]
+
+
+def add_lines(key: bytes, lines: Sequence[bytes], office: str | None = None) -> list[bytes]:
+    """The commands that append lines; to an inbox with the office that they are for."""
+    more = [b"office", office.encode()] if office else []
+    return [pack(b"XADD", key, b"*", *more, b"line", line) for line in lines]
+
+
+def read_on(key: bytes, last: bytes, most: int) -> bytes:
+    """Reads entries behind the last one, and that one once more."""
+    first, count = (b"-", most) if last == START else (last, most + 1)
+    return pack(b"XRANGE", key, first, b"+", b"COUNT", number(count))
+
+
+def wait(keys: Sequence[bytes], lasts: Sequence[bytes], milliseconds: int) -> bytes:
+    """Waits until there is something behind one of these."""
+    return pack(b"XREAD", b"COUNT", b"1", b"BLOCK", number(milliseconds), b"STREAMS", *keys, *lasts)
+
+
+def lines_of(entries: list[Any]) -> Entries:
+    ids = [id for id, _ in entries]
+    lines = [field(fields, b"line") for _, fields in entries]
+    refusals: dict[int, bytes] = {}
+    longest = max(map(len, lines), default=0)
+    if longest > MOST_LINE_BYTES or b"\n" in b"".join(lines) or any(map(is_blank, lines)):
+        for index, line in enumerate(lines):
+            if len(line) > MOST_LINE_BYTES:
+                lines[index], refusals[index] = NO_LINE, TOO_LONG
+            elif b"\n" in line or is_blank(line):
+                lines[index] = NO_LINE
+    return Entries(ids, lines, refusals)
+
+
+def field(fields: Sequence[bytes], name: bytes) -> bytes:
+    """A field of an entry, or nothing; of a field given twice the first counts."""
+    if fields[0] == name:
+        return fields[1]
+    return next((fields[index + 1] for index in range(0, len(fields), 2) if fields[index] == name), b"")
+
+
+def order(id: bytes) -> tuple[int, int]:
+    """What an id is compared by."""
+    milliseconds, _, rest = id.partition(b"-")
+    return int(milliseconds), int(rest)
+
+
+async def last_id(link: Link, key: bytes) -> bytes:
+    """The id of the last entry."""
+    found = await link.one(pack(b"XREVRANGE", key, b"+", b"-", b"COUNT", b"1"))
+    return bytes(found[0][0]) if found else START
+
+
+async def is_whole(link: Link, key: bytes) -> bool:
+    """Whether a stream still has its first entry."""
+    if not await link.one(pack(b"EXISTS", key)):
+        return True
+    told = await link.one(pack(b"XINFO", b"STREAM", key))
+    known = dict(zip(told[::2], told[1::2]))
+    return bool(known[b"length"] == known[b"entries-added"])
+
+
+async def read_behind(link: Link, key: bytes, last: bytes, most: int, waited: bytes = b"") -> list[Any]:
+    """The entries behind the last one, after what is waited for.
+
+    The last one must be there still. A server loses its newest entries and trims its oldest ones, so then none is missing
+    in between. Before the first entry nothing can be looked at, so there the stream must be whole, once it was read.
+    """
+    answers = await link.ask(waited + read_on(key, last, most), 2 if waited else 1)
+    entries: list[Any] = [good(answer) for answer in answers][-1]
+    if last == START:
+        if entries and not await is_whole(link, key):
+            raise Trimmed(f"{key.decode()} doesn't begin with its first entry any more")
+        return entries
+    if not entries or entries[0][0] != last:
+        raise Trimmed(f"the entry {last.decode()} isn't there any more")
+    return entries[1:]
+
+
+async def last_checkpoint(link: Link, keys: Keys) -> Checkpoint | None:
+    found = await link.one(pack(b"XREVRANGE", keys.checkpoints, b"+", b"-", b"COUNT", b"1"))
+    if not found:
+        return None
+    id, fields = found[0]
+    return Checkpoint(id, int(field(fields, b"journal")), field(fields, b"text"))
+
+
+async def keep_checkpoint(link: Link, keys: Keys, checkpoint: Checkpoint) -> None:
+    """Keeps a checkpoint, unless a later one is there; drops all but two, and the lines and replies before those."""
+    try:
+        await link.one(pack(b"XADD", keys.checkpoints, checkpoint.id, b"journal", number(checkpoint.journal), b"text", checkpoint.text))
+    except Refused as fault:
+        if not str(fault).startswith(NOT_ABOVE):
+            raise
+    kept = await link.one(pack(b"XREVRANGE", keys.checkpoints, b"+", b"-", b"COUNT", b"2"))
+    if len(kept) == 2:
+        oldest = kept[1][0]
+        for key in keys.checkpoints, keys.lines, keys.replies:
+            await link.one(pack(b"XTRIM", key, b"MINID", oldest))
+
+
+def are_added(answers: Sequence[Any]) -> bool:
+    """Whether all entries were added now; the others are there already. Another refusal is raised."""
+    refused = [answer for answer in answers if not isinstance(answer, bytes)]
+    for answer in refused:
+        if not str(answer).startswith(NOT_ABOVE):
+            good(answer)
+    return not refused
