@@ -67,7 +67,7 @@ class Service:
                 self._told.set()
         self._told.set()
 
-    def until_running(self, seconds: int = 20) -> "Service":
+    def until_running(self, seconds: int = 60) -> "Service":
         for _ in range(100 * seconds):
             if self.get("/health").status == 200:
                 return self
@@ -75,7 +75,7 @@ class Service:
         raise AssertionError(self.log)
 
     def until_state(self, state: str) -> dict[str, Any]:
-        for _ in range(2000):
+        for _ in range(6000):
             health: dict[str, Any] = json.loads(self.get("/health").body)
             if health["state"] == state:
                 return health
@@ -83,8 +83,8 @@ class Service:
         raise AssertionError(self.log)
 
     def until_ended(self) -> int:
-        status = self.process.wait(20)
-        self._reader.join(5)
+        status = self.process.wait(60)
+        self._reader.join(60)
         return status
 
     def request(self, method: str, path: str, body: bytes | None = None, headers: Mapping[str, str] | None = None) -> Answer:

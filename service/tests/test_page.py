@@ -6,6 +6,12 @@ from pathlib import Path
 
 import pytest
 from selenium import webdriver
+from selenium.common.exceptions import (
+    ElementClickInterceptedException,
+    ElementNotInteractableException,
+    NoSuchElementException,
+    StaleElementReferenceException,
+)
 from selenium.webdriver.common.by import By
 from selenium.webdriver.common.keys import Keys
 from selenium.webdriver.remote.webelement import WebElement
@@ -15,7 +21,9 @@ from conftest import ROOT, Start
 from running import DAY, WAGONS, Service, line, message, order
 
 LINES = (DAY / "day.jsonl").read_bytes().splitlines()
-SECONDS = 20
+SECONDS = 60
+# What the driver says of an element that the page shows again while it is used. Nothing was done to it then.
+SHOWN_AGAIN = (ElementClickInterceptedException, ElementNotInteractableException, NoSuchElementException, StaleElementReferenceException)
 # The page with a plan, for whoever wants to see it before it is tried.
 PICTURE = ROOT / "out" / "page.png"
 
@@ -55,9 +63,28 @@ class Browser:
         return self.driver.execute_script(  # type: ignore[no-any-return]
             "return [...document.querySelectorAll(arguments[0] + ' tbody tr')].map(row => [...row.cells].map(cell => cell.innerText))", table)
 
+    def use(self, css: str, use: Callable[[WebElement], None]) -> None:
+        """Uses an element, which is found again where the page shows it again in between."""
+
+        def used(_: object) -> bool:
+            use(self.find(css))
+            return True
+
+        WebDriverWait(self.driver, SECONDS, ignored_exceptions=SHOWN_AGAIN).until(used, css)
+
     def click(self, css: str) -> None:
-        self.driver.execute_script("document.querySelector(arguments[0]).scrollIntoView({block: 'center'})", css)
-        self.find(css).click()
+        def clicked(element: WebElement) -> None:
+            self.driver.execute_script("arguments[0].scrollIntoView({block: 'center'})", element)
+            element.click()
+
+        self.use(css, clicked)
+
+    def press(self, css: str, key: str) -> None:
+        def pressed(element: WebElement) -> None:
+            self.driver.execute_script("arguments[0].focus()", element)
+            element.send_keys(key)
+
+        self.use(css, pressed)
 
     def fill(self, css: str, words: str) -> None:
         field = self.find(css)
@@ -211,21 +238,19 @@ def test_wagons_are_searched_and_sorted_by_keys(start: Start, browse: Browse) ->
     page.until(lambda: len(page.rows("#wagons-table")) < 12, "fewer wagons")
     assert all(row[1] == "Habbins" and "empty" in row[3] for row in page.rows("#wagons-table"))
     page.fill("#search", "")
-    places = page.find('[data-column="place"]')
-    places.send_keys(Keys.ENTER)
+    page.press('[data-column="place"]', Keys.ENTER)
     shown = [row[4] for row in page.rows("#wagons-table")]
-    assert shown == sorted(shown) and page.driver.switch_to.active_element.get_attribute("data-column") == "place"
-    page.driver.switch_to.active_element.send_keys(Keys.ENTER)
+    assert shown == sorted(shown)
+    # The column is shown again, and the keyboard is at it still.
+    page.use('[data-column="place"]:focus', lambda column: column.send_keys(Keys.ENTER))
     assert [row[4] for row in page.rows("#wagons-table")] == sorted(shown, reverse=True)
     # A place of the map by its key.
-    page.until(lambda: page.find('[data-place="DE10005"]'), "the map")
-    page.driver.execute_script("document.querySelector('[data-place=\"DE10005\"]').focus()")
-    page.driver.switch_to.active_element.send_keys(Keys.ENTER)
+    page.press('[data-place="DE10005"]', Keys.ENTER)
     page.until_says("#place-shown", f"DE10005: {shown.count('DE10005')} wagons, 0 open orders")
     # What is shown again doesn't take the keyboard away.
     service.post(order("O1", place="DE10005"))
     page.until_says("#place-shown", "1 open orders")
-    page.until(lambda: page.driver.switch_to.active_element.get_attribute("data-place") == "DE10005", "the keyboard at its place")
+    page.until(lambda: page.find('[data-place="DE10005"]:focus'), "the keyboard at its place")
 
 
 def test_a_phone(start: Start, browse: Browse) -> None:

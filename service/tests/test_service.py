@@ -152,7 +152,7 @@ def test_events_tell_each_line_with_its_reply(start: Start) -> None:
     assert [event["number"] for event in told] == [1, 2, 3]
     assert told[1] == {"number": 2, "reply": "2 accepted 2", "line": order("O2").decode()}
     assert service.stop() == 0  # A listener doesn't keep the service.
-    listener.wait(10)
+    listener.wait(60)
     listener.stdout.close()
 
 
@@ -191,7 +191,7 @@ def test_limits_of_a_request(start: Start) -> None:
 
 def test_a_connection_goes_on_or_is_closed_after_a_refusal(start: Start, tokens: Path) -> None:
     service = start(options=["--tokens", str(tokens)]).until_running()
-    connection = http.client.HTTPConnection("127.0.0.1", service.port, timeout=5)
+    connection = http.client.HTTPConnection("127.0.0.1", service.port, timeout=60)
     for path, token, size, status, is_closed in [
         ("/lines", "no-such-token-at-all", 300_000, 401, True), ("/lines", "reader-s-long-token", 300_000, 403, True),
         ("/lines", "railway-1001-token", 300_000, 413, False), ("/nothing", "dispatcher-s-token", 300_000, 404, True),
@@ -239,7 +239,7 @@ def test_a_new_journal(start: Start) -> None:
     before = service.kept
     answer = service.post(b"", path="/next")
     assert (answer.status, answer.text) == (200, '{"journal": 2}')
-    assert "event: next\ndata: a new journal begins\n" in listener.communicate(timeout=10)[0]
+    assert "event: next\ndata: a new journal begins\n" in listener.communicate(timeout=60)[0]
     for path, last in ("/events?journal=1&from=1", ""), ("/events", "1-41"):
         assert service.request("GET", path, headers={"Last-Event-ID": last}).text.endswith("event: next\ndata: a new journal begins\n\n")
     # The office goes on: SALT-1 still lacks a wagon, and Habbins 002 is still promised to it.

@@ -13,6 +13,7 @@ const text = (key, values = {}) => (TEXTS[key] ?? key).replace(/\{(\w+)\}/g, (wh
 const named = (key, word) => TEXTS[key + word] ?? word;
 
 let office = { journal: 0, line: 0, version: 0, wagons: [], orders: [], network: null };
+let shownOffice = ""; // The answer that is shown.
 let plan = null;
 let refusals = [];
 let chosen = "";
@@ -174,6 +175,8 @@ async function showWrong(form, words) {
 
 async function askPlan(event) {
   event.preventDefault();
+  plan = null; // Nobody accepts the plan before, who has asked for another.
+  showPlan();
   const at = byId("plan-at").value.trim();
   await sendForm(event.target, at ? { type: "plan", at } : { type: "plan" }, async (words, reply, number) => {
     plan = readPlan(words, reply, at, number);
@@ -311,6 +314,7 @@ async function showMap() { // It may be older than the office, since drawing tak
     keepingFocus(() => shown.replaceChildren(svg));
   } catch (fault) {
     shown.textContent = text("map_none", { words: fault.message });
+    shownOffice = ""; // It is asked for again with what happens next.
   }
 }
 
@@ -358,11 +362,15 @@ async function showRefusals() {
 
 // What happens.
 
-async function refresh() {
+async function refresh() { // What hasn't changed isn't shown again, so that whoever is on their way to a button finds it.
   refreshing = null;
   try {
-    office = await (await ask("/office")).json();
+    const told = await (await ask("/office")).text();
+    const isChanged = told !== shownOffice;
+    if (isChanged) office = JSON.parse(told);
     if (isLive) showState();
+    if (!isChanged) return;
+    shownOffice = told;
     keepingFocus(() => {
       showOrders();
       showWagons();
