@@ -2,7 +2,9 @@
 
 import asyncio
 import json
+import os
 import re
+import signal
 import subprocess
 from pathlib import Path
 
@@ -250,6 +252,25 @@ def test_a_server_that_lost_its_last_lines(start_server: StartServer, start_offi
     assert answered(server, ids) == run(program, lines[:100] + lines[200:])
     assert not set(lost) & set(replies(server)) and len(replies(server)) == 200
     assert any("begins again" in it for it in office.log)
+
+
+def test_lines_that_wait_for_the_program_are_read_once(server: RedisServer, start_office: StartOffice, program: str) -> None:
+    """A session ends while its program takes nothing. The next one goes on behind the lines that wait for the program."""
+    office = start_office(server.address("north")).until_first()
+    for pid in office.children:
+        os.kill(pid, signal.SIGSTOP)
+    lines = [message("R001", n, WAGONS[n % 40]) for n in range(5000)]
+    ids = appended(server, lines)
+    # More than the program's input holds is read, and not all.
+    until("the program's input is full", lambda: office.health()["lines"] >= 2000)
+    server.kill()
+    office.until_logged("the stream can't be reached")
+    assert office.health()["lines"] < 5000
+    server.start()
+    for pid in office.children:
+        os.kill(pid, signal.SIGCONT)
+    assert answered(server, ids) == run(program, lines)
+    assert office.health()["lines"] == 5000
 
 
 def test_a_server_without_room_leaves_no_gap(server: RedisServer, start_office: StartOffice, program: str) -> None:

@@ -1,6 +1,7 @@
 """Starts the service and ends it."""
 
 import asyncio
+import gc
 import logging
 import signal
 import sys
@@ -24,6 +25,8 @@ log = logging.getLogger("wagons-service")
 
 # So long the rest of a refused body is read, so that its sender sees the answer.
 SECONDS_OF_LINGERING = 2
+# So many objects are made between two searches for circles of them. Lines and replies are in none, and each is an object.
+OBJECTS_BETWEEN_SEARCHES = 100_000
 
 
 def is_ours(record: logging.LogRecord) -> bool:
@@ -57,6 +60,8 @@ async def serve(given: Options) -> None:
     site = web.TCPSite(runner, given.host, given.port, shutdown_timeout=5)
     await site.start()
     service.start()
+    gc.freeze()
+    gc.set_threshold(OBJECTS_BETWEEN_SEARCHES)
     for host, port, *_ in runner.addresses:
         log.info("listens on http://%s:%d", f"[{host}]" if ":" in host else host, port)
     await stop.wait()
