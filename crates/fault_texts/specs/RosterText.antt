@@ -1,31 +1,30 @@
 -- What is said of a file that is no roster.
-use Rattle.std.specs.Prelude.{ℕ, ◌==◌, if◌then◌else◌, List, ◌++◌, length, Option, Some, None, codes, decimal}
+use Rattle.std.specs.Prelude.{ℕ, List, ◌++◌, Option, Some, None, option_map, codes, decimal}
 use Rattle.csv_records.specs.Fields.{Record}
 use Rattle.faults.specs.declared.faults.RosterFault.{RosterFault}
 use Rattle.faults.specs.declared.faults.RosterFault.TheVariants.{OutOfMemory, DuplicateWagon, TooLarge, BadRosterRow, ReadFailed}
 use Rattle.fleet_rows.specs.Unfit.{field_name, first_unfit}
 use Rattle.fleet_rows.specs.declared.roster_field.RosterField.{RosterField}
 use Rattle.fleet_rows.specs.declared.roster_field.RosterField.TheVariants.{Wagon, Class, Load, Status, Place, Moment}
-use Rattle.fault_texts.specs.HeaderText.{header_text}
-use Rattle.fault_texts.specs.Shown.{quoted, shown}
-use Rattle.fault_texts.specs.Where.{at_field, at_record}
+use Rattle.fault_texts.specs.BadRecord.{bad_record_text}
+use Rattle.fault_texts.specs.Shown.{shown}
+use Rattle.fault_texts.specs.Where.{at_record}
 
 abbrev pub roster_header : List ℕ
 roster_header = codes "wagon,class,load,status,place,moment"
 
 -- what a field's text isn't
-abbrev pub is_none : RosterField → List ℕ
-is_none Wagon = codes " is no wagon number: twelve digits, of which the last is the check digit of the others"
-is_none Class = codes " is no class: 1 to 12 letters A-Z and a-z"
-is_none Load = codes " is no whole number of kg from 0 to 200,000"
-is_none Status = codes " is no status: empty, loading, ready, journey_loaded, journey_empty, yard_loaded, yard_empty, arrived_loaded, arrived_empty or unloading"
-is_none Place = codes " is no place: two letters A-Z and five digits"
-is_none Moment = codes " is no moment of the years 2000 to 2099, as 2026-03-01T00:00:00Z"
+abbrev pub complaint : RosterField → List ℕ
+complaint Wagon = codes " is no wagon number: twelve digits, of which the last is the check digit of the others"
+complaint Class = codes " is no class: 1 to 12 letters A-Z and a-z"
+complaint Load = codes " is no whole number of kg from 0 to 200,000"
+complaint Status = codes " is no status: empty, loading, ready, journey_loaded, journey_empty, yard_loaded, yard_empty, arrived_loaded, arrived_empty or unloading"
+complaint Place = codes " is no place: two letters A-Z and five digits"
+complaint Moment = codes " is no moment of the years 2000 to 2099, as 2026-03-01T00:00:00Z"
 
--- the first field that isn't as its rule asks; of a record without such a field, how many fields it has
-abbrev pub bad_row_text : (path : List ℕ) → (number : ℕ) → Option (RosterField × List ℕ) → (fields : ℕ) → List ℕ
-bad_row_text path number (Some unfit) fields = at_field path number (field_name unfit.0) ++ quoted unfit.1 ++ is_none unfit.0
-bad_row_text path number None fields = at_record path number ++ codes ": it must have 6 fields, and has " ++ decimal fields
+-- the first field that isn't as its rule asks: its name, its text, and what that isn't
+abbrev pub unfit_in : Record → Option (List ℕ × List ℕ × List ℕ)
+unfit_in fields = option_map (λ (unfit : RosterField × List ℕ). (field_name unfit.0, unfit.1, complaint unfit.0)) (first_unfit fields)
 
 -- the record that says a wagon first, where it is known, and the one that says it again
 abbrev pub twice_text : (path : List ℕ) → (first : Option ℕ) → (number : ℕ) → (wagon : List ℕ) → List ℕ
@@ -37,6 +36,5 @@ abbrev pub roster_text : (path : List ℕ) → RosterFault → (first : Option �
 roster_text path OutOfMemory first number fields = codes "out of memory"
 roster_text path (DuplicateWagon wagon) first number fields = twice_text path first number wagon
 roster_text path TooLarge first number fields = at_record path number ++ codes ": a roster has at most 1,000 wagons"
-roster_text path (BadRosterRow n) first number fields =
-    if number == 1 then header_text path roster_header fields else bad_row_text path number (first_unfit fields) (length fields)
+roster_text path (BadRosterRow n) first number fields = bad_record_text path roster_header 6 number fields (unfit_in fields)
 roster_text path ReadFailed first number fields = shown path ++ codes ": it couldn't be read"

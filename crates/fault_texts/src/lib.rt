@@ -2,6 +2,7 @@
 //! text, and what was expected. Each text is one line, without a line feed.
 #![tactic(auto)]
 
+mod bad_record;
 mod checkpoint_faults;
 mod headers;
 mod line_faults;

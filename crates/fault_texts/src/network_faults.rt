@@ -1,12 +1,10 @@
 //! What is said of a file that is no network.
-ghost use Rattle.std.specs.Prelude.{◌≡◌, ◌++◌, IfOk, Some, None, length, string_bytes};
+ghost use Rattle.std.specs.Prelude.{◌≡◌, IfOk, option_map, string_bytes};
 ghost use Rattle.csv.specs.Records.{fields_of};
-ghost use Rattle.line_network.specs.Unfit.{first_unfit};
-ghost use Rattle.fault_texts.specs.NetworkText.{bad_row_text, is_none, network_text};
+ghost use Rattle.fault_texts.specs.NetworkText.{complaint, network_text, unfit_in};
 
-use crate::headers::header_text;
-use crate::shown::push_quoted;
-use crate::words::{at_field, at_record, failed_text, push_number, push_words, record_text};
+use crate::bad_record::{Unfit, bad_record_text};
+use crate::words::{failed_text, record_text};
 use csv::ByteRecord;
 use csv_records::FaultAt;
 use line_network::{LineField, NetworkFault, unfit_field};
@@ -14,6 +12,9 @@ use std::alloc::{AllocError, Global};
 
 /// The header of a network.
 const HEADER: &str = "from,to,km,minutes,way";
+
+/// How many fields a record of a network has.
+const FIELDS: u32 = 5;
 
 /// What is said of the file at a path that isn't read as a network: the record, its first field that isn't as its rule asks,
 /// and what was expected; of a wrong header the one that is wanted, and a guess. `Err` only when out of memory.
@@ -27,11 +28,14 @@ pub fn network_text(
     match stop.fault {
         NetworkFault::OutOfMemory => String::from_str(alloc, "out of memory"),
         NetworkFault::BadRow(_) => {
-            if stop.at.number == 1 {
-                header_text(alloc, path, HEADER, &stop.at.fields)
-            } else {
-                bad_row_text(alloc, path, stop.at.number, &stop.at.fields)
-            }
+            bad_record_text(
+                alloc,
+                path,
+                HEADER,
+                FIELDS,
+                &stop.at,
+                unfit_in(&stop.at.fields),
+            )
         }
         NetworkFault::TooManyPlaces => record_text(
             alloc,
@@ -49,50 +53,17 @@ pub fn network_text(
     }
 }
 
-/// A record that says no line.
-fn bad_row_text(
-    alloc: Global,
-    path: &str,
-    number: u32,
-    fields: &ByteRecord,
-) -> Result<String, AllocError>
-    ensures { IfOk result (λ text. string_bytes text ≡ bad_row_text path.now number (first_unfit (fields_of fields.now)) (length (fields_of fields.now))) }
+/// The first field that isn't as its rule asks.
+fn unfit_in(fields: &ByteRecord) -> Option<Unfit<'_>>
+    ensures { option_map (λ unfit. (unfit.0.now, unfit.1.now, unfit.2.now)) result ≡ unfit_in (fields_of fields.now) }
 {
-    match unfit_field(fields) {
-        Some((field, said)) => unfit_text(alloc, path, number, field, said),
-        None => count_text(alloc, path, number, fields.len()),
-    }
-}
-
-/// A field that isn't as its rule asks, and what it isn't.
-fn unfit_text(
-    alloc: Global,
-    path: &str,
-    number: u32,
-    field: LineField,
-    said: &[u8],
-) -> Result<String, AllocError>
-    ensures { IfOk result (λ text. string_bytes text ≡ bad_row_text path.now number (Some (field, said.now)) 0) }
-{
-    let mut text = at_field(alloc, path, number, field.name())?;
-    push_quoted(&mut text, said)?;
-    push_words(&mut text, is_none(field))?;
-    Ok(text)
-}
-
-/// How many fields there are, where they are not as many as must be.
-fn count_text(alloc: Global, path: &str, number: u32, fields: usize) -> Result<String, AllocError>
-    ensures { IfOk result (λ text. string_bytes text ≡ bad_row_text path.now number None fields) }
-{
-    let mut text = at_record(alloc, path, number)?;
-    push_words(&mut text, ": it must have 5 fields, and has ")?;
-    push_number(&mut text, fields as u64)?;
-    Ok(text)
+    let (field, said) = unfit_field(fields)?;
+    Some((field.name(), said, complaint(field)))
 }
 
 /// What a field's text isn't.
-fn is_none(field: LineField) -> &'static str
-    ensures { result.now ≡ is_none field }
+fn complaint(field: LineField) -> &'static str
+    ensures { result.now ≡ complaint field }
 {
     match field {
         LineField::From | LineField::To => " is no place: two letters A-Z and five digits",

@@ -1,13 +1,12 @@
 //! What is said of a file that is no roster.
-ghost use Rattle.std.specs.Prelude.{◌≡◌, ◌++◌, IfOk, Some, None, codes, decimal, length, string_bytes};
+ghost use Rattle.std.specs.Prelude.{◌≡◌, ◌++◌, IfOk, codes, decimal, option_map, string_bytes};
 ghost use Rattle.csv.specs.Records.{fields_of};
-ghost use Rattle.fleet_rows.specs.Unfit.{first_unfit};
-ghost use Rattle.fault_texts.specs.RosterText.{bad_row_text, is_none, roster_text, twice_text};
+ghost use Rattle.fault_texts.specs.RosterText.{complaint, roster_text, twice_text, unfit_in};
 ghost use Rattle.fault_texts.specs.Shown.{shown};
 
-use crate::headers::header_text;
-use crate::shown::{push_quoted, push_shown};
-use crate::words::{at_field, at_record, failed_text, push_number, push_words, record_text};
+use crate::bad_record::{Unfit, bad_record_text};
+use crate::shown::push_shown;
+use crate::words::{at_record, failed_text, push_number, push_words, record_text};
 use csv::ByteRecord;
 use csv_records::FaultAt;
 use fleet_rows::{RosterFault, RosterField, RosterRefusal, unfit_field};
@@ -16,6 +15,9 @@ use std::alloc::{AllocError, Global};
 
 /// The header of a roster.
 const HEADER: &str = "wagon,class,load,status,place,moment";
+
+/// How many fields a record of a roster has.
+const FIELDS: u32 = 6;
 
 /// What is said of the file at a path that isn't read as a roster: the record, its first field that isn't as its rule asks, and
 /// what was expected; of a wagon that stands twice both records; of a wrong header the one that is wanted, and a guess. `Err`
@@ -39,11 +41,14 @@ pub fn roster_text(
             ": a roster has at most 1,000 wagons",
         ),
         RosterFault::BadRosterRow(_) => {
-            if stop.at.number == 1 {
-                header_text(alloc, path, HEADER, &stop.at.fields)
-            } else {
-                bad_row_text(alloc, path, stop.at.number, &stop.at.fields)
-            }
+            bad_record_text(
+                alloc,
+                path,
+                HEADER,
+                FIELDS,
+                &stop.at,
+                unfit_in(&stop.at.fields),
+            )
         }
         RosterFault::ReadFailed => failed_text(alloc, path),
     }
@@ -88,50 +93,17 @@ fn two_records(alloc: Global, path: &str, first: u32, second: u32) -> Result<Str
     Ok(text)
 }
 
-/// A record that says no wagon.
-fn bad_row_text(
-    alloc: Global,
-    path: &str,
-    number: u32,
-    fields: &ByteRecord,
-) -> Result<String, AllocError>
-    ensures { IfOk result (λ text. string_bytes text ≡ bad_row_text path.now number (first_unfit (fields_of fields.now)) (length (fields_of fields.now))) }
+/// The first field that isn't as its rule asks.
+fn unfit_in(fields: &ByteRecord) -> Option<Unfit<'_>>
+    ensures { option_map (λ unfit. (unfit.0.now, unfit.1.now, unfit.2.now)) result ≡ unfit_in (fields_of fields.now) }
 {
-    match unfit_field(fields) {
-        Some((field, said)) => unfit_text(alloc, path, number, field, said),
-        None => count_text(alloc, path, number, fields.len()),
-    }
-}
-
-/// A field that isn't as its rule asks, and what it isn't.
-fn unfit_text(
-    alloc: Global,
-    path: &str,
-    number: u32,
-    field: RosterField,
-    said: &[u8],
-) -> Result<String, AllocError>
-    ensures { IfOk result (λ text. string_bytes text ≡ bad_row_text path.now number (Some (field, said.now)) 0) }
-{
-    let mut text = at_field(alloc, path, number, field.name())?;
-    push_quoted(&mut text, said)?;
-    push_words(&mut text, is_none(field))?;
-    Ok(text)
-}
-
-/// How many fields there are, where they are not as many as must be.
-fn count_text(alloc: Global, path: &str, number: u32, fields: usize) -> Result<String, AllocError>
-    ensures { IfOk result (λ text. string_bytes text ≡ bad_row_text path.now number None fields) }
-{
-    let mut text = at_record(alloc, path, number)?;
-    push_words(&mut text, ": it must have 6 fields, and has ")?;
-    push_number(&mut text, fields as u64)?;
-    Ok(text)
+    let (field, said) = unfit_field(fields)?;
+    Some((field.name(), said, complaint(field)))
 }
 
 /// What a field's text isn't.
-fn is_none(field: RosterField) -> &'static str
-    ensures { result.now ≡ is_none field }
+fn complaint(field: RosterField) -> &'static str
+    ensures { result.now ≡ complaint field }
 {
     match field {
         RosterField::Wagon => {

@@ -10,7 +10,9 @@ use Rattle.plan_reasons.specs.Reasons.{AreCounts}
 use Rattle.reply_texts.specs.Lines.{Adds}
 use Rattle.plan_reasons.specs.declared.style.Style.{Style}
 use Rattle.plan_reasons.specs.Fields.{field, quoted}
-use Rattle.plan_reasons.specs.WhyText.{IsArrival, IsOrderLine, IsWagonLine, count_fields, order_fields, order_line, price_fields, wagon_fields, wagon_line, without_fields}
+use Rattle.plan_reasons.specs.Journeys.{IsJourney}
+use Rattle.plan_reasons.specs.declared.journey.Journey.{Journey}
+use Rattle.plan_reasons.specs.WhyText.{IsOrderLine, IsWagonLine, count_fields, order_fields, order_line, price_fields, wagon_fields, wagon_line, without_fields}
 use Rattle.plan_reasons.specs.inner.Added.{IsMomentField}
 use Rattle.plan_reasons.proofs.Fields.{three_parts}
 
@@ -23,13 +25,13 @@ module _ (style : Style) (net : NetworkValue) (problem : ProblemValue) (p : Pric
     whole = three_parts old (order_fields style problem p j) (count_fields style counts) (price_fields style p j) a b c first second third;
   }
 
-  pub line_of_wagon : (pair : ℕ × ℕ) (arrival : ℕ) (old a b c : List ℕ) → IsArrival net problem pair arrival
-      → a ≡ old ++ wagon_fields style problem p pair → Adds (IsMomentField style (codes "arrival") arrival) a b → c ≡ b ++ without_fields style p pair.0 → Adds (IsWagonLine style net problem p pair) old c
-  line_of_wagon pair arrival old a b c arrives first second third =
+  pub line_of_wagon : (pair : ℕ × ℕ) (journey : Journey) (old a b c : List ℕ) → IsJourney net problem pair journey
+      → a ≡ old ++ wagon_fields style problem p pair → Adds (IsMomentField style (codes "arrival") journey.arrival) a b → c ≡ b ++ without_fields style p pair.0 → Adds (IsWagonLine style net problem p pair) old c
+  line_of_wagon pair journey old a b c goes first second third =
       let moment = second.is in
       record {
         added = wagon_line style problem p pair moment.text;
-        is = record { arrival = arrival; arrives = arrives; moment = moment.text; printed = moment.moment; text = refl };
+        is = record { journey = journey; goes = goes; moment = moment.text; printed = moment.moment; text = refl };
         whole = three_parts old (wagon_fields style problem p pair) (field style (codes "arrival") (quoted style moment.text)) (without_fields style p pair.0) a b c first (second.whole ∙ ap (λ (xs : List ℕ). a ++ xs) moment.whole) third;
       }
 

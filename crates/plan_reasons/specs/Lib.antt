@@ -2,6 +2,7 @@ pub mod Reasons
 pub mod OrderCounts
 pub mod Fields
 pub mod Planned
+pub mod Journeys
 pub mod WhyText
 pub mod Pairs
 pub mod PairLists

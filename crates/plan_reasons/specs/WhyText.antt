@@ -1,12 +1,10 @@
 -- The text that says why a plan is as it is: a line for the whole, one for each order as placed, and one for each wagon that
 -- goes, in the plan's order.
-use Rattle.std.specs.Prelude.{◌≡◌, ◌+◌, ◌-◌, ◌*◌, ℕ, max, List, ◌++◌, length, Option, Some, None, slice_get, slice_index, codes, decimal, if◌then◌else◌, ◌==◌}
+use Rattle.std.specs.Prelude.{◌≡◌, ◌+◌, ◌-◌, ℕ, List, ◌++◌, length, Option, Some, None, slice_get, slice_index, codes, decimal, if◌then◌else◌, ◌==◌}
 use Rattle.std.specs.List.{range_with_len}
 use Rattle.rail_codes.specs.Moment.{IsMomentText}
-use Rattle.wagons_and_orders.specs.declared.free_wagon.FreeWagon.{FreeWagon}
 use Rattle.wagons_and_orders.specs.Wanted.{WantedOrder}
 use Rattle.line_network.specs.Network.{NetworkValue}
-use Rattle.line_network.specs.Distance.{IsDistance}
 use Rattle.cost_table.specs.Table.{lack_at, order_count, wagon_count}
 use Rattle.cost_table.specs.Plan.{pair_cost, serves, sum_below}
 use Rattle.cost_table.specs.Problem.{ProblemValue, order_names, wagon_names}
@@ -15,8 +13,10 @@ use Rattle.plan_bounds.specs.PricedPlan.{PricedPlan, certified_cost}
 use Rattle.plan_bounds.specs.Slack.{missed}
 use Rattle.plan_bounds.specs.LeastSlack.{least_new_slack}
 use Rattle.reply_texts.specs.Lines.{AreLines}
+use Rattle.plan_reasons.specs.declared.journey.Journey.{Journey}
 use Rattle.plan_reasons.specs.declared.style.Style.{Style}
 use Rattle.plan_reasons.specs.declared.reasons.Counts.{Counts}
+use Rattle.plan_reasons.specs.Journeys.{IsJourney}
 use Rattle.plan_reasons.specs.Fields.{ending, field, first_field, nothing, quoted}
 use Rattle.plan_reasons.specs.Reasons.{AreCounts}
 
@@ -85,16 +85,6 @@ pub record IsOrderLine (style : Style) (net : NetworkValue) (problem : ProblemVa
 
 -- ---- wagons
 
--- when the wagon of a pair is at the order's place: it starts at the problem's moment, or when it is ready
-pub record IsArrival (net : NetworkValue) (problem : ProblemValue) (pair : ℕ × ℕ) (arrival : ℕ) : Type 0 where
-  pub wagon : FreeWagon
-  pub goes : slice_get problem.wagons pair.0 ≡ Some wagon
-  pub wanted : WantedOrder
-  pub order : slice_get problem.orders pair.1 ≡ Some wanted
-  pub way : ℕ × ℕ
-  pub distance : IsDistance net wagon.place wanted.order.place way
-  pub moment : arrival ≡ max wagon.ready problem.at + 60 * way.1
-
 -- the number of a wagon that goes, its order and its kilometres
 abbrev pub wagon_fields : Style → ProblemValue → PricedPlan → (pair : ℕ × ℕ) → List ℕ
 wagon_fields style problem p pair =
@@ -112,10 +102,10 @@ wagon_line style problem p pair moment =
 
 -- the line of a wagon that goes
 pub record IsWagonLine (style : Style) (net : NetworkValue) (problem : ProblemValue) (p : PricedPlan) (pair : ℕ × ℕ) (line : List ℕ) : Type 0 where
-  pub arrival : ℕ
-  pub arrives : IsArrival net problem pair arrival
+  pub journey : Journey
+  pub goes : IsJourney net problem pair journey
   pub moment : List ℕ
-  pub printed : IsMomentText arrival moment
+  pub printed : IsMomentText journey.arrival moment
   pub text : line ≡ wagon_line style problem p pair moment
 
 -- ---- the text

@@ -4,15 +4,14 @@ ghost use Rattle.cost_table.specs.Plan.{IsAllowed};
 ghost use Rattle.cost_table.specs.Table.{wagon_count};
 ghost use Rattle.plan_bounds.specs.Bounds.{CostsMore, IsIdle};
 ghost use Rattle.plan_reasons.specs.Planned.{IsPlannedProblem, priced_plan};
-ghost use Rattle.plan_reasons.specs.WhyText.{IsArrival, wagon_fields, without_fields};
+ghost use Rattle.plan_reasons.specs.WhyText.{wagon_fields, without_fields};
 ghost use Rattle.plan_reasons.specs.inner.Added.{AddsWagonLine};
 
+use crate::journey::journey_of;
 use crate::planned_problem::PlannedProblem;
-use crate::reasons::{arrival, way_of};
 use crate::style::{Style, code_field, end_line, first_code, moment_field, number_field};
 use plan_bounds::Bounds;
 use price_checker::{order_name, wagon_name};
-use rail_codes::Moment;
 use std::alloc::AllocError;
 
 /// Adds the line of a wagon that goes to an order.
@@ -27,7 +26,8 @@ pub(crate) fn push_wagon_line(
     ensures { OnOk result (AddsWagonLine style planned.now pair (string_bytes text.old) (string_bytes text.new)) }
 {
     push_wagon_fields(text, style, planned, pair)?;
-    moment_field(text, style, "arrival", arrival_of(planned, pair))?;
+    let journey = journey_of(planned, pair);
+    moment_field(text, style, "arrival", journey.arrival)?;
     push_without(text, style, planned, pair.0)
 }
 
@@ -56,20 +56,6 @@ fn push_wagon_fields(
         order_name(planned.problem, j).as_bytes(),
     )?;
     number_field(text, style, "km", planned.cells.cell(i, j).unwrap_or(0))
-}
-
-/// When the wagon of a pair is at the order's place: it starts at the problem's moment, or when it is ready.
-pub fn arrival_of(planned: &PlannedProblem, pair: (usize, usize)) -> Moment
-    requires planned { IsPlannedProblem planned.now }
-    requires allowed { IsAllowed planned.now.cells.now pair }
-    ensures { IsArrival planned.now.tables.now planned.now.problem.now pair result }
-{
-    let wagon = &planned.problem.wagons()[pair.0];
-    let order = planned.problem.orders()[pair.1].order();
-    // For the prover alone: the latest moment is one of the years that a moment may be of.
-    let _latest = order.latest().seconds();
-    let (_, minutes) = way_of(planned.tables, wagon, order);
-    Moment::from_seconds(arrival(planned.problem.at(), wagon, minutes)).unwrap()
 }
 
 /// Adds what every plan in which wagon `i` stays costs more, at least.

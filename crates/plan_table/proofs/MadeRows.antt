@@ -4,7 +4,7 @@ use Rattle.std.specs.List.{AllZip}
 use Rattle.place_names.specs.declared.named_place.NamedPlace.{NamedPlace}
 use Rattle.plan_reasons.proofs.OrderCounts.{AllZip-taken_more}
 use Rattle.plan_table.specs.declared.clock.Clock.{Clock}
-use Rattle.plan_table.specs.declared.plan_list.Journey.{Journey}
+use Rattle.plan_reasons.specs.declared.journey.Journey.{Journey}
 use Rattle.plan_table.specs.declared.plan_list.PlanList.{PlanList}
 use Rattle.plan_table.specs.declared.plan_list.Shortfall.{Shortfall}
 use Rattle.plan_table.specs.Cells.{AreJourneyFields, IsJourneyRow, Row, csv_titles, shortfall_fields}

@@ -4,7 +4,7 @@ use Rattle.std.specs.Cmp.Lexicographic.{pointwise}
 use Rattle.std.specs.List.{find}
 use Rattle.place_names.specs.declared.named_place.NamedPlace.{NamedPlace}
 use Rattle.plan_table.specs.declared.clock.Clock.{Clock}
-use Rattle.plan_table.specs.declared.plan_list.Journey.{Journey}
+use Rattle.plan_reasons.specs.declared.journey.Journey.{Journey}
 use Rattle.plan_table.specs.declared.plan_list.Shortfall.{Shortfall}
 use Rattle.plan_table.specs.Clock.{IsShown}
 use Rattle.plan_table.specs.Reasons.{reason_phrase}

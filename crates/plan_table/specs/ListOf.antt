@@ -1,36 +1,19 @@
 -- The list of a plan: each wagon that goes, each order that misses wagons and why, and the sum.
 use Rattle.std.specs.Prelude.{◌≡◌, ℕ, if◌then◌else◌, nat_le, nat_lt, List, length, Some, filter, slice_get}
 use Rattle.std.specs.List.{AllZip, range_with_len}
-use Rattle.wagons_and_orders.specs.declared.free_wagon.FreeWagon.{FreeWagon}
 use Rattle.wagons_and_orders.specs.Wanted.{WantedOrder}
 use Rattle.line_network.specs.Network.{NetworkValue}
-use Rattle.line_network.specs.Distance.{IsDistance}
 use Rattle.cost_table.specs.Plan.{serves}
 use Rattle.cost_table.specs.Problem.{ProblemValue}
 use Rattle.plan_bounds.specs.PricedPlan.{PricedPlan, certified_cost}
 use Rattle.plan_bounds.specs.Slack.{missed}
 use Rattle.plan_reasons.specs.declared.reasons.Counts.{Counts}
 use Rattle.plan_reasons.specs.Reasons.{AreCounts}
-use Rattle.plan_reasons.specs.WhyText.{IsArrival}
-use Rattle.plan_table.specs.declared.plan_list.Journey.{Journey}
+use Rattle.plan_reasons.specs.Journeys.{IsJourney}
 use Rattle.plan_table.specs.declared.plan_list.PlanList.{PlanList}
 use Rattle.plan_table.specs.declared.plan_list.Reason.{Reason}
 use Rattle.plan_table.specs.declared.plan_list.Reason.TheVariants.{Class, Load, Way, InTime, Cheaper, Elsewhere}
 use Rattle.plan_table.specs.declared.plan_list.Shortfall.{Shortfall}
-
--- the wagon and the order of a pair, the distance between them, and when the wagon is there
-pub record IsJourney (net : NetworkValue) (problem : ProblemValue) (pair : ℕ × ℕ) (journey : Journey) : Type 0 where
-  pub wagon : FreeWagon
-  pub goes : slice_get problem.wagons pair.0 ≡ Some wagon
-  pub wanted : WantedOrder
-  pub order : slice_get problem.orders pair.1 ≡ Some wanted
-  pub number : journey.wagon ≡ wagon.number
-  pub class : journey.class ≡ wagon.class
-  pub from_place : journey.from ≡ wagon.place
-  pub to_place : journey.to ≡ wanted.order.place
-  pub name : journey.order ≡ wanted.order.id
-  pub distance : IsDistance net wagon.place wanted.order.place (journey.km, journey.minutes)
-  pub arrives : IsArrival net problem pair journey.arrival
 
 -- the first test that no more wagons pass than the order gets
 abbrev pub reason_of : (gets : ℕ) → Counts → Reason

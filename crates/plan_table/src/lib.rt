@@ -16,6 +16,7 @@ mod table;
 pub use aligned::Side;
 pub use clock::Clock;
 pub use listing::list_of_plan;
-pub use plan_list::{Journey, PlanList, Reason, Shortfall};
+pub use plan_list::{PlanList, Reason, Shortfall};
+pub use plan_reasons::Journey;
 pub use spreadsheet::csv_text;
 pub use table::table_text;

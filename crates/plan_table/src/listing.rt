@@ -1,15 +1,16 @@
 //! The list of a plan.
 ghost use Rattle.std.specs.Prelude.{◌≡◌, ◌<◌, IfOk, OnOk, Some, length, slice_get};
 ghost use Rattle.std.specs.List.{AllZip};
-ghost use Rattle.cost_table.specs.Plan.{IsAllowed, serves};
+ghost use Rattle.cost_table.specs.Plan.{serves};
+ghost use Rattle.plan_reasons.specs.Journeys.{IsJourney};
 ghost use Rattle.plan_reasons.specs.OrderCounts.{AreOrderCounts};
 ghost use Rattle.plan_reasons.specs.Planned.{IsPlannedProblem, priced_plan};
-ghost use Rattle.plan_table.specs.ListOf.{IsJourney, IsListOf, IsShortfall, reason_of};
+ghost use Rattle.plan_table.specs.ListOf.{IsListOf, IsShortfall, reason_of};
 ghost use Rattle.plan_table.specs.inner.Listed.{AreShortfalls, with_missing};
 
-use crate::plan_list::{Journey, PlanList, Reason, Shortfall};
+use crate::plan_list::{PlanList, Reason, Shortfall};
 use cost_table::cost;
-use plan_reasons::{Counts, PlannedProblem, arrival_of, order_counts, way_of};
+use plan_reasons::{Counts, Journey, PlannedProblem, journey_of, order_counts};
 use std::alloc::{AllocError, Global};
 
 /// A plan of a version as a list: each wagon that goes with its way, in the plan's order; each order that misses wagons as
@@ -43,28 +44,6 @@ fn all_journeys(alloc: Global, planned: &PlannedProblem) -> Result<Vec<Journey>,
         journeys.push(journey_of(planned, *pair))?;
     }
     Ok(journeys)
-}
-
-/// The wagon of a pair on its way to the order.
-fn journey_of(planned: &PlannedProblem, pair: (usize, usize)) -> Journey
-    requires planned { IsPlannedProblem planned.now }
-    requires allowed { IsAllowed planned.now.cells.now pair }
-    ensures { IsJourney planned.now.tables.now planned.now.problem.now pair result }
-{
-    let arrival = arrival_of(planned, pair);
-    let wagon = &planned.problem.wagons()[pair.0];
-    let order = planned.problem.orders()[pair.1].order();
-    let (km, minutes) = way_of(planned.tables, wagon, order);
-    Journey {
-        wagon: wagon.number,
-        class: wagon.class,
-        from: wagon.place,
-        to: order.place(),
-        km,
-        minutes,
-        arrival,
-        order: order.id(),
-    }
 }
 
 /// Each order that misses wagons.

@@ -1,27 +1,7 @@
 //! A plan as a list: the wagons that go, and the orders that miss wagons.
 
-use rail_codes::{ClassCode, Moment, OrderId, Place, WagonNumber};
-
-/// A wagon that goes to an order.
-#[derive(Clone, Copy, Debug, PartialEq, Eq)]
-pub struct Journey {
-    /// The wagon.
-    pub wagon: WagonNumber,
-    /// Its class.
-    pub class: ClassCode,
-    /// Where it stands.
-    pub from: Place,
-    /// Where the order wants it.
-    pub to: Place,
-    /// The kilometres between the two.
-    pub km: u32,
-    /// The minutes between the two.
-    pub minutes: u32,
-    /// When it is there.
-    pub arrival: Moment,
-    /// The order.
-    pub order: OrderId,
-}
+use plan_reasons::Journey;
+use rail_codes::{Moment, OrderId, Place};
 
 /// The first test that no wagon passes for an order, but those that it gets. A wagon that passes a test passes those before it.
 #[derive(Clone, Copy, Debug, PartialEq, Eq)]

@@ -4,9 +4,10 @@ ghost use Rattle.plan_table.specs.Cells.{AreJourneyFields, IsJourneyRow, csv_tit
 
 use crate::clock::{Clock, shown};
 use crate::phrases::phrase;
-use crate::plan_list::{Journey, Shortfall};
+use crate::plan_list::Shortfall;
 use crate::row::Row;
 use place_names::Places;
+use plan_reasons::Journey;
 use rail_codes::Place;
 use std::alloc::{AllocError, Global};
 

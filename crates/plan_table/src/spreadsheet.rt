@@ -6,11 +6,12 @@ ghost use Rattle.plan_table.specs.CsvText.{IsCsvText, csv_text};
 ghost use Rattle.plan_table.specs.inner.Rows.{AreCsvRows, AreJourneysFields};
 
 use crate::clock::Clock;
-use crate::plan_list::{Journey, PlanList, Shortfall};
+use crate::plan_list::{PlanList, Shortfall};
 use crate::row::Row;
 use crate::rows::{CSV_TITLES, journey_fields, shortfall_fields, titles_row};
 use csv::{ByteRecord, Error, WriterBuilder};
 use place_names::Places;
+use plan_reasons::Journey;
 use std::alloc::{AllocError, Global};
 
 /// A plan as CSV for a spreadsheet, by the `csv` crate's writer. The header is

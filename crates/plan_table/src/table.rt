@@ -6,11 +6,12 @@ ghost use Rattle.plan_table.specs.inner.Rows.{AddsHead, AddsJourneys, AreJourney
 
 use crate::aligned::{Side, push_aligned};
 use crate::clock::{Clock, shown};
-use crate::plan_list::{Journey, PlanList, Shortfall};
+use crate::plan_list::{PlanList, Shortfall};
 use crate::row::Row;
 use crate::rows::{JOURNEY_TITLES, SHORTFALL_TITLES, journey_row, shortfall_row, titles_row};
 use itoa::Buffer;
 use place_names::Places;
+use plan_reasons::Journey;
 use std::alloc::{AllocError, Global};
 
 /// At which side the cells of wagons that go stand.

@@ -3,7 +3,7 @@ use Rattle.std.specs.List.{AllZip}
 use Rattle.cost_table.specs.Plan.{AllAllowed}
 use Rattle.plan_bounds.proofs.NewPairs.{allowed_at}
 use Rattle.plan_reasons.proofs.OrderCounts.{AllZip-taken_more}
-use Rattle.plan_table.specs.ListOf.{IsJourney}
+use Rattle.plan_reasons.specs.Journeys.{IsJourney}
 use Rattle.plan_table.proofs.listing.all_journeys.Goals as goal
 
 pub journey_of-requires-clause-allowed : goal.journey_of-requires-clause-allowed

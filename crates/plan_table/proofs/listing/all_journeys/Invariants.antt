@@ -1,6 +1,6 @@
 use Rattle.std.proofs.Common.{take}
 use Rattle.std.specs.List.{AllZip}
-use Rattle.plan_table.specs.ListOf.{IsJourney}
+use Rattle.plan_reasons.specs.Journeys.{IsJourney}
 use Rattle.plan_table.proofs.listing.all_journeys.Given as goal
 
 abbrev pub invariant-loop-pair : goal.invariant-loop-pair

@@ -1,0 +1,53 @@
+//! The journey of a wagon that goes.
+ghost use Rattle.cost_table.specs.Plan.{IsAllowed};
+ghost use Rattle.plan_reasons.specs.Journeys.{IsJourney};
+ghost use Rattle.plan_reasons.specs.Planned.{IsPlannedProblem};
+
+use crate::planned_problem::PlannedProblem;
+use crate::reasons::{arrival, way_of};
+use rail_codes::{ClassCode, Moment, OrderId, Place, WagonNumber};
+
+/// A wagon that goes to an order.
+#[derive(Clone, Copy, Debug, PartialEq, Eq)]
+pub struct Journey {
+    /// The wagon.
+    pub wagon: WagonNumber,
+    /// Its class.
+    pub class: ClassCode,
+    /// Where it stands.
+    pub from: Place,
+    /// Where the order wants it.
+    pub to: Place,
+    /// The kilometres between the two.
+    pub km: u32,
+    /// The minutes between the two.
+    pub minutes: u32,
+    /// When it is there.
+    pub arrival: Moment,
+    /// The order.
+    pub order: OrderId,
+}
+
+/// The wagon of a pair on its way to the order: it starts at the problem's moment, or when it is ready.
+pub fn journey_of(planned: &PlannedProblem, pair: (usize, usize)) -> Journey
+    requires planned { IsPlannedProblem planned.now }
+    requires allowed { IsAllowed planned.now.cells.now pair }
+    ensures { IsJourney planned.now.tables.now planned.now.problem.now pair result }
+{
+    let wagon = &planned.problem.wagons()[pair.0];
+    let order = planned.problem.orders()[pair.1].order();
+    // For the prover alone: the latest moment is one of the years that a moment may be of.
+    let _latest = order.latest().seconds();
+    let (km, minutes) = way_of(planned.tables, wagon, order);
+    let at = Moment::from_seconds(arrival(planned.problem.at(), wagon, minutes)).unwrap();
+    Journey {
+        wagon: wagon.number,
+        class: wagon.class,
+        from: wagon.place,
+        to: order.place(),
+        km,
+        minutes,
+        arrival: at,
+        order: order.id(),
+    }
+}
