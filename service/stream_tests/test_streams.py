@@ -6,6 +6,7 @@ import os
 import re
 import signal
 import subprocess
+import time
 from pathlib import Path
 
 import pytest
@@ -261,8 +262,13 @@ def test_lines_that_wait_for_the_program_are_read_once(server: RedisServer, star
         os.kill(pid, signal.SIGSTOP)
     lines = [message("R001", n, WAGONS[n % 40]) for n in range(5000)]
     ids = appended(server, lines)
-    # More than the program's input holds is read, and not all.
-    until("the program's input is full", lambda: office.health()["lines"] >= 2000)
+
+    def is_full() -> bool:
+        """More is read than the program's input holds, and no more comes."""
+        before = int(office.health()["lines"])
+        time.sleep(0.5)
+        return before >= 1000 and int(office.health()["lines"]) == before
+    until("the program's input is full", is_full)
     server.kill()
     office.until_logged("the stream can't be reached")
     assert office.health()["lines"] < 5000
