@@ -131,13 +131,15 @@ def test_two_that_believe_they_hold_the_lease(server: RedisServer, start_office:
     judge = Judge("north", lambda: server.client, program, tmp_path, journal_lines=JOURNAL_LINES)
     with railways(server) as senders:
         for _ in moments(max(kills // 10, 2)):
+            # On a loaded machine the one that writes may miss its lease by itself.
+            if second.health()["role"] == "first":
+                first, second = second, first
             first.pause()
             second.until_first()
             judge.judge(senders)
             first.go_on()
             judge.judge(senders)
-            until("the one that was stopped sees it", lambda: first.health()["role"] == "standby")
-            first, second = second, first
+            until("one of them alone writes", lambda: sorted(it.health()["role"] for it in (first, second)) == ["first", "standby"])
         # And both hold it at once, since it is taken from whoever has it.
         end = time.monotonic() + 5
         while time.monotonic() < end:
