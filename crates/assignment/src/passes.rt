@@ -150,6 +150,8 @@ pub(crate) fn find(numbers: &[u32], number: u32, span: Span) -> Option<usize>
 }
 
 /// Whether one of these groups has this number.
+// Inlined where it is known how many they are.
+#[inline(always)]
 fn has(numbers: &[u32], number: u32) -> bool
     ensures { result ≡ false → (g : ℕ) → g < length numbers.now → slice_index numbers.now g ≡ number → ⊥ }
 {
