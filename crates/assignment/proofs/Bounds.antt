@@ -1,14 +1,14 @@
 -- The bounds of what wagons without an order cost, and the ends of paths that they tell.
 use Rattle.std.specs.Prelude.{IfSome, IfNone}
-use Rattle.std.proofs.Common.{◌≡◌, ◌≢◌, ◌+◌, ◌-◌, ◌<◌, ◌≤◌, ℕ, false, List, Option, Some, None, Vec, length, get_or, set, min, refl, sym, ◌∙◌, ap, arith, inl, inr, subst}
+use Rattle.std.proofs.Common.{◌≡◌, ◌≢◌, ◌+◌, ◌-◌, ◌<◌, ◌≤◌, ℕ, List, Option, Some, None, Vec, length, get_or, set, min, refl, sym, ◌∙◌, ap, arith, inl, inr, subst}
 use Rattle.std.specs.declared.alloc.Global.{Global}
-use Rattle.std.proofs.lemmas.Bool.{cases_eq, cases_lt, eqb-false, ne_eqb}
+use Rattle.std.proofs.lemmas.Bool.{cases_eq, cases_lt}
 use Rattle.std.proofs.lemmas.List.{get_or_read}
 use Rattle.cost_table.specs.Table.{cost_at, penalty_at, wagon_count, order_count}
 use Rattle.assignment.specs.declared.state.State.{State}
 use Rattle.assignment.specs.inner.Costs.{IsColumn, cell_cost}
 use Rattle.assignment.specs.inner.Groups.{group_table}
-use Rattle.assignment.specs.inner.Passes.{IsAmong, IsFound, IsLeastLabel}
+use Rattle.assignment.specs.inner.Passes.{HasIdle, IsFoundIdle, IsLeastIdle}
 use Rattle.assignment.specs.inner.State.{AreBounds, IsEndAt, IsEndFound, IsHead, IsIdleAt, IsIdleGroup, IsKept, IsLeastCost, IsState, Kept, kept, orders_of}
 use Rattle.assignment.proofs.Grouping.{group_cells, group_count}
 use Rattle.assignment.proofs.Idle.{first_idle}
@@ -40,36 +40,31 @@ first_of state j cost g i h at e =
     } in
     subst (IsFirstOf state j cost g) (sym e) whole
 
-pub least_cost_is : (state : State) (j cost : ℕ) (column : List ℕ) → IsState state → IsColumn (group_table state.cells.now state.groups.first.items) j column → IsLeastLabel (λ g. get_or column g 0) state.idle.items false cost (length column) → IsLeastCost state j cost
-least_cost_is state j cost column h c least =
-    let rows = group_count state.cells.now state.groups.first.items in
-    let count = c.count in
-    record {
-      below = λ g l idle. let m = least.below g (omega (arith, l, rows, count)) (ne_eqb (get_or state.idle.items g 0) 4294967295 idle) in let e = c.each g (omega (arith, l, rows)) in omega (arith, m, e);
-      attained = λ near.
-          let at = least.attained near in
-          let within = at.within in
-          let l : at.index < length state.groups.first.items = omega (arith, within, rows, count) in
-          let is = at.is in
-          record { group = at.index; is = record { within = l; idle = eqb-false (get_or state.idle.items at.index 0) 4294967295 at.among; is = sym (c.each at.index (omega (arith, l, rows))) ∙ is } };
-    }
-
-pub group_found : (state : State) (j cost g : ℕ) (column : List ℕ) → IsColumn (group_table state.cells.now state.groups.first.items) j column → IsFound (λ g. get_or column g 0) state.idle.items false cost (length column) g → IsIdleGroup state j cost g
+pub group_found : (state : State) (j cost g : ℕ) (column : List ℕ) → IsColumn (group_table state.cells.now state.groups.first.items) j column → IsFoundIdle column state.idle.items cost (length column) g → IsIdleGroup state j cost g
 group_found state j cost g column c found =
     let rows = group_count state.cells.now state.groups.first.items in
     let count = c.count in
     let within = found.within in
     let l : g < length state.groups.first.items = omega (arith, within, rows, count) in
-    record { within = l; idle = eqb-false (get_or state.idle.items g 0) 4294967295 found.among; is = sym (c.each g (omega (arith, l, rows))) ∙ found.is }
+    record { within = l; idle = found.has; is = sym (c.each g (omega (arith, l, rows))) ∙ found.is }
 
-pub none_found : (state : State) (j cost : ℕ) (column : List ℕ) → IsColumn (group_table state.cells.now state.groups.first.items) j column → IsLeastCost state j cost → ((g : ℕ) → 0 ≤ g → g < length column → get_or column g 0 ≡ cost → IsAmong state.idle.items false g → ⊥) → 1000000000 < cost
+pub least_cost_is : (state : State) (j cost : ℕ) (column : List ℕ) → IsColumn (group_table state.cells.now state.groups.first.items) j column → IsLeastIdle column state.idle.items cost (length column) → IsLeastCost state j cost
+least_cost_is state j cost column c least =
+    let rows = group_count state.cells.now state.groups.first.items in
+    let count = c.count in
+    record {
+      below = λ g l idle. let m = least.below g (omega (arith, l, rows, count)) idle in let e = c.each g (omega (arith, l, rows)) in omega (arith, m, e);
+      attained = λ near. let at = least.attained near in record { group = at.group; is = group_found state j cost at.group column c at.is };
+    }
+
+pub none_found : (state : State) (j cost : ℕ) (column : List ℕ) → IsColumn (group_table state.cells.now state.groups.first.items) j column → IsLeastCost state j cost → ((g : ℕ) → g < length column → get_or column g 0 ≡ cost → HasIdle state.idle.items g → ⊥) → 1000000000 < cost
 none_found state j cost column c least none = elim (cases_lt cost 4294967295) [
   | inl near ↦ absurd (
       let at = least.attained near in
       let rows = group_count state.cells.now state.groups.first.items in
       let count = c.count in
       let within = at.is.within in
-      none at.group (omega arith) (omega (arith, within, rows, count)) (c.each at.group (omega (arith, within, rows)) ∙ at.is.is) (ne_eqb (get_or state.idle.items at.group 0) 4294967295 at.is.idle))
+      none at.group (omega (arith, within, rows, count)) (c.each at.group (omega (arith, within, rows)) ∙ at.is.is) at.is.idle)
   | inr far ↦ omega (arith, far)
 ]
 
@@ -156,14 +151,16 @@ chosen_head state bound penalty wagon chosen head at_most above = elim (cases_lt
   | inr low ↦ subst (IsHead state) (sym (at_most low)) head
 ]
 
--- so is the wagon that is read there
-pub first_read : (state : State) (j cost g wagon : ℕ) (column : List ℕ) → IsState state → g < length state.idle.items → wagon ≡ get_or state.idle.items g wagon → wagon ≢ 4294967295 → IsColumn (group_table state.cells.now state.groups.first.items) j column → get_or column g 0 ≡ cost → IsFirstOf state j cost g wagon
-first_read state j cost g wagon column h l read some c is =
+-- so is the wagon that is read there, where its group costs what the bound says
+pub first_read : (state : State) (j bound g wagon : ℕ) (column : List ℕ) → IsState state → j < order_count state.cells.now → bound ≡ get_or state.bound.items j bound → g < length state.idle.items → wagon ≡ get_or state.idle.items g wagon → wagon ≢ 4294967295 → IsColumn (group_table state.cells.now state.groups.first.items) j column → get_or column g 0 ≡ bound → IsFirstOf state j (get_or state.bound.items j 0) g wagon
+first_read state j bound g wagon column h lj bound_read l read some c is =
     let at : wagon ≡ get_or state.idle.items g 0 = get_or_read state.idle.items g wagon l read 0 in
+    let bounds = h.bounds.count in
+    let cost : bound ≡ get_or state.bound.items j 0 = get_or_read state.bound.items j bound (omega (arith, lj, bounds)) bound_read 0 in
     let count = h.idle.count in
     let rows = group_count state.cells.now state.groups.first.items in
-    let group : IsIdleGroup state j cost g = record { within = omega (arith, l, count); idle = λ no. some (at ∙ no); is = sym (c.each g (omega (arith, l, count, rows))) ∙ is } in
-    first_of state j cost g wagon h group at
+    let group : IsIdleGroup state j (get_or state.bound.items j 0) g = record { within = omega (arith, l, count); idle = λ no. some (at ∙ no); is = sym (c.each g (omega (arith, l, count, rows))) ∙ is ∙ cost } in
+    first_of state j (get_or state.bound.items j 0) g wagon h group at
 
 -- and the bound that is found again is what that wagon costs
 pub idle_renewed : (state : State) (j cost wagon : ℕ) → IsState state → j < order_count state.cells.now → IsIdleAt (kept state) j cost wagon → IsIdleAt (kept state) j (get_or (set state.bound.items j cost) j 0) wagon

@@ -6,8 +6,10 @@ use Rattle.std.proofs.lemmas.Bool.{cases_eq}
 use Rattle.std.proofs.lemmas.Bool.Decides.{nat_tests}
 use Rattle.std.proofs.lemmas.List.{length-replicate, get_or-replicate}
 use Rattle.cost_table.specs.Table.{wagon_count, order_count}
+use Rattle.assignment.specs.declared.passes.Span.{Span}
 use Rattle.assignment.specs.declared.search.Search.{Search}
 use Rattle.assignment.specs.declared.state.State.{State}
+use Rattle.assignment.specs.inner.Passes.{IsSpanOf}
 use Rattle.assignment.specs.inner.State.{IsState, Kept, kept}
 use Rattle.assignment.specs.inner.Search.{HasRoom, IsKnown, IsSearch, IsWalking, ahead_of, closed_of, group_at, label_at}
 use Rattle.assignment.proofs.Idle.{like_idle}
@@ -16,8 +18,8 @@ use Rattle.assignment.proofs.Walking.{walking_first}
 use Rattle.assignment.proofs.Nearness.{all_far_count}
 
 -- a search that has reached nothing
-abbrev pub cleared : Search → Vec ℕ Global → Vec ℕ Global → Vec ℕ Global → Vec ℕ Global → Vec ℕ Global → Vec ℕ Global → Search
-cleared f ahead closed cursor distances orders via = record f { ahead = ahead; closed_at = closed; cursor = cursor; order_distance = distances; orders = orders; via = via; front = 0; end = record { distance = 4294967295; index = 0; wagon = None } }
+abbrev pub cleared : Search → Span → Vec ℕ Global → Vec ℕ Global → Vec ℕ Global → Vec ℕ Global → Vec ℕ Global → Vec ℕ Global → Search
+cleared f span ahead closed cursor distances orders via = record f { span = span; ahead = ahead; closed_at = closed; cursor = cursor; order_distance = distances; orders = orders; via = via; front = 0; end = record { distance = 4294967295; index = 0; wagon = None } }
 
 -- the number of a group that nothing has reached, by its first wagon without an order
 abbrev opened : ℕ → ℕ
@@ -78,10 +80,10 @@ far_cleared s f i idle closed ahead near =
           omega (arith, near, label)
     ]
 
-pub search_cleared : (state : State) (f : Search) (ahead closed cursor distances orders via : Vec ℕ Global) → IsState state → HasRoom (kept state) f → length ahead.items ≡ length f.ahead.items → ((g : ℕ) → g < length f.ahead.items → get_or ahead.items g 0 ≡ opened (get_or state.idle.items g 0)) → closed.items ≡ replicate (length f.closed_at.items) 4294967295 → cursor.items ≡ state.groups.first.items → distances.items ≡ replicate (length f.order_distance.items) 4294967295 → orders.items ≡ [] → via.items ≡ [] → vec_capacity orders ≡ vec_capacity f.orders → vec_capacity via ≡ vec_capacity f.via → IsSearch (kept state) (cleared f ahead closed cursor distances orders via) 0
-search_cleared state f ahead closed cursor distances orders via h room la ae ce we de oe ve oc vc =
+pub search_cleared : (state : State) (f : Search) (span : Span) (ahead closed cursor distances orders via : Vec ℕ Global) → IsState state → HasRoom (kept state) f → length ahead.items ≡ length f.ahead.items → ((g : ℕ) → g < length f.ahead.items → get_or ahead.items g 0 ≡ opened (get_or state.idle.items g 0)) → closed.items ≡ replicate (length f.closed_at.items) 4294967295 → cursor.items ≡ state.groups.first.items → distances.items ≡ replicate (length f.order_distance.items) 4294967295 → orders.items ≡ [] → via.items ≡ [] → vec_capacity orders ≡ vec_capacity f.orders → vec_capacity via ≡ vec_capacity f.via → IsSpanOf ahead.items span → IsSearch (kept state) (cleared f span ahead closed cursor distances orders via) 0
+search_cleared state f span ahead closed cursor distances orders via h room la ae ce we de oe ve oc vc spans =
     let s = kept state in
-    let f' = cleared f ahead closed cursor distances orders via in
+    let f' = cleared f span ahead closed cursor distances orders via in
     let groups = room.ahead in
     let closes = room.closed in
     let count = room.distances in
@@ -101,6 +103,7 @@ search_cleared state f ahead closed cursor distances orders via h room la ae ce 
         orders = oc ∙ room.orders;
         vias = vc ∙ room.vias;
       };
+      span = spans;
       labels = λ i l near. absurd (
           let g = group_at s i in
           let lg = h.groups.group i l in

@@ -3,12 +3,16 @@ use Rattle.std.proofs.Common.{◌≡◌, ◌+◌, ◌<◌, ◌≤◌, ℕ, Optio
 use Rattle.std.specs.declared.alloc.Global.{Global}
 use Rattle.std.proofs.lemmas.Bool.{cases_eq, cases_lt}
 use Rattle.cost_table.specs.Table.{cost_at, wagon_count}
+use Rattle.assignment.specs.declared.passes.Span.{Span}
 use Rattle.assignment.specs.declared.search.Search.{Search}
 use Rattle.assignment.specs.inner.Costs.{cell_cost}
+use Rattle.assignment.specs.inner.Passes.{IsSpanOf}
 use Rattle.assignment.specs.inner.State.{Kept, IsKept, order_at}
 use Rattle.assignment.specs.inner.Search.{IsClosable, IsKnown, IsLedFrom, IsSearch, IsWagonReached, IsWalking, ahead_of, closed_of, group_at, label_at, label_of, settled_at, distance_at}
 use Rattle.assignment.proofs.Labels.{label_closed}
 use Rattle.assignment.proofs.Limits.{held_order}
+use Rattle.assignment.proofs.Regrouped.{end_regrouped, reached_regrouped, settled_regrouped, walking_regrouped}
+use Rattle.assignment.proofs.Spans.{span_closed}
 use Rattle.assignment.proofs.Writes.{same_at, other_at, written_length}
 
 -- the group is closed at the front
@@ -128,75 +132,48 @@ search_closed s f g n ahead closed k h long some led closable ae ce =
         orders = h.room.orders;
         vias = h.room.vias;
       };
-      labels = λ i l near.
-          let was = reached_closed s f f' g n i h (at i l) l (moves i) near in
-          record { index = was.index; before = was.before; from = record { within = was.from.within; exact = was.from.exact } };
+      span = span_closed f.ahead.items ahead.items f.span g h.span (omega (arith, within, ra)) ae;
+      labels = λ i l near. reached_regrouped s f ahead f.span closed f.cursor _ _ i (reached_closed s f f' g n i h (at i l) l (moves i) near);
       relaxed = λ x lx i l. let low = lower_closed s f f' g i (at i l) (moves i) in let was = h.relaxed x lx i l in omega (arith, was, low);
       known = λ i l. known_closed s f f' g i (h.known i l) (at i l) (λ same q held. closable i q l same held) (has i l) (omega (arith, before, limit)) c (moves i);
-      walked = λ x l. let w = h.walked x l in record { settled = w.settled; is = w.is };
-      settled = record {
-        vias = h.settled.vias;
-        count = h.settled.count;
-        order = h.settled.order;
-        near = h.settled.near;
-        last = h.settled.last;
-        listed = λ q l near. let x = h.settled.listed q l near in record { index = x.index; within = x.within; is = x.is };
-        apart = h.settled.apart;
-        led = λ x pos l.
-            let was = h.settled.led x pos l in
-            let w = get_or f.via.items x 0 in
-            let far = was.as_far in
-            let near = h.settled.near x l in
-            record {
-              wagon = was.wagon;
-              held = was.held;
-              as_far = near_closed s f f' g w (at w was.wagon) (omega (arith, far, near)) (moves w) ∙ was.as_far;
-              reached = record { index = was.reached.index; before = was.reached.before; from = record { within = was.reached.from.within; exact = was.reached.from.exact } };
-            };
-      };
-      end = record { beyond = h.end.beyond; none = h.end.none; limit = h.end.limit; within = h.end.within; is = h.end.is; refusals = h.end.refusals; wagons = h.end.wagons };
+      walked = λ x l. walking_regrouped s f ahead f.span closed f.cursor x _ (h.walked x l);
+      settled = settled_regrouped s f ahead f.span closed f.cursor h.settled (λ i l near. near_closed s f f' g i (at i l) near (moves i));
+      end = end_regrouped s f ahead f.span closed f.cursor h.end;
     }
 
--- a walk has come to another wagon
+-- A walk comes to another wagon, or the span gets narrower: nothing else changes.
+pub search_moved : (s : Kept) (f : Search) (n : ℕ) (span : Span) (cursor : Vec ℕ Global) → IsSearch s f n → IsSpanOf f.ahead.items span → length cursor.items ≡ length f.cursor.items → ((g : ℕ) → g < s.group_count → IsWalking s f g (get_or cursor.items g 0)) → IsSearch s (record f { span = span; cursor = cursor }) n
+search_moved s f n span cursor h spans count walked = record {
+  room = record {
+    ahead = h.room.ahead;
+    closed = h.room.closed;
+    cursors = count ∙ h.room.cursors;
+    distances = h.room.distances;
+    orders = h.room.orders;
+    vias = h.room.vias;
+  };
+  span = spans;
+  labels = λ i l near. reached_regrouped s f f.ahead span f.closed_at cursor _ _ i (h.labels i l near);
+  relaxed = h.relaxed;
+  known = λ i l. let w = h.known i l in record { held = w.held; idle = w.idle; skipped = w.skipped; front = w.front; fresh = w.fresh; closed = w.closed; settled = w.settled };
+  walked = λ g l. walking_regrouped s f f.ahead span f.closed_at cursor g _ (walked g l);
+  settled = settled_regrouped s f f.ahead span f.closed_at cursor h.settled (λ i l near. refl);
+  end = end_regrouped s f f.ahead span f.closed_at cursor h.end;
+}
+
+pub search_narrowed : (s : Kept) (f : Search) (n : ℕ) (span : Span) → IsSearch s f n → IsSpanOf f.ahead.items span → IsSearch s (record f { span = span }) n
+search_narrowed s f n span h spans = search_moved s f n span f.cursor h spans refl h.walked
+
 pub search_walked : (s : Kept) (f : Search) (g n wagon : ℕ) (cursor : Vec ℕ Global) → IsSearch s f n → g < s.group_count → IsWalking s f g wagon → cursor.items ≡ set f.cursor.items g wagon → IsSearch s (record f { cursor = cursor }) n
 search_walked s f g n wagon cursor h lg walking e =
-    let f' : Search = record f { cursor = cursor } in
     let count = h.room.cursors in
-    record {
-      room = record {
-        ahead = h.room.ahead;
-        closed = h.room.closed;
-        cursors = written_length f.cursor.items cursor.items g wagon e ∙ count;
-        distances = h.room.distances;
-        orders = h.room.orders;
-        vias = h.room.vias;
-      };
-      labels = λ i l near. let was = h.labels i l near in record { index = was.index; before = was.before; from = record { within = was.from.within; exact = was.from.exact } };
-      relaxed = h.relaxed;
-      known = λ i l. let w = h.known i l in record { held = w.held; idle = w.idle; skipped = w.skipped; front = w.front; fresh = w.fresh; closed = w.closed; settled = w.settled };
-      walked = λ x l. elim (cases_eq x g) [
-        | inl same ↦
-            let at : get_or cursor.items x 0 ≡ wagon = ap (λ y. get_or cursor.items y 0) same ∙ same_at f.cursor.items cursor.items g wagon 0 (omega (arith, lg, count)) e in
-            let w : IsWalking s f x wagon = subst (λ (y : ℕ). IsWalking s f y wagon) (sym same) walking in
-            subst (IsWalking s f' x) (sym at) (record { settled = w.settled; is = w.is })
-        | inr other ↦
-            let at : get_or cursor.items x 0 ≡ get_or f.cursor.items x 0 = other_at f.cursor.items cursor.items g wagon 0 x e other in
-            let w = h.walked x l in
-            subst (IsWalking s f' x) (sym at) (record { settled = w.settled; is = w.is })
-      ];
-      settled = record {
-        vias = h.settled.vias;
-        count = h.settled.count;
-        order = h.settled.order;
-        near = h.settled.near;
-        last = h.settled.last;
-        listed = λ q l near. let x = h.settled.listed q l near in record { index = x.index; within = x.within; is = x.is };
-        apart = h.settled.apart;
-        led = λ x pos l. let was = h.settled.led x pos l in record { wagon = was.wagon; held = was.held; as_far = was.as_far; reached = record { index = was.reached.index; before = was.reached.before; from = record { within = was.reached.from.within; exact = was.reached.from.exact } } };
-      };
-      end = record { beyond = h.end.beyond; none = h.end.none; limit = h.end.limit; within = h.end.within; is = h.end.is; refusals = h.end.refusals; wagons = h.end.wagons };
-    }
+    search_moved s f n f.span cursor h h.span (written_length f.cursor.items cursor.items g wagon e) (λ x l. elim (cases_eq x g) [
+      | inl same ↦
+          let at : get_or cursor.items x 0 ≡ wagon = ap (λ y. get_or cursor.items y 0) same ∙ same_at f.cursor.items cursor.items g wagon 0 (omega (arith, lg, count)) e in
+          subst (IsWalking s f x) (sym at) (subst (λ (y : ℕ). IsWalking s f y wagon) (sym same) walking)
+      | inr other ↦ subst (IsWalking s f x) (sym (other_at f.cursor.items cursor.items g wagon 0 x e other)) (h.walked x l)
+    ])
 
 -- a search with fewer orders relaxed is one
 pub search_before : (s : Kept) (f : Search) (n m : ℕ) → m ≤ n → IsSearch s f n → IsSearch s f m
-search_before s f n m le h = record { room = h.room; labels = h.labels; relaxed = λ x lx. h.relaxed x (omega (arith, lx, le)); known = h.known; walked = h.walked; settled = h.settled; end = h.end }
+search_before s f n m le h = record { room = h.room; span = h.span; labels = h.labels; relaxed = λ x lx. h.relaxed x (omega (arith, lx, le)); known = h.known; walked = h.walked; settled = h.settled; end = h.end }

@@ -37,3 +37,5 @@ pub mod UnitTaken
 pub mod Comparing
 pub mod Joining
 pub mod FirstState
+pub mod Spans
+pub mod Regrouped

@@ -159,35 +159,29 @@ unsettled_far s f i q h l held open_order =
       | inr skipped ↦ omega (arith, skipped, limit)
     ]
 
--- a wagon that keeps its order keeps it at a tight cell
-tight_raised : (s : Kept) (f : Search) (u v : List ℕ) (order_of : List (Option ℕ)) (i q : ℕ) → IsKept s → IsShortestPath s f → AreRaised s f u v → order_at s.order_of i ≡ Some q → IsTight s i q → i < wagon_count s.table → q < order_count s.table → Reach s f q → IsTight (raised s u v order_of) i q
-tight_raised s f u v order_of i q k h r held tight li lq (far n) =
+-- a cell stays tight where both prices were raised by as much
+tight_after : (s : Kept) (f : Search) (u v : List ℕ) (order_of : List (Option ℕ)) (i q : ℕ) → IsKept s → AreRaised s f u v → i < wagon_count s.table → q < order_count s.table → IsTight s i q → f.end.distance - label_at s f i ≡ f.end.distance - distance_at f q → IsTight (raised s u v order_of) i q
+tight_after s f u v order_of i q k r li lq tight same =
     let w = k.priced.wagons in
     let o = k.priced.orders in
     let a = r.wagons i (omega (arith, li, w)) in
     let b = r.orders q (omega (arith, lq, o)) in
     let e = tight.tight in
+    record { cost = tight.cost; allowed = tight.allowed; tight = omega (arith, a, b, e, same) }
+
+-- as those of a wagon and the order that it keeps are
+as_much_nearer : (s : Kept) (f : Search) (i q : ℕ) → IsShortestPath s f → order_at s.order_of i ≡ Some q → IsTight s i q → i < wagon_count s.table → Reach s f q → f.end.distance - label_at s f i ≡ f.end.distance - distance_at f q
+as_much_nearer s f i q h held tight li (far n) =
     let beyond = unsettled_far s f i q h li held n in
     let limit = h.search.end.limit h.some in
-    record { cost = tight.cost; allowed = tight.allowed; tight = omega (arith, a, b, e, beyond, limit, n) }
-tight_raised s f u v order_of i q k h r held tight li lq (last beyond below) =
-    let w = k.priced.wagons in
-    let o = k.priced.orders in
-    let a = r.wagons i (omega (arith, li, w)) in
-    let b = r.orders q (omega (arith, lq, o)) in
-    let e = tight.tight in
+    omega (arith, beyond, limit, n)
+as_much_nearer s f i q h held tight li (last beyond below) = let at = (h.search.known i li).held q held in omega (arith, at, beyond, below)
+as_much_nearer s f i q h held tight li (near least le relaxed refusal) =
     let at = (h.search.known i li).held q held in
-    record { cost = tight.cost; allowed = tight.allowed; tight = omega (arith, a, b, e, at, beyond, below) }
-tight_raised s f u v order_of i q k h r held tight li lq (near least le relaxed refusal) =
-    let w = k.priced.wagons in
-    let o = k.priced.orders in
-    let a = r.wagons i (omega (arith, li, w)) in
-    let b = r.orders q (omega (arith, lq, o)) in
     let e = tight.tight in
-    let at = (h.search.known i li).held q held in
     let c : cell_cost (cost_at s.table i q) ≡ tight.cost = ap cell_cost tight.allowed in
     let g = relaxed i li in
-    record { cost = tight.cost; allowed = tight.allowed; tight = omega (arith, a, b, e, at, g, c, least, le) }
+    omega (arith, e, at, g, c, least, le)
 
 -- a wagon on the path is one of the table's
 via_wagon : (s : Kept) (f : Search) (i x : ℕ) → IsShortestPath s f → 0 < x → x < length f.orders.items → get_or f.via.items x 0 ≡ i → i < wagon_count s.table
@@ -238,7 +232,7 @@ held_raised s f u v order_of k h r len handed = record {
         let tight = k.held.tight i q was in
         let li = cell_wagon s.table i q tight.cost k.table tight.allowed in
         let lq = cell_order s.table i q tight.cost k.table tight.allowed in
-        tight_raised s f u v order_of i q k h r was tight li lq (reach_at s f q h lq)
+        tight_after s f u v order_of i q k r li lq tight (as_much_nearer s f i q h was tight li (reach_at s f q h lq))
     | inr moved ↦ tight_new s f u v order_of i q moved.1.index k h r (path_wagon s f f.end.wagon i _ _ _ h (h.search.end.is h.some) moved.0) moved.1.from (some_inner _ _ (order_at order_of i) is moved.1.order)
   ];
   idle = λ i none. elim (handed i) [

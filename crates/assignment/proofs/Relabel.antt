@@ -6,14 +6,17 @@ use Rattle.assignment.specs.declared.search.Search.{Search}
 use Rattle.assignment.specs.inner.Costs.{cell_cost}
 use Rattle.assignment.specs.inner.Passes.{through}
 use Rattle.assignment.specs.inner.State.{Kept, IsKept}
-use Rattle.assignment.specs.inner.Search.{IsSearch, IsKnown, IsNearestEnd, IsWagonReached, ahead_of, closed_of, group_at, label_at, reach, settled_at, distance_at}
+use Rattle.assignment.specs.inner.Search.{IsSearch, IsKnown, IsWagonReached, ahead_of, closed_of, group_at, label_at, reach, settled_at, distance_at}
 use Rattle.assignment.proofs.Labels.{label_closed, label_open}
 use Rattle.assignment.proofs.Limits.{cell_gap}
+use Rattle.assignment.proofs.Regrouped.{end_regrouped, reached_regrouped, settled_regrouped, walking_regrouped}
+use Rattle.assignment.proofs.Spans.{span_kept}
 
 -- each group that leads on took the nearer of its distance and that over the order at the front
 pub record IsRelabelled (s : Kept) (f : Search) (scanned : ℕ) (ahead : List ℕ) : Type 0 where
   pub last : scanned + 1 ≡ length f.orders.items
   pub count : length ahead ≡ s.group_count
+  pub leads : (g : ℕ) → g < s.group_count → 0 < get_or ahead g 0 → 0 < ahead_of f g
   pub labels : (i : ℕ) → i < wagon_count s.table → get_or ahead (group_at s i) 0 ≡ min (ahead_of f (group_at s i)) (through (f.front + 1) (get_or s.v (settled_at f scanned) 0) (cell_cost (cost_at s.table i (settled_at f scanned))) (get_or s.u i 0))
 
 -- a wagon's distance stays, or it is the lesser of what it was and a new one
@@ -53,10 +56,6 @@ new_label s f scanned ahead i k h r l =
             lowered leads leads' (omega (arith, a, b, now))
       ];
     }
-
--- the nearest end has nothing to do with the groups' distances
-end_relabelled : (s : Kept) (f : Search) (ahead : Vec ℕ Global) → IsNearestEnd s f → IsNearestEnd s (record f { ahead = ahead })
-end_relabelled s f ahead h = record { beyond = h.beyond; none = h.none; limit = h.limit; within = h.within; is = h.is; refusals = h.refusals; wagons = h.wagons }
 
 -- the order at the front is relaxed
 front_relaxed : (s : Kept) (f f' : Search) (scanned i distance : ℕ) → IsSearch s f scanned → scanned + 1 ≡ length f.orders.items → i < wagon_count s.table → distance_at f (settled_at f scanned) ≡ f.front → distance + get_or s.v (settled_at f scanned) 0 ≡ f.front + cell_cost (cost_at s.table i (settled_at f scanned)) + get_or s.u i 0 → f.front ≤ distance → IsLowered f f' (group_at s i) (label_at s f i) (label_at s f' i) distance → min (label_at s f' i) f.end.distance + get_or s.v (settled_at f scanned) 0 ≤ reach s f i (settled_at f scanned)
@@ -133,10 +132,8 @@ search_relaxed s f scanned ahead k h r =
         orders = h.room.orders;
         vias = h.room.vias;
       };
-      labels = λ i l near.
-          let n = new i l in
-          let at = reached_relabelled s f f' scanned i n.distance h last refl l far n.exact n.is near in
-          record { index = at.index; before = at.before; from = record { within = at.from.within; exact = at.from.exact } };
+      span = span_kept f.ahead.items ahead.items f.span h.span (r.count ∙ sym h.room.ahead) (λ g l. r.leads g (let count = h.room.ahead in omega (arith, l, count)));
+      labels = λ i l near. let n = new i l in reached_regrouped s f ahead f.span f.closed_at f.cursor _ _ i (reached_relabelled s f f' scanned i n.distance h last refl l far n.exact n.is near);
       relaxed = λ x lx i l.
           let n = new i l in
           elim (cases_eq x scanned) [
@@ -144,28 +141,7 @@ search_relaxed s f scanned ahead k h r =
             | inr other ↦ let was = h.relaxed x (omega (arith, lx, other)) i l in let low = lower_label s f f' i n.distance n.is in omega (arith, was, low)
           ];
       known = λ i l. let n = new i l in known_relabelled s f f' i n.distance (h.known i l) refl refl refl n.beyond n.is;
-      walked = λ g l. let w = h.walked g l in record { settled = w.settled; is = w.is };
-      settled = record {
-        vias = h.settled.vias;
-        count = h.settled.count;
-        order = h.settled.order;
-        near = h.settled.near;
-        last = h.settled.last;
-        listed = λ q l near. let at = h.settled.listed q l near in record { index = at.index; within = at.within; is = at.is };
-        apart = h.settled.apart;
-        led = λ x pos l.
-            let led = h.settled.led x pos l in
-            let w = get_or f.via.items x 0 in
-            let as_far = led.as_far in
-            let near = h.settled.near x l in
-            let n = new w led.wagon in
-            let same = near_label s f f' w n.distance n.beyond (omega (arith, as_far, near)) n.is in
-            record {
-              wagon = led.wagon;
-              held = led.held;
-              as_far = same ∙ as_far;
-              reached = record { index = led.reached.index; before = led.reached.before; from = record { within = led.reached.from.within; exact = led.reached.from.exact } };
-            };
-      };
-      end = end_relabelled s f ahead h.end;
+      walked = λ g l. walking_regrouped s f ahead f.span f.closed_at f.cursor g _ (h.walked g l);
+      settled = settled_regrouped s f ahead f.span f.closed_at f.cursor h.settled (λ i l near. let n = new i l in near_label s f f' i n.distance n.beyond near n.is);
+      end = end_regrouped s f ahead f.span f.closed_at f.cursor h.end;
     }

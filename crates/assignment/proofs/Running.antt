@@ -1,4 +1,4 @@
-use Rattle.std.proofs.Common.{◌≡◌, ◌+◌, ◌<◌, ◌≤◌, ℕ, Bool, true, false, cond, Some, length, refl, ◌∙◌, ap, arith, inl, inr, List, set, get_or}
+use Rattle.std.proofs.Common.{◌≡◌, ◌+◌, ◌-◌, ◌<◌, ◌≤◌, ℕ, Bool, true, false, cond, Some, length, refl, ◌∙◌, ap, arith, inl, inr, List, set, get_or}
 use Rattle.std.proofs.lemmas.Bool.{cases_eq, cases_lt}
 use Rattle.std.proofs.lemmas.List.{get_or_read}
 use Rattle.cost_table.specs.Table.{wagon_count, order_count}
@@ -129,3 +129,18 @@ group_read state f n wagon group h search lw read =
     let lg = h.groups.group wagon lw in
     let room = search.room.ahead in
     record { within = omega (arith, is, lg, room); led = λ leads before. record { within = omega (arith, is, lg); ahead = leads; before = before } }
+
+-- the order that was settled last, where it is read
+pub record IsLastRead (state : State) (f : Search) (order price : ℕ) : Type 0 where
+  pub is : order ≡ settled_at f (length f.orders.items - 1)
+  pub within : order < order_count state.cells.now
+  pub price_is : price ≡ get_or state.v.items order 0
+
+pub last_read : (state : State) (f : Search) (n len order price : ℕ) → IsState state → IsSearch (kept state) f n → 0 < length f.orders.items → len ≡ length f.orders.items → order ≡ get_or f.orders.items (len - 1) order → price ≡ get_or state.v.items order price → IsLastRead state f order price
+last_read state f n len order price h search some count read price_read =
+    let here : len - 1 ≡ length f.orders.items - 1 = omega (arith, count) in
+    let is : order ≡ settled_at f (length f.orders.items - 1) = get_or_read f.orders.items (len - 1) order (omega (arith, count, some)) read 0 ∙ ap (λ x. get_or f.orders.items x 0) here in
+    let at = search.settled.order (length f.orders.items - 1) (omega (arith, some)) in
+    let prices = h.keeps.priced.orders in
+    let within : order < order_count state.cells.now = omega (arith, is, at) in
+    record { is = is; within = within; price_is = get_or_read state.v.items order price (omega (arith, within, prices)) price_read 0 }

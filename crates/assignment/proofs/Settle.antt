@@ -316,6 +316,7 @@ search_settled s f order distance wagon n end new_end distances orders via k h b
         orders = co ∙ h.room.orders;
         vias = cv ∙ h.room.vias;
       };
+      span = h.span;
       labels = λ i l near. reached_kept s f f' order distance (label_at s f i) _ (length f.orders.items) _ i i p (omega (arith, count)) refl refl (h.labels i l near);
       relaxed = λ x lx i l.
           let within : x < length f.orders.items = omega (arith, lx, below) in

@@ -21,7 +21,7 @@ settled_of state f index order h lp read =
     let is : order ≡ settled_at f index = get_or_read f.orders.items index order lp read 0 in
     record { is = is; within = omega (arith, is, h.settled index lp) }
 
-pub cost_within : (state : State) (f : Search) (group order groups : ℕ) → IsSearchOf state f → group < length state.groups.first.items → order < order_count state.cells.now → groups ≡ length state.groups.first.items → order * groups + group < length state.costs.items
+cost_within : (state : State) (f : Search) (group order groups : ℕ) → IsSearchOf state f → group < length state.groups.first.items → order < order_count state.cells.now → groups ≡ length state.groups.first.items → order * groups + group < length state.costs.items
 cost_within state f group order groups h lg lo count =
     let n = length state.groups.first.items in
     let all = h.costs.count in
@@ -37,7 +37,7 @@ pub record AgreeWhereReached (state : State) (f : Search) (far wagon index far_r
   pub agree : IsReachedFrom (kept state) f far wagon index → far_read + price ≡ distance + cost + wagon_price
 
 -- so do those of what is read of a wagon, and of the order that was settled at an index
-pub agree_where_reached : (state : State) (f : Search) (far wagon group index groups order cost distance price far_read wagon_price : ℕ) → IsSearchOf state f → wagon < wagon_count state.cells.now → index < length f.orders.items → groups ≡ length state.groups.first.items → group ≡ get_or state.groups.of.items wagon 0
+agree_where_reached : (state : State) (f : Search) (far wagon group index groups order cost distance price far_read wagon_price : ℕ) → IsSearchOf state f → wagon < wagon_count state.cells.now → index < length f.orders.items → groups ≡ length state.groups.first.items → group ≡ get_or state.groups.of.items wagon 0
     → order ≡ get_or f.orders.items index order → cost ≡ get_or state.costs.items (order * groups + group) cost → distance ≡ get_or f.order_distance.items order distance → price ≡ get_or state.v.items order price
     → far_read ≡ far → wagon_price ≡ get_or state.u.items group wagon_price → AgreeWhereReached state f far wagon index far_read price distance cost wagon_price
 agree_where_reached state f far wagon group index groups order cost distance price far_read wagon_price h lw lp count eg eo ec ed ep el eu =
@@ -68,14 +68,14 @@ agree_where_reached state f far wagon group index groups order cost distance pri
     }
 
 -- what is read of the wagon that led to the order at an index
-pub record ReadOfVia (state : State) (f : Search) (end wagon group far : ℕ) : Type 0 where
-  pub is : wagon ≡ get_or f.via.items end 0
-  pub within : wagon < wagon_count state.cells.now
-  pub group_is : group ≡ get_or state.groups.of.items wagon 0
-  pub group_within : group < length state.groups.first.items
-  pub far_is : far ≡ distance_at f (settled_at f end)
+record ReadOfVia (state : State) (f : Search) (end wagon group far : ℕ) : Type 0 where
+  is : wagon ≡ get_or f.via.items end 0
+  within : wagon < wagon_count state.cells.now
+  group_is : group ≡ get_or state.groups.of.items wagon 0
+  group_within : group < length state.groups.first.items
+  far_is : far ≡ distance_at f (settled_at f end)
 
-pub read_of_via : (state : State) (f : Search) (end wagon order group far : ℕ) → IsSearchOf state f → end < length f.orders.items → get_or f.via.items end 0 < wagon_count state.cells.now → wagon ≡ get_or f.via.items end wagon → group ≡ get_or state.groups.of.items wagon group → order ≡ get_or f.orders.items end order → far ≡ get_or f.order_distance.items order far → ReadOfVia state f end wagon group far
+read_of_via : (state : State) (f : Search) (end wagon order group far : ℕ) → IsSearchOf state f → end < length f.orders.items → get_or f.via.items end 0 < wagon_count state.cells.now → wagon ≡ get_or f.via.items end wagon → group ≡ get_or state.groups.of.items wagon group → order ≡ get_or f.orders.items end order → far ≡ get_or f.order_distance.items order far → ReadOfVia state f end wagon group far
 read_of_via state f end wagon order group far h l lw ew eg eo ef =
     let vias = h.vias in
     let grouped = h.groups.grouped in
@@ -93,3 +93,17 @@ read_of_via state f end wagon order group far h l lw ew eg eo ef =
       group_within = omega (arith, g, lg);
       far_is = get_or_read f.order_distance.items order far (omega (arith, lo, rooms)) ef 0 ∙ ap (distance_at f) settled.is;
     }
+
+-- the cost that is read for the order at an index is within those of the table
+pub cost_read : (state : State) (f : Search) (end index wagon end_order far group groups order : ℕ) → IsSearchOf state f → end < length f.orders.items → get_or f.via.items end 0 < wagon_count state.cells.now → index < length f.orders.items → wagon ≡ get_or f.via.items end wagon → group ≡ get_or state.groups.of.items wagon group → end_order ≡ get_or f.orders.items end end_order → far ≡ get_or f.order_distance.items end_order far
+    → groups ≡ length state.groups.first.items → order ≡ get_or f.orders.items index order → order * groups + group < length state.costs.items
+cost_read state f end index wagon end_order far group groups order h le lw lp ew eg eo ef count read = cost_within state f group order groups h (read_of_via state f end wagon end_order group far h le lw ew eg eo ef).group_within (settled_of state f index order h lp read).within count
+
+-- the sums of what is read agree just where the wagon that led to the order at one index was reached from the other
+pub sums_read : (state : State) (f : Search) (end index wagon end_order far group groups order cost distance price wagon_price : ℕ) → IsSearchOf state f → end < length f.orders.items → get_or f.via.items end 0 < wagon_count state.cells.now → index < length f.orders.items → wagon ≡ get_or f.via.items end wagon → group ≡ get_or state.groups.of.items wagon group → end_order ≡ get_or f.orders.items end end_order → far ≡ get_or f.order_distance.items end_order far
+    → groups ≡ length state.groups.first.items → order ≡ get_or f.orders.items index order → cost ≡ get_or state.costs.items (order * groups + group) cost → distance ≡ get_or f.order_distance.items order distance → price ≡ get_or state.v.items order price → wagon_price ≡ get_or state.u.items group wagon_price
+    → AgreeWhereReached state f (distance_at f (settled_at f end)) (get_or f.via.items end 0) index far price distance cost wagon_price
+sums_read state f end index wagon end_order far group groups order cost distance price wagon_price h le lw lp ew eg eo ef count read ec ed ep eu =
+    let via = read_of_via state f end wagon end_order group far h le lw ew eg eo ef in
+    let sums = agree_where_reached state f (distance_at f (settled_at f end)) wagon group index groups order cost distance price far wagon_price h via.within lp count via.group_is read ec ed ep via.far_is eu in
+    subst (λ (w : ℕ). AgreeWhereReached state f (distance_at f (settled_at f end)) w index far price distance cost wagon_price) via.is sums

@@ -115,21 +115,23 @@ const PART: usize = 16;
 fn is_same(row: &[(u32, u32)], other: &[(u32, u32)]) -> bool
     ensures { result ≡ true → row.now ≡ other.now }
 {
-    if row.len() != other.len() {
+    let len = row.len();
+    if len != other.len() {
         return false;
     }
     let mut x = 0;
-    'parts: while x < row.len() {
-        let end = row.len().min(x + PART);
-        if !is_same_part(&row[x..end], &other[x..end]) {
+    'parts: while len - x >= PART {
+        if !is_same_part(&row[x..x + PART], &other[x..x + PART]) {
             return false;
         }
-        x = end;
+        x += PART;
     }
-    true
+    is_same_part(&row[x..len], &other[x..len])
 }
 
-/// Whether the cells of two rows are the same. It has no branch in its loop, so that the compiler makes vector code of it.
+/// Whether the cells of two rows are the same. It has no branch in its loop, and is inlined where it is known how many
+/// cells there are, so that the compiler makes vector code of it.
+#[inline(always)]
 fn is_same_part(row: &[(u32, u32)], other: &[(u32, u32)]) -> bool
     requires lengths { length other.now ≡ length row.now }
     ensures { result ≡ true → (x : ℕ) → x < length row.now → slice_index_or row.now x (0, 0) ≡ slice_index_or other.now x (0, 0) }

@@ -1,12 +1,19 @@
-//! Passes over all groups, without a branch in their loops, so that the compiler makes vector code of them.
+//! Passes over groups, without a branch in their loops, so that the compiler makes vector code of them.
 ghost use Rattle.std.specs.Prelude.{◌≡◌, ◌<◌, ◌≤◌, ◌+◌, ◌-◌, ◌^◌, ◌==◌, ℕ, false, if◌then◌else◌, length, slice_index, IfSome, IfNone};
 ghost use Rattle.assignment.specs.inner.Groups.{prices_of};
-ghost use Rattle.assignment.specs.inner.Passes.{AreRelaxed, IsAmong, IsFound, IsLeastLabel, IsNearest};
+ghost use Rattle.assignment.specs.inner.Passes.{AreRelaxed, HasIdle, IsFound, IsFoundIdle, IsLeastIdle, IsNearest, IsSpanOf};
 
 use crate::groups::NO_WAGON;
 
 /// The distance of what a search hasn't reached; distances are in kilometres.
 pub(crate) const FAR: u32 = u32::MAX;
+
+/// Some groups side by side: those from its start on and before its end.
+#[derive(Clone, Copy)]
+pub(crate) struct Span {
+    pub(crate) start: usize,
+    pub(crate) end: usize,
+}
 
 /// One of two numbers, without a branch.
 fn choose(is: bool, yes: u32, no: u32) -> u32
@@ -17,11 +24,19 @@ fn choose(is: bool, yes: u32, no: u32) -> u32
 }
 
 /// Relaxes all cells of an order at this distance and price, both in kilometres. `ahead` is one more than the distance of
-/// each group that leads on, and 0 of each other group, so that it stays 0. Answers the least distance of a group that
-/// leads on, `FAR` where none does.
+/// each group that leads on, and 0 of each other group, so that it stays 0. All groups that lead on are in the span, and
+/// the pass goes over it alone. Answers the least distance of a group that leads on, `FAR` where none does.
 // In a function of its own, so that it is vector code whatever stands around it.
 #[inline(never)]
-pub(crate) fn relax(ahead: &mut [u32], costs: &[u32], u: &[u32], distance: u32, price: u32) -> u32
+pub(crate) fn relax(
+    ahead: &mut [u32],
+    span: Span,
+    costs: &[u32],
+    u: &[u32],
+    distance: u32,
+    price: u32,
+) -> u32
+    requires span { IsSpanOf ahead.old span }
     requires costs { length costs.now ≡ length ahead.old }
     requires prices { length u.now ≡ length ahead.old }
     requires no_gap { (g : ℕ) → g < length ahead.old → price ≤ slice_index costs.now g + slice_index u.now g }
@@ -32,7 +47,7 @@ pub(crate) fn relax(ahead: &mut [u32], costs: &[u32], u: &[u32], distance: u32, 
 {
     let next = distance + 1;
     let mut onward = FAR;
-    for g in 0..ahead.len() {
+    for g in span.start..span.end {
         let nearer = ahead[g].min(costs[g] + u[g] - price + next);
         ahead[g] = nearer;
         onward = onward.min(nearer.wrapping_sub(1));
@@ -40,16 +55,33 @@ pub(crate) fn relax(ahead: &mut [u32], costs: &[u32], u: &[u32], distance: u32, 
     onward
 }
 
-/// The least distance of a group that leads on, `FAR` where none does.
+/// The least distance of a group that leads on, `FAR` where none does. All that lead on are in the span.
 #[inline(never)]
-pub(crate) fn nearest(ahead: &[u32]) -> u32
+pub(crate) fn nearest(ahead: &[u32], span: Span) -> u32
+    requires { IsSpanOf ahead.now span }
     ensures { IsNearest (slice_index ahead.now) result (length ahead.now) }
 {
     let mut onward = FAR;
-    for g in 0..ahead.len() {
+    for g in span.start..span.end {
         onward = onward.min(ahead[g].wrapping_sub(1));
     }
     onward
+}
+
+/// The span without the groups at both its ends that don't lead on.
+pub(crate) fn narrowed(ahead: &[u32], span: Span) -> Span
+    requires { IsSpanOf ahead.now span }
+    ensures { IsSpanOf ahead.now result }
+{
+    let mut start = span.start;
+    'starts: while start < span.end && ahead[start] == 0 {
+        start += 1;
+    }
+    let mut end = span.end;
+    'ends: while start < end && ahead[end - 1] == 0 {
+        end -= 1;
+    }
+    Span { start, end }
 }
 
 /// Each group without an idle wagon leads on, and nothing has reached it; no other leads on.
@@ -67,7 +99,7 @@ pub(crate) fn open(ahead: &mut [u32], idle: &[u32])
 #[inline(never)]
 pub(crate) fn least_idle(costs: &[u32], idle: &[u32]) -> u32
     requires { length idle.now ≡ length costs.now }
-    ensures { IsLeastLabel (slice_index costs.now) idle.now false result (length costs.now) }
+    ensures { IsLeastIdle costs.now idle.now result (length costs.now) }
 {
     let mut least = FAR;
     for g in 0..costs.len() {
@@ -76,49 +108,56 @@ pub(crate) fn least_idle(costs: &[u32], idle: &[u32]) -> u32
     least
 }
 
+/// The first group with an idle wagon that has this cost.
+pub(crate) fn find_idle(costs: &[u32], idle: &[u32], cost: u32) -> Option<usize>
+    requires idle { length idle.now ≡ length costs.now }
+    ensures found { IfSome result (IsFoundIdle costs.now idle.now cost (length costs.now)) }
+    ensures none { IfNone result ((g : ℕ) → g < length costs.now → slice_index costs.now g ≡ cost → HasIdle idle.now g → ⊥) }
+{
+    let mut span = Span {
+        start: 0,
+        end: costs.len(),
+    };
+    'groups: while let Some(group) = find(costs, cost, span) {
+        if idle[group] != NO_WAGON {
+            return Some(group);
+        }
+        span.start = group + 1;
+    }
+    None
+}
+
 /// How many groups `find` looks at together.
 const BLOCK: usize = 32;
 
-/// The first group from this one on that has this number, with no idle wagon (`is_full`), or with one.
-// Inlined where `is_full` is known, like what it calls, so that the pass doesn't look at it.
-#[inline(always)]
-pub(crate) fn find(
-    label: &[u32],
-    idle: &[u32],
-    is_full: bool,
-    least: u32,
-    start: usize,
-) -> Option<usize>
-    requires idle { length idle.now ≡ length label.now }
-    ensures found { IfSome result (λ i. IsFound (slice_index label.now) idle.now is_full least (length label.now) i) }
-    ensures none { IfNone result ((i : ℕ) → start ≤ i → i < length label.now → slice_index label.now i ≡ least → IsAmong idle.now is_full i → ⊥) }
+/// The first group of the span that has this number.
+pub(crate) fn find(numbers: &[u32], number: u32, span: Span) -> Option<usize>
+    requires ordered { span.start ≤ span.end }
+    requires within { span.end ≤ length numbers.now }
+    ensures found { IfSome result (IsFound numbers.now number span) }
+    ensures none { IfNone result ((g : ℕ) → span.start ≤ g → g < span.end → slice_index numbers.now g ≡ number → ⊥) }
 {
-    let mut w = start;
-    // A block at a time, and one by one only where a block has it.
-    'wagons: while w < label.len() {
-        if w % BLOCK == 0
-            && label.len() - w >= BLOCK
-            && !has(&label[w..w + BLOCK], &idle[w..w + BLOCK], is_full, least)
-        {
-            w += BLOCK;
-        } else if label[w] == least && (idle[w] == NO_WAGON) == is_full {
-            return Some(w);
-        } else {
-            w += 1;
+    let mut block = span.start;
+    'blocks: while span.end - block >= BLOCK && !has(&numbers[block..block + BLOCK], number) {
+        block += BLOCK;
+    }
+    'groups: for g in block..span.end {
+        if numbers[g] == number {
+            return Some(g);
         }
     }
     None
 }
 
-/// Whether one of these groups, with no idle wagon, or with one, has this number.
+/// Whether one of these groups has this number.
+// Inlined where it is known how many they are.
 #[inline(always)]
-fn has(label: &[u32], idle: &[u32], is_full: bool, least: u32) -> bool
-    requires idle { length idle.now ≡ length label.now }
-    ensures { result ≡ false → (i : ℕ) → i < length label.now → slice_index label.now i ≡ least → IsAmong idle.now is_full i → ⊥ }
+fn has(numbers: &[u32], number: u32) -> bool
+    ensures { result ≡ false → (g : ℕ) → g < length numbers.now → slice_index numbers.now g ≡ number → ⊥ }
 {
     let mut found = false;
-    for w in 0..label.len() {
-        found |= (label[w] == least) & ((idle[w] == NO_WAGON) == is_full);
+    for g in 0..numbers.len() {
+        found |= numbers[g] == number;
     }
     found
 }

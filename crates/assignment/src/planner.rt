@@ -1,17 +1,15 @@
 //! The planner: successive shortest paths over groups of wagons that have the same row.
 //!
-//! Each group has a price and each order has one. Each unit that an order lacks is taken in by a search for the shortest
-//! path from that order (Dijkstra's, over reduced costs). A path ends where an order gets a wagon without an order, or
-//! refuses a unit. The wagons on it are handed on, and each order and group nearer than the end is priced up by how much
-//! nearer it is (`Search`, `walk_back`, `raise`).
-//!
-//! Kept between searches: no order's price is above a cell's cost and its group's price, nor above the penalty. A wagon and
-//! its order have exactly that cost. A group with a wagon without an order has no price. A refused unit's order is priced at
-//! its penalty. So the prices are a certificate at the end. Wagons without an order get no distance in a search: each order
-//! has a lower bound on what they cost, found again only where it would end the search.
-//!
-//! A search costs orders times groups, so all cost units times orders times groups at most; the memory is one number for
-//! each order and group.
+//! - **Search**: each unit that an order lacks is taken in by a search for the shortest path from that order (Dijkstra's,
+//!   over reduced costs). It ends where an order gets a wagon without an order, or refuses a unit. The wagons on the path
+//!   are handed on.
+//! - **Prices**: then each order and group nearer than that end is priced up by how much nearer it is.
+//! - **Kept**: no order's price is above a cell's cost and its group's price together, nor above the penalty. A wagon and
+//!   its order have exactly that cost. A group with a wagon without an order has no price. The order of a refused unit is
+//!   priced at its penalty. So the prices are a certificate at the end.
+//! - **Cost**: units times orders times groups at most. For each order on its way a search passes over the groups that have
+//!   no wagon without an order; of the others an order has a lower bound, found again only where it would end the search.
+//! - **Memory**: one number for each order and group.
 ghost use Rattle.std.specs.Prelude.{◌≡◌, ◌<◌, ◌≤◌, IfOk};
 ghost use Rattle.cost_table.specs.Table.{order_count, lack_at};
 ghost use Rattle.cost_table.specs.Plan.{IsOptimal, cost_of};

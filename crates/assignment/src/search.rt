@@ -6,7 +6,7 @@ ghost use Rattle.assignment.specs.inner.Search.{HasRoom, IsSearch, IsShortestPat
 ghost use Rattle.assignment.specs.inner.Passes.{IsNearest};
 
 use crate::groups::NO_WAGON;
-use crate::passes::{FAR, find, nearest, open, relax};
+use crate::passes::{FAR, Span, find, narrowed, nearest, open, relax};
 use crate::state::State;
 use crate::units::Units;
 use std::alloc::{AllocError, Global};
@@ -34,6 +34,8 @@ pub(crate) struct Search {
     /// One more than the distance of each group that leads on, 0 for each other group. A group leads on while no wagon of
     /// it is without an order, and it isn't closed.
     pub(crate) ahead: Vec<u32>,
+    /// All groups that lead on are in it.
+    pub(crate) span: Span,
     /// The distance of each group that is closed, since all its wagons' orders are settled; `FAR` for each other group.
     pub(crate) closed_at: Vec<u32>,
     /// Of each group that leads on a wagon before which all wagons' orders are settled.
@@ -57,6 +59,7 @@ impl Search {
     {
         Ok(Search {
             ahead: Vec::from_elem(alloc, 0, groups)?,
+            span: Span { start: 0, end: 0 },
             closed_at: Vec::from_elem(alloc, FAR, groups)?,
             cursor: Vec::from_elem(alloc, 0, groups)?,
             order_distance: Vec::from_elem(alloc, FAR, orders)?,
@@ -81,6 +84,10 @@ impl Search {
         ensures end { self.new.end.wagon ≡ None }
     {
         open(&mut self.ahead, &state.idle);
+        self.span = Span {
+            start: 0,
+            end: self.ahead.len(),
+        };
         self.closed_at.fill(FAR);
         self.cursor.copy_from_slice(&state.groups.first);
         self.order_distance.fill(FAR);
@@ -130,6 +137,7 @@ impl Search {
         let order = self.orders[self.orders.len() - 1] as usize;
         relax(
             &mut self.ahead,
+            self.span,
             state.column(order),
             &state.u,
             self.front,
@@ -152,10 +160,10 @@ impl Search {
         ensures none { IfNone result (IsShortestPath (kept state.now) self.new) }
     {
         let mut onward = onward;
-        // Of the groups at this distance those before this one are closed.
-        let mut start = 0;
+        // No group outside of these is at this distance.
+        let mut span = self.span;
         'groups: while onward < self.end.distance {
-            match find(&self.ahead, &self.ahead, false, onward + 1, start) {
+            match find(&self.ahead, onward + 1, span) {
                 Some(group) => {
                     if let Some(wagon) = self.lead_on(state, group) {
                         return Some(Next {
@@ -164,11 +172,11 @@ impl Search {
                             wagon,
                         });
                     }
-                    start = group + 1;
+                    span.start = group + 1;
                 }
                 None => {
-                    onward = nearest(&self.ahead);
-                    start = 0;
+                    onward = nearest(&self.ahead, self.span);
+                    span = self.span;
                 }
             }
         }
@@ -220,7 +228,8 @@ impl Search {
         None
     }
 
-    /// Closes the groups of the wagons of the order settled last, where the orders of all their wagons are settled.
+    /// Closes the groups of the wagons of the order settled last, where the orders of all their wagons are settled. The
+    /// span of the groups that lead on gets narrower by those at its ends.
     fn close_last(&mut self, state: &State, units: &Units)
         requires state { IsState state.now }
         requires some { 0 < length self.old.orders.items }
@@ -236,6 +245,7 @@ impl Search {
         'units: for unit in 0..served {
             self.close_of(state, units.wagon(order, unit));
         }
+        self.span = narrowed(&self.ahead, self.span);
     }
 
     /// Closes the group of a wagon, if there is such a wagon and the orders of all wagons of its group are settled.

@@ -8,7 +8,7 @@ ghost use Rattle.assignment.specs.inner.State.{IsState, AreCounted, IsAtHand, Is
 
 use crate::costs::Columns;
 use crate::groups::{Groups, NO_WAGON};
-use crate::passes::{find, least_idle};
+use crate::passes::{find_idle, least_idle};
 use crate::search::End;
 use cost_table::Cells;
 use std::alloc::{AllocError, Global};
@@ -109,7 +109,7 @@ impl<'a> State<'a> {
         ensures some { IfSome result (IsIdleGroup self.now j cost) }
         ensures none { IfNone result (max_cost < cost) }
     {
-        find(self.column(j), &self.idle, false, cost, 0)
+        find_idle(self.column(j), &self.idle, cost)
     }
 
     /// Finds the bound of order `j` again, and a wagon without an order that costs that, if any wagon is without one.

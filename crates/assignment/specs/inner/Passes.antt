@@ -1,7 +1,15 @@
--- Passes over all groups.
-use Rattle.std.specs.Prelude.{◌≡◌, ◌+◌, ◌-◌, ◌<◌, ◌≤◌, ◌==◌, ℕ, Bool, List, length, min, slice_index}
+-- Passes over groups.
+use Rattle.std.specs.Prelude.{◌≡◌, ◌≢◌, ◌+◌, ◌-◌, ◌<◌, ◌≤◌, ℕ, List, length, min, slice_index}
 use Rattle.assignment.specs.declared.groups.TheConstants.{NO_WAGON}
+use Rattle.assignment.specs.declared.passes.Span.{Span}
 use Rattle.assignment.specs.declared.passes.TheConstants.{FAR}
+
+-- each of these numbers that isn't 0 is in the span
+pub record IsSpanOf (numbers : List ℕ) (span : Span) : Type 0 where
+  pub ordered : span.start ≤ span.end
+  pub within : span.end ≤ length numbers
+  pub from : (g : ℕ) → g < length numbers → 0 < slice_index numbers g → span.start ≤ g
+  pub before : (g : ℕ) → g < length numbers → 0 < slice_index numbers g → g < span.end
 
 -- the distance of a group at a price over its cell of an order at a distance and a price
 abbrev pub through : ℕ → ℕ → ℕ → ℕ → ℕ
@@ -23,24 +31,29 @@ pub record IsNearest (ahead : ℕ → ℕ) (onward n : ℕ) : Type 0 where
   pub below : (g : ℕ) → g < n → 0 < ahead g → onward < ahead g
   pub attained : onward < FAR → IsAttained ahead (onward + 1) n
 
--- a group with no idle wagon (`is_full`), or one with an idle wagon
-abbrev pub IsAmong : List ℕ → Bool → ℕ → Type 0
-IsAmong idle is_full i = (slice_index idle i == NO_WAGON) ≡ is_full
+-- this is the first of the span that has this number
+pub record IsFound (numbers : List ℕ) (number : ℕ) (span : Span) (g : ℕ) : Type 0 where
+  pub from : span.start ≤ g
+  pub before : g < span.end
+  pub is : slice_index numbers g ≡ number
+  pub first : (k : ℕ) → span.start ≤ k → k < g → slice_index numbers k ≡ number → ⊥
 
--- this one of the first n groups is among them, and has this number
-pub record IsFound (label : ℕ → ℕ) (idle : List ℕ) (is_full : Bool) (least n i : ℕ) : Type 0 where
-  pub within : i < n
-  pub is : label i ≡ least
-  pub among : IsAmong idle is_full i
+-- group g has an idle wagon
+abbrev pub HasIdle : List ℕ → ℕ → Type 0
+HasIdle idle g = slice_index idle g ≢ NO_WAGON
 
--- one of the first n groups is among them, and has this number
-pub record HasLabel (label : ℕ → ℕ) (idle : List ℕ) (is_full : Bool) (least n : ℕ) : Type 0 where
-  pub index : ℕ
-  pub within : index < n
-  pub is : label index ≡ least
-  pub among : IsAmong idle is_full index
+-- this one of the first n groups has an idle wagon, and this cost
+pub record IsFoundIdle (costs idle : List ℕ) (cost n g : ℕ) : Type 0 where
+  pub within : g < n
+  pub is : slice_index costs g ≡ cost
+  pub has : HasIdle idle g
 
--- the least number of such groups, FAR where there is none
-pub record IsLeastLabel (label : ℕ → ℕ) (idle : List ℕ) (is_full : Bool) (least n : ℕ) : Type 0 where
-  pub below : (i : ℕ) → i < n → IsAmong idle is_full i → least ≤ label i
-  pub attained : least < FAR → HasLabel label idle is_full least n
+-- one of the first n groups has an idle wagon, and this cost
+pub record HasIdleAt (costs idle : List ℕ) (cost n : ℕ) : Type 0 where
+  pub group : ℕ
+  pub is : IsFoundIdle costs idle cost n group
+
+-- the least cost of such groups, FAR where there is none
+pub record IsLeastIdle (costs idle : List ℕ) (least n : ℕ) : Type 0 where
+  pub below : (g : ℕ) → g < n → HasIdle idle g → least ≤ slice_index costs g
+  pub attained : least < FAR → HasIdleAt costs idle least n

@@ -11,6 +11,7 @@ use Rattle.assignment.specs.declared.search.Next.{Next}
 use Rattle.assignment.specs.declared.state.State.{State}
 use Rattle.assignment.specs.inner.Costs.{AreCosts, cell_cost}
 use Rattle.assignment.specs.inner.Groups.{AreGroups, group_table}
+use Rattle.assignment.specs.inner.Passes.{IsSpanOf}
 use Rattle.assignment.specs.inner.State.{Kept, IsEndAt, kept, order_at}
 
 -- there is room for each group and each order
@@ -133,9 +134,10 @@ pub record IsWalking (s : Kept) (f : Search) (g wagon : ℕ) : Type 0 where
   pub settled : (i k : ℕ) → i < wagon_count s.table → group_at s i ≡ g → i < wagon → order_at s.order_of i ≡ Some k → distance_at f k < FAR
   pub is : wagon ≢ NO_WAGON → (wagon < wagon_count s.table) × (group_at s wagon ≡ g)
 
--- A search of which the first `scanned` settled orders are relaxed.
+-- A search of which the first `scanned` settled orders are relaxed. Each group that leads on is in its span.
 pub record IsSearch (s : Kept) (f : Search) (scanned : ℕ) : Type 0 where
   pub room : HasRoom s f
+  pub span : IsSpanOf f.ahead.items f.span
   pub labels : (i : ℕ) → i < wagon_count s.table → label_at s f i ≤ max_cost → IsWagonReached s f (label_at s f i) (length f.orders.items) i
   pub relaxed : (x : ℕ) → x < scanned → IsRelaxed s f (settled_at f x)
   pub known : (i : ℕ) → i < wagon_count s.table → IsKnown s f i

@@ -1,9 +1,18 @@
-use Rattle.std.proofs.Common.{◌≡◌, ◌<◌, ◌≤◌, ◌-◌, ℕ, length, get_or}
-use Rattle.assignment.specs.inner.Passes.{IsAmong}
+use Rattle.std.proofs.Common.{◌≡◌, ◌<◌, ◌≤◌, ◌-◌, ℕ, get_or}
 use Rattle.assignment.proofs.passes.find.Given as goal
 
-abbrev pub invariant-wagons : goal.invariant-wagons
-invariant-wagons l = (i : ℕ) → l.start ≤ i → i < l.w → get_or l.label i 0 ≡ l.least → IsAmong l.idle l.is_full i → ⊥
+abbrev pub invariant-blocks-2 : goal.invariant-blocks-2
+invariant-blocks-2 l = record {
+  from : l.span.start ≤ l.block;
+  before : l.block ≤ l.span.end;
+  none : (g : ℕ) → l.span.start ≤ g → g < l.block → get_or l.numbers g 0 ≡ l.number → ⊥;
+}
 
-abbrev pub decreases-wagons : goal.decreases-wagons
-decreases-wagons l = length l.label - l.w
+abbrev pub decreases-blocks-2 : goal.decreases-blocks-2
+decreases-blocks-2 l = l.span.end - l.block
+
+abbrev pub invariant-groups : goal.invariant-groups
+invariant-groups l = record {
+  from : l.fn.span.start ≤ l.g;
+  none : (g : ℕ) → l.fn.span.start ≤ g → g < l.g → get_or l.numbers g 0 ≡ l.number → ⊥;
+}

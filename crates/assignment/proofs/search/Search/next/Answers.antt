@@ -5,6 +5,7 @@ use Rattle.assignment.specs.declared.search.Search.{Search}
 use Rattle.assignment.specs.declared.search.End.{End}
 use Rattle.assignment.specs.inner.State.{kept}
 use Rattle.assignment.specs.inner.Search.{IsNext, IsSearch, ahead_of}
+use Rattle.assignment.proofs.Ending.{starts_after}
 use Rattle.assignment.proofs.Numbers.{number_some, orders_length}
 use Rattle.assignment.proofs.Running.{IsBelow, below_closed, next_found}
 use Rattle.assignment.proofs.Settle.{next_of}
@@ -64,6 +65,17 @@ groups-preserved-in-Some c =
       orders = ap (λ (x : Vec ℕ Global). x.items) orders ∙ h.orders;
       end = ap (λ (x : Search). x.end) same ∙ h.end;
       front = ap (λ (x : Search). x.front) same ∙ h.front;
-      below = below_closed f.ahead.items f'.ahead.items c.groups.onward c.in-Some.group h.below found.within c.in_default.ensures.none;
-      nearest = λ e. absurd (omega (arith, e));
+      from = (let same_span = ap (λ (x : Search). x.span.start) same in let le = h.from in let at = found.from in omega (arith, same_span, le, at));
+      ordered = (let at = found.before in omega (arith, at));
+      before = h.before ∙ sym (ap (λ (x : Search). x.span.end) same);
+      below = below_closed f.ahead.items f'.ahead.items c.groups.onward c.in-Some.group h.below (let at = found.before in let e = h.before in let within = h.search.span.within in omega (arith, at, e, within)) c.in_default.ensures.none;
+      nearest = λ e. absurd (let same_span = ap (λ (x : Search). x.span.start) same in let le = h.from in let at = found.from in omega (arith, e, same_span, le, at));
     }
+
+pub groups-smaller : goal.groups-smaller
+groups-smaller c =
+    let h = c.groups.invariant in
+    let some : 0 < length c.groups.self.orders.items = (let was = c.requires.some in let e = ap length h.orders in omega (arith, was, e)) in
+    let top = h.search.end.limit some in
+    let later = starts_after c.groups.self c.groups.span c.groups.onward h.search.span h.from h.before h.nearest (omega (arith, top, c.groups-test.true)) (rw (c.deref.ensures.value) at c.in-None.ensures.none) in
+    omega (arith, later)

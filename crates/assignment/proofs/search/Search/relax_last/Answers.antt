@@ -1,7 +1,7 @@
 use Rattle.std.proofs.Common.{◌≡◌, ◌+◌, ◌-◌, ◌<◌, ℕ, length, get_or, sym, ◌∙◌, ap, arith, min, subst}
 use Rattle.std.specs.Vec.{with_items}
-use Rattle.std.proofs.lemmas.List.{with_items_is, get_or_read}
-use Rattle.cost_table.specs.Table.{cost_at, order_count}
+use Rattle.std.proofs.lemmas.List.{with_items_is}
+use Rattle.cost_table.specs.Table.{cost_at}
 use Rattle.assignment.specs.inner.Costs.{cell_cost}
 use Rattle.assignment.specs.inner.Groups.{group_table}
 use Rattle.assignment.specs.inner.Passes.{through}
@@ -10,29 +10,23 @@ use Rattle.assignment.specs.inner.Search.{IsSearch, ahead_of, group_at, settled_
 use Rattle.assignment.proofs.Grouping.{group_cells, group_count, group_price}
 use Rattle.assignment.proofs.GroupLimits.{group_gap, group_limit}
 use Rattle.assignment.proofs.Relabel.{IsRelabelled, search_relaxed}
+use Rattle.assignment.proofs.Running.{last_read}
 use Rattle.assignment.proofs.search.Search.relax_last.Goals as goal
 
 pub relax-requires-clause-no_gap : goal.relax-requires-clause-no_gap
 relax-requires-clause-no_gap c = λ g l.
     let f = c.args.self.now in
     let state = c.args.state.now in
-    let index = length f.orders.items - 1 in
     let some = c.requires.some in
     let h = c.requires.search in
-    let count = f.orders.ok.0 in
-    let len = c.len.ensures in
-    let here : c.len.result - 1 ≡ index = omega (arith, len, count) in
-    let order : c.index.result.now ≡ settled_at f index = get_or_read f.orders.items (c.len.result - 1) c.index.result.now (omega (arith, len, count, some)) c.index.ensures 0 ∙ ap (λ x. get_or f.orders.items x 0) here in
-    let prices = c.requires.state.keeps.priced.orders in
-    let within = h.settled.order index (omega (arith, some)) in
-    let lj : c.index.result.now < order_count state.cells.now = omega (arith, order, within) in
-    let price = get_or_read state.v.items c.index.result.now c.index-2.result.now (omega (arith, lj, prices)) c.index-2.ensures 0 in
+    let last = last_read state f _ c.len.result c.index.result.now c.index-2.result.now c.requires.state h some (omega (arith, c.len.ensures, f.orders.ok.0)) c.index.ensures c.index-2.ensures in
     let groups = h.room.ahead in
     let value = ap length c.deref_mut.ensures.value in
     let rows = group_count state.cells.now state.groups.first.items in
     let lg : g < length state.groups.first.items = omega (arith, l, value, groups) in
+    let price = last.price_is in
     let cost = c.column.ensures.each g (omega (arith, lg, rows)) in
-    let gap = group_gap state g c.index.result.now c.requires.state lg lj in
+    let gap = group_gap state g c.index.result.now c.requires.state lg last.within in
     let u = ap (λ x. get_or x g 0) c.deref.ensures.value in
     omega (arith, price, cost, gap, u)
 
@@ -68,13 +62,8 @@ returns-clause-search c =
     let index = length f.orders.items - 1 in
     let some = c.requires.some in
     let h = c.requires.search in
-    let count = f.orders.ok.0 in
-    let len = c.len.ensures in
-    let here : c.len.result - 1 ≡ index = omega (arith, len, count) in
-    let order : c.index.result.now ≡ settled_at f index = get_or_read f.orders.items (c.len.result - 1) c.index.result.now (omega (arith, len, count, some)) c.index.ensures 0 ∙ ap (λ x. get_or f.orders.items x 0) here in
-    let prices = c.requires.state.keeps.priced.orders in
-    let within = h.settled.order index (omega (arith, some)) in
-    let price : c.index-2.result.now ≡ get_or s.v (settled_at f index) 0 = get_or_read s.v c.index.result.now c.index-2.result.now (omega (arith, order, within, prices)) c.index-2.ensures 0 ∙ ap (λ x. get_or s.v x 0) order in
+    let last = last_read state f _ c.len.result c.index.result.now c.index-2.result.now c.requires.state h some (omega (arith, c.len.ensures, f.orders.ok.0)) c.index.ensures c.index-2.ensures in
+    let price : c.index-2.result.now ≡ get_or s.v (settled_at f index) 0 = last.price_is ∙ ap (λ x. get_or s.v x 0) last.is in
     let ahead = c.relax.new.ahead in
     let value = ap length c.deref_mut.ensures.value in
     let groups = h.room.ahead in
@@ -83,11 +72,12 @@ returns-clause-search c =
     let relabelled : IsRelabelled s f index ahead = record {
       last = omega (arith, some);
       count = c.relax.auto.ahead ∙ value ∙ groups;
+      leads = λ g l leads. let new = rw (c.deref_mut.ensures.value) at (c.relax.ensures.ahead g (omega (arith, l, value, groups))) in omega (arith, new, leads);
       labels = λ i l.
           let g = group_at s i in
           let lg = c.requires.state.groups.group i l in
           let new = rw (c.deref_mut.ensures.value, c.deref.ensures.value, price) at (c.relax.ensures.ahead g (omega (arith, lg, value, groups))) in
-          let cost : get_or c.column.result.now g 0 ≡ cell_cost (cost_at s.table i (settled_at f index)) = c.column.ensures.each g (omega (arith, lg, rows)) ∙ ap (λ y. cell_cost (cost_at (group_table state.cells.now first) g y)) order ∙ ap cell_cost (group_cells state.cells.now state.groups i (settled_at f index) c.requires.state.groups l) in
+          let cost : get_or c.column.result.now g 0 ≡ cell_cost (cost_at s.table i (settled_at f index)) = c.column.ensures.each g (omega (arith, lg, rows)) ∙ ap (λ y. cell_cost (cost_at (group_table state.cells.now first) g y)) last.is ∙ ap cell_cost (group_cells state.cells.now state.groups i (settled_at f index) c.requires.state.groups l) in
           let u : get_or state.u.items g 0 ≡ get_or s.u i 0 = sym (group_price of state.u.items i (omega (arith, l, grouped))) in
           new ∙ ap (λ y. min (ahead_of f g) (through (f.front + 1) (get_or s.v (settled_at f index) 0) y (get_or state.u.items g 0))) cost ∙ ap (λ y. min (ahead_of f g) (through (f.front + 1) (get_or s.v (settled_at f index) 0) (cell_cost (cost_at s.table i (settled_at f index))) y)) u;
     } in
