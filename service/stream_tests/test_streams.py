@@ -6,7 +6,6 @@ import os
 import re
 import signal
 import subprocess
-import time
 from pathlib import Path
 
 import pytest
@@ -264,10 +263,10 @@ def test_lines_that_wait_for_the_program_are_read_once(server: RedisServer, star
     ids = appended(server, lines)
 
     def is_full() -> bool:
-        """More is read than the program's input holds, and no more comes."""
-        before = int(office.health()["lines"])
-        time.sleep(0.5)
-        return before >= 1000 and int(office.health()["lines"]) == before
+        """More is read than the pipe to the program and what may wait before it hold, 64 KB each. So the session waits there."""
+        read = int(office.health()["lines"])
+        return sum(len(it) + 1 for it in lines[:read]) > 2 * 65_536
+
     until("the program's input is full", is_full)
     server.kill()
     office.until_logged("the stream can't be reached")
