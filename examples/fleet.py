@@ -2,12 +2,18 @@
 """Makes a fleet to be drawn: fleet.py PROGRAM FOLDER [WAGONS PLACES ORDERS]
 
 FOLDER gets `roster.csv` (1,000 wagons of three classes, some free and others at work), `network.csv` (150 places, each with
-lines to its neighbours) and `fleet.jsonl`, with 150 orders. A plan of the first two thirds of them is committed, so PROGRAM is asked
-for it; the others wait. The same numbers give the same files.
+lines to its neighbours), `places.csv` (their names, and where they lie, in kilometres) and `fleet.jsonl`, with 150 orders. A plan
+of the first two thirds of them is committed, so PROGRAM is asked for it; the others wait. The same numbers give the same files.
 
     fleet.py wagons out/fleet
     cd out/fleet
-    wagons map --roster roster.csv --network network.csv < fleet.jsonl | neato -Tsvg > fleet.svg
+    wagons map --places places.csv --roster roster.csv --network network.csv < fleet.jsonl > fleet.dot
+    font=Arial,sans-serif
+    neato -Gsep=+0 -Goverlap_scaling=-6 -Gfontname=$font -Nfontname=$font -Efontname=$font -Nmargin=0.02,0.01 -Tdot fleet.dot \\
+        | neato -s100 -Goverlap=vpsc -Gsize=16.1,11.3 -Tsvg > fleet.svg
+
+The second `neato` draws the map a quarter smaller and sets its boxes as near to each other as they go. So it fits on a sheet of
+A3, with letters of 6 points.
 """
 
 import json
@@ -21,8 +27,12 @@ import time
 CLASSES = ["Eanos", "Falns", "Habbins"]
 # What a wagon does that isn't free, by the word of a roster.
 AT_WORK = ["loading", "ready", "journey_loaded", "journey_empty", "yard_loaded", "arrived_loaded", "unloading"]
+# The first and the second half of a place's name.
+FIRST = ["Ahorn", "Birken", "Buchen", "Eichen", "Erlen", "Eschen", "Fichten", "Hasel", "Kiefern", "Linden", "Pappel", "Tannen", "Ulmen", "Weiden"]
+SECOND = ["au", "bach", "berg", "dorf", "feld", "furt", "hain", "heim", "hof", "ried", "stein", "tal"]
 START = 1772409600  # 2026-03-02T00:00:00Z
 MOST_OPEN_WAGONS = 500
+FIELD = 600  # how many kilometres the field has from south to north
 
 
 def wagon_number(k):
@@ -36,6 +46,12 @@ def place(k):
     return f"DE{k:05}"
 
 
+def name(k):
+    """The name of place k, as `Lindenau`; from place 168 on with a number behind it."""
+    again, k = divmod(k, len(FIRST) * len(SECOND))
+    return FIRST[k % len(FIRST)] + SECOND[k // len(FIRST)] + (f" {again + 1}" if again else "")
+
+
 def moment(seconds):
     return time.strftime("%Y-%m-%dT%H:%M:%SZ", time.gmtime(seconds))
 
@@ -45,7 +61,7 @@ def points(count):
     least = 0.6 / math.sqrt(count)
     found = []
     while len(found) < count:
-        point = (random.random() * 1.41, random.random())
+        point = (random.random() * 1.5, random.random())
         if all(math.dist(point, other) > least for other in found):
             found.append(point)
     return found
@@ -58,7 +74,7 @@ def lines(at):
         near = [(math.dist(here, other), b) for b, other in enumerate(at) if math.dist(here, other) < reach and b != a]
         for far, b in near:
             if b < a and not any(max(to, math.dist(at[b], at[c])) < far for to, c in near if c != b):
-                yield b, a, max(5, round(far * 600))
+                yield b, a, max(5, round(far * FIELD))
 
 
 def write_roster(path, wagons, places):
@@ -69,11 +85,18 @@ def write_roster(path, wagons, places):
             file.write(f"{wagon_number(k)},{random.choice(CLASSES)},60000,{status},{place(random.randrange(places))},{moment(START)}\n")
 
 
-def write_network(path, places):
+def write_network(path, at):
     with open(path, "w", encoding="utf-8") as file:
         file.write("from,to,km,minutes,way\n")
-        for a, b, km in lines(points(places)):
+        for a, b, km in lines(at):
             file.write(f"{place(a)},{place(b)},{km},{km + 10},both\n")
+
+
+def write_places(path, at):
+    with open(path, "w", encoding="utf-8") as file:
+        file.write("place,name,x,y\n")
+        for k, (x, y) in enumerate(at):
+            file.write(f"{place(k)},{name(k)},{x * FIELD:.1f},{y * FIELD:.1f}\n")
 
 
 def order(k, places, most):
@@ -97,7 +120,9 @@ def main():
     random.seed(1)
     os.makedirs(folder, exist_ok=True)
     write_roster(f"{folder}/roster.csv", wagons, places)
-    write_network(f"{folder}/network.csv", places)
+    at = points(places)
+    write_network(f"{folder}/network.csv", at)
+    write_places(f"{folder}/places.csv", at)
     most = max(1, min(3, MOST_OPEN_WAGONS // orders))
     placed = [order(k, places, most) for k in range(orders)]
     planned = placed[:orders * 2 // 3] + [json.dumps({"type": "plan", "at": moment(START)}, separators=(",", ":"))]

@@ -13,6 +13,7 @@ use office_map::{Choice, map_text};
 use line_network::{Network, read_lines};
 use move_messages::{Command, Event, read_line};
 use operating_db::OfficeState;
+use place_names::Places;
 use price_checker::Prices;
 use problem_table::cells;
 use rail_codes::{ClassCode, Company, Moment, OrderId, Place, WagonNumber};
@@ -27,6 +28,9 @@ use fleet_rows::Roster;
 const TABLE: &[u8] =
     br#"{"wagons":["338447961008","218124712173"],"orders":["O1","O2"],"cells":[[10,20],[15,null]],"penalties":[1000,1000]}"#;
 
+/// Places with their names and where they lie.
+const PLACES: &str = "place,name,x,y\nDE00001,Bock & Sohn,-4,52.5\nDE00002,,0.25,48\n";
+
 /// What some calls start from.
 #[derive(Drop)]
 struct Start {
@@ -38,6 +42,7 @@ struct Start {
     snap: Snap,
     networks: Networks,
     longer: Network,
+    named: Places,
 }
 
 impl Start {
@@ -60,6 +65,7 @@ impl Start {
             snap,
             networks: networks(alloc)?,
             longer: read_lines(alloc, LONGER.as_bytes()).ok()?,
+            named: Places::read_names(alloc, PLACES.as_bytes()).ok()?,
         })
     }
 }
@@ -258,7 +264,11 @@ fn sheets(rt: &HostRuntime, alloc: Global, start: &Start) -> Option<()> {
     let (version, state) = (start.book.len(), start.book.state());
     let sheet = tried!(rt, "sheet_text", sheet_text(alloc, version, state));
     say(rt, &sheet);
-    let map = tried!(rt, "map_text", map_text(alloc, state, &start.longer, &Choice::all()));
+    let map = tried!(
+        rt,
+        "map_text",
+        map_text(alloc, state, &start.longer, &start.named, &Choice::all())
+    );
     say(rt, &map);
     Some(())
 }

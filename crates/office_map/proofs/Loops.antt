@@ -34,6 +34,9 @@ pub item_pushed : {A : Type 0} (f : A → List ℕ) (xs : List A) (first text mo
 item_pushed f xs first text more i x d lt same so_far is =
     more_pushed first text more (flat_map f (take i xs)) (f x) _ so_far is (ap (flat_map f) (take_more xs i d lt ∙ ap (λ y. take i xs ++ y ∷ []) (sym same)) ∙ flat_map-one f (take i xs) x)
 
+pub yielded_pushed : {A : Type 0} (f : A → List ℕ) (xs : List A) (x : A) (first text more : List ℕ) → text ≡ first ++ flat_map f xs → more ≡ text ++ f x → more ≡ first ++ flat_map f (xs ++ x ∷ [])
+yielded_pushed f xs x first text more so_far is = more_pushed first text more (flat_map f xs) (f x) _ so_far is (flat_map-one f xs x)
+
 -- what a fold makes of one element more
 pub fold_noted : {A B : Type 0} (f : B → A → B) (xs : List A) (first so_far more : B) (i : ℕ) (x d : A) → i < length xs → x ≡ get_or xs i d → so_far ≡ fold f first (take i xs) → more ≡ f so_far x → more ≡ fold f first (take (i + 1) xs)
 fold_noted f xs first so_far more i x d lt same before is = is ∙ ap₂ f before same ∙ sym (fold_more f first xs i d lt)

@@ -1,5 +1,5 @@
 -- What is the same on every map: the legend, and how places, lines and promises are drawn.
-use Rattle.std.specs.Prelude.{ℕ, Bool, if◌then◌else◌, List, ◌++◌, codes}
+use Rattle.std.specs.Prelude.{ℕ, Bool, if◌then◌else◌, List, [], ◌++◌, codes}
 
 -- the first part of the head, up to the room between boxes
 abbrev pub first_text : List ℕ
@@ -45,6 +45,11 @@ legend_text =
     ++ codes "  node [fontname=\"Helvetica\", fontsize=9, width=0, height=0];\n"
     ++ codes "  edge [fontname=\"Helvetica\", fontsize=9, arrowsize=0.6];\n"
     ++ codes "  node [shape=box, style=\"rounded,filled\", fillcolor=white, color=gray35, margin=\"0.05,0.03\"];\n"
+
+-- How places without coordinates are set where others have some: by `neato`'s older way, since its newer one puts them beside
+-- the others.
+abbrev pub layout_words : (is_named : Bool) → List ℕ
+layout_words is_named = if is_named then codes "  graph [mode=KK];\n" else []
 
 -- how a place is drawn that isn't in the network
 abbrev pub outside_text : List ℕ

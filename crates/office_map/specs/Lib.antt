@@ -1,5 +1,7 @@
 pub mod Words
 pub mod Frame
+pub mod Names
+pub mod Positions
 pub mod Shown
 pub mod Wagons
 pub mod Orders

@@ -3,6 +3,10 @@ use Rattle.std.specs.Prelude.{ℕ, zero, suc, ◌+◌, ◌==◌, ◌&&◌, ◌||
 use Rattle.std.specs.List.{flat_map, range_with_len}
 use Rattle.line_network.specs.Network.{NetworkValue}
 use Rattle.line_network.specs.declared.line.Line.{Line}
+use Rattle.place_names.specs.declared.named_place.Coordinates.{Coordinates}
+use Rattle.place_names.specs.declared.named_place.NamedPlace.{NamedPlace}
+use Rattle.office_map.specs.Names.{coordinates_of}
+use Rattle.office_map.specs.Positions.{middle_of}
 use Rattle.office_map.specs.Words.{label_break, quoted}
 
 -- whether the second line is the first one the other way, with the same kilometres and minutes
@@ -21,11 +25,24 @@ is_second lines (suc i) = is_back (slice_get lines i) (slice_get lines (suc i)) 
 abbrev pub line_name : ℕ → List ℕ
 line_name i = 34 ∷ [] ++ codes "line " ++ decimal i ++ 34 ∷ []
 
+-- where the place of a number lies, if that is said
+abbrev pub lies_at : List NamedPlace → Option (List ℕ) → Option Coordinates
+lies_at named None = None
+lies_at named (Some place) = coordinates_of named place
+
+-- the middle of a line, where both its ends lie somewhere
+abbrev pub line_middle : List NamedPlace → (places : List (List ℕ)) → Line → List ℕ
+line_middle named places line = middle_of (lies_at named (slice_get places line.from)) (lies_at named (slice_get places line.to))
+
 -- the kilometres and minutes of line i
-abbrev pub line_node : ℕ → Line → List ℕ
-line_node i line =
+abbrev pub line_label : ℕ → Line → List ℕ
+line_label i line =
     codes "  " ++ line_name i ++ codes " [label=" ++ 34 ∷ [] ++ decimal line.km ++ codes " km" ++ label_break ++ decimal line.minutes ++ codes " min"
-    ++ 34 ∷ [] ++ codes "];" ++ 10 ∷ []
+    ++ 34 ∷ []
+
+-- these, in the middle of the line
+abbrev pub line_node : List NamedPlace → (places : List (List ℕ)) → ℕ → Line → List ℕ
+line_node named places i line = line_label i line ++ line_middle named places line ++ codes "];\n"
 
 -- the code of a place by its number
 abbrev pub code_of : Option (List ℕ) → List ℕ
@@ -56,9 +73,9 @@ line_edge places i line both =
     ++ codes " [len=" ++ length_words line.km ++ direction_words both ++ codes "];" ++ 10 ∷ []
 
 -- line i, where it is this one
-abbrev pub line_text : (places : List (List ℕ)) → ℕ → Option Line → (both : Bool) → List ℕ
-line_text places i None both = []
-line_text places i (Some line) both = line_node i line ++ line_edge places i line both
+abbrev pub line_text : List NamedPlace → (places : List (List ℕ)) → ℕ → Option Line → (both : Bool) → List ℕ
+line_text named places i None both = []
+line_text named places i (Some line) both = line_node named places i line ++ line_edge places i line both
 
 -- whether a place is shown, by its number
 abbrev pub is_shown : Option Bool → Bool
@@ -75,11 +92,11 @@ shows_line shown (Some line) = has_shown_ends shown line
 
 -- Line i, both ways where the line after it is drawn with it. Nothing where it is drawn with the line before it, or where
 -- a place that it leads to isn't shown.
-abbrev pub line_part : NetworkValue → List Bool → ℕ → List ℕ
-line_part network shown i =
+abbrev pub line_part : List NamedPlace → NetworkValue → List Bool → ℕ → List ℕ
+line_part named network shown i =
     if is_second network.lines i || not (shows_line shown (slice_get network.lines i)) then []
-    else line_text network.places i (slice_get network.lines i) (is_second network.lines (i + 1))
+    else line_text named network.places i (slice_get network.lines i) (is_second network.lines (i + 1))
 
 -- the lines of a network, where `shown` says of each place whether it is shown
-abbrev pub line_parts : NetworkValue → List Bool → List ℕ
-line_parts network shown = flat_map (line_part network shown) (range_with_len 0 (length network.lines))
+abbrev pub line_parts : List NamedPlace → NetworkValue → List Bool → List ℕ
+line_parts named network shown = flat_map (line_part named network shown) (range_with_len 0 (length network.lines))

@@ -1,6 +1,6 @@
 //! What is the same on every map: the legend, and how places, lines and promises are drawn.
 ghost use Rattle.std.specs.Prelude.{◌≡◌};
-ghost use Rattle.office_map.specs.Frame.{room_words};
+ghost use Rattle.office_map.specs.Frame.{layout_words, room_words};
 
 /// The first part of the head, up to the room between boxes.
 pub(crate) const FIRST: &str = "digraph office {
@@ -61,4 +61,11 @@ pub(crate) fn room_words(few: bool) -> &'static str
     } else {
         "sep=\"+1\", splines=line"
     }
+}
+
+/// How places without coordinates are set, where names or coordinates are known.
+pub(crate) fn layout_words(is_named: bool) -> &'static str
+    ensures { result.now ≡ layout_words is_named }
+{
+    if is_named { "  graph [mode=KK];\n" } else { "" }
 }

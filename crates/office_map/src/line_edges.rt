@@ -1,25 +1,29 @@
 //! Lines of a network.
-ghost use Rattle.std.specs.Prelude.{◌≡◌, ◌+◌, ◌++◌, ◌<◌, ◌||◌, not, OnOk, count_by, length, slice_get, string_bytes};
-ghost use Rattle.office_map.specs.Lines.{direction_words, has_shown_ends, is_back, is_second, is_shown, length_words, line_edge, line_name, line_node, line_part, line_parts, place_name};
+ghost use Rattle.std.specs.Prelude.{◌≡◌, ◌+◌, ◌++◌, ◌<◌, ◌||◌, not, OnOk, count_by, length, option_map, slice_get, string_bytes};
+ghost use Rattle.office_map.specs.Lines.{direction_words, has_shown_ends, is_back, is_second, is_shown, length_words, lies_at, line_edge, line_label, line_middle, line_name, line_node, line_part, line_parts, place_name};
 ghost use Rattle.office_map.specs.Words.{quoted};
 
-use crate::words::{push_number, push_quoted};
+use crate::named::coordinates_of;
+use crate::position::push_middle;
+use crate::words::{push_number, push_quoted, push_words};
 use line_network::{Line, Network};
+use place_names::{Coordinates, Places};
 use std::alloc::AllocError;
 
 /// Adds the lines of a network whose ends are shown, of which `shown` tells by place. A line that is followed by the same one
 /// back is drawn once, for both.
 pub(crate) fn push_lines(
     text: &mut String,
+    named: &Places,
     network: &Network,
     shown: &[bool],
 ) -> Result<(), AllocError>
-    ensures { OnOk result (string_bytes text.new ≡ string_bytes text.old ++ line_parts network.now shown.now) }
+    ensures { OnOk result (string_bytes text.new ≡ string_bytes text.old ++ line_parts named.now network.now shown.now) }
 {
     let mut is_drawn = false;
     for i in 0..network.lines().len() {
         let both = takes_next(network, i, is_drawn);
-        push_line_at(text, network, shown, i, is_drawn, both)?;
+        push_line_at(text, named, network, shown, i, is_drawn, both)?;
         is_drawn = both;
     }
     Ok(())
@@ -40,6 +44,7 @@ pub(crate) fn count_shown(network: &Network, shown: &[bool]) -> usize
 /// line before it, or where an end of it isn't shown.
 fn push_line_at(
     text: &mut String,
+    named: &Places,
     network: &Network,
     shown: &[bool],
     i: usize,
@@ -48,7 +53,7 @@ fn push_line_at(
 ) -> Result<(), AllocError>
     requires drawn { is_drawn ≡ is_second network.now.lines i }
     requires both { both ≡ is_second network.now.lines (i + 1) }
-    ensures { OnOk result (string_bytes text.new ≡ string_bytes text.old ++ line_part network.now shown.now i) }
+    ensures { OnOk result (string_bytes text.new ≡ string_bytes text.old ++ line_part named.now network.now shown.now i) }
 {
     let Some(line) = line_at(network.lines(), i) else {
         return Ok(());
@@ -56,7 +61,7 @@ fn push_line_at(
     if is_left_out(shown, &line, is_drawn) {
         return Ok(());
     }
-    push_line_node(text, i, &line)?;
+    push_line_node(text, named, network, i, &line)?;
     push_line_edge(text, network, i, &line, both)
 }
 
@@ -100,9 +105,48 @@ fn line_at(lines: &[Line], i: usize) -> Option<Line>
     lines.get(i).copied()
 }
 
-/// Adds the kilometres and minutes of line `i`.
-fn push_line_node(text: &mut String, i: usize, line: &Line) -> Result<(), AllocError>
-    ensures { OnOk result (string_bytes text.new ≡ string_bytes text.old ++ line_node i line.now) }
+/// Adds the kilometres and minutes of line `i`, in the middle of the line.
+fn push_line_node(
+    text: &mut String,
+    named: &Places,
+    network: &Network,
+    i: usize,
+    line: &Line,
+) -> Result<(), AllocError>
+    ensures { OnOk result (string_bytes text.new ≡ string_bytes text.old ++ line_node named.now network.now.places i line.now) }
+{
+    push_line_label(text, i, line)?;
+    push_line_middle(text, named, network, line)?;
+    push_words(text, "];\n")
+}
+
+/// Adds the middle of a line, if it is said where both its ends lie.
+fn push_line_middle(
+    text: &mut String,
+    named: &Places,
+    network: &Network,
+    line: &Line,
+) -> Result<(), AllocError>
+    ensures { OnOk result (string_bytes text.new ≡ string_bytes text.old ++ line_middle named.now network.now.places line.now) }
+{
+    let from = lies_at(named, network, line.from);
+    let to = lies_at(named, network, line.to);
+    push_middle(text, from, to)
+}
+
+/// Where place `k` lies, if that is said.
+fn lies_at<'a>(named: &'a Places, network: &Network, k: usize) -> Option<&'a Coordinates>
+    ensures { option_map (λ at. at.now) result ≡ lies_at named.now (slice_get network.now.places k) }
+{
+    match network.place_at(k) {
+        Some(place) => coordinates_of(named, place),
+        None => None,
+    }
+}
+
+/// Adds the name of line `i`, and a label with its kilometres and minutes.
+fn push_line_label(text: &mut String, i: usize, line: &Line) -> Result<(), AllocError>
+    ensures { OnOk result (string_bytes text.new ≡ string_bytes text.old ++ line_label i line.now) }
 {
     text.push_str("  ")?;
     push_line_name(text, i)?;
@@ -110,7 +154,7 @@ fn push_line_node(text: &mut String, i: usize, line: &Line) -> Result<(), AllocE
     push_number(text, u64::from(line.km))?;
     text.push_str(" km\\n")?;
     push_number(text, u64::from(line.minutes))?;
-    text.push_str(" min\"];\n")
+    text.push_str(" min\"")
 }
 
 /// Adds the way of line `i`, over its kilometres and minutes.

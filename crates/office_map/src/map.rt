@@ -1,14 +1,14 @@
 //! The whole map.
 ghost use Rattle.std.specs.Prelude.{◌≡◌, ◌+◌, ◌++◌, nat_le, IfOk, OnOk, decimal, slice_get, string_bytes};
 ghost use Rattle.reply_texts.specs.Lines.{Adds};
-ghost use Rattle.office_map.specs.Frame.{first_text, head_text, legend_text, lines_text, outside_text, promises_text, room_words};
+ghost use Rattle.office_map.specs.Frame.{first_text, head_text, layout_words, legend_text, lines_text, outside_text, promises_text, room_words};
 ghost use Rattle.office_map.specs.Lines.{line_parts};
-ghost use Rattle.office_map.specs.Map.{edges_of, head_of, room_of, IsChosen, IsDrawn, IsMapText};
+ghost use Rattle.office_map.specs.Map.{edges_of, has_named, head_of, room_of, IsChosen, IsDrawn, IsMapText};
 ghost use Rattle.office_map.specs.Promises.{promise_lines};
 ghost use Rattle.office_map.specs.inner.Noted.{with_place_at};
 
 use crate::choice::Choice;
-use crate::frame::{FIRST, HEAD, LEGEND, LINES, OUTSIDE, PROMISES, room_words};
+use crate::frame::{FIRST, HEAD, LEGEND, LINES, OUTSIDE, PROMISES, layout_words, room_words};
 use crate::line_edges::{count_shown, push_lines};
 use crate::outside::outside_places;
 use crate::place_node::push_places;
@@ -17,6 +17,7 @@ use crate::shown::{ShownOrder, are_shown, shown_orders, shown_places, shown_wago
 use crate::words::{push_number, push_texts, push_words};
 use line_network::Network;
 use operating_db::OfficeState;
+use place_names::Places;
 use rail_codes::Place;
 use std::alloc::{AllocError, Global};
 use wagons_and_orders::WagonRow;
@@ -28,6 +29,8 @@ const MAX_FEW: usize = 120;
 /// What is drawn.
 #[derive(Clone, Copy)]
 struct Parts<'a> {
+    /// The names and coordinates that are known.
+    named: &'a Places,
     wagons: &'a [WagonRow],
     orders: &'a [ShownOrder],
     /// Of each place of the network, whether it is shown.
@@ -39,24 +42,28 @@ struct Parts<'a> {
 }
 
 /// The map of an office as a graph in Graphviz's language DOT, for `neato` or `sfdp`. The network is to be the one in force;
-/// `choice` says what is on the map.
+/// `named` has the names of places and where they lie, and `choice` says what is on the map.
 ///
-/// A place is a box. It has a line for each class of the wagons that are there, with how many are free, promised and
-/// neither. A line for each order that lacks wagons or has some promised says how many it lacks, which classes it accepts and
-/// until when, and how many of its wagons are there already. A place that the network doesn't have is dashed. Lines have
-/// their kilometres and minutes. An arrow leads from where promised wagons are to where they are wanted, with their number.
-/// `Err` only when out of memory.
+/// A place is a box, with its name after its code. It has a line for each class of the wagons that are there, with how many
+/// are free, promised and neither. A line for each order that lacks wagons or has some promised says how many it lacks, which
+/// classes it accepts and until when, and how many of its wagons are there already. A place that the network doesn't have is
+/// dashed. Lines have their kilometres and minutes. An arrow leads from where promised wagons are to where they are wanted,
+/// with their number.
+///
+/// A place whose coordinates are known stands there, in their unit, and a line in the middle between two such places. Where
+/// `named` is empty, the map is laid out by its lines alone. `Err` only when out of memory.
 pub fn map_text(
     alloc: Global,
     state: &OfficeState,
     network: &Network,
+    named: &Places,
     choice: &Choice,
 ) -> Result<String, AllocError>
-    ensures { IfOk result (λ text. IsMapText state.now.office network.now choice.now (string_bytes text)) }
+    ensures { IfOk result (λ text. IsMapText state.now.office network.now named.now choice.now (string_bytes text)) }
 {
     let wagons = shown_wagons(alloc, choice, state.wagon_rows())?;
     let orders = shown_orders(alloc, choice, state.order_rows())?;
-    chosen(alloc, state, network, choice, &wagons, &orders)
+    chosen(alloc, state, network, named, choice, &wagons, &orders)
 }
 
 /// A map with these wagons and orders, at the places that are asked for.
@@ -64,17 +71,19 @@ fn chosen(
     alloc: Global,
     state: &OfficeState,
     network: &Network,
+    named: &Places,
     choice: &Choice,
     wagons: &[WagonRow],
     orders: &[ShownOrder],
 ) -> Result<String, AllocError>
-    ensures { IfOk result (λ text. IsChosen state.now.office network.now choice.now wagons.now orders.now (string_bytes text)) }
+    ensures { IfOk result (λ text. IsChosen state.now.office network.now named.now choice.now wagons.now orders.now (string_bytes text)) }
 {
     let all = network_places(alloc, network)?;
     let shown = are_shown(alloc, choice, wagons, orders, &all)?;
     let places = shown_places(alloc, choice, wagons, orders, &all)?;
     let outside = outside_places(alloc, network, wagons, orders)?;
     let parts = Parts {
+        named,
         wagons,
         orders,
         shown: &shown,
@@ -94,18 +103,32 @@ fn push_map(
     network: &Network,
     parts: &Parts<'_>,
 ) -> Result<(), AllocError>
-    ensures { OnOk result (Adds (IsDrawn state.now.office network.now parts.now.wagons.now parts.now.orders.now parts.now.shown.now parts.now.places.now parts.now.outside.now) (string_bytes text.old) (string_bytes text.new)) }
+    ensures { OnOk result (Adds (IsDrawn state.now.office network.now parts.now.named.now parts.now.wagons.now parts.now.orders.now parts.now.shown.now parts.now.places.now parts.now.outside.now) (string_bytes text.old) (string_bytes text.new)) }
 {
     let few = has_few(
         parts.places.len(),
         parts.outside.len(),
         count_shown(network, parts.shown),
     );
-    push_head(text, few, state.network())?;
-    push_places(alloc, text, parts.wagons, parts.orders, parts.places)?;
+    push_head(text, few, has_named(parts.named), state.network())?;
+    push_places(
+        alloc,
+        text,
+        parts.named,
+        parts.wagons,
+        parts.orders,
+        parts.places,
+    )?;
     text.push_str(OUTSIDE)?;
-    push_places(alloc, text, parts.wagons, parts.orders, parts.outside)?;
-    push_edges(alloc, text, state, network, parts.shown, parts.wagons)
+    push_places(
+        alloc,
+        text,
+        parts.named,
+        parts.wagons,
+        parts.orders,
+        parts.outside,
+    )?;
+    push_edges(alloc, text, state, network, parts)
 }
 
 /// Whether so many places, in the network and outside it, and so many lines are few.
@@ -139,12 +162,21 @@ fn note_place(places: &mut Vec<Place>, network: &Network, k: usize) -> Result<()
     Ok(())
 }
 
-/// Adds the head of a map with few places and lines, or with many, with the number of the network in force.
-fn push_head(text: &mut String, few: bool, network: u32) -> Result<(), AllocError>
-    ensures { OnOk result (string_bytes text.new ≡ string_bytes text.old ++ head_of few network) }
+/// Whether there are places whose names or coordinates are known.
+fn has_named(named: &Places) -> bool
+    ensures { result ≡ has_named named.now }
+{
+    !named.as_slice().is_empty()
+}
+
+/// Adds the head of a map with few places and lines, or with many, whether names or coordinates are known or not, with the
+/// number of the network in force.
+fn push_head(text: &mut String, few: bool, is_named: bool, network: u32) -> Result<(), AllocError>
+    ensures { OnOk result (string_bytes text.new ≡ string_bytes text.old ++ head_of few is_named network) }
 {
     push_room(text, few)?;
-    push_network(text, network, LEGEND)
+    push_network(text, network, LEGEND)?;
+    push_words(text, layout_words(is_named))
 }
 
 /// Adds the head of a map, up to the number of the network in force.
@@ -162,20 +194,19 @@ fn push_network(text: &mut String, network: u32, behind: &str) -> Result<(), All
     text.push_str(behind)
 }
 
-/// Adds the lines of a network, the promises of these wagons, and the end of the map.
+/// Adds the lines of a network, the promises of the wagons, and the end of the map.
 fn push_edges(
     alloc: Global,
     text: &mut String,
     state: &OfficeState,
     network: &Network,
-    shown: &[bool],
-    wagons: &[WagonRow],
+    parts: &Parts<'_>,
 ) -> Result<(), AllocError>
-    ensures { OnOk result (string_bytes text.new ≡ string_bytes text.old ++ edges_of network.now shown.now state.now.office.orders wagons.now) }
+    ensures { OnOk result (string_bytes text.new ≡ string_bytes text.old ++ edges_of parts.now.named.now network.now parts.now.shown.now state.now.office.orders parts.now.wagons.now) }
 {
     text.push_str(LINES)?;
-    push_lines(text, network, shown)?;
+    push_lines(text, parts.named, network, parts.shown)?;
     text.push_str(PROMISES)?;
-    push_promises(alloc, text, state, wagons)?;
+    push_promises(alloc, text, state, parts.wagons)?;
     push_words(text, "}\n")
 }

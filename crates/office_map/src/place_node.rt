@@ -1,13 +1,16 @@
 //! Places.
 ghost use Rattle.std.specs.Prelude.{◌≡◌, ◌++◌, IfOk, OnOk, filter, string_bytes};
 ghost use Rattle.reply_texts.specs.Lines.{Adds, AreLines};
-ghost use Rattle.office_map.specs.Places.{name_line, place_front, title_line, IsPlaceNode, IsPlaceOf};
+ghost use Rattle.office_map.specs.Places.{name_line, place_back, place_front, title_line, IsPlaceNode, IsPlaceOf};
 ghost use Rattle.office_map.specs.Shown.{stands_at, wants_at};
 
 use crate::class_lines::push_class_lines;
+use crate::named::{coordinates_of, name_of, push_name};
 use crate::order_lines::push_order_lines;
+use crate::position::push_position;
 use crate::shown::ShownOrder;
-use crate::words::push_between;
+use crate::words::{push_between, push_words};
+use place_names::Places;
 use rail_codes::Place;
 use std::alloc::{AllocError, Global};
 use wagons_and_orders::WagonRow;
@@ -16,14 +19,15 @@ use wagons_and_orders::WagonRow;
 pub(crate) fn push_places(
     alloc: Global,
     text: &mut String,
+    named: &Places,
     wagons: &[WagonRow],
     orders: &[ShownOrder],
     places: &[Place],
 ) -> Result<(), AllocError>
-    ensures { OnOk result (Adds (AreLines (IsPlaceOf wagons.now orders.now) places.now) (string_bytes text.old) (string_bytes text.new)) }
+    ensures { OnOk result (Adds (AreLines (IsPlaceOf named.now wagons.now orders.now) places.now) (string_bytes text.old) (string_bytes text.new)) }
 {
     for place in places {
-        push_place(alloc, text, wagons, orders, *place)?;
+        push_place(alloc, text, named, wagons, orders, *place)?;
     }
     Ok(())
 }
@@ -32,43 +36,53 @@ pub(crate) fn push_places(
 fn push_place(
     alloc: Global,
     text: &mut String,
+    named: &Places,
     wagons: &[WagonRow],
     orders: &[ShownOrder],
     place: Place,
 ) -> Result<(), AllocError>
-    ensures { OnOk result (Adds (IsPlaceOf wagons.now orders.now place) (string_bytes text.old) (string_bytes text.new)) }
+    ensures { OnOk result (Adds (IsPlaceOf named.now wagons.now orders.now place) (string_bytes text.old) (string_bytes text.new)) }
 {
     let here = wagons_at(alloc, wagons, place)?;
     let wanting = orders_at(alloc, orders, place)?;
-    push_node(text, &here, &wanting, place)
+    push_node(text, named, &here, &wanting, place)
 }
 
 /// Adds a place with these wagons and orders.
 fn push_node(
     text: &mut String,
+    named: &Places,
     wagons: &[WagonRow],
     orders: &[ShownOrder],
     place: Place,
 ) -> Result<(), AllocError>
-    ensures { OnOk result (Adds (IsPlaceNode wagons.now orders.now place) (string_bytes text.old) (string_bytes text.new)) }
+    ensures { OnOk result (Adds (IsPlaceNode named.now wagons.now orders.now place) (string_bytes text.old) (string_bytes text.new)) }
 {
-    push_front(text, place)?;
+    push_front(text, named, place)?;
     push_class_lines(text, wagons)?;
     push_order_lines(text, wagons, orders)?;
-    // A later attribute, such as a position, would stand here, behind the label.
-    text.push_str("  </TABLE>>];\n")
+    push_back(text, named, place)
 }
 
-/// Adds the name of a place, and the first line of its label.
-fn push_front(text: &mut String, place: Place) -> Result<(), AllocError>
-    ensures { OnOk result (string_bytes text.new ≡ string_bytes text.old ++ place_front place) }
+/// Adds the code of a place, and the first line of its label.
+fn push_front(text: &mut String, named: &Places, place: Place) -> Result<(), AllocError>
+    ensures { OnOk result (string_bytes text.new ≡ string_bytes text.old ++ place_front named.now place) }
 {
-    push_name(text, place)?;
-    push_title(text, place)
+    push_code(text, place)?;
+    push_title(text, named, place)
 }
 
-/// Adds the name of a place, and the beginning of its label.
-fn push_name(text: &mut String, place: Place) -> Result<(), AllocError>
+/// Adds the end of a place's label, and where the place lies, if that is said.
+fn push_back(text: &mut String, named: &Places, place: Place) -> Result<(), AllocError>
+    ensures { OnOk result (string_bytes text.new ≡ string_bytes text.old ++ place_back named.now place) }
+{
+    push_words(text, "  </TABLE>>")?;
+    push_position(text, coordinates_of(named, place))?;
+    push_words(text, "];\n")
+}
+
+/// Adds the code of a place, and the beginning of its label.
+fn push_code(text: &mut String, place: Place) -> Result<(), AllocError>
     ensures { OnOk result (string_bytes text.new ≡ string_bytes text.old ++ name_line place) }
 {
     push_between(
@@ -79,16 +93,18 @@ fn push_name(text: &mut String, place: Place) -> Result<(), AllocError>
     )
 }
 
-/// Adds the first line of a place's label.
-fn push_title(text: &mut String, place: Place) -> Result<(), AllocError>
-    ensures { OnOk result (string_bytes text.new ≡ string_bytes text.old ++ title_line place) }
+/// Adds the first line of a place's label, with its name if it has one.
+fn push_title(text: &mut String, named: &Places, place: Place) -> Result<(), AllocError>
+    ensures { OnOk result (string_bytes text.new ≡ string_bytes text.old ++ title_line named.now place) }
 {
     push_between(
         text,
         "    <TR><TD COLSPAN=\"4\"><B>",
         place.as_bytes(),
-        "</B></TD></TR>\n",
-    )
+        "</B>",
+    )?;
+    push_name(text, name_of(named, place))?;
+    push_words(text, "</TD></TR>\n")
 }
 
 /// The wagons at a place, in order.

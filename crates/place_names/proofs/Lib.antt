@@ -1,3 +1,4 @@
 pub mod RecordLemmas
+pub mod ValueLemmas
 pub mod ReadingLemmas
 pub mod PlacesOfLemmas

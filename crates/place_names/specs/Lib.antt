@@ -1,5 +1,6 @@
 pub mod Limits
 pub mod Texts
+pub mod Values
 pub mod Records
 pub mod Reading
 pub mod PlacesOf

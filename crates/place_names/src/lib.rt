@@ -7,6 +7,7 @@ mod place_record;
 mod places;
 mod places_fault;
 mod reading;
+mod value;
 
 pub use named_place::{Coordinates, Decimal, NamedPlace, PlaceName};
 pub use places::Places;

@@ -1,11 +1,13 @@
 //! A place with its name and where it lies.
-ghost use Rattle.std.specs.Prelude.{◌≡◌, ◌==◌, IfOk, List, length, option_map, position, drop, chars};
+ghost use Rattle.std.specs.Prelude.{◌≡◌, ◌<◌, ◌==◌, IfOk, List, length, option_map, position, drop, chars, unsigned_abs};
 ghost use Rattle.std.specs.List.{list_all, list_any};
 ghost use Rattle.std.specs.Char.{is_ascii_digit, is_control};
 ghost use Rattle.place_names.specs.Records.{coordinates_in, decimal_in, name_in, pair_in};
 ghost use Rattle.place_names.specs.Texts.{after_sign, are_digits, is_decimal, is_place_name, is_unsigned};
+ghost use Rattle.place_names.specs.Values.{millionths};
 
 use crate::limits::{MAX_FRACTION_DIGITS, MAX_NAME_BYTES, MAX_WHOLE_DIGITS};
+use crate::value::millionths;
 use csv_records::text_of;
 use rail_codes::Place;
 use std::alloc::{AllocError, Global};
@@ -115,6 +117,16 @@ impl Decimal {
     }
 }
 
+impl Decimal {
+    /// The number in millionths, exactly.
+    pub fn millionths(&self) -> i64
+        ensures value { result ≡ millionths self.now }
+        ensures small { unsigned_abs result < 10000000000000 }
+    {
+        millionths(self.text.as_bytes())
+    }
+}
+
 impl Coordinates {
     /// The coordinates that two fields say, none where both are empty; `None` where they are no coordinates.
     pub(crate) fn read(
@@ -169,7 +181,7 @@ fn is_decimal(field: &[u8]) -> bool
 }
 
 /// A field behind its minus sign, if it has one.
-fn after_sign(field: &[u8]) -> &[u8]
+pub(crate) fn after_sign(field: &[u8]) -> &[u8]
     ensures { result.now ≡ after_sign field.now }
 {
     match field.split_first() {
@@ -192,7 +204,7 @@ fn is_unsigned(field: &[u8]) -> bool
 }
 
 /// Where the point stands.
-fn point_of(field: &[u8]) -> Option<usize>
+pub(crate) fn point_of(field: &[u8]) -> Option<usize>
     ensures { result ≡ position (λ b. b == 46) field.now }
 {
     field.iter().position(|b| *b == b'.')

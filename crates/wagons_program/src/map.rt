@@ -9,6 +9,7 @@ use command_line::MapOptions;
 use commit_book::Book;
 use line_network::Network;
 use office_map::{Choice, map_text};
+use place_names::Places;
 use std::alloc::Global;
 use std::io;
 use std::io::Read;
@@ -58,5 +59,6 @@ fn map_of(
     let Some(network) = networks.get(state.network() as usize - 1) else {
         return Err(Stop::OpenFailed);
     };
-    Ok(map_text(alloc, state, network, choice)?)
+    let unnamed = Places::empty(alloc);
+    Ok(map_text(alloc, state, network, &unnamed, choice)?)
 }

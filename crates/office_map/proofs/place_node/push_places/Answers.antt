@@ -5,7 +5,7 @@ use Rattle.office_map.proofs.place_node.push_places.Goals as goal
 
 pub loop-place-preserved : goal.loop-place-preserved
 loop-place-preserved c =
-    let is_place = IsPlaceOf c.args.wagons.now c.args.orders.now in
+    let is_place = IsPlaceOf c.args.named.now c.args.wagons.now c.args.orders.now in
     let places = c.args.places.now in
     let i = c.loop-place.place-index in
     let place = c.place-item.result in

@@ -4,4 +4,4 @@ use Rattle.office_map.specs.Places.{IsPlaceOf}
 use Rattle.office_map.proofs.place_node.push_places.Given as goal
 
 abbrev pub invariant-loop-place : goal.invariant-loop-place
-invariant-loop-place l = Adds (AreLines (IsPlaceOf l.wagons l.orders) (take l.place-index l.places)) (string_bytes l.initial.text) (string_bytes l.text)
+invariant-loop-place l = Adds (AreLines (IsPlaceOf l.named l.wagons l.orders) (take l.place-index l.places)) (string_bytes l.initial.text) (string_bytes l.text)
