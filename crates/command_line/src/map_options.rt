@@ -2,8 +2,8 @@
 
 use crate::help;
 use crate::office_options::OfficeOptions;
-use crate::values::code_from;
-use clap::{Arg, ArgAction, ArgMatches, Command, Error};
+use crate::values::{code_from, flag_option, value_option};
+use clap::{Arg, ArgMatches, Command, Error};
 use rail_codes::{ClassCode, OrderId};
 use std::alloc::{AllocError, Global};
 
@@ -65,27 +65,17 @@ pub(crate) fn with_map_options<'a>(
 
 /// The option that leaves out quiet places.
 fn busy_option<'a>(alloc: Global) -> Arg<'a> {
-    Arg::new(alloc, "busy")
-        .long("busy")
-        .action(ArgAction::SetTrue)
+    flag_option(alloc, "busy")
         .help(help::BUSY)
         .long_help(help::BUSY_LONG)
 }
 
 /// The option of an order.
 fn order_option<'a>(alloc: Global) -> Arg<'a> {
-    Arg::new(alloc, "order")
-        .long("order")
-        .value_name("NAME")
-        .action(ArgAction::Set)
-        .help(help::MAP_ORDER)
+    value_option(alloc, "order", "NAME").help(help::MAP_ORDER)
 }
 
 /// The option of a class.
 fn class_option<'a>(alloc: Global) -> Arg<'a> {
-    Arg::new(alloc, "class")
-        .long("class")
-        .value_name("CODE")
-        .action(ArgAction::Set)
-        .help(help::MAP_CLASS)
+    value_option(alloc, "class", "CODE").help(help::MAP_CLASS)
 }

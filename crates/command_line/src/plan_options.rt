@@ -1,9 +1,10 @@
 //! The options of `plan`.
 
 use crate::help;
-use crate::office_options::{ProblemOptions, file_option};
+use crate::office_options::ProblemOptions;
+use crate::values::{file_option, flag_option, value_option};
 use clap::error::ErrorKind;
-use clap::{Arg, ArgAction, ArgMatches, Command, Error};
+use clap::{Arg, ArgMatches, Command, Error};
 use std::alloc::{AllocError, Global};
 
 /// The word, as usage lines name it.
@@ -79,18 +80,12 @@ pub(crate) fn with_plan_options<'a>(
 
 /// The option of a time zone.
 fn zone_option<'a>(alloc: Global) -> Arg<'a> {
-    Arg::new(alloc, "zone")
-        .long("zone")
-        .value_name("ZONE")
-        .action(ArgAction::Set)
+    value_option(alloc, "zone", "ZONE")
         .help(help::ZONE)
         .long_help(help::ZONE_LONG)
 }
 
 /// The option of CSV.
 fn csv_option<'a>(alloc: Global) -> Arg<'a> {
-    Arg::new(alloc, "csv")
-        .long("csv")
-        .action(ArgAction::SetTrue)
-        .help(help::CSV)
+    flag_option(alloc, "csv").help(help::CSV)
 }
