@@ -1,7 +1,7 @@
 //! The word `plan`.
-ghost use Rattle.std.specs.Prelude.{◌≡◌, IfOk};
-ghost use Rattle.plan_table.specs.declared.clock.Clock.{Clock};
-ghost use Rattle.wagons_program.specs.PlanOfLast.{IsPlanOfLast, IsPlanTextOfLast, IsPrinted};
+ghost use Rattle.std.specs.Prelude.{◌≡◌, IfOk, option_map};
+ghost use Rattle.wagons_program.specs.PlanOfLast.{IsPlanOfLast, IsPlanTextOfLast, IsPrinted, IsPrintedIn};
+ghost use Rattle.wagons_program.specs.ZoneClock.{HasZoneFor, IsReadFor, name_of};
 
 use crate::bringing::{Brought, bring, leave};
 use crate::printing::print_bytes;
@@ -58,17 +58,19 @@ fn read_places<R: Files + AllocGlobal>(rt: &R, path: Option<&str>) -> Result<Pla
     }
 }
 
-/// The plan of a book's last version at a moment, over the network in force, for people.
+/// The plan of a book's last version at a moment, over the network in force, for people; with moments as they are shown in the
+/// time zone that is asked for.
 fn last_text(
     alloc: Global,
     book: &mut Book,
     distances: &Networks,
     options: &PlanOptions<'_>,
     places: &Places,
-    zone: &ZoneFile,
+    zone: &ZoneFile<'_>,
 ) -> Result<Vec<u8>, Stop>
-    requires { distances.now ≡ book.old.setting.networks }
-    ensures { IfOk result (λ text. (clock : Clock) × IsPlanTextOfLast book.old.setting book.old.state.history options.now.problem.at options.now.csv places.now clock text.items) }
+    requires distances { distances.now ≡ book.old.setting.networks }
+    requires zone { IsReadFor (option_map (λ text. text.now) options.now.zone) zone.now }
+    ensures { IfOk result (λ text. IsPlanTextOfLast book.old.setting book.old.state.history options.now.problem.at options.now.csv places.now (option_map (λ text. text.now) options.now.zone) text.items) }
 {
     let list = last_plan(alloc, book, distances, options.problem.at)?;
     printed_in(alloc, options.csv, places, zone, &list)
@@ -106,10 +108,11 @@ fn printed_in(
     alloc: Global,
     csv: bool,
     places: &Places,
-    zone: &ZoneFile,
+    zone: &ZoneFile<'_>,
     plan: &PlanList,
 ) -> Result<Vec<u8>, Stop>
-    ensures { IfOk result (λ text. (clock : Clock) × IsPrinted csv places.now clock plan.now text.items) }
+    requires { HasZoneFor zone.now.database (name_of zone.now) }
+    ensures { IfOk result (λ text. IsPrintedIn csv places.now (name_of zone.now) plan.now text.items) }
 {
     match clock_of(zone) {
         Ok(clock) => printed(alloc, csv, places, &clock, plan),
