@@ -2,8 +2,9 @@
 
 use crate::help;
 use crate::office_options::OfficeOptions;
-use crate::values::code_from;
-use clap::{Arg, ArgAction, ArgMatches, Command, Error};
+use crate::plan_options::places_option;
+use crate::values::{code_from, flag_option, value_option};
+use clap::{Arg, ArgMatches, Command, Error};
 use rail_codes::{ClassCode, OrderId};
 use std::alloc::{AllocError, Global};
 
@@ -15,6 +16,8 @@ const MAP: &str = "wagons map";
 pub struct MapOptions<'a> {
     /// What the office is opened with.
     pub office: OfficeOptions<'a>,
+    /// The file of the places' names, and of where they lie.
+    pub places: Option<&'a str>,
     /// Whether places with nothing on them are left out.
     pub busy: bool,
     /// The order that is shown alone.
@@ -29,6 +32,7 @@ impl<'a> MapOptions<'a> {
         Ok(MapOptions {
             order: order_of(alloc, matches)?,
             class: class_of(alloc, matches)?,
+            places: matches.get_str("places"),
             busy: matches.get_flag("busy"),
             office: OfficeOptions::read(alloc, matches)?,
         })
@@ -51,12 +55,13 @@ fn class_of(alloc: Global, matches: &ArgMatches<'_>) -> Result<Option<ClassCode>
     }
 }
 
-/// A word that may leave out quiet places, and show one order or one class alone.
+/// A word that may name places, leave out quiet ones, and show one order or one class alone.
 pub(crate) fn with_map_options<'a>(
     alloc: Global,
     word: Command<'a>,
 ) -> Result<Command<'a>, AllocError> {
     word.args(vec![in alloc;
+        places_option(alloc),
         busy_option(alloc),
         order_option(alloc),
         class_option(alloc),
@@ -65,27 +70,17 @@ pub(crate) fn with_map_options<'a>(
 
 /// The option that leaves out quiet places.
 fn busy_option<'a>(alloc: Global) -> Arg<'a> {
-    Arg::new(alloc, "busy")
-        .long("busy")
-        .action(ArgAction::SetTrue)
+    flag_option(alloc, "busy")
         .help(help::BUSY)
         .long_help(help::BUSY_LONG)
 }
 
 /// The option of an order.
 fn order_option<'a>(alloc: Global) -> Arg<'a> {
-    Arg::new(alloc, "order")
-        .long("order")
-        .value_name("NAME")
-        .action(ArgAction::Set)
-        .help(help::MAP_ORDER)
+    value_option(alloc, "order", "NAME").help(help::MAP_ORDER)
 }
 
 /// The option of a class.
 fn class_option<'a>(alloc: Global) -> Arg<'a> {
-    Arg::new(alloc, "class")
-        .long("class")
-        .value_name("CODE")
-        .action(ArgAction::Set)
-        .help(help::MAP_CLASS)
+    value_option(alloc, "class", "CODE").help(help::MAP_CLASS)
 }

@@ -1,6 +1,6 @@
 //! The options of the words that open an office: its files and limits.
 use crate::help;
-use crate::values::{code_from, number_of, number_option};
+use crate::values::{code_from, file_option, number_of, number_option, value_option};
 use clap::builder::ValueParser;
 use clap::{Arg, ArgAction, ArgGroup, ArgMatches, Command, Error};
 use commit_book::{Limits, MAX_ENTRIES, MAX_KEPT_PROBLEMS};
@@ -117,11 +117,8 @@ pub(crate) fn with_problem_options<'a>(
     word: Command<'a>,
 ) -> Result<Command<'a>, AllocError> {
     word.arg(
-        Arg::new(alloc, "at")
-            .long("at")
-            .value_name("MOMENT")
+        value_option(alloc, "at", "MOMENT")
             .required(true)
-            .action(ArgAction::Set)
             .help(help::AT)
             .long_help(help::AT_LONG),
     )
@@ -173,19 +170,14 @@ pub(crate) fn with_save_options<'a>(
 
 /// The option of how many lines are read.
 fn upto_option<'a>(alloc: Global) -> Arg<'a> {
-    Arg::new(alloc, "upto")
-        .long("upto")
-        .value_name("N")
+    value_option(alloc, "upto", "N")
         .value_parser(ValueParser::unsigned(1, MAX_INPUT_LINES))
-        .action(ArgAction::Set)
         .help(help::UPTO)
 }
 
 /// The option of a wagon that leaves, which may stand several times.
 fn without_option<'a>(alloc: Global) -> Arg<'a> {
-    Arg::new(alloc, "without")
-        .long("without")
-        .value_name("NUMBER")
+    value_option(alloc, "without", "NUMBER")
         .action(ArgAction::Append)
         .help(help::WITHOUT)
         .long_help(help::WITHOUT_LONG)
@@ -267,12 +259,4 @@ fn network_option<'a>(alloc: Global) -> Arg<'a> {
         .action(ArgAction::Append)
         .help(help::NETWORK)
         .long_help(help::NETWORK_LONG)
-}
-
-/// An option that names a file.
-pub(crate) fn file_option<'a>(alloc: Global, name: &'a str) -> Arg<'a> {
-    Arg::new(alloc, name)
-        .long(name)
-        .value_name("FILE")
-        .action(ArgAction::Set)
 }

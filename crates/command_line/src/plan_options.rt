@@ -1,9 +1,10 @@
 //! The options of `plan`.
 
 use crate::help;
-use crate::office_options::{ProblemOptions, file_option};
+use crate::office_options::ProblemOptions;
+use crate::values::{file_option, flag_option, value_option};
 use clap::error::ErrorKind;
-use clap::{Arg, ArgAction, ArgMatches, Command, Error};
+use clap::{Arg, ArgMatches, Command, Error};
 use std::alloc::{AllocError, Global};
 
 /// The word, as usage lines name it.
@@ -69,28 +70,27 @@ pub(crate) fn with_plan_options<'a>(
     word: Command<'a>,
 ) -> Result<Command<'a>, AllocError> {
     word.args(vec![in alloc;
-        file_option(alloc, "places")
-            .help(help::PLACES)
-            .long_help(help::PLACES_LONG),
+        places_option(alloc),
         zone_option(alloc),
         csv_option(alloc),
     ]?)
 }
 
+/// The option of the names of places.
+pub(crate) fn places_option<'a>(alloc: Global) -> Arg<'a> {
+    file_option(alloc, "places")
+        .help(help::PLACES)
+        .long_help(help::PLACES_LONG)
+}
+
 /// The option of a time zone.
 fn zone_option<'a>(alloc: Global) -> Arg<'a> {
-    Arg::new(alloc, "zone")
-        .long("zone")
-        .value_name("ZONE")
-        .action(ArgAction::Set)
+    value_option(alloc, "zone", "ZONE")
         .help(help::ZONE)
         .long_help(help::ZONE_LONG)
 }
 
 /// The option of CSV.
 fn csv_option<'a>(alloc: Global) -> Arg<'a> {
-    Arg::new(alloc, "csv")
-        .long("csv")
-        .action(ArgAction::SetTrue)
-        .help(help::CSV)
+    flag_option(alloc, "csv").help(help::CSV)
 }

@@ -1,4 +1,4 @@
-//! Values of options: numbers, and codes.
+//! Options and their values: numbers, codes, files, and flags.
 ghost use Rattle.std.specs.Prelude.{◌≤◌};
 
 use clap::builder::ValueParser;
@@ -47,10 +47,25 @@ pub(crate) fn number_option<'a>(
     most: u64,
     default: &'a str,
 ) -> Arg<'a> {
-    Arg::new(alloc, name)
-        .long(name)
-        .value_name("N")
+    value_option(alloc, name, "N")
         .value_parser(ValueParser::unsigned(1, most))
         .default_value(default)
+}
+
+/// An option that names a file.
+pub(crate) fn file_option<'a>(alloc: Global, name: &'a str) -> Arg<'a> {
+    value_option(alloc, name, "FILE")
+}
+
+/// An option with a value, which help calls so.
+pub(crate) fn value_option<'a>(alloc: Global, name: &'a str, value: &'a str) -> Arg<'a> {
+    Arg::new(alloc, name)
+        .long(name)
+        .value_name(value)
         .action(ArgAction::Set)
+}
+
+/// An option without a value.
+pub(crate) fn flag_option<'a>(alloc: Global, name: &'a str) -> Arg<'a> {
+    Arg::new(alloc, name).long(name).action(ArgAction::SetTrue)
 }

@@ -2,8 +2,8 @@
 
 use crate::help;
 use crate::office_options::ProblemOptions;
-use crate::values::code_from;
-use clap::{Arg, ArgAction, ArgGroup, ArgMatches, Command, Error};
+use crate::values::{code_from, flag_option, value_option};
+use clap::{Arg, ArgGroup, ArgMatches, Command, Error};
 use rail_codes::{OrderId, WagonNumber};
 use std::alloc::{AllocError, Global};
 
@@ -70,28 +70,19 @@ pub(crate) fn with_why_options<'a>(
 
 /// The option of an order.
 fn order_option<'a>(alloc: Global) -> Arg<'a> {
-    Arg::new(alloc, "order")
-        .long("order")
-        .value_name("NAME")
-        .action(ArgAction::Set)
+    value_option(alloc, "order", "NAME")
         .help(help::ORDER)
         .long_help(help::ORDER_LONG)
 }
 
 /// The option of a wagon.
 fn wagon_option<'a>(alloc: Global) -> Arg<'a> {
-    Arg::new(alloc, "wagon")
-        .long("wagon")
-        .value_name("NUMBER")
-        .action(ArgAction::Set)
+    value_option(alloc, "wagon", "NUMBER")
         .help(help::WAGON)
         .long_help(help::WAGON_LONG)
 }
 
 /// The option of JSON lines.
 fn json_option<'a>(alloc: Global) -> Arg<'a> {
-    Arg::new(alloc, "json")
-        .long("json")
-        .action(ArgAction::SetTrue)
-        .help(help::JSON)
+    flag_option(alloc, "json").help(help::JSON)
 }

@@ -1,5 +1,5 @@
 -- What a review writes of a line, and what the line does to the office.
-use Rattle.std.specs.Prelude.{◌≡◌, ◌⊎◌, ℕ, Bool, true, nat_lt, List, [], ◌++◌, length, codes, Result, Ok, Err}
+use Rattle.std.specs.Prelude.{◌≡◌, ◌⊎◌, ℕ, Bool, true, nat_lt, List, [], ◌++◌, length, codes, None, Result, Ok, Err}
 use Rattle.move_messages.specs.Commands.{command_of}
 use Rattle.move_messages.specs.declared.fault.LineFault.{LineFault}
 use Rattle.move_messages.specs.declared.command.Command.{Command}
@@ -23,6 +23,10 @@ pub record ReviewValue : Type 0 where
   pub book : BookValue
   pub line : ℕ
   pub heard : Heard
+
+-- of a book, before the first line
+abbrev pub first_review : BookValue → ReviewValue
+first_review book = record { book = book; line = 0; heard = record { last = None; before_last = None } }
 
 -- ---- lines
 

@@ -1,5 +1,5 @@
 //! The review of a journal.
-ghost use Rattle.std.specs.Prelude.{◌≡◌, ◌≢◌, ◌++◌, Bool, Err, false, IfOk, IsOk, List, MatchResult, None, OnOk, length, nat_lt, string_bytes, ℕ};
+ghost use Rattle.std.specs.Prelude.{◌≡◌, ◌≢◌, ◌++◌, Bool, Err, false, IfOk, IsOk, List, MatchResult, OnOk, length, nat_lt, string_bytes, ℕ};
 ghost use Rattle.line_engine.specs.Lines.{max_line_bytes};
 ghost use Rattle.line_engine.specs.Outcome.{is_refusal};
 ghost use Rattle.line_engine.specs.Runs.{Runs, run_over};
@@ -9,7 +9,7 @@ ghost use Rattle.move_messages.specs.declared.fault.LineFault.TheVariants.{OutOf
 ghost use Rattle.office.specs.CommandReplies.{LineRunsOutOfMemory, RepliesToLine};
 ghost use Rattle.journal_notes.specs.CommandNotes.{AreLineNotes};
 ghost use Rattle.journal_notes.specs.Fullness.{entries_note, lines_note};
-ghost use Rattle.journal_notes.specs.Reviews.{IsReviewed, IsReviewedInPart, Reviews, heard_by, memory_note, wagons_of};
+ghost use Rattle.journal_notes.specs.Reviews.{IsReviewed, IsReviewedInPart, Reviews, first_review, heard_by, memory_note, wagons_of};
 
 use crate::fullness::push_fullness_note;
 use crate::heard::{Heard, HeardMessage};
@@ -63,9 +63,7 @@ impl Review {
     pub fn new(book: Book, networks: Vec<Network>, limits: Limits) -> Review
         requires networks { networks.items ≡ book.setting.networks }
         requires limits { limits.entries ≡ book.setting.entries }
-        ensures book { result.book ≡ book }
-        ensures line { result.line ≡ 0 }
-        ensures heard { result.heard ≡ record { last = None; before_last = None } }
+        ensures { result ≡ first_review book }
     {
         Review {
             book,

@@ -1,10 +1,10 @@
 -- From what a run over lines has done to the status of the program.
 use Rattle.std.proofs.Common.{◌≡◌, ℕ, List, Option, Result, Ok, Err, IfOk, IfErr, refl, subst}
 use Rattle.line_engine.specs.Replies.{Replying}
-use Rattle.line_engine.specs.Runs.{Failures, RunEnds, RunStops}
+use Rattle.line_engine.specs.Runs.{Failures, Run, RunEnds, RunStops}
 use Rattle.line_engine.specs.declared.run.RunCount.{RunCount}
 use Rattle.line_engine.specs.declared.run.RunFault.{RunFault}
-use Rattle.wagons_program.specs.Brought.{AreAnswered, AreStopped, Lines}
+use Rattle.wagons_program.specs.Brought.{AreAnswered, AreStopped, Lines, run_of}
 use Rattle.wagons_program.specs.Status.{outcome_of_run, status_of_count}
 use Rattle.wagons_program.specs.declared.stop.Stop.{Stop}
 use Rattle.wagons_program.specs.declared.stop.Stop.TheVariants as stop
@@ -26,7 +26,13 @@ pub why_of_stopped : (result : Result ℕ Stop) (count : Result RunCount RunFaul
 why_of_stopped result (Ok n) P Q is stopped why = rw is tt
 why_of_stopped result (Err fault) P Q is stopped why = rw is (why fault stopped)
 
--- the same by a reader and a writer that were made for the input and the output
+-- what holds of a run by a reader and a writer that were made for the input and the output
+pub of_run : {H : Type 0} (lines : Lines H) (left holds from held : Option (List ℕ)) (read : from ≡ lines.input) (written : held ≡ lines.held) (P : Run H → Type 0)
+    → P (record { most = lines.most; from = from; to = left; held = held; holds = holds; old = lines.old; new = lines.new }) → P (run_of lines left holds)
+of_run lines left holds from held read written P made =
+    subst (λ (o : Option (List ℕ)). P (record { most = lines.most; from = o; to = left; held = lines.held; holds = holds; old = lines.old; new = lines.new })) read
+    (subst (λ (o : Option (List ℕ)). P (record { most = lines.most; from = from; to = left; held = o; holds = holds; old = lines.old; new = lines.new })) written made)
+
 module _ {H : Type 0} (replying : Replying H) (lines : Lines H) (left holds from held : Option (List ℕ)) (read : from ≡ lines.input) (written : held ≡ lines.held) where
   pub are_answered : (count : RunCount) → RunEnds replying (record { most = lines.most; from = from; to = left; held = held; holds = holds; old = lines.old; new = lines.new }) count
       → AreAnswered replying lines (status_of_count count)
@@ -34,9 +40,7 @@ module _ {H : Type 0} (replying : Replying H) (lines : Lines H) (left holds from
     left = left;
     holds = holds;
     count = count;
-    ends =
-        subst (λ (o : Option (List ℕ)). RunEnds replying (record { most = lines.most; from = o; to = left; held = lines.held; holds = holds; old = lines.old; new = lines.new }) count) read
-        (subst (λ (o : Option (List ℕ)). RunEnds replying (record { most = lines.most; from = from; to = left; held = o; holds = holds; old = lines.old; new = lines.new }) count) written ends);
+    ends = of_run lines left holds from held read written (λ run. RunEnds replying run count) ends;
     status_is = refl;
   }
 
@@ -47,8 +51,6 @@ module _ {H : Type 0} (replying : Replying H) (lines : Lines H) (left holds from
     holds = holds;
     failed = failed;
     fault = fault;
-    stops =
-        subst (λ (o : Option (List ℕ)). RunStops replying (record { most = lines.most; from = o; to = left; held = lines.held; holds = holds; old = lines.old; new = lines.new }) failed fault) read
-        (subst (λ (o : Option (List ℕ)). RunStops replying (record { most = lines.most; from = from; to = left; held = o; holds = holds; old = lines.old; new = lines.new }) failed fault) written stops);
+    stops = of_run lines left holds from held read written (λ run. RunStops replying run failed fault) stops;
     why_is = refl;
   }

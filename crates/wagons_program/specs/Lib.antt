@@ -7,3 +7,7 @@ pub mod Laws
 pub mod TableOfLast
 pub mod ReasonsOfLast
 pub mod PlanOfLast
+pub mod ZoneClock
+pub mod MapOfLast
+pub mod SavedOfLast
+pub mod Reviewed

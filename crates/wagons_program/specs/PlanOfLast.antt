@@ -1,5 +1,5 @@
 -- The plan of a history's last version at a moment, for people.
-use Rattle.std.specs.Prelude.{◌≡◌, ℕ, Bool, true, false, List, length, Some}
+use Rattle.std.specs.Prelude.{◌≡◌, ℕ, Bool, true, false, List, length, Option, Some}
 use Rattle.commit_book.specs.History.{problem_at, version}
 use Rattle.commit_book.specs.Setting.{Setting}
 use Rattle.line_network.specs.Network.{NetworkValue}
@@ -13,6 +13,7 @@ use Rattle.plan_table.specs.CsvText.{IsCsvText}
 use Rattle.plan_table.specs.ListOf.{IsListOf}
 use Rattle.plan_table.specs.TableText.{IsTableText}
 use Rattle.problem_table.specs.Allowed.{IsTableOf}
+use Rattle.wagons_program.specs.ZoneClock.{IsClockFor}
 
 -- The problem of the last version at a moment, over the network in force, has a plan whose prices show that none costs less; and
 -- this is its list.
@@ -29,8 +30,14 @@ abbrev pub IsPrinted : (csv : Bool) → List NamedPlace → Clock → PlanList �
 IsPrinted true places clock plan text = IsCsvText places clock plan text
 IsPrinted false places clock plan text = IsTableText places clock plan text
 
+-- the same by the clock for the time zone that is asked for
+pub record IsPrintedIn (csv : Bool) (places : List NamedPlace) (zone : Option (List ℕ)) (plan : PlanList) (text : List ℕ) : Type 0 where
+  pub clock : Clock
+  pub for_zone : IsClockFor zone clock
+  pub printed : IsPrinted csv places clock plan text
+
 -- the text of that plan
-pub record IsPlanTextOfLast (setting : Setting) (history : List Event) (at : ℕ) (csv : Bool) (places : List NamedPlace) (clock : Clock) (text : List ℕ) : Type 0 where
+pub record IsPlanTextOfLast (setting : Setting) (history : List Event) (at : ℕ) (csv : Bool) (places : List NamedPlace) (zone : Option (List ℕ)) (text : List ℕ) : Type 0 where
   pub plan : PlanList
   pub of_last : IsPlanOfLast setting history at plan
-  pub printed : IsPrinted csv places clock plan text
+  pub printed : IsPrintedIn csv places zone plan text

@@ -5,7 +5,7 @@ use Rattle.line_engine.specs.RunFault.{number_of}
 use Rattle.place_names.specs.Faults.{places_fault_number}
 use Rattle.checkpoint.specs.ReadFault.{read_fault_number}
 use Rattle.wagons_program.specs.declared.stop.Stop.{Stop}
-use Rattle.wagons_program.specs.declared.stop.Stop.TheVariants.{OutOfMemory, Networks, OpenFailed, Roster, Checkpoint, Fleet, Network, Places, Tables, OrderNotInProblem, WagonNotInProblem, WriteFailed, Run, Feed}
+use Rattle.wagons_program.specs.declared.stop.Stop.TheVariants.{OutOfMemory, Networks, OpenFailed, Roster, Checkpoint, Fleet, Network, Places, Tables, OrderNotInProblem, WagonNotInProblem, OrderNotOnMap, WriteFailed, Run, Feed}
 
 abbrev pub stop_number : Stop → ℕ
 stop_number OutOfMemory = 1
@@ -19,6 +19,7 @@ stop_number (Places fault) = places_fault_number fault
 stop_number (Tables fault) = work_fault_number fault
 stop_number (OrderNotInProblem id) = 84
 stop_number (WagonNotInProblem number) = 84
+stop_number (OrderNotOnMap id) = 84
 stop_number WriteFailed = 94
 stop_number (Run fault) = number_of fault
 stop_number (Feed fault) = feed_fault_number fault

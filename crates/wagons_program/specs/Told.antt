@@ -4,7 +4,7 @@ use Rattle.faults.specs.declared.faults.FeedFault.TheVariants as feed
 use Rattle.faults.specs.declared.faults.FleetFault.TheVariants as fleet
 use Rattle.wagons_program.specs.Stop.{stop_number}
 use Rattle.wagons_program.specs.declared.stop.Stop.{Stop}
-use Rattle.wagons_program.specs.declared.stop.Stop.TheVariants.{OutOfMemory, Networks, OpenFailed, Roster, Checkpoint, Fleet, Network, Places, Tables, OrderNotInProblem, WagonNotInProblem, WriteFailed, Run, Feed}
+use Rattle.wagons_program.specs.declared.stop.Stop.TheVariants.{OutOfMemory, Networks, OpenFailed, Roster, Checkpoint, Fleet, Network, Places, Tables, OrderNotInProblem, WagonNotInProblem, OrderNotOnMap, WriteFailed, Run, Feed}
 
 -- where memory isn't out
 abbrev pub reason_of : Stop → List ℕ
@@ -22,6 +22,7 @@ reason_of (Places fault) = codes "the names of places couldn't be read"
 reason_of (Tables fault) = codes "no thread could be started: too many run already, or memory for one is short"
 reason_of (OrderNotInProblem id) = codes "no waiting order of the problem has this name"
 reason_of (WagonNotInProblem number) = codes "no free wagon of the problem has this number"
+reason_of (OrderNotOnMap id) = codes "no order that lacks wagons or has some promised has this name"
 reason_of WriteFailed = codes "standard output couldn't be written"
 reason_of (Run fault) = codes "a line couldn't be read or replied to"
 reason_of (Feed feed.OutOfMemory) = codes "out of memory"

@@ -39,7 +39,8 @@ pub(crate) fn bring<R: Files + Threads + Wait + AllocGlobal, I: Read + Drop, O: 
     input: I,
     output: O,
 ) -> Result<Brought, Stopped>
-    ensures networks { IfOk result (λ brought. brought.distances.value ≡ brought.book.setting.networks) }
+    ensures distances { IfOk result (λ brought. brought.distances.value ≡ brought.book.setting.networks) }
+    ensures networks { IfOk result (λ brought. brought.networks.items ≡ brought.book.setting.networks) }
     ensures brought { IfOk result (λ brought. (office : Office) × (first : BookValue) × BeginsWith options.now.start office
         × IsFirstBook office brought.networks.items options.now.limits first
         × AreAnswered ToCommands (lines_over max_line_bytes (I.remaining input) (O.contents output) first brought.book) brought.status) }

@@ -9,6 +9,7 @@ mod first_lines;
 mod laws;
 mod map;
 mod new_book;
+mod places;
 mod plan;
 mod printing;
 mod program;

@@ -1,14 +1,13 @@
 //! The word `plan`.
-ghost use Rattle.std.specs.Prelude.{◌≡◌, IfOk};
-ghost use Rattle.plan_table.specs.declared.clock.Clock.{Clock};
-ghost use Rattle.wagons_program.specs.PlanOfLast.{IsPlanOfLast, IsPlanTextOfLast, IsPrinted};
+ghost use Rattle.std.specs.Prelude.{◌≡◌, IfOk, option_map};
+ghost use Rattle.wagons_program.specs.PlanOfLast.{IsPlanOfLast, IsPlanTextOfLast, IsPrinted, IsPrintedIn};
+ghost use Rattle.wagons_program.specs.ZoneClock.{HasZoneFor, IsReadFor, name_of};
 
 use crate::bringing::{Brought, bring, leave};
+use crate::places::read_places;
 use crate::printing::print_bytes;
 use crate::stop::Stop;
 use crate::stopped::Stopped;
-use crate::told_file::open;
-use crate::told_files::told_of_places;
 use crate::zone::{ZoneFile, clock_of, read_zone};
 use command_line::PlanOptions;
 use commit_book::Book;
@@ -46,29 +45,19 @@ pub(crate) fn plan<R: Print + Files + Threads + Wait + AllocGlobal, I: Read + Dr
     Ok(status)
 }
 
-/// The names of places that a file says; none where no file is given.
-fn read_places<R: Files + AllocGlobal>(rt: &R, path: Option<&str>) -> Result<Places, Stopped> {
-    let Some(path) = path else {
-        return Ok(Places::empty(rt.alloc()));
-    };
-    let mut file = open(rt, path)?;
-    match Places::read_names(rt.alloc(), &mut file) {
-        Ok(places) => Ok(places),
-        Err(fault) => Err(told_of_places(rt.alloc(), path, fault, &file)),
-    }
-}
-
-/// The plan of a book's last version at a moment, over the network in force, for people.
+/// The plan of a book's last version at a moment, over the network in force, for people; with moments as they are shown in the
+/// time zone that is asked for.
 fn last_text(
     alloc: Global,
     book: &mut Book,
     distances: &Networks,
     options: &PlanOptions<'_>,
     places: &Places,
-    zone: &ZoneFile,
+    zone: &ZoneFile<'_>,
 ) -> Result<Vec<u8>, Stop>
-    requires { distances.now ≡ book.old.setting.networks }
-    ensures { IfOk result (λ text. (clock : Clock) × IsPlanTextOfLast book.old.setting book.old.state.history options.now.problem.at options.now.csv places.now clock text.items) }
+    requires distances { distances.now ≡ book.old.setting.networks }
+    requires zone { IsReadFor (option_map (λ text. text.now) options.now.zone) zone.now }
+    ensures { IfOk result (λ text. IsPlanTextOfLast book.old.setting book.old.state.history options.now.problem.at options.now.csv places.now (option_map (λ text. text.now) options.now.zone) text.items) }
 {
     let list = last_plan(alloc, book, distances, options.problem.at)?;
     printed_in(alloc, options.csv, places, zone, &list)
@@ -106,10 +95,11 @@ fn printed_in(
     alloc: Global,
     csv: bool,
     places: &Places,
-    zone: &ZoneFile,
+    zone: &ZoneFile<'_>,
     plan: &PlanList,
 ) -> Result<Vec<u8>, Stop>
-    ensures { IfOk result (λ text. (clock : Clock) × IsPrinted csv places.now clock plan.now text.items) }
+    requires { HasZoneFor zone.now.database (name_of zone.now) }
+    ensures { IfOk result (λ text. IsPrintedIn csv places.now (name_of zone.now) plan.now text.items) }
 {
     match clock_of(zone) {
         Ok(clock) => printed(alloc, csv, places, &clock, plan),

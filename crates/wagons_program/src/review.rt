@@ -1,16 +1,30 @@
 //! The word `review`.
+ghost use Rattle.std.specs.Prelude.{◌≡◌, ◌⊎◌, IfErr, IfOk, List, OnOk};
+ghost use Rattle.std.specs.Io.KnownBytes.{Appends};
+ghost use Rattle.commit_book.specs.Books.{BookValue};
+ghost use Rattle.journal_notes.specs.JournalEnd.{end_note};
+ghost use Rattle.journal_notes.specs.Reviews.{ReviewValue, first_review};
+ghost use Rattle.line_engine.specs.Lines.{max_line_bytes};
+ghost use Rattle.line_network.specs.Network.{NetworkValue};
+ghost use Rattle.operating_db.specs.Office.{Office};
+ghost use Rattle.wagons_program.specs.Brought.{Lines, lines_over};
+ghost use Rattle.wagons_program.specs.FirstBook.{BeginsWith, IsFirstBook};
+ghost use Rattle.wagons_program.specs.Reviewed.{AreReviewed, IsReviewStopped, status_of_notes};
+ghost use Rattle.wagons_program.specs.declared.stop.Stop.TheVariants as stop;
 
 use crate::bringing::leave;
 use crate::new_book::{NewBook, OfficeFiles, new_book, read_files};
-use crate::printing::print_whole;
+use crate::printing::write_whole;
 use crate::status::{REFUSED, status_of_run};
 use crate::stop::Stop;
 use crate::stopped::{Stopped, told_of_lines};
 use command_line::OfficeOptions;
 use journal_notes::{EndingSource, Review, end_note, review_journal};
 use line_engine::{LineLimit, StdDevice};
+use office::RunCount;
+use std::alloc::Global;
 use std::io;
-use std::io::Read;
+use std::io::{Read, Write};
 use std::rt::Files;
 use std::sync::Wait;
 use std::thread::Threads;
@@ -21,29 +35,62 @@ pub(crate) fn review<R: Print + Files + Threads + Wait + AllocGlobal, I: Read + 
     rt: &R,
     options: &OfficeOptions<'_>,
     input: I,
-) -> Result<u8, Stopped> {
-    let OfficeFiles { first, networks } = read_files(rt, options)?;
-    let NewBook { book, networks: _ } = new_book(rt, options, first, &networks)?;
-    let mut review = Review::new(book, networks, options.limits);
-    let outcome = review_lines(rt, input, &mut review);
+) -> Result<u8, Stopped>
+    ensures { IfOk result (λ status. (office : Office) × (networks : List NetworkValue) × (book : BookValue) × (lines : Lines ReviewValue)
+        × (lines.input ≡ I.remaining input) × (lines.most ≡ max_line_bytes) × BeginsWith options.now.start office
+        × IsFirstBook office networks options.now.limits book × (lines.old ≡ first_review book) × AreReviewed lines status) }
+{
+    let mut review = begin_review(rt, options)?;
+    let outcome = review_lines(rt.alloc(), input, io::writer(rt), &mut review);
     leave(review.into_book());
     told_of_lines(rt.alloc(), LineLimit::standard(), outcome)
 }
 
-/// Brings the command lines of an input to a review's book, and prints their notes: status 0, or 1 where there is one.
-fn review_lines<R: Print + AllocGlobal, I: Read + Drop>(
+/// Opens an office, and begins a review of its lines.
+fn begin_review<R: Files + Threads + Wait + AllocGlobal>(
     rt: &R,
+    options: &OfficeOptions<'_>,
+) -> Result<Review, Stopped>
+    ensures { IfOk result (λ review. (office : Office) × (networks : List NetworkValue) × (book : BookValue) × BeginsWith options.now.start office
+        × IsFirstBook office networks options.now.limits book × (review ≡ first_review book)) }
+{
+    let OfficeFiles { first, networks } = read_files(rt, options)?;
+    let NewBook { book, networks: _ } = new_book(rt, options, first, &networks)?;
+    Ok(Review::new(book, networks, options.limits))
+}
+
+/// Brings the command lines of an input to a review's book, and writes their notes: status 0, or 1 where there is one.
+fn review_lines<I: Read + Drop, O: Write + Drop>(
+    alloc: Global,
     input: I,
+    output: O,
     review: &mut Review,
-) -> Result<u8, Stop> {
+) -> Result<u8, Stop>
+    ensures ok { IfOk result (AreReviewed (lines_over max_line_bytes (I.remaining input) (O.contents output) review.old review.new)) }
+    ensures err { IfErr result (IsReviewStopped (lines_over max_line_bytes (I.remaining input) (O.contents output) review.old review.new)) }
+{
     let mut reader = EndingSource::new(StdDevice::new(input));
-    let mut writer = StdDevice::new(io::writer(rt));
-    let count = match review_journal(rt.alloc(), &mut reader, &mut writer, review) {
-        Ok(count) => count,
-        Err(fault) => return Err(Stop::Run(fault)),
-    };
-    let note = end_note(rt.alloc(), count.lines, reader.last)?;
-    print_whole(rt, &note)?;
+    let mut writer = StdDevice::new(output);
+    match review_journal(alloc, &mut reader, &mut writer, review) {
+        Ok(count) => end_review(alloc, count, reader.last, &mut writer.device),
+        Err(fault) => Err(Stop::Run(fault)),
+    }
+}
+
+/// Writes the note at the end of a journal, where there is one: by how many lines were noted, and by the last byte that was
+/// read. The status is 0, or 1 where there is a note, of a line or at the end.
+fn end_review<O: Write>(
+    alloc: Global,
+    count: RunCount,
+    last: Option<u8>,
+    output: &mut O,
+) -> Result<u8, Stop>
+    ensures written { OnOk result (Appends (O.contents output.old) (O.contents output.new) (end_note count.lines last)) }
+    ensures status { IfOk result (λ status. status ≡ status_of_notes count (end_note count.lines last)) }
+    ensures err { IfErr result (λ why. (why ≡ stop.OutOfMemory) ⊎ (why ≡ stop.WriteFailed)) }
+{
+    let note = end_note(alloc, count.lines, last)?;
+    write_whole(output, note.as_bytes())?;
     if note.is_empty() {
         status_of_run(Ok(count))
     } else {

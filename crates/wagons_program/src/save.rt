@@ -1,13 +1,18 @@
 //! The word `save`.
+ghost use Rattle.std.specs.Prelude.{◌≡◌, [], IfErr, IfOk, string_bytes};
+ghost use Rattle.fleet_rows.specs.Roster.{IsRoster};
+ghost use Rattle.wagons_program.specs.SavedOfLast.{IsNotSaved, IsSaved, added_rows, last_state};
+ghost use Rattle.wagons_program.specs.declared.stop.Stop.TheVariants.{OutOfMemory};
 
-use crate::bringing::{Brought, bring, leave};
+use crate::bringing::{Brought, bring};
 use crate::first_lines::FirstLines;
 use crate::new_book::read_roster;
-use crate::printing::print_whole;
+use crate::printing::print_last;
 use crate::stop::Stop;
 use crate::stopped::Stopped;
 use checkpoint::checkpoint_text;
 use command_line::SaveOptions;
+use commit_book::Book;
 use fleet_rows::Roster;
 use operating_db::OfficeState;
 use rail_codes::WagonNumber;
@@ -17,6 +22,7 @@ use std::io::Read;
 use std::rt::Files;
 use std::sync::Wait;
 use std::thread::Threads;
+use wagons_and_orders::WagonRow;
 
 /// Opens an office, brings the command lines of an input to it without replies, all of them or the first ones, changes its
 /// fleet as the options say, and prints it as a checkpoint: status 0, or 1 where a line was refused. The roster of the
@@ -42,10 +48,21 @@ pub(crate) fn save<R: Print + Files + Threads + Wait + AllocGlobal, I: Read + Dr
         }
         None => bring(rt, &options.office, input, io::sink())?,
     };
-    let text = saved_text(rt.alloc(), book.state(), &added, &options.without);
-    leave(book);
-    print_whole(rt, &text?)?;
-    Ok(status)
+    let text = last_saved(rt.alloc(), &book, &added, &options.without);
+    print_last(rt, book, text, status)
+}
+
+/// The checkpoint of a book's last version, with the rows of a roster and without some wagons.
+fn last_saved(
+    alloc: Global,
+    book: &Book,
+    added: &Option<Roster>,
+    leaving: &[WagonNumber],
+) -> Result<String, Stop>
+    ensures saved { IfOk result (λ text. IsSaved (last_state book.now.setting book.now.state.history) (added_rows added.now) leaving.now (string_bytes text)) }
+    ensures not_saved { IfErr result (IsNotSaved (last_state book.now.setting book.now.state.history) (added_rows added.now) leaving.now) }
+{
+    saved_text(alloc, book.state(), added, leaving)
 }
 
 /// The checkpoint of an office, with the rows of a roster and without some wagons.
@@ -54,13 +71,38 @@ fn saved_text(
     state: &OfficeState,
     added: &Option<Roster>,
     leaving: &[WagonNumber],
-) -> Result<String, Stop> {
-    let changed = match added {
-        Some(roster) => state.with_fleet(alloc, roster.rows(), leaving),
-        None if leaving.is_empty() => return Ok(checkpoint_text(alloc, state)?),
-        None => state.with_fleet(alloc, &[], leaving),
-    };
-    match changed {
+) -> Result<String, Stop>
+    ensures saved { IfOk result (λ text. IsSaved state.now (added_rows added.now) leaving.now (string_bytes text)) }
+    ensures not_saved { IfErr result (IsNotSaved state.now (added_rows added.now) leaving.now) }
+{
+    match added {
+        Some(roster) => changed_text(alloc, state, roster.rows(), leaving),
+        None if leaving.is_empty() => unchanged_text(alloc, state),
+        None => changed_text(alloc, state, &[], leaving),
+    }
+}
+
+/// The checkpoint of an office as it is.
+fn unchanged_text(alloc: Global, state: &OfficeState) -> Result<String, Stop>
+    ensures saved { IfOk result (λ text. IsSaved state.now [] [] (string_bytes text)) }
+    ensures not_saved { IfErr result (λ why. why ≡ OutOfMemory) }
+{
+    state.for_the_prover();
+    Ok(checkpoint_text(alloc, state)?)
+}
+
+/// The checkpoint of an office with these rows added, and without these wagons.
+fn changed_text(
+    alloc: Global,
+    state: &OfficeState,
+    added: &[WagonRow],
+    leaving: &[WagonNumber],
+) -> Result<String, Stop>
+    requires { IsRoster added.now }
+    ensures saved { IfOk result (λ text. IsSaved state.now added.now leaving.now (string_bytes text)) }
+    ensures not_saved { IfErr result (IsNotSaved state.now added.now leaving.now) }
+{
+    match state.with_fleet(alloc, added, leaving) {
         Ok(changed) => Ok(checkpoint_text(alloc, &changed)?),
         Err(fault) => Err(Stop::Fleet(fault)),
     }

@@ -41,6 +41,8 @@ pub enum Stop {
     OrderNotInProblem(OrderId),
     /// No free wagon of the problem has this number (84).
     WagonNotInProblem(WagonNumber),
+    /// No order that lacks wagons or has some promised has this name (84).
+    OrderNotOnMap(OrderId),
     /// Help or the version could not be written (94).
     WriteFailed,
     /// The run over the lines stopped (1, 91 to 94).
@@ -64,7 +66,7 @@ impl Stop {
             Stop::Network(fault) => fault.number(),
             Stop::Places(fault) => fault.number(),
             Stop::Tables(fault) => fault.number(),
-            Stop::OrderNotInProblem(_) | Stop::WagonNotInProblem(_) => 84,
+            Stop::OrderNotInProblem(_) | Stop::WagonNotInProblem(_) | Stop::OrderNotOnMap(_) => 84,
             Stop::WriteFailed => 94,
             Stop::Run(fault) => fault.number(),
             Stop::Feed(fault) => fault.number(),
@@ -101,7 +103,7 @@ impl Display for Stop {
         if let Stop::WagonNotInProblem(wagon) = self {
             return write_ascii(f, wagon.digits());
         }
-        if let Stop::OrderNotInProblem(id) = self {
+        if let Stop::OrderNotInProblem(id) | Stop::OrderNotOnMap(id) = self {
             return write_ascii(f, id.as_bytes());
         }
         if let Stop::Feed(FeedFault::ReceiptLost(seat, entry)) = self {
@@ -123,12 +125,22 @@ fn write_ascii<W: fmt::Write>(f: &mut Formatter<W>, characters: &[u8]) -> fmt::R
 }
 
 impl From<AllocError> for Stop {
+    ghost use Rattle.std.specs.Prelude.{◌≡◌};
+    ghost use Rattle.wagons_program.specs.declared.stop.Stop.TheVariants.{OutOfMemory};
+
+    ghost from_gives = { λ _ stop. stop ≡ OutOfMemory };
+
     fn from(_error: AllocError) -> Stop {
         Stop::OutOfMemory
     }
 }
 
 impl<T: Drop> From<AllocFailed<T>> for Stop {
+    ghost use Rattle.std.specs.Prelude.{◌≡◌};
+    ghost use Rattle.wagons_program.specs.declared.stop.Stop.TheVariants.{OutOfMemory};
+
+    ghost from_gives = { λ _ stop. stop ≡ OutOfMemory };
+
     fn from(_error: AllocFailed<T>) -> Stop {
         Stop::OutOfMemory
     }

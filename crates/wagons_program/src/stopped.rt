@@ -117,6 +117,7 @@ fn reason_of(stop: &Stop) -> &'static str
         Stop::Tables(_) => NO_THREAD,
         Stop::OrderNotInProblem(_) => "no waiting order of the problem has this name",
         Stop::WagonNotInProblem(_) => "no free wagon of the problem has this number",
+        Stop::OrderNotOnMap(_) => "no order that lacks wagons or has some promised has this name",
         Stop::WriteFailed => "standard output couldn't be written",
         Stop::Run(_) => "a line couldn't be read or replied to",
         Stop::Feed(fault) => reason_of_feed(fault),

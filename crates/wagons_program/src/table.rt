@@ -3,8 +3,8 @@ ghost use Rattle.std.specs.Prelude.{◌≡◌, ◌++◌, ◌∷◌, [], ℕ, IfO
 ghost use Rattle.commit_book.specs.Snap.{snap_of};
 ghost use Rattle.wagons_program.specs.TableOfLast.{IsTableOfLast};
 
-use crate::bringing::{Brought, bring, leave};
-use crate::printing::print_whole;
+use crate::bringing::{Brought, bring};
+use crate::printing::print_last;
 use crate::stop::Stop;
 use crate::stopped::Stopped;
 use command_line::ProblemOptions;
@@ -32,18 +32,16 @@ pub(crate) fn table<R: Print + Files + Threads + Wait + AllocGlobal, I: Read + D
         status,
     } = bring(rt, &options.office, input, io::sink())?;
     let text = last_table(rt.alloc(), &mut book, options.at);
-    leave(book);
-    print_whole(rt, &text?)?;
-    Ok(status)
+    print_last(rt, book, text, status)
 }
 
 /// The table line of the problem of a book's last version at a moment, and its line feed. `Err` only when out of memory.
-fn last_table(alloc: Global, book: &mut Book, at: Moment) -> Result<String, AllocError>
+fn last_table(alloc: Global, book: &mut Book, at: Moment) -> Result<String, Stop>
     ensures { IfOk result (λ text. (line : List ℕ) × IsTableOfLast book.old.setting book.old.state.history at line × (string_bytes text ≡ line ++ 10 ∷ [])) }
 {
     let (snap, index) = book.begin_indexed(alloc, at)?;
     let line = kept_line(alloc, book, &snap, index)?;
-    with_line_feed(line)
+    Ok(with_line_feed(line)?)
 }
 
 /// The table line of the problem just begun, which the book keeps at this index.

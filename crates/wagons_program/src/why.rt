@@ -3,8 +3,8 @@ ghost use Rattle.std.specs.Prelude.{◌≡◌, IfOk, length, string_bytes};
 ghost use Rattle.plan_reasons.specs.Planned.{IsPlannedProblem, priced_plan};
 ghost use Rattle.wagons_program.specs.ReasonsOfLast.{AreReasonsOfLast, IsAnswer, style_of};
 
-use crate::bringing::{Brought, bring, leave};
-use crate::printing::print_whole;
+use crate::bringing::{Brought, bring};
+use crate::printing::print_last;
 use crate::stop::Stop;
 use crate::stopped::Stopped;
 use command_line::{Asked, WhyOptions};
@@ -34,9 +34,7 @@ pub(crate) fn why<R: Print + Files + Threads + Wait + AllocGlobal, I: Read + Dro
         status,
     } = bring(rt, &options.problem.office, input, io::sink())?;
     let text = last_reasons(rt.alloc(), &mut book, &distances, options);
-    leave(book);
-    print_whole(rt, &text?)?;
-    Ok(status)
+    print_last(rt, book, text, status)
 }
 
 /// What is asked about a plan of a book's last version at a moment, over the network in force. `OrderNotInProblem` or

@@ -1,4 +1,6 @@
 //! The time zone in which moments are shown.
+ghost use Rattle.std.specs.Prelude.{IfOk, Some, option_map};
+ghost use Rattle.wagons_program.specs.ZoneClock.{HasZone, HasZoneFor, IsClockFor, IsReadFor, name_of};
 
 use crate::stop::Stop;
 use crate::stopped::Stopped;
@@ -19,31 +21,43 @@ const MAX_ZONE_BYTES: u64 = 1_048_576;
 
 /// A time zone that was read, by its name; none for UTC.
 #[derive(Drop)]
-pub(crate) struct ZoneFile {
+pub(crate) struct ZoneFile<'a> {
     database: TimeZoneDatabase,
-    name: Option<String>,
+    name: Option<&'a str>,
 }
 
 /// The time zone of a name, from its file. `OpenFailed` (93) where there is no such file, or where it has no time zone.
-pub(crate) fn read_zone<R: Files + AllocGlobal>(
+pub(crate) fn read_zone<'a, R: Files + AllocGlobal>(
     rt: &R,
-    name: Option<&str>,
-) -> Result<ZoneFile, Stopped> {
-    let mut database = TimeZoneDatabase::new(rt.alloc());
+    name: Option<&'a str>,
+) -> Result<ZoneFile<'a>, Stopped>
+    ensures { IfOk result (IsReadFor (option_map (λ text. text.now) name.entry)) }
+{
     let Some(name) = name else {
         return Ok(ZoneFile {
-            database,
+            database: TimeZoneDatabase::new(rt.alloc()),
             name: None,
         });
     };
     let path = path_of(rt.alloc(), name)?;
     let bytes = read_file(rt, path.as_str())?;
-    match database.insert(name, &bytes) {
+    match zone_of(rt.alloc(), name, &bytes) {
+        Ok(zone) => Ok(zone),
+        Err(error) => Err(no_zone(rt.alloc(), path.as_str(), &error)),
+    }
+}
+
+/// The time zone of a name, from the bytes of its file.
+fn zone_of<'a>(alloc: Global, name: &'a str, bytes: &[u8]) -> Result<ZoneFile<'a>, Error>
+    ensures { IfOk result (IsReadFor (Some name.now)) }
+{
+    let mut database = TimeZoneDatabase::new(alloc);
+    match database.insert(name, bytes) {
         Ok(()) => Ok(ZoneFile {
             database,
-            name: Some(String::from_str(rt.alloc(), name)?),
+            name: Some(name),
         }),
-        Err(error) => Err(no_zone(rt.alloc(), path.as_str(), &error)),
+        Err(error) => Err(error),
     }
 }
 
@@ -86,12 +100,23 @@ fn path_of(alloc: Global, name: &str) -> Result<String, AllocError> {
 }
 
 /// How moments are shown in a time zone.
-pub(crate) fn clock_of(zone: &ZoneFile) -> Result<Clock<'_>, Stop> {
-    match &zone.name {
+pub(crate) fn clock_of<'a>(zone: &'a ZoneFile<'_>) -> Result<Clock<'a>, Stop>
+    requires { HasZoneFor zone.now.database (name_of zone.now) }
+    ensures { IfOk result (IsClockFor (name_of zone.now)) }
+{
+    match zone.name {
         None => Ok(Clock { zone: None }),
-        Some(name) => match zone.database.get(name) {
-            Ok(found) => Ok(Clock { zone: Some(found) }),
-            Err(error) => Err(stop_of(&error)),
-        },
+        Some(name) => clock_in(&zone.database, name),
+    }
+}
+
+/// How moments are shown in the time zone of a name.
+fn clock_in<'a>(database: &'a TimeZoneDatabase, name: &str) -> Result<Clock<'a>, Stop>
+    requires { HasZone database.now name.now }
+    ensures { IfOk result (IsClockFor (Some name.now)) }
+{
+    match database.get(name) {
+        Ok(found) => Ok(Clock { zone: Some(found) }),
+        Err(error) => Err(stop_of(&error)),
     }
 }

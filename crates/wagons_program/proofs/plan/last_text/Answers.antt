@@ -1,5 +1,15 @@
+use Rattle.std.proofs.Common.{ℕ, List, Option, subst}
 use Rattle.std.proofs.lemmas.Result.{IfOk-weaker}
+use Rattle.wagons_program.specs.PlanOfLast.{IsPrintedIn}
 use Rattle.wagons_program.proofs.plan.last_text.Goals as goal
 
+-- the zone that was read is the one that is asked for
 pub returns : goal.returns
-returns c = IfOk-weaker c.printed_in.result _ _ (λ text printed. (printed.0, record { plan = c.in_ok-list.list; of_last = c.in_ok-list.ensures; printed = printed.1 })) c.printed_in.ensures
+returns c =
+    IfOk-weaker c.printed_in.result _ _
+    (λ text printed. record {
+      plan = c.in_ok-list.list;
+      of_last = c.in_ok-list.ensures;
+      printed = subst (λ (zone : Option (List ℕ)). IsPrintedIn c.args.options.now.csv c.args.places.now zone c.in_ok-list.list text.items) c.requires.zone.name printed;
+    })
+    c.printed_in.ensures
