@@ -69,11 +69,7 @@ pub(crate) fn with_plan_options<'a>(
     alloc: Global,
     word: Command<'a>,
 ) -> Result<Command<'a>, AllocError> {
-    word.args(vec![in alloc;
-        places_option(alloc),
-        zone_option(alloc),
-        csv_option(alloc),
-    ]?)
+    word.args(vec![in alloc; places_option(alloc), zone_option(alloc), csv_option(alloc)]?)
 }
 
 /// The option of the names of places.

@@ -37,13 +37,7 @@ pub(crate) fn map<R: Print + Files + Threads + Wait + AllocGlobal, I: Read + Dro
         distances: _,
         status,
     } = bring(rt, &options.office, input, io::sink())?;
-    let text = last_map(
-        rt.alloc(),
-        &book,
-        &networks,
-        &places,
-        &choice_of(options),
-    );
+    let text = last_map(rt.alloc(), &book, &networks, &places, &choice_of(options));
     print_last(rt, book, text, status)
 }
 

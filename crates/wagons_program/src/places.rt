@@ -7,7 +7,10 @@ use place_names::Places;
 use std::rt::Files;
 
 /// The names of places that a file says; none where no file is given.
-pub(crate) fn read_places<R: Files + AllocGlobal>(rt: &R, path: Option<&str>) -> Result<Places, Stopped> {
+pub(crate) fn read_places<R: Files + AllocGlobal>(
+    rt: &R,
+    path: Option<&str>,
+) -> Result<Places, Stopped> {
     let Some(path) = path else {
         return Ok(Places::empty(rt.alloc()));
     };
