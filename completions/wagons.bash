@@ -20,7 +20,7 @@ _wagons() {
     esac
     case $word in
         run | review) ;;
-        map) office+=' --busy --order --class' ;;
+        map) office+=' --places --busy --order --class' ;;
         plan) office+=' --at --places --zone --csv' ;;
         table) office+=' --at' ;;
         why) office+=' --at --order --wagon --json' ;;
