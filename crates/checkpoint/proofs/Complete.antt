@@ -29,6 +29,7 @@ use Rattle.checkpoint.specs.Checkpoint.{IsCheckpointOf, lines_for, order_said, w
 use Rattle.checkpoint.specs.OfficeOf.{closed, office_of_lines, office_of_taken, with_lines}
 use Rattle.checkpoint.specs.Parts.{PartsValue, no_parts}
 use Rattle.checkpoint.specs.Taking.{Taken, is_above_last, is_full, is_kept_by, lines_before_last, take_end, take_head, take_line, take_next, take_order, take_read, take_wagon, with_order}
+use Rattle.checkpoint.specs.declared.read_fault.ReadFault.TheVariants.{Line}
 use Rattle.checkpoint.specs.inner.IsParts.{has_its_wagons}
 use Rattle.checkpoint.proofs.Above.{above_before}
 use Rattle.checkpoint.proofs.Offices.{first_office, orders_have_their_wagons, wagons_are_kept}
@@ -97,8 +98,8 @@ order_taken n network wagons orders row h new few =
     let full : is_full order ≡ false = rw (not_over, unfilled) refl in
     let within : nat_lt max_open_wagons (open_wagons orders + row.text.wagons) ≡ false = grind (arith, nat_tests) in
     let made : with_order n parts (Some row) ≡ Ok (stage network wagons (orders ++ row ∷ [])) = (let its = h.its_wagons in rw (within, its) refl) in
-    ap (λ (b : Bool). cond b (Err (DuplicateOrder n)) (cond (is_full order) (Err (OrderFull n)) (with_order n parts (row_of_parts row.text row.promised row.filled)))) fresh
-    ∙ (ap (λ (b : Bool). cond b (Err (OrderFull n)) (with_order n parts (row_of_parts row.text row.promised row.filled))) full
+    ap (λ (b : Bool). cond b (Err (Line (DuplicateOrder n))) (cond (is_full order) (Err (Line (OrderFull n))) (with_order n parts (row_of_parts row.text row.promised row.filled)))) fresh
+    ∙ (ap (λ (b : Bool). cond b (Err (Line (OrderFull n))) (with_order n parts (row_of_parts row.text row.promised row.filled))) full
     ∙ (ap (λ (o : Option OrderRowValue). with_order n parts o) (parts_of row h.valid (stays row.withdrawn (nat_lt (length row.filled) row.text.wagons) h.opened)) ∙ made))
 
 in_middle : (P : List ℕ → Type 0) (front : List OrderRowValue) (row : OrderRowValue) (back : List OrderRowValue) → AllByRecursion P (names_of (front ++ row ∷ back)) → P row.text.id

@@ -9,7 +9,7 @@ use Rattle.checkpoint.specs.OfficeOf.{with_line, with_lines}
 use Rattle.checkpoint.specs.inner.Runs.{TakesLine}
 use Rattle.checkpoint.specs.inner.Steps.{Follows, TakesFrom}
 use Rattle.checkpoint.specs.declared.read_fault.ReadFault.{ReadFault}
-use Rattle.checkpoint.specs.declared.read_fault.ReadFault.TheVariants.{Line, Run}
+use Rattle.checkpoint.specs.declared.read_fault.ReadFault.TheVariants.{Line, Run, Unread}
 use Rattle.checkpoint.specs.declared.reading.LinesSoFar.{LinesSoFar}
 
 -- a blank line changes nothing
@@ -21,6 +21,8 @@ blank_stays networks n (Err fault) line blank = refl
 step : (networks n : ℕ) (taken : Taken) (line : List ℕ) (old new : Result PartsValue ReadFault) → is_blank line ≡ false → Follows taken old → TakesFrom networks n old line new → Follows (with_line networks n taken line) new
 step networks n taken line (Err (Run fault)) new filled so is = subst (Follows (with_line networks n taken line)) (sym is) so
 step networks n taken line (Err (Line fault)) new filled so is =
+    subst (Follows (with_line networks n taken line)) (sym is) (ap (λ (t : Taken). with_line networks n t line) so)
+step networks n taken line (Err (Unread m fault)) new filled so is =
     subst (Follows (with_line networks n taken line)) (sym is) (ap (λ (t : Taken). with_line networks n t line) so)
 step networks n taken line (Ok parts) new filled so is =
     let here : with_line networks n (Ok parts) line ≡ take_line networks n parts line = rw filled refl in

@@ -5,5 +5,6 @@ pub mod Above
 pub mod Offices
 pub mod Sound
 pub mod Complete
+pub mod Unread
 pub mod Writes
 pub mod Runs

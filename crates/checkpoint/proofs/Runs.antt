@@ -15,11 +15,12 @@ use Rattle.checkpoint.specs.inner.IsParts.{IsParts}
 use Rattle.checkpoint.specs.inner.Runs.{AreAllRead, TakesLine}
 use Rattle.checkpoint.specs.inner.Steps.{Follows, IsFaultOf}
 use Rattle.checkpoint.specs.declared.read_fault.ReadFault.{ReadFault}
-use Rattle.checkpoint.specs.declared.read_fault.ReadFault.TheVariants.{Line, Run as run_fault}
+use Rattle.checkpoint.specs.declared.read_fault.ReadFault.TheVariants.{Line, Unread, Run as run_fault}
 use Rattle.checkpoint.specs.declared.reading.LinesSoFar.{LinesSoFar}
 use Rattle.checkpoint.proofs.Complete.{exact}
 use Rattle.checkpoint.proofs.Folding.{HasTaken, all_lines}
 use Rattle.checkpoint.proofs.Sound.{no_parts_valid, steps}
+use Rattle.checkpoint.proofs.Unread.{unread}
 
 abbrev pub bytes_of : Run LinesSoFar → Failures → Bytes
 bytes_of run failed = record { from = run.from; to = run.to; failed = failed.reader }
@@ -65,11 +66,17 @@ is_read bytes networks lines parts state h done same =
 
 is_cut : (bytes : Bytes) (networks lines : ℕ) (parts : PartsValue) (fault : ReadFault) → AreAllRead bytes networks lines (Ok parts) → IsFaultOf (closed (lines + 1) parts parts.network parts.ended) fault → IsRefused bytes networks fault
 is_cut bytes networks lines parts (Line fault) h refused = (h.input, h.whole, office_is bytes networks lines parts h ∙ refused)
+is_cut bytes networks lines parts (Unread n fault) h refused =
+    let office : office_of_lines networks (lines_of h.input) ≡ Err (Unread n fault) = office_is bytes networks lines parts h ∙ refused in
+    (h.input, h.whole, office, unread networks n (lines_of h.input) fault office)
 is_cut bytes networks lines parts (run_fault fault) h refused = subst (IsStopped bytes) (sym refused) tt
 
 pub is_refused : (bytes : Bytes) (networks lines : ℕ) (fault : ReadFault) → AreAllRead bytes networks lines (Err fault) → IsRefused bytes networks fault
 unfolding office_of_lines
 is_refused bytes networks lines (Line fault) h = (h.input, h.whole, ap (office_of_taken (length (lines_of h.input) + 1)) h.follows)
+is_refused bytes networks lines (Unread n fault) h =
+    let office : office_of_lines networks (lines_of h.input) ≡ Err (Unread n fault) = ap (office_of_taken (length (lines_of h.input) + 1)) h.follows in
+    (h.input, h.whole, office, unread networks n (lines_of h.input) fault office)
 is_refused bytes networks lines (run_fault fault) h = subst (IsStopped bytes) (sym h.follows) tt
 
 abbrev stands : (run : Run LinesSoFar) (failed : Failures) (n : ℕ) → run.most ≡ max_line_bytes → RunStandsAt TakesLine run n → StandsBefore (bytes_of run failed) n

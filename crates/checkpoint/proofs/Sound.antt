@@ -20,7 +20,6 @@ use Rattle.fleet_rows.specs.Kept.{max_roster_wagons}
 use Rattle.fleet_rows.specs.Rows.{max_open_wagons, names_of, open_wagons, order_in, wanted_open}
 use Rattle.fleet_rows.specs.SameWagons.{has_wagon}
 use Rattle.fleet_rows.proofs.Named.{is_same, nothing_named, same_name}
-use Rattle.faults.specs.declared.faults.CheckpointFault.{CheckpointFault}
 use Rattle.checkpoint_lines.specs.LineReading.{checkpoint_line_of}
 use Rattle.checkpoint_lines.specs.OrderLine.{OrderLineValue, line_of_row}
 use Rattle.checkpoint_lines.specs.declared.line.CheckpointLine.{CheckpointLine}
@@ -29,6 +28,7 @@ use Rattle.checkpoint.specs.Checkpoint.{order_said, written_lines}
 use Rattle.checkpoint.specs.OfficeOf.{with_lines}
 use Rattle.checkpoint.specs.Parts.{PartsValue, no_parts}
 use Rattle.checkpoint.specs.Taking.{Taken, is_above_last, is_full, is_kept_by, lines_before_last, stands_before, take_end, take_head, take_line, take_next, take_order, take_read, take_said, take_wagon, with_order}
+use Rattle.checkpoint.specs.declared.read_fault.ReadFault.{ReadFault}
 use Rattle.checkpoint.specs.inner.IsParts.{IsParts, has_its_wagons}
 use Rattle.checkpoint.proofs.Above.{ascending_push}
 use Rattle.checkpoint.proofs.RowParts.{OfParts, of_parts}
@@ -274,7 +274,7 @@ step networks n parts new line h taken = read_step networks n parts new line (ch
 
 -- ---- all lines
 
-fault_stays : (networks n : ℕ) (fault : CheckpointFault) (lines : List (List ℕ)) → with_lines networks n (Err fault) lines ≡ Err fault
+pub fault_stays : (networks n : ℕ) (fault : ReadFault) (lines : List (List ℕ)) → with_lines networks n (Err fault) lines ≡ Err fault
 fault_stays networks n fault [] = refl
 fault_stays networks n fault (line ∷ lines) = fault_stays networks (n + 1) fault lines
 

@@ -1,15 +1,17 @@
 -- What reading a checkpoint answers.
-use Rattle.std.specs.Prelude.{◌≡◌, ◌<◌, ◌≤◌, ◌+◌, ℕ, Bool, true, false, List, length, Option, Ok, Err}
+use Rattle.std.specs.Prelude.{◌≡◌, ◌<◌, ◌≤◌, ◌+◌, ℕ, Bool, true, false, List, ◌∷◌, ◌++◌, length, Option, Ok, Err}
 use Rattle.std.specs.Io.KnownBytes.{Consumes, IsAtEnd}
 use Rattle.std.specs.List.{AllByRecursion}
 use Rattle.line_engine.specs.Lines.{BeginsWith, IsWithin, first_line, has_feed, lines_of, max_input_lines, max_line_bytes}
 use Rattle.line_engine.specs.declared.run.RunFault.{RunFault}
 use Rattle.line_engine.specs.declared.run.RunFault.TheVariants.{OutOfMemory, TooManyLines, LineTooLong, ReadFailed, WriteFailed}
+use Rattle.move_messages.specs.declared.fault.LineFault.{LineFault}
 use Rattle.operating_db.specs.State.{StateValue}
+use Rattle.checkpoint_lines.specs.LineReading.{checkpoint_line_of}
 use Rattle.checkpoint.specs.Checkpoint.{IsCheckpointOf}
 use Rattle.checkpoint.specs.OfficeOf.{office_of_lines}
 use Rattle.checkpoint.specs.declared.read_fault.ReadFault.{ReadFault}
-use Rattle.checkpoint.specs.declared.read_fault.ReadFault.TheVariants.{Line, Run}
+use Rattle.checkpoint.specs.declared.read_fault.ReadFault.TheVariants.{Line, Run, Unread}
 
 -- The bytes that a reader has left before and after reading, where they are known, and whether it has failed by then.
 pub record Bytes : Type 0 where
@@ -53,7 +55,19 @@ IsStopped bytes (LineTooLong n) = (at : StandsBefore bytes n) × (n ≤ max_inpu
 IsStopped bytes (ReadFailed n) = (at : StandsBefore bytes n) × (has_feed at.rest ≡ false) × (bytes.failed ≡ true)
 IsStopped bytes (WriteFailed n) = ⊥
 
--- Why no checkpoint was read: the lines weren't read to their end, or memory was out; or this is the first fault of the lines.
+-- Line number n of these can't be read as any line of a checkpoint, and this is its first fault.
+pub record IsUnread (lines : List (List ℕ)) (n : ℕ) (fault : LineFault) : Type 0 where
+  pub before : List (List ℕ)
+  pub line : List ℕ
+  pub later : List (List ℕ)
+  pub whole : lines ≡ before ++ line ∷ later
+  pub number : n ≡ length before + 1
+  pub reads : checkpoint_line_of line ≡ Err fault
+
+-- Why no checkpoint was read: the lines weren't read to their end, or memory was out; or this is the first fault of the lines,
+-- and where a line can't be read, the first fault of that line.
 abbrev pub IsRefused : Bytes → (networks : ℕ) → ReadFault → Type 0
 IsRefused bytes networks (Run fault) = IsStopped bytes fault
-IsRefused bytes networks (Line fault) = (input : List ℕ) × IsWholeInput bytes input × (office_of_lines networks (lines_of input) ≡ Err fault)
+IsRefused bytes networks (Line fault) = (input : List ℕ) × IsWholeInput bytes input × (office_of_lines networks (lines_of input) ≡ Err (Line fault))
+IsRefused bytes networks (Unread n fault) =
+    (input : List ℕ) × IsWholeInput bytes input × (office_of_lines networks (lines_of input) ≡ Err (Unread n fault)) × IsUnread (lines_of input) n fault

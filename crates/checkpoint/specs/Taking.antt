@@ -2,7 +2,6 @@
 use Rattle.std.specs.Prelude.{ℕ, ◌+◌, ◌-◌, ◌==◌, ◌||◌, nat_le, nat_lt, not, Bool, true, false, if◌then◌else◌, List, [], ◌∷◌, ◌++◌, length, Option, Some, None, is_some, Result, Ok, Err, slice_get}
 use Rattle.std.specs.List.{list_all}
 use Rattle.std.specs.Ordering.{is_lt}
-use Rattle.faults.specs.declared.faults.CheckpointFault.{CheckpointFault}
 use Rattle.faults.specs.declared.faults.CheckpointFault.TheVariants.{DuplicateWagon, DuplicateOrder, TooLarge, TooManyOpen, UnknownNetwork, BadCheckpointLine, OneSidedPromise, OrderFull, CheckpointCut}
 use Rattle.move_messages.specs.MaxLoad.{max_load}
 use Rattle.move_messages.specs.declared.fault.LineFault.{LineFault}
@@ -18,16 +17,18 @@ use Rattle.checkpoint_lines.specs.OrderLine.{OrderLineValue}
 use Rattle.checkpoint_lines.specs.declared.line.CheckpointLine.{CheckpointLine}
 use Rattle.checkpoint_lines.specs.declared.line.CheckpointLine.TheVariants.{Head, Wagon, Order, End}
 use Rattle.checkpoint.specs.Parts.{PartsValue}
+use Rattle.checkpoint.specs.declared.read_fault.ReadFault.{ReadFault}
+use Rattle.checkpoint.specs.declared.read_fault.ReadFault.TheVariants.{Line, Unread}
 
 abbrev pub Taken : Type 0
-Taken = Result PartsValue CheckpointFault
+Taken = Result PartsValue ReadFault
 
 -- ---- the head
 
 -- its network is one of those that there are, counted from 1
 abbrev pub take_head : (networks n : ℕ) → PartsValue → ℕ → Taken
 take_head networks n parts network =
-    if network == 0 || nat_lt networks network then Err (UnknownNetwork n) else Ok (record parts { network = Some network })
+    if network == 0 || nat_lt networks network then Err (Line (UnknownNetwork n)) else Ok (record parts { network = Some network })
 
 -- ---- wagons
 
@@ -47,11 +48,11 @@ stands_before (order ∷ orders) row = false
 -- one wagon more, above the one before
 unfoldable pub take_wagon : (n : ℕ) → PartsValue → WagonRow → Taken
 take_wagon n parts row =
-    if not (stands_before parts.orders row) then Err (BadCheckpointLine n)
-    else if nat_le max_roster_wagons (length parts.wagons) then Err (TooLarge n)
+    if not (stands_before parts.orders row) then Err (Line (BadCheckpointLine n))
+    else if nat_le max_roster_wagons (length parts.wagons) then Err (Line (TooLarge n))
     else if is_above_last parts.wagons row.number then Ok (record parts { wagons = parts.wagons ++ row ∷ [] })
-    else if has_wagon parts.wagons row.number then Err (DuplicateWagon n)
-    else Err (BadCheckpointLine n)
+    else if has_wagon parts.wagons row.number then Err (Line (DuplicateWagon n))
+    else Err (Line (BadCheckpointLine n))
 
 -- ---- orders
 
@@ -66,16 +67,16 @@ is_full order = nat_lt order.text.wagons (length order.promised + length order.f
 -- one order more, where its promised wagons ascend, the open orders want few enough wagons with it, and each wagon promised to
 -- it is so by its own row
 abbrev pub with_order : (n : ℕ) → PartsValue → Option OrderRowValue → Taken
-with_order n parts None = Err (BadCheckpointLine n)
+with_order n parts None = Err (Line (BadCheckpointLine n))
 with_order n parts (Some row) =
-    if nat_lt max_open_wagons (open_wagons parts.orders + row.text.wagons) then Err (TooManyOpen n)
+    if nat_lt max_open_wagons (open_wagons parts.orders + row.text.wagons) then Err (Line (TooManyOpen n))
     else if list_all (is_promised_by parts.wagons row.text.id) row.promised then Ok (record parts { orders = parts.orders ++ row ∷ [] })
-    else Err (OneSidedPromise n)
+    else Err (Line (OneSidedPromise n))
 
 unfoldable pub take_order : (n : ℕ) → PartsValue → OrderLineValue → Taken
 take_order n parts order =
-    if is_some (order_in parts.orders order.text.id) then Err (DuplicateOrder n)
-    else if is_full order then Err (OrderFull n)
+    if is_some (order_in parts.orders order.text.id) then Err (Line (DuplicateOrder n))
+    else if is_full order then Err (Line (OrderFull n))
     else with_order n parts (row_of_parts order.text order.promised order.filled)
 
 -- ---- the last line
@@ -95,30 +96,31 @@ lines_before_last wagons orders = 1 + length wagons + length orders
 -- it counts them, and each wagon's promise is known to its order
 unfoldable pub take_end : (n : ℕ) → PartsValue → (lines : ℕ) → Taken
 take_end n parts lines =
-    if not (lines == lines_before_last parts.wagons parts.orders) then Err (CheckpointCut n)
+    if not (lines == lines_before_last parts.wagons parts.orders) then Err (Line (CheckpointCut n))
     else if list_all (is_kept_by parts.orders) parts.wagons then Ok (record parts { ended = true })
-    else Err (OneSidedPromise n)
+    else Err (Line (OneSidedPromise n))
 
 -- ---- any line
 
 -- the head comes first and once
 abbrev pub take_said : (networks n : ℕ) → PartsValue → (network : Option ℕ) → CheckpointLine → Taken
 take_said networks n parts None (Head network) = take_head networks n parts network
-take_said networks n parts None (Wagon row) = Err (BadCheckpointLine n)
-take_said networks n parts None (Order order) = Err (BadCheckpointLine n)
-take_said networks n parts None (End lines) = Err (BadCheckpointLine n)
-take_said networks n parts (Some known) (Head network) = Err (BadCheckpointLine n)
+take_said networks n parts None (Wagon row) = Err (Line (BadCheckpointLine n))
+take_said networks n parts None (Order order) = Err (Line (BadCheckpointLine n))
+take_said networks n parts None (End lines) = Err (Line (BadCheckpointLine n))
+take_said networks n parts (Some known) (Head network) = Err (Line (BadCheckpointLine n))
 take_said networks n parts (Some known) (Wagon row) = take_wagon n parts row
 take_said networks n parts (Some known) (Order order) = take_order n parts order
 take_said networks n parts (Some known) (End lines) = take_end n parts lines
 
 -- nothing comes behind the last line
 abbrev pub take_next : (networks n : ℕ) → PartsValue → (ended : Bool) → CheckpointLine → Taken
-take_next networks n parts true said = Err (BadCheckpointLine n)
+take_next networks n parts true said = Err (Line (BadCheckpointLine n))
 take_next networks n parts false said = take_said networks n parts parts.network said
 
+-- a line that can't be read as any line of a checkpoint is refused with what is wrong with it
 abbrev pub take_read : (networks n : ℕ) → PartsValue → Result CheckpointLine LineFault → Taken
-take_read networks n parts (Err fault) = Err (BadCheckpointLine n)
+take_read networks n parts (Err fault) = Err (Unread n fault)
 take_read networks n parts (Ok said) = take_next networks n parts parts.ended said
 
 -- what a line makes of the parts before it, where there are so many networks

@@ -5,6 +5,7 @@ ghost use Rattle.std.specs.Prelude.{◌≡◌};
 
 use faults::CheckpointFault;
 use line_engine::RunFault;
+use move_messages::LineFault;
 use std::alloc::{AllocError, AllocFailed};
 use thiserror::Error;
 
@@ -17,6 +18,9 @@ pub enum ReadFault {
     /// The lines are no checkpoint (51 to 53, 75, 79, 85 to 88).
     #[error("{0}")]
     Line(CheckpointFault),
+    /// The line of this number can't be read as any line of a checkpoint (85), and this is its first fault.
+    #[error("BadCheckpointLine")]
+    Unread(u64, LineFault),
 }
 
 impl ReadFault {
@@ -29,6 +33,7 @@ impl ReadFault {
         match self {
             ReadFault::Run(fault) => fault.number(),
             ReadFault::Line(fault) => fault.number(),
+            ReadFault::Unread(line, _) => CheckpointFault::BadCheckpointLine(line).number(),
         }
     }
 
@@ -39,6 +44,7 @@ impl ReadFault {
         match self {
             ReadFault::Run(fault) => fault.line(),
             ReadFault::Line(fault) => Some(fault.line()),
+            ReadFault::Unread(line, _) => Some(line),
         }
     }
 }

@@ -86,9 +86,10 @@ impl Sink for NoReplies {
 /// Reads a checkpoint to the reader's end: the state of its office, where there are so many networks, 1 to 8.
 ///
 /// Lines are JSON objects, as `checkpoint_text` writes them; blank ones are skipped. Refused at the first line with a fault,
-/// with its number: `BadCheckpointLine` (85) where it isn't what must stand there, `UnknownNetwork` (79), `DuplicateWagon` (51),
-/// `TooLarge` (53), `DuplicateOrder` (52), `OrderFull` (87), `TooManyOpen` (75), `OneSidedPromise` (86) or `CheckpointCut` (88), each
-/// where the definition of a line's taking says so. Before all others comes `Run` where the lines weren't read to their
+/// with its number: `Unread` (85) where it can't be read as any line of a checkpoint, with the line's first fault;
+/// `BadCheckpointLine` (85) where it isn't what must stand there, `UnknownNetwork` (79), `DuplicateWagon` (51),
+/// `TooLarge` (53), `DuplicateOrder` (52), `OrderFull` (87), `TooManyOpen` (75), `OneSidedPromise` (86) or `CheckpointCut` (88),
+/// each where the definition of a line's taking says so. Before all others comes `Run` where the lines weren't read to their
 /// end (91 to 93); `OutOfMemory` (1) may come in place of any answer.
 pub fn read_checkpoint<R: Source>(
     alloc: Global,

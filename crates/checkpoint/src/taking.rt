@@ -35,7 +35,7 @@ impl Parts {
         match read_line(alloc, line) {
             Ok(said) => self.take_next(alloc, networks, number, said),
             Err(LineFault::OutOfMemory) => Err(ReadFault::Run(RunFault::OutOfMemory)),
-            Err(_) => Err(ReadFault::Line(CheckpointFault::BadCheckpointLine(number))),
+            Err(fault) => Err(ReadFault::Unread(number, fault)),
         }
     }
 

@@ -6,3 +6,4 @@ pub mod RosterText
 pub mod NetworkText
 pub mod LineText
 pub mod CheckpointText
+pub mod UnreadText

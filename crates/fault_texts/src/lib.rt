@@ -9,10 +9,12 @@ mod line_faults;
 mod network_faults;
 mod roster_faults;
 mod shown;
+mod unread_lines;
 mod words;
 
 pub use checkpoint_faults::checkpoint_text;
 pub use line_faults::line_text;
 pub use network_faults::network_text;
 pub use roster_faults::roster_text;
+pub use unread_lines::unread_text;
 pub use words::file_text;

@@ -102,7 +102,7 @@ fn unfit_in(fields: &ByteRecord) -> Option<Unfit<'_>>
 }
 
 /// What a field's text isn't.
-fn complaint(field: RosterField) -> &'static str
+pub(crate) fn complaint(field: RosterField) -> &'static str
     ensures { result.now ≡ complaint field }
 {
     match field {

@@ -1,16 +1,16 @@
 -- What the calls that take lines answer, and what a run over lines does.
 use Rattle.std.specs.Prelude.{◌≡◌, ℕ, List, Result, Ok, Err}
-use Rattle.faults.specs.declared.faults.CheckpointFault.{CheckpointFault}
 use Rattle.line_engine.specs.declared.run.RunFault.TheVariants.{OutOfMemory}
 use Rattle.checkpoint.specs.Parts.{PartsValue}
 use Rattle.checkpoint.specs.Taking.{Taken, take_line}
 use Rattle.checkpoint.specs.declared.read_fault.ReadFault.{ReadFault}
-use Rattle.checkpoint.specs.declared.read_fault.ReadFault.TheVariants.{Line, Run}
+use Rattle.checkpoint.specs.declared.read_fault.ReadFault.TheVariants.{Line, Run, Unread}
 
 -- the fault that the definition gives, or memory is out
-abbrev pub IsFaultOf : {A : Type 0} → Result A CheckpointFault → ReadFault → Type 0
+abbrev pub IsFaultOf : {A : Type 0} → Result A ReadFault → ReadFault → Type 0
 IsFaultOf {A} taken (Run fault) = fault ≡ OutOfMemory
-IsFaultOf {A} taken (Line fault) = taken ≡ Err fault
+IsFaultOf {A} taken (Line fault) = taken ≡ Err (Line fault)
+IsFaultOf {A} taken (Unread n fault) = taken ≡ Err (Unread n fault)
 
 -- the parts that the definition gives, or its fault, or memory is out
 abbrev pub Follows : Taken → Result PartsValue ReadFault → Type 0
