@@ -1,11 +1,13 @@
 //! What people are told of a file that isn't what it must be.
-ghost use Rattle.std.specs.Prelude.{◌≡◌, ◌≢◌, IfSome, string_bytes};
+ghost use Rattle.std.specs.Prelude.{◌≡◌, ◌≢◌, ℕ, IfSome, string_bytes};
 ghost use Rattle.checkpoint.specs.declared.read_fault.ReadFault.TheVariants as read_fault;
 ghost use Rattle.csv.specs.Records.{fields_of};
 ghost use Rattle.fault_texts.specs.CheckpointText.{checkpoint_text};
 ghost use Rattle.fault_texts.specs.NetworkText.{network_text};
 ghost use Rattle.fault_texts.specs.RosterText.{roster_text};
+ghost use Rattle.fault_texts.specs.UnreadText.{unread_text};
 ghost use Rattle.faults.specs.declared.faults.CheckpointFault.{CheckpointFault};
+ghost use Rattle.move_messages.specs.declared.fault.LineFault.{LineFault};
 ghost use Rattle.wagons_program.specs.declared.stop.Stop.TheVariants as stop;
 
 use crate::stop::Stop;
@@ -13,7 +15,7 @@ use crate::stopped::Stopped;
 use crate::told_file::ToldFile;
 use checkpoint::ReadFault;
 use csv_records::FaultAt;
-use fault_texts::{checkpoint_text, file_text, line_text, network_text, roster_text};
+use fault_texts::{checkpoint_text, file_text, line_text, network_text, roster_text, unread_text};
 use fleet_rows::{RosterFault, RosterRefusal};
 use line_engine::{MAX_LINE_BYTES, RunFault};
 use line_network::NetworkFault;
@@ -63,11 +65,13 @@ pub(crate) fn told_of_checkpoint<F>(
 ) -> Stopped
     ensures stop { result.stop ≡ stop.Checkpoint fault }
     ensures told { (line : CheckpointFault) → fault ≡ read_fault.Line line → IfSome result.told (λ told. string_bytes told ≡ checkpoint_text path.now line) }
+    ensures unread { (n : ℕ) (why : LineFault) → fault ≡ read_fault.Unread n why → IfSome result.told (λ told. string_bytes told ≡ unread_text path.now n why) }
 {
     let text = match fault {
         ReadFault::Run(RunFault::ReadFailed(_)) => file.failure_text(alloc, path),
         ReadFault::Run(stopped) => line_text(alloc, path, MAX_LINE_BYTES, &stopped),
         ReadFault::Line(line) => checkpoint_text(alloc, path, &line),
+        ReadFault::Unread(line, why) => unread_text(alloc, path, line, &why),
     };
     Stopped::told(Stop::Checkpoint(fault), text)
 }

@@ -103,6 +103,10 @@ fn faults_around_another(rt: HostRuntime) -> Result<(), Fail> {
     let checkpoints = [
         (ReadFault::Run(RunFault::LineTooLong(7)), "LineTooLong"),
         (ReadFault::Line(CheckpointFault::OrderFull(7)), "OrderFull"),
+        (
+            ReadFault::Unread(7, LineFault::NotJson),
+            "BadCheckpointLine",
+        ),
     ];
     assert_eq!(rt; misnamed(alloc, &checkpoints)?, None);
     let tables = [

@@ -6,6 +6,7 @@ use checkpoint::ReadFault;
 use faults::{CheckpointFault, FleetFault};
 use fleet_rows::RosterFault;
 use line_network::{NetworkFault, WorkFault};
+use move_messages::LineFault;
 use office::RunFault;
 use std::test::Fail;
 use test_samples::misnamed;
@@ -27,6 +28,10 @@ fn stops_before_the_lines(rt: HostRuntime) -> Result<(), Fail> {
         (
             Stop::Checkpoint(ReadFault::Line(CheckpointFault::TooLarge(1002))),
             "wagons: 53 1002",
+        ),
+        (
+            Stop::Checkpoint(ReadFault::Unread(3, LineFault::NotAnObject)),
+            "wagons: 85 3",
         ),
         (Stop::Network(NetworkFault::OutOfMemory), "wagons: 1"),
         (
