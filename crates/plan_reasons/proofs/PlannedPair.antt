@@ -27,7 +27,7 @@ planned_pair planned h pair allowed wagons orders wagon wanted same_wagons same_
     let problem = planned.problem.now in
     let goes : slice_get problem.wagons pair.0 ≡ Some wagon = standing wagons problem.wagons pair.0 wagon same_wagons (omega (arith, allowed.0, h.table.wagons)) is_wagon in
     let order : slice_get problem.orders pair.1 ≡ Some wanted =
-        standing orders problem.orders pair.1 wanted same_orders (omega (arith, allowed.1, order_count-table planned.tables.now problem planned.cells.now h.table)) is_wanted in
+    standing orders problem.orders pair.1 wanted same_orders (omega (arith, allowed.1, order_count-table planned.tables.now problem planned.cells.now h.table)) is_wanted in
     record {
       goes = goes;
       order = order;
