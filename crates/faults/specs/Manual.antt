@@ -20,14 +20,15 @@ IsEntryFor number entry = (refusal : ℕ × List ℕ) × Contains refusals refus
 abbrev pub preface : List ℕ
 preface =
     codes "# Refusals\n\n"
-    ++ codes "Each refusal has a number. A reply has it behind the line's number, as\n"
-    ++ codes "`20 refused 25 wagon 12`, and standard error behind the program's name, as\n"
+    ++ codes "Each refusal has a number. A reply has it after the line's number, as\n"
+    ++ codes "`20 refused 25 wagon 12`, and standard error after the program's name, as\n"
     ++ codes "`wagons: 41 17`. Where an entry doesn't say otherwise, nothing has changed. The\n"
     ++ codes "manual of lines, replies and files is FORMATS.md.\n\n"
     ++ codes "`wagons explain` prints this page, and `wagons explain 25` one entry of it. What\n"
-    ++ codes "is said of `run` holds of `map` and `save` too, but that they print no replies.\n"
+    ++ codes "is said of `run` holds of `map`, `plan`, `table`, `why`, `review` and `save`\n"
+    ++ codes "too, but that they print no replies.\n"
 
--- a text: the preface, and then an entry of each of these refusals, in their order, each behind an empty line
+-- a text: the preface, and then an entry of each of these refusals, in their order, each after an empty line
 pub record HasEntries (listed : List (ℕ × List ℕ)) (text : List ℕ) : Type 0 where
   pub entries : List (List ℕ)
   pub each : AllZip IsEntryOf listed entries

@@ -9,13 +9,14 @@ use std::alloc::{AllocError, Global};
 /// What stands above the entries.
 const ABOVE: &str = "# Refusals
 
-Each refusal has a number. A reply has it behind the line's number, as
-`20 refused 25 wagon 12`, and standard error behind the program's name, as
+Each refusal has a number. A reply has it after the line's number, as
+`20 refused 25 wagon 12`, and standard error after the program's name, as
 `wagons: 41 17`. Where an entry doesn't say otherwise, nothing has changed. The
 manual of lines, replies and files is FORMATS.md.
 
 `wagons explain` prints this page, and `wagons explain 25` one entry of it. What
-is said of `run` holds of `map` and `save` too, but that they print no replies.
+is said of `run` holds of `map`, `plan`, `table`, `why`, `review` and `save`
+too, but that they print no replies.
 ";
 
 /// The manual's entry of a refusal number; none where no refusal has this number. It is Markdown, in lines of at most 80

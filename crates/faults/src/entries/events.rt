@@ -26,7 +26,7 @@ pub(crate) const UNKNOWN_WAGON: &str = "## 73 UnknownWagon
 
 The fleet has no wagon of this number.
 
-- Where: movement messages: `run`, `feed`. For a wagon behind `--without` on
+- Where: movement messages: `run`, `feed`. For a wagon after `--without` on
   standard error, as `wagons: 73 338447961008`: `save`.
 - Cause: a wagon of another keeper, or one that joined the fleet since.
 - Remedy: leave such messages out, or save a checkpoint `--with` a roster of the
@@ -73,7 +73,7 @@ The order is filled or withdrawn already.
 
 pub(crate) const BAD_ROSTER_ROW: &str = "## 78 BadRosterRow
 
-A record of a roster isn't as its rule asks. The number behind it is the
+A record of a roster isn't as its rule asks. The number after it is the
 record's; the header is record 1.
 
 - Where: on standard error, as `wagons: 78 17`: `run`, `feed`.
@@ -94,7 +94,7 @@ There is no network of this number.
   where its networks aren't those of the book.
 - Cause: fewer `--network` files were given than the lines or the checkpoint
   count with. They are numbered from 1, in the order in which they are given.
-- Remedy: start again with all networks. A new one goes behind the others: save
+- Remedy: start again with all networks. A new one goes after the others: save
   a checkpoint, and begin a new journal with it and with all networks.
 ";
 
@@ -148,7 +148,8 @@ A pair names a wagon or an order that the table or the problem doesn't have. The
 reply names both.
 
 - Where: table lines: `check`. `commit` lines: `run`, `feed`. On standard error,
-  as `wagons: 84 SALT-1`, where `why` is asked about one of them.
+  as `wagons: 84 SALT-1`, where `why` is asked about one of them, or `map`
+  about an order that is on no map.
 - Cause: a misspelled number or name, a wagon that wasn't free or an order that
   wasn't waiting in that version, or a wrong version.
 - Remedy: send the certificate as it was printed, with its own version and

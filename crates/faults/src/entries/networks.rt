@@ -2,22 +2,28 @@
 
 pub(crate) const BAD_ROW: &str = "## 41 BadRow
 
-A record of a network isn't as its rule asks. The number behind it is the
-record's; the header is record 1.
+A record of a network, or of the names of places, isn't as its rule asks; or its
+place has a name already. The number after it is the record's; the header is
+record 1.
 
-- Where: on standard error, as `wagons: 41 17`: `run`, `feed`.
+- Where: on standard error, as `wagons: 41 17`: `run`, `feed`; of the names of
+  places `plan` and `map`.
 - Cause: for record 1 a missing or other header, or an empty file; else
   semicolons in place of commas, a place of another form, kilometres or minutes
-  of 0, over 10,000 or with a fraction, or a way other than `one` and `both`.
+  of 0, over 10,000 or with a fraction, or a way other than `one` and `both`. Of
+  the names of places a name of over 60 bytes, one coordinate without the other,
+  or one that is no decimal number.
 - Remedy: correct the record. In a text editor it is the line of that number,
   unless the file has empty lines or line breaks in quotes.
 ";
 
 pub(crate) const TOO_MANY_PLACES: &str = "## 42 TooManyPlaces
 
-A network names over 2,000 places.
+A network names over 2,000 places, or the names of places have over 2,000
+records.
 
-- Where: on standard error, as `wagons: 42`: `run`, `feed`.
+- Where: on standard error, as `wagons: 42`: `run`, `feed`; of the names of
+  places `plan` and `map`.
 - Cause: a network larger than the office is made for, or misspelled places.
 - Remedy: leave out places at which wagons only pass, and give one line the
   kilometres and minutes of the two that met there.
@@ -57,8 +63,9 @@ pub(crate) const BAD_NETWORK_COUNT: &str = "## 47 BadNetworkCount
 
 There is no network, or there are over 8.
 
-- Where: on standard error, as `wagons: 47`: `run`, `feed`, for over 8; no file
-  was read. Without any network the program says which argument is missing.
+- Where: on standard error, as `wagons: 47`: `run`, `feed`, for over 8; no
+  network was read. Without any network the program says which argument is
+  missing.
 - Cause: `--network` was given over 8 times.
 - Remedy: give the networks that the day needs.
 ";

@@ -2,7 +2,7 @@
 
 pub(crate) const TOO_MANY_INPUT_LINES: &str = "## 91 TooManyLines
 
-The input has over 1,000,000 lines. The number behind it is that of the first
+The input has over 1,000,000 lines. The number after it is that of the first
 line too many.
 
 - Where: on standard error, as `wagons: 91 1000001`: `check`, `solve`, `run`; in
@@ -15,7 +15,7 @@ line too many.
 pub(crate) const LINE_TOO_LONG: &str = "## 92 LineTooLong
 
 A line has over 65,536 bytes, or more than `--line-bytes` says. The number
-behind it is the line's.
+after it is the line's.
 
 - Where: on standard error, as `wagons: 92 17`: `check`, `solve`, `run`; in
   `feed` as `file K failed 92`, which names no line:
@@ -65,7 +65,7 @@ back.
 
 pub(crate) const RECEIPT_LOST: &str = "## 96 ReceiptLost
 
-An entry of the book isn't what its sender's receipt says. The numbers behind it
+An entry of the book isn't what its sender's receipt says. The numbers after it
 are the seat's and the entry's.
 
 - Where: on standard error, as `wagons: 96 2 17`: `feed`. Also in the library
