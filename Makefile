@@ -110,6 +110,7 @@ install: $(WAGONS)
 	install -D -m 644 docs/wagons.1 $(SHARE)/man/man1/wagons.1
 	install -D -m 644 -t $(SHARE)/doc/wagons README.md CHANGELOG.md
 	install -D -m 644 -t $(SHARE)/doc/wagons/docs docs/*.md docs/day.svg docs/fleet.svg docs/page.png
+	install -D -m 644 -t $(SHARE)/doc/wagons/bench bench/README.md bench/LOG.md
 	install -D -m 644 -t $(SHARE)/doc/wagons/examples examples/README.md examples/*.jsonl examples/*.py
 	install -D -m 644 -t $(SHARE)/doc/wagons/examples/day examples/day/*
 	install -D -m 644 -t $(SHARE)/doc/wagons/examples/faults examples/faults/*

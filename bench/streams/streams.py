@@ -2,7 +2,8 @@
 """Times offices behind Redis Streams: streams.py [PART ..] [--lines N] [--turns N].
 
 The parts are `rate` (lines a second from XADD to the reply, for 1, 2, 4 and 8 offices, beside plain consumers that only
-read and answer), `standby` (the same with a second service for each office), `router`, `takeover` and `start`. The server,
+read and answer), `servers` (both with a server for each office, as a cluster has them), `standby` (with a second service
+for each office), `router`, `takeover` and `start`. The server,
 the offices and the senders run on this machine. Each is tried in turns with the others, and the best rate counts.
 WAGONS=FILE times another build, and ROOM=FOLDER says where the server's folder is made.
 """
@@ -19,7 +20,7 @@ import sys
 import tempfile
 import time
 from collections.abc import Iterator
-from contextlib import contextmanager
+from contextlib import ExitStack, contextmanager
 from dataclasses import dataclass
 from multiprocessing.synchronize import Barrier
 from pathlib import Path
@@ -34,6 +35,8 @@ from wagons_service.redis_link import EXEC, MULTI, pack  # noqa: E402
 # So many lines are appended at once, and so many are on their way.
 BATCH = 500
 WINDOW = 4000
+# A look at how many are answered takes time from what is timed.
+SECONDS_BETWEEN_LOOKS = 0.004
 LEASE = 1000
 
 
@@ -48,8 +51,8 @@ def client(port: int) -> "redis.Redis[bytes]":
 
 
 @contextmanager
-def server(room: str, fsync: str = "always") -> Iterator[int]:
-    folder, port = Path(room) / "redis", free_port()
+def server(room: str, fsync: str = "always", name: str = "redis") -> Iterator[int]:
+    folder, port = Path(room) / name, free_port()
     folder.mkdir()
     words = ["redis-server", "--port", str(port), "--bind", "127.0.0.1", "--dir", str(folder), "--appendonly", "yes", "--appendfsync", fsync, "--save", ""]
     child = subprocess.Popen(words, stdout=subprocess.DEVNULL)
@@ -74,8 +77,8 @@ def office(program: str, room: str, port: int, name: str, *more: str) -> "subpro
         return subprocess.Popen(command, stderr=log, env=os.environ | {"TMPDIR": room})
 
 
-def until_held(port: int, names: list[str]) -> None:
-    while not all(client(port).get(f"{{{name}}}:lease") for name in names):
+def until_held(port: int, name: str) -> None:
+    while not client(port).get(f"{{{name}}}:lease"):
         time.sleep(0.02)
 
 
@@ -106,22 +109,27 @@ def send(port: int, name: str, lines: list[bytes], barrier: Barrier, times: "mul
     key, replies = f"{{{name}}}:lines".encode(), f"{{{name}}}:replies".encode()
     # In a transaction, so that the server syncs once for all of them.
     packed = [b"".join([MULTI, *(pack(b"XADD", key, b"*", b"line", line) for line in lines[at:at + BATCH]), EXEC]) for at in range(0, len(lines), BATCH)]
-    there = client(port)
+    ask = pack(b"XLEN", replies)
+
+    def count() -> int:
+        time.sleep(SECONDS_BETWEEN_LOOKS)
+        link.sendall(ask)
+        return int(link.recv(64)[1:-2])
+
     barrier.wait()
     start = time.monotonic()
     sent = answered = 0
     for part in packed:
         while sent - answered >= WINDOW:
-            time.sleep(0.001)
-            answered = there.xlen(replies)
+            answered = count()
         link.sendall(part)
         wanted = min(BATCH, len(lines) - sent)
         got = 0
         while got < wanted:
             got += link.recv(1 << 16).count(b"$")
         sent += wanted
-    while there.xlen(replies) < len(lines):
-        time.sleep(0.001)
+    while count() < len(lines):
+        pass
     times.put((start, time.monotonic()))
 
 
@@ -131,21 +139,24 @@ class Tried:
     kind: str
 
     def rate(self, program: str, room: str, lines: list[bytes]) -> float:
-        names = [f"office-{k}" for k in range(self.offices)]
-        with server(room) as port:
+        with ExitStack() as servers:
+            count = self.offices if self.kind.endswith("servers") else 1
+            ports = [servers.enter_context(server(room, name=f"redis-{k}")) for k in range(count)]
+            offices = [(ports[k % count], f"office-{k}") for k in range(self.offices)]
             children: "list[subprocess.Popen[bytes]]" = []
             consumers = []
-            if self.kind == "plain":
-                consumers = [multiprocessing.Process(target=consume, args=(port, name), daemon=True) for name in names]
+            if self.kind.startswith("plain"):
+                consumers = [multiprocessing.Process(target=consume, args=one, daemon=True) for one in offices]
                 for consumer in consumers:
                     consumer.start()
             else:
                 for _ in range(2 if self.kind == "standby" else 1):
-                    children += [office(program, room, port, name, "--journal-lines", "1000000") for name in names]
-                    until_held(port, names)
+                    children += [office(program, room, port, name, "--journal-lines", "1000000") for port, name in offices]
+                    for port, name in offices:
+                        until_held(port, name)
                 time.sleep(1)
             try:
-                return measured(port, names, lines)
+                return measured(offices, lines)
             finally:
                 end(children)
                 for consumer in consumers:
@@ -153,16 +164,17 @@ class Tried:
                     consumer.join()
 
 
-def measured(port: int, names: list[str], lines: list[bytes]) -> float:
-    barrier = multiprocessing.Barrier(len(names))
+def measured(offices: list[tuple[int, str]], lines: list[bytes]) -> float:
+    """Lines a second over these offices, each with the port of its server and its name."""
+    barrier = multiprocessing.Barrier(len(offices))
     times: "multiprocessing.Queue[tuple[float, float]]" = multiprocessing.Queue()
-    senders = [multiprocessing.Process(target=send, args=(port, name, lines, barrier, times)) for name in names]
+    senders = [multiprocessing.Process(target=send, args=(port, name, lines, barrier, times)) for port, name in offices]
     for sender in senders:
         sender.start()
     found = [times.get(timeout=900) for _ in senders]
     for sender in senders:
         sender.join()
-    return len(lines) * len(names) / (max(last for _, last in found) - min(first for first, _ in found))
+    return len(lines) * len(offices) / (max(last for _, last in found) - min(first for first, _ in found))
 
 
 def told(tried: Tried, rate: float) -> float:
@@ -194,7 +206,7 @@ def takeover(program: str, room: str, lines: list[bytes], turns: int) -> None:
     for _ in range(turns):
         with server(room) as port:
             first = office(program, room, port, "north")
-            until_held(port, ["north"])
+            until_held(port, "north")
             second = office(program, room, port, "north")
             time.sleep(2)
             there, replies = client(port), "{north}:replies"
@@ -225,7 +237,7 @@ def router(room: str, lines: list[bytes], turns: int) -> None:
             child = subprocess.Popen(command, stderr=log)
             while not there.execute_command("FUNCTION", "LIST"):
                 time.sleep(0.02)
-            found.append(measured(port, ["fleet"], lines))
+            found.append(measured([(port, "fleet")], lines))
             assert sum(there.xlen(f"{{{name}}}:lines") for name in names) == len(lines)
             end([child])
     print(f"the router, from an inbox to eight streams: median {statistics.median(found):,.0f} lines a second", flush=True)
@@ -236,8 +248,8 @@ def starts(program: str, room: str, lines: list[bytes], turns: int) -> None:
     for journal_lines, name in (1_000_000, "no checkpoint"), (100_000, "checkpoints of each 100,000 lines"):
         with server(room, "everysec") as port:
             child = office(program, room, port, "north", "--journal-lines", str(journal_lines))
-            until_held(port, ["north"])
-            rate = measured(port, ["north"], lines) if journal_lines == 1_000_000 else fill(port, lines)
+            until_held(port, "north")
+            rate = measured([(port, "north")], lines) if journal_lines == 1_000_000 else fill(port, lines)
             found = []
             for _ in range(turns):
                 # It leaves the lease behind when it ends by itself.
@@ -245,7 +257,7 @@ def starts(program: str, room: str, lines: list[bytes], turns: int) -> None:
                 child.wait()
                 start = time.monotonic()
                 child = office(program, room, port, "north")
-                until_held(port, ["north"])
+                until_held(port, "north")
                 found.append(time.monotonic() - start)
             memory = int(client(port).info("memory")["used_memory"])
             size = int(client(port).info("persistence")["aof_current_size"])
@@ -272,7 +284,7 @@ def fill(port: int, lines: list[bytes]) -> float:
 
 def main() -> None:
     parser = argparse.ArgumentParser(description=__doc__, formatter_class=argparse.RawDescriptionHelpFormatter)
-    parser.add_argument("parts", nargs="*", default=["rate", "standby", "router", "takeover", "start"])
+    parser.add_argument("parts", nargs="*", default=["rate", "servers", "standby", "router", "takeover", "start"])
     parser.add_argument("--offices", type=int, nargs="+", default=[1, 2, 4, 8])
     parser.add_argument("--lines", type=int, default=200_000)
     parser.add_argument("--turns", type=int, default=3)
@@ -286,6 +298,8 @@ def main() -> None:
         print(f"load {os.getloadavg()[0]:.1f} at the start, {os.cpu_count()} processors", flush=True)
         if "rate" in given.parts:
             rates(program, room, lines[:given.lines], given.turns, given.offices, ["office", "plain"])
+        if "servers" in given.parts:
+            rates(program, room, lines[:given.lines], given.turns, given.offices, ["office, servers", "plain, servers"])
         if "standby" in given.parts:
             rates(program, room, lines[:given.lines], given.turns, given.offices, ["standby"])
         if "router" in given.parts:

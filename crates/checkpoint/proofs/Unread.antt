@@ -19,9 +19,9 @@ use Rattle.checkpoint_lines.specs.declared.line.CheckpointLine.TheVariants.{Head
 use Rattle.checkpoint.specs.OfficeOf.{closed, office_of_lines, office_of_taken, with_lines}
 use Rattle.checkpoint.specs.Parts.{PartsValue, no_parts}
 use Rattle.checkpoint.specs.Reads.{IsUnread}
-use Rattle.checkpoint.specs.Taking.{Taken, is_above_last, stands_before, take_end, take_head, take_line, take_next, take_order, take_read, take_said, take_wagon, with_order}
+use Rattle.checkpoint.specs.Taking.{Taken, is_above_last, stands_before, take_end, take_line, take_next, take_order, take_read, take_said, take_wagon, with_order}
 use Rattle.checkpoint.specs.declared.read_fault.ReadFault.{ReadFault}
-use Rattle.checkpoint.specs.declared.read_fault.ReadFault.TheVariants.{Line, Run, Unread}
+use Rattle.checkpoint.specs.declared.read_fault.ReadFault.TheVariants.{Line, Unread}
 use Rattle.checkpoint.proofs.Sound.{fault_stays}
 
 -- ---- what a line says is never refused as a line that can't be read
