@@ -139,29 +139,24 @@ class Tried:
     kind: str
 
     def rate(self, program: str, room: str, lines: list[bytes]) -> float:
-        with ExitStack() as servers:
+        with ExitStack() as running:
             count = self.offices if self.kind.endswith("servers") else 1
-            ports = [servers.enter_context(server(room, name=f"redis-{k}")) for k in range(count)]
+            ports = [running.enter_context(server(room, name=f"redis-{k}")) for k in range(count)]
             offices = [(ports[k % count], f"office-{k}") for k in range(self.offices)]
-            children: "list[subprocess.Popen[bytes]]" = []
-            consumers = []
             if self.kind.startswith("plain"):
-                consumers = [multiprocessing.Process(target=consume, args=one, daemon=True) for one in offices]
-                for consumer in consumers:
+                for one in offices:
+                    consumer = multiprocessing.Process(target=consume, args=one, daemon=True)
                     consumer.start()
+                    running.callback(consumer.join)
+                    running.callback(consumer.kill)
             else:
                 for _ in range(2 if self.kind == "standby" else 1):
-                    children += [office(program, room, port, name, "--journal-lines", "1000000") for port, name in offices]
+                    running.callback(end, [office(program, room, port, name, "--journal-lines", "1000000") for port, name in offices])
                     for port, name in offices:
                         until_held(port, name)
                 time.sleep(1)
-            try:
-                return measured(offices, lines)
-            finally:
-                end(children)
-                for consumer in consumers:
-                    consumer.kill()
-                    consumer.join()
+            rate = measured(offices, lines)
+        return rate
 
 
 def measured(offices: list[tuple[int, str]], lines: list[bytes]) -> float:
