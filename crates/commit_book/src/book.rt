@@ -147,11 +147,11 @@ impl Book {
     /// Takes a movement message in. One that is an entry already is answered with `Repeated`. Refused, with nothing
     /// changed: `IdReused` (71), another message has its id; `BookFull` (72); `UnknownWagon` (73); as the status table
     /// says (31 to 33); `OutOfMemory` (1).
-    pub fn message(&mut self, _alloc: Global, message: &Message) -> Result<Reply, Refusal>
+    pub fn message(&mut self, alloc: Global, message: &Message) -> Result<Reply, Refusal>
         ensures call { IsCall self.old.setting self.old.state (call.Event (event.Message message.now)) (answer_of result) self.new.state }
         ensures setting { self.new.setting ≡ self.old.setting }
     {
-        self.enter_message(message)
+        self.submit(alloc, Event::Message(*message))
     }
 
     /// Places an order. Refused, with nothing changed: `BookFull` (72); `OrderKnown` (74); `TooManyOpen` (75);
