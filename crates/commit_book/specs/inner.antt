@@ -4,3 +4,4 @@ pub mod Entered
 pub mod Indexed
 pub mod Kept
 pub mod Ledger
+pub mod KeptEvent

@@ -18,6 +18,7 @@ ghost use Rattle.commit_book.specs.declared.answer.Answer.TheVariants.{Refused};
 ghost use Rattle.commit_book.specs.declared.call.Call.TheVariants as call;
 
 use crate::commits::judge;
+use crate::entry::Entry;
 use crate::kept_problems::{KeptProblem, find_covering, find_kept, index_of_kept, keep};
 use crate::ledger::{Ledger, MessageEntry};
 use crate::made_problem::MadeProblem;
@@ -25,7 +26,7 @@ use crate::{Limits, Refusal, Reply, Snap};
 use cost_table::{Cells, Problem};
 use fleet_rows::Roster;
 use line_network::{Networks, Tables};
-use move_messages::{CommitText, Event, Message, OrderText, is_same_message};
+use move_messages::{CommitText, Event, Message, OrderText};
 use operating_db::OfficeState;
 use rail_codes::{Moment, OrderId};
 use std::alloc::{AllocError, Global};
@@ -100,7 +101,7 @@ impl Book {
     }
 
     /// The entry of a number, counted from 1. Takes no memory.
-    pub fn entry(&self, n: u64) -> Option<&Event>
+    pub fn entry(&self, n: u64) -> Option<&Entry>
         ensures { option_map (λ event. event.now) result ≡ entry_at self.now.state.history n }
     {
         let index = n.checked_sub(1)?;
@@ -135,7 +136,7 @@ impl Book {
         ensures setting { self.new.setting ≡ self.old.setting }
     {
         match event {
-            Event::Message(message) => self.enter_message(alloc, &message),
+            Event::Message(message) => self.enter_message(&message),
             Event::Place(text) => self.enter(alloc, Event::Place(text)),
             Event::Withdraw(id) => self.enter(alloc, Event::Withdraw(id)),
             Event::Commit(commit) => self.enter_commit(alloc, commit),
@@ -333,7 +334,7 @@ impl Book {
         // For the prover alone: the number of an entry fits.
         let _most = self.len();
         match self.ledger.get(index) {
-            Some(Event::Message(other)) if is_same_message(other, message) => {
+            Some(entry) if entry.is_event(&Event::Message(*message)) => {
                 Ok(Reply::Repeated(index as u64 + 1))
             }
             _ => Err(Refusal::IdReused),
@@ -341,14 +342,14 @@ impl Book {
     }
 
     /// Takes a movement message in.
-    fn enter_message(&mut self, alloc: Global, message: &Message) -> Result<Reply, Refusal>
+    fn enter_message(&mut self, message: &Message) -> Result<Reply, Refusal>
         ensures call { IsCall self.old.setting self.old.state (call.Event (event.Message message.now)) (answer_of result) self.new.state }
         ensures setting { self.new.setting ≡ self.old.setting }
     {
         if self.is_full() {
             return self.answer_full(message);
         }
-        match self.ledger.enter_message(alloc, message)? {
+        match self.ledger.enter_message(message)? {
             MessageEntry::Entered => Ok(Reply::Accepted(self.len())),
             MessageEntry::Known(index) => self.answer_known(message, index),
         }

@@ -4,13 +4,14 @@ ghost use Rattle.operating_db.specs.After.{after_call};
 ghost use Rattle.operating_db.specs.ApplyFault.{IsRefusal};
 ghost use Rattle.operating_db.specs.Steps.{IsPromised};
 ghost use Rattle.commit_book.specs.History.{IsFresh};
-ghost use Rattle.commit_book.specs.inner.Ledger.{IsAdmitted, IsIndexOf, IsMessageAt, IsMessageEntry, IsNoMessage, IsNoted, compare_ids, message_after, office_of, state_of};
+ghost use Rattle.commit_book.specs.inner.Ledger.{IsAdmitted, IsIndexOf, IsMessageAt, IsMessageEntry, IsNoMessage, IsNoted, OnNoted, compare_ids, message_after, office_of, state_of};
 ghost use Rattle.std.specs.BTreeMap.{get};
 ghost use Rattle.std.specs.Ordering.{is_eq};
 ghost use Rattle.rail_codes.specs.declared.message_id.MessageId.{MessageId};
 
+use crate::entry::{Entry, boxed};
 use move_messages::{Event, Message};
-use operating_db::{ApplyFault, OfficeState};
+use operating_db::{ApplyFault, MessageChange, OfficeState};
 use rail_codes::MessageId;
 use std::alloc::{AllocError, Global};
 use std::collections::BTreeMap;
@@ -25,12 +26,21 @@ pub(crate) enum MessageEntry {
     Known(usize),
 }
 
+/// What came of a message that was to be noted.
+#[derive(Clone, Copy, Debug)]
+enum Admission {
+    /// It is noted behind the events, and this is what it changes.
+    Noted(MessageChange),
+    /// The event at this index is a message of its id.
+    Known(usize),
+}
+
 /// The accepted events in their order, and the office after them. A contract sees the office that it began with, how many
 /// networks there are, and the list of the events.
 #[derive(Debug, Drop)]
 pub(crate) struct Ledger {
     first: OfficeState,
-    events: Vec<Event>,
+    events: Vec<Entry>,
     // The index of each message among the events, by its id. Senders choose the ids, so the map is an ordered one: a
     // look-up in it is short for all ids.
     ids: BTreeMap<MessageId, usize>,
@@ -77,7 +87,7 @@ impl Ledger {
     }
 
     /// The event at an index.
-    pub fn get(&self, index: usize) -> Option<&Event>
+    pub fn get(&self, index: usize) -> Option<&Entry>
         ensures { option_map (λ event. event.now) result ≡ slice_get self.now.events index }
     {
         self.events.get(index)
@@ -100,24 +110,19 @@ impl Ledger {
 
     /// Lets a message happen, as the last event, unless an event has its id. Refused as the office refuses it, or
     /// because memory is out where nothing else is wrong; nothing has changed then.
-    pub fn enter_message(
-        &mut self,
-        alloc: Global,
-        message: &Message,
-    ) -> Result<MessageEntry, ApplyFault>
+    pub fn enter_message(&mut self, message: &Message) -> Result<MessageEntry, ApplyFault>
         ensures { IsMessageEntry self.old message.now result self.new }
     {
-        match admit(&self.state, &mut self.ids, &mut self.events, message) {
-            Ok(None) => {}
-            Ok(Some(index)) => return Ok(MessageEntry::Known(index)),
+        let found = match admit(&self.state, &mut self.ids, &mut self.events, message) {
+            Ok(Admission::Noted(found)) => found,
+            Ok(Admission::Known(index)) => return Ok(MessageEntry::Known(index)),
             Err(fault) => return Err(fault),
-        }
-        let event = Event::Message(*message);
-        if let Err(fault) = self.state.apply(alloc, &event) {
+        };
+        if let Err(_) = self.state.accept_change(message, &found) {
             self.ids.remove(&message.id);
-            return Err(fault);
+            return Err(ApplyFault::OutOfMemory);
         }
-        self.events.push_reserved(event);
+        self.events.push_reserved(Entry::of_message(message));
         Ok(MessageEntry::Entered)
     }
 
@@ -132,8 +137,9 @@ impl Ledger {
         ensures unchanged { OnErr result (self.new ≡ self.old) }
     {
         make_room(&self.state, &mut self.events, &event)?;
-        self.state.apply(alloc, &event)?;
-        self.events.push_reserved(event);
+        let kept = boxed(alloc, event)?;
+        self.state.apply(alloc, &kept)?;
+        self.events.push_reserved(Entry::of_event(kept));
         Ok(())
     }
 
@@ -152,8 +158,9 @@ impl Ledger {
 
 /// Makes room behind the events for one that is possible. One that isn't is refused as the office refuses it, and no
 /// memory is asked for then: the list stays as it was.
-fn make_room(state: &OfficeState, events: &mut Vec<Event>, event: &Event) -> Result<(), ApplyFault>
+fn make_room(state: &OfficeState, events: &mut Vec<Entry>, event: &Event) -> Result<(), ApplyFault>
     requires { IsPromised state.now.office event.now }
+    ensures possible { OnOk result (IsOk (after_call state.now.networks state.now.office event.now)) }
     ensures refused { IfErr result (λ fault. IsRefusal (after_call state.now.networks state.now.office event.now) fault) }
     ensures events { events.new.items ≡ events.old.items }
     ensures room { OnOk result (vec_len events.new < vec_capacity events.new) }
@@ -172,23 +179,27 @@ fn make_room(state: &OfficeState, events: &mut Vec<Event>, event: &Event) -> Res
 fn admit(
     state: &OfficeState,
     ids: &mut BTreeMap<MessageId, usize>,
-    events: &mut Vec<Event>,
+    events: &mut Vec<Entry>,
     message: &Message,
-) -> Result<Option<usize>, ApplyFault>
+) -> Result<Admission, ApplyFault>
     requires { IsIndexOf events.old.items (get compare_ids ids.old) }
-    ensures admitted { IsAdmitted events.old.items message.now.id (message_after state.now message.now) result (get compare_ids ids.new) }
+    ensures admitted { IsAdmitted state.now events.old.items message.now result (get compare_ids ids.new) }
     ensures events { events.new.items ≡ events.old.items }
-    ensures room { IfOk result (λ known. IfNone known (vec_len events.new < vec_capacity events.new)) }
+    ensures room { IfOk result (OnNoted (vec_len events.new < vec_capacity events.new)) }
     ensures unasked { OnErr (message_after state.now message.now) ((ids.new ≡ ids.old) × (events.new ≡ events.old)) }
 {
-    if let Err(fault) = state.possible(&Event::Message(*message)) {
-        if let Some(known) = index_of(ids, message.id) {
-            return Ok(Some(known));
+    let found = match state.change_by(message) {
+        Ok(found) => found,
+        Err(fault) => {
+            return match index_of(ids, message.id) {
+                Some(known) => Ok(Admission::Known(known)),
+                None => Err(fault),
+            };
         }
-        return Err(fault);
-    }
+    };
     match note(ids, events, message.id) {
-        Ok(known) => Ok(known),
+        Ok(None) => Ok(Admission::Noted(found)),
+        Ok(Some(known)) => Ok(Admission::Known(known)),
         Err(_) => Err(ApplyFault::OutOfMemory),
     }
 }
@@ -205,7 +216,7 @@ fn index_of(ids: &BTreeMap<MessageId, usize>, id: MessageId) -> Option<usize>
 /// noted. In the common case, a new id, the map is searched once.
 fn note(
     ids: &mut BTreeMap<MessageId, usize>,
-    events: &mut Vec<Event>,
+    events: &mut Vec<Entry>,
     id: MessageId,
 ) -> Result<Option<usize>, AllocError>
     requires { IsIndexOf events.old.items (get compare_ids ids.old) }

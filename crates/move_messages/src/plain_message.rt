@@ -37,7 +37,7 @@ pub(crate) fn plain_message(line: &[u8]) -> Option<Message>
 fn plain_fields(line: &[u8]) -> Option<PlainMessage<'_>>
     ensures { IfSome result (λ fields. object_of line.now ≡ Ok (plain_object fields)) }
 {
-    let Ok(text) = std::str::from_utf8(line) else {
+    let Ok(text) = simdutf8::basic::from_utf8(line) else {
         return None;
     };
     let (type_name, rest) = quoted_after(text, "{\"type\":")?;

@@ -13,7 +13,8 @@ use Rattle.fleet_rows.specs.Kept.{IsWagonRows}
 use Rattle.fleet_rows.proofs.Wagons.{number-wagon_in, wagon_in-at_wagon}
 use Rattle.fleet_rows.specs.EmptyWagons.{IsNewStand, stand_in, stand_of}
 use Rattle.fleet_rows.specs.Rows.{wagon_in, order_in, at_wagon, at_order, max_open_wagons, open_wagons, promised_to, taken_back, with_promise}
-use Rattle.operating_db.specs.inner.EventParts.{IsChange, IsNext, unpromised_among}
+use Rattle.operating_db.specs.inner.EventParts.{IsNext, unpromised_among}
+use Rattle.operating_db.specs.MessageChange.{IsChange}
 use Rattle.faults.specs.declared.faults.ApplyFault.{ApplyFault}
 use Rattle.faults.specs.declared.faults.ApplyFault.TheVariants.{OrderClosed, OrderKnown, TooManyOpen}
 use Rattle.operating_db.specs.After.{after_order, message_to, moved, order_place, orders_after, unpromised, withdrawn_from}

@@ -4,6 +4,7 @@ pub mod Commits
 pub mod Compact
 pub mod CompactLaws
 pub mod Laws
+pub mod MessageChange
 pub mod Office
 pub mod Problem
 pub mod FirstOffice

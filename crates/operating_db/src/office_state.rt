@@ -5,7 +5,8 @@ ghost use Rattle.fleet_rows.specs.Kept.{IsWagonRows};
 ghost use Rattle.fleet_rows.specs.KeptOrders.{IsOrderRows};
 ghost use Rattle.fleet_rows.specs.Rows.{order_in, wagon_in};
 ghost use Rattle.operating_db.specs.After.{after_call, after_message, after_order, after_revision, order_place, withdrawn_from};
-ghost use Rattle.operating_db.specs.inner.EventParts.{EmptiesItsWagon, IsChange, IsNext, IsRowAt, is_promisable};
+ghost use Rattle.operating_db.specs.inner.EventParts.{EmptiesItsWagon, IsNext, is_promisable};
+ghost use Rattle.operating_db.specs.MessageChange.{IsChangeOf};
 ghost use Rattle.operating_db.specs.ApplyFault.{IsRefusal, IsRefusalOf, MayRunOutOfMemory};
 ghost use Rattle.operating_db.specs.Commits.{CanPromise, is_free_row, lack_in, promise_all, promise_pair};
 ghost use Rattle.operating_db.specs.RosterOffice.{first_office};
@@ -15,11 +16,12 @@ ghost use Rattle.operating_db.specs.Promises.{PromisesAgree};
 ghost use Rattle.line_network.specs.NetworkCount.{max_networks};
 ghost use Rattle.operating_db.specs.FirstOffice.{IsFirstOffice};
 ghost use Rattle.operating_db.specs.State.{IsState, state_of};
-ghost use Rattle.move_messages.specs.MaxLoad.{max_load};
+ghost use Rattle.move_messages.specs.declared.event.Event.TheVariants as event;
 ghost use Rattle.operating_db.specs.Steps.{IsPromised};
 
 use crate::ApplyFault;
 use crate::lists::{free_wagons, waiting_orders};
+use crate::message_change::MessageChange;
 use crate::pair_counts::{times_of_order, times_of_wagon};
 use crate::promises::{end_promises, settle};
 use cost_table::Problem;
@@ -28,7 +30,7 @@ use move_messages::{Event, Message, OrderText};
 use rail_codes::{ClassCode, Moment, OrderId, Place, WagonNumber};
 use std::alloc::{AllocError, Global};
 use std::marker::Model;
-use wagons_and_orders::{Change, OrderRow, WagonRow, free, step};
+use wagons_and_orders::{OrderRow, WagonRow, free, step};
 
 /// The rows of the wagons and of the orders, and the network in force. A wagon is promised to an order exactly where
 /// the order has it among its promised wagons; no two orders have one name; and each order has every promised wagon
@@ -288,12 +290,12 @@ impl OfficeState {
         }
     }
 
-    /// The index of the row of a message's wagon, what the message changes, and the order that the wagon is promised to.
-    fn change_by(&self, message: &Message) -> Result<(usize, Change, Option<OrderId>), ApplyFault>
-        ensures change { IfOk result (λ found. IsChange self.now.office message.now found.1 found.2) }
-        ensures index { IfOk result (λ found. IsRowAt self.now.office.wagons found.0 found.1.row.number) }
-        ensures few_kg { IfOk result (λ found. found.1.row.load_limit ≤ max_load) }
-        ensures refused { IfErr result (λ fault. after_message self.now.office message.now ≡ Err fault) }
+    /// What a message changes, which `accept_change` lets happen; refused as by `possible`. Takes no memory.
+    #[tactic(auto, unfolding(crate::specs::After::after_call))]
+    pub fn change_by(&self, message: &Message) -> Result<MessageChange, ApplyFault>
+        ensures change { IfOk result (IsChangeOf self.now.office message.now) }
+        ensures possible { OnOk result (IsOk (after_call self.now.networks self.now.office (event.Message message.now))) }
+        ensures refused { IfErr result (λ fault. after_call self.now.networks self.now.office (event.Message message.now) ≡ Err fault) }
         ensures memory { IfErr result (λ fault. ¬ (fault ≡ ApplyFault.OutOfMemory)) }
     {
         // For the prover alone: no wagon carries over 200,000 kg.
@@ -302,7 +304,11 @@ impl OfficeState {
             return Err(ApplyFault::UnknownWagon);
         };
         match step(row, message, self.order_place(row.promise)) {
-            Ok(change) => Ok((index, change, row.promise)),
+            Ok(change) => Ok(MessageChange {
+                index,
+                change,
+                promise: row.promise,
+            }),
             Err(fault) => Err(ApplyFault::Step(fault)),
         }
     }
@@ -316,6 +322,7 @@ impl OfficeState {
     }
 
     /// Takes a message in.
+    #[tactic(auto, unfolding(crate::specs::After::after_call))]
     fn accept(&mut self, message: &Message) -> Result<(), ApplyFault>
         ensures done { OnOk result (after_message self.old.office message.now ≡ Ok self.new.office) }
         ensures refused { IfErr result (λ fault. IsRefusal (after_message self.old.office message.now) fault) }
@@ -323,17 +330,37 @@ impl OfficeState {
         ensures unchanged { OnErr result (self.new ≡ self.old) }
         ensures networks { self.new.networks ≡ self.old.networks }
     {
-        let number = message.wagon;
-        let (index, change, promise) = match self.change_by(message) {
+        let found = match self.change_by(message) {
             Ok(found) => found,
             Err(fault) => return Err(fault),
         };
-        match self.wagons.put(index, change.row) {
+        match self.accept_change(message, &found) {
+            Ok(()) => Ok(()),
+            Err(_) => Err(ApplyFault::OutOfMemory),
+        }
+    }
+
+    /// Lets a message happen, by what `change_by` found in this office. `Err` only when out of memory, as `apply` says;
+    /// nothing has changed then.
+    #[tactic(auto, unfolding(crate::specs::After::after_call))]
+    pub fn accept_change(
+        &mut self,
+        message: &Message,
+        found: &MessageChange,
+    ) -> Result<(), AllocError>
+        requires { IsChangeOf self.old.office message.now found.now }
+        ensures done { OnOk result (after_call self.old.networks self.old.office (event.Message message.now) ≡ Ok self.new.office) }
+        ensures memory { OnErr result (MayRunOutOfMemory self.old (event.Message message.now)) }
+        ensures unchanged { OnErr result (self.new ≡ self.old) }
+        ensures networks { self.new.networks ≡ self.old.networks }
+    {
+        match self.wagons.put(found.index, found.change.row) {
             Ok(()) => {
-                settle(&mut self.orders, change.effect, promise, number);
+                let effect = found.change.effect;
+                settle(&mut self.orders, effect, found.promise, message.wagon);
                 Ok(())
             }
-            Err(_) => Err(ApplyFault::OutOfMemory),
+            Err(_) => Err(AllocError),
         }
     }
 

@@ -3,6 +3,7 @@ use Rattle.std.proofs.Common.{◌≡◌, ℕ, zero, suc, ◌+◌, ◌*◌, ◌<�
 use Rattle.std.proofs.lemmas.Bool.Decides.{nat_tests}
 use Rattle.std.specs.Cmp.Lexicographic.{slice_cmp}
 use Rattle.std.specs.Int.{from_be_bytes, w32, w64}
+use Rattle.std.specs.Prelude.{slice_index}
 use Rattle.std.specs.Ordering.{nat_cmp, ordering_then}
 use Rattle.std.specs.Str.{IsAscii}
 use Rattle.std.specs.declared.cmp.Ordering.{Ordering}
@@ -75,6 +76,26 @@ by_four bs cs first rest first' rest' o p q h g e =
     let one = four (take 4 bs) (length-take-le 4 bs (omega arith)) in
     let two = four (take 4 cs) (length-take-le 4 cs (omega arith)) in
     rw (e, p.0, q.0, p.1, q.1, one, two) (moved 4 0 0 bs cs (omega arith) (omega arith) h g)
+
+-- three bytes are read as the number that they spell
+three : (l : List ℕ) → length l ≡ 3 → slice_index l 0 * 65536 + slice_index l 1 * 256 + slice_index l 2 ≡ spelled 0 l
+three [] long = absurd (omega arith)
+three (b0 ∷ []) long = absurd (omega arith)
+three (b0 ∷ b1 ∷ []) long = absurd (omega arith)
+three (b0 ∷ b1 ∷ b2 ∷ []) long =
+    let sums : b0 * 65536 + b1 * 256 + b2 ≡ spelled 0 (b0 ∷ b1 ∷ b2 ∷ []) = omega arith in
+    sums
+three (b0 ∷ b1 ∷ b2 ∷ b ∷ bs) long = absurd (omega arith)
+
+-- the number of three bytes
+abbrev pub three_bytes : List ℕ → ℕ
+three_bytes l = slice_index l 0 * 65536 + slice_index l 1 * 256 + slice_index l 2
+
+pub by_three : (bs cs first rest first' rest' : List ℕ) (o : Ordering) → IsTakenOff 3 bs first rest → IsTakenOff 3 cs first' rest' → IsAscii bs → IsAscii cs → o ≡ nat_cmp (three_bytes first) (three_bytes first') → slice_cmp nat_cmp bs cs ≡ ordering_then o (slice_cmp nat_cmp rest rest')
+by_three bs cs first rest first' rest' o p q h g e =
+    let one = three (take 3 bs) (length-take-le 3 bs (omega arith)) in
+    let two = three (take 3 cs) (length-take-le 3 cs (omega arith)) in
+    rw (e, p.0, q.0, p.1, q.1, one, two) (moved 3 0 0 bs cs (omega arith) (omega arith) h g)
 
 pub by_eight : (bs cs first rest first' rest' : List ℕ) (o : Ordering) → IsTakenOff 8 bs first rest → IsTakenOff 8 cs first' rest' → IsAscii bs → IsAscii cs → o ≡ nat_cmp (from_be_bytes w64 first) (from_be_bytes w64 first') → slice_cmp nat_cmp bs cs ≡ ordering_then o (slice_cmp nat_cmp rest rest')
 by_eight bs cs first rest first' rest' o p q h g e =

@@ -9,7 +9,6 @@ ghost use Rattle.sessions.specs.inner.Others.{IsOther};
 use crate::counted_book::CountedBook;
 use crate::{CloseFault, Receipt, Seat, SharedBook};
 use commit_book::Book;
-use move_messages::is_same_event;
 use std::sync::ledger;
 use std::sync::ledger::{Ledger, Share};
 
@@ -74,7 +73,7 @@ fn has_entry(book: &Book, receipt: &Receipt) -> bool
     ensures { IsTrue result ↔ HasEntry book.now.state.history receipt.now }
 {
     match book.entry(receipt.entry) {
-        Some(event) => is_same_event(event, &receipt.event),
+        Some(entry) => entry.is_event(&receipt.event),
         None => false,
     }
 }

@@ -38,7 +38,7 @@ fn is_entry(alloc: Global, book: &Book, n: u64, line: Line<'_>) -> Result<bool, 
         return Err(Fail::new("no event"));
     };
     let copy = event.copy(alloc)?;
-    Ok(*entry == event && *entry == copy)
+    Ok(entry.is_event(&event) && entry.is_event(&copy))
 }
 
 #[test]

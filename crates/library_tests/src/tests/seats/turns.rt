@@ -89,7 +89,11 @@ fn has_entry(alloc: Global, book: &Book, line: Line<'_>, told: &str) -> Result<b
     let Some(number) = entry_told(told) else {
         return Ok(true);
     };
-    is_of(alloc, book.entry(number).ok_or("no entry")?, line)
+    let entry = book.entry(number).ok_or("no entry")?;
+    match call(alloc, line)? {
+        Call::Event(event) => Ok(entry.is_event(&event)),
+        Call::Begin(_) => Ok(false),
+    }
 }
 
 /// Whether a book has the events of all accepted calls of these turns, and no other entry.

@@ -11,5 +11,5 @@ returns c =
     let written = text-parts m text c.in_ok-type_name.rest.now c.in_ok-company.rest.now c.in_ok-number.rest.now c.in_ok-wagon.rest.now c.in_ok-place.rest.now c.in_ok-moment.rest.now
     c.in_ok-type_name.ensures c.in_ok-company.ensures (c.in_ok-number.ensures ∙ ap (λ n. codes ",\"number\":" ++ (decimal n ++ 44 ∷ c.in_ok-number.rest.now)) fits)
     c.in_ok-wagon.ensures c.in_ok-place.ensures c.in_ok-moment.ensures (c.is_closing_brace.ensures c.if-not-is_closing_brace.false) in
-    let utf8 = c.in-Ok.ensures.cases in
+    let utf8 = c.in-Ok.ensures in
     object_of-plain m c.args.line.now (omega arith) utf8.1 (sym utf8.0 ∙ written)

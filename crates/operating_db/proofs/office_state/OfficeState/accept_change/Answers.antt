@@ -1,0 +1,28 @@
+use Rattle.operating_db.specs.After.{after_call}
+use Rattle.operating_db.specs.Office.{Office}
+use Rattle.operating_db.proofs.States.{change_done, change_settles, change_state, change_wants}
+use Rattle.operating_db.proofs.office_state.OfficeState.accept_change.Goals as goal
+
+pub put-requires-clause-its_index : goal.put-requires-clause-its_index
+put-requires-clause-its_index c = rw (← c.self.view_is) at c.requires.index
+
+pub settle-requires : goal.settle-requires
+settle-requires c =
+    let office : Office = record { wagons = c.self.inside.wagons; orders = c.self.inside.orders; network = c.self.inside.network } in
+    change_settles office c.args.message.now c.args.found.now.change c.args.found.now.promise (rw (← c.self.view_is) at c.requires.change) c.self.invariant.promises
+
+pub invariant_of-self : goal.invariant_of-self
+invariant_of-self c =
+    change_state _ c.args.message.now c.args.found.now.change c.args.found.now.promise c.put.new.self c.settle.new.orders (rw (← c.self.view_is) at c.requires.change) c.in-Ok.ensures.put c.settle.ensures c.self.invariant
+
+pub returns-in-Ok-clause-done : goal.returns-in-Ok-clause-done
+unfolding after_call
+returns-in-Ok-clause-done c =
+    let office : Office = record { wagons = c.self.inside.wagons; orders = c.self.inside.orders; network = c.self.inside.network } in
+    rw (← c.self.view_is) (change_done office c.args.message.now c.args.found.now.change c.args.found.now.promise c.put.new.self c.settle.new.orders (rw (← c.self.view_is) at c.requires.change) c.in-Ok.ensures.put c.settle.ensures)
+
+pub returns-in-Err-clause-memory : goal.returns-in-Err-clause-memory
+unfolding after_call
+returns-in-Err-clause-memory c =
+    let office : Office = record { wagons = c.self.inside.wagons; orders = c.self.inside.orders; network = c.self.inside.network } in
+    rw (← c.self.view_is) (change_wants office c.args.message.now c.args.found.now.change c.args.found.now.promise (rw (← c.self.view_is) at c.requires.change) c.in-Err.ensures.memory)
