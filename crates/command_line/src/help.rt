@@ -34,6 +34,8 @@ pub(crate) enum Arguments {
     OfficeAndPlan,
     /// The options of an office, a moment, and what reasons are asked for.
     OfficeAndReasons,
+    /// The options of an office, and the names of places.
+    OfficeAndNames,
     /// The options of an office, up to which line, and what changes of the fleet.
     OfficeAndFleet,
 }
@@ -189,7 +191,7 @@ pub(crate) const REVIEW: WordHelp = WordHelp {
      with 0, with 1 where there is a note, with 2 where it could not run or stopped.",
     example: "Example:\n  \
      wagons review --roster roster.csv --network network.csv < day.jsonl",
-    arguments: Arguments::Office,
+    arguments: Arguments::OfficeAndNames,
 };
 
 /// The help of `save`.
@@ -231,7 +233,7 @@ pub(crate) const FILES_LONG: &str =
      opened stops the program before it begins; one that fails while it is\n\
      read doesn't stop the others";
 
-/// What the options of `plan` are.
+/// What the options of `plan` are; `map`, `why` and `review` have the first too.
 pub(crate) const PLACES: &str = "The names of places, a CSV file";
 
 pub(crate) const PLACES_LONG: &str =

@@ -6,7 +6,7 @@ use std::alloc::{AllocError, Global};
 
 /// Behind a file's name that is given to a word that reads standard input.
 const FROM_INPUT: &str =
-    "hint: a word reads its lines from standard input: give a file behind `<`, as in\n\
+    "hint: a word reads its lines from standard input; read a file with `<`, as in\n\
      `wagons check < tables.jsonl`";
 
 /// Each option that is a number, as faults name it, and what it must be.

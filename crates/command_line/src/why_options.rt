@@ -2,6 +2,7 @@
 
 use crate::help;
 use crate::office_options::ProblemOptions;
+use crate::plan_options::places_option;
 use crate::values::{code_from, flag_option, value_option};
 use clap::{Arg, ArgGroup, ArgMatches, Command, Error};
 use rail_codes::{OrderId, WagonNumber};
@@ -26,6 +27,8 @@ pub enum Asked {
 pub struct WhyOptions<'a> {
     /// The office and the moment of the problem.
     pub problem: ProblemOptions<'a>,
+    /// The file of the places' names.
+    pub places: Option<&'a str>,
     /// What is asked about.
     pub asked: Asked,
     /// Whether JSON lines are printed.
@@ -38,6 +41,7 @@ impl<'a> WhyOptions<'a> {
         Ok(WhyOptions {
             asked: asked_of(alloc, matches)?,
             problem: ProblemOptions::read(alloc, WHY, matches)?,
+            places: matches.get_str("places"),
             json: matches.get_flag("json"),
         })
     }
@@ -55,12 +59,13 @@ fn asked_of(alloc: Global, matches: &ArgMatches<'_>) -> Result<Asked, Error> {
     }
 }
 
-/// A word that may ask about one order or one wagon, and print JSON lines.
+/// A word that may name places, ask about one order or one wagon, and print JSON lines.
 pub(crate) fn with_why_options<'a>(
     alloc: Global,
     word: Command<'a>,
 ) -> Result<Command<'a>, AllocError> {
     let word = word.args(vec![in alloc;
+        places_option(alloc),
         order_option(alloc),
         wagon_option(alloc),
         json_option(alloc),

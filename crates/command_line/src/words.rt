@@ -10,6 +10,7 @@ use crate::office_options::{
     with_problem_options, with_save_options,
 };
 use crate::plan_options::{PlanOptions, with_plan_options};
+use crate::review_options::{ReviewOptions, with_names};
 use crate::why_options::{WhyOptions, with_why_options};
 use clap::error::ErrorKind;
 use clap::{Arg, ArgMatches, Command, Error};
@@ -54,7 +55,7 @@ pub enum Word<'a> {
     /// Bring the command lines of standard input to an office, plan it, and say why the plan is as it is.
     Why(WhyOptions<'a>),
     /// Bring the command lines of standard input to an office, and note what passes in silence.
-    Review(OfficeOptions<'a>),
+    Review(ReviewOptions<'a>),
     /// Bring the command lines of standard input to an office, and save it.
     Save(SaveOptions<'a>),
     /// Print entries of the manual of refusals, or the whole manual.
@@ -79,7 +80,7 @@ fn read_word<'a>(alloc: Global, name: &str, options: &ArgMatches<'a>) -> Result<
         "plan" => Ok(Word::Plan(PlanOptions::read(alloc, options)?)),
         "table" => Ok(Word::Table(ProblemOptions::read(alloc, "wagons table", options)?)),
         "why" => Ok(Word::Why(WhyOptions::read(alloc, options)?)),
-        "review" => Ok(Word::Review(OfficeOptions::read(alloc, options)?)),
+        "review" => Ok(Word::Review(ReviewOptions::read(alloc, options)?)),
         "save" => Ok(Word::Save(SaveOptions::read(alloc, options)?)),
         "feed" => Ok(Word::Feed(FeedOptions::read(alloc, options)?)),
         "explain" => Ok(Word::Explain(read_explained(alloc, options)?)),
@@ -140,6 +141,7 @@ pub(crate) fn word_command<'a>(alloc: Global, help: WordHelp) -> Result<Command<
             let word = with_problem_options(alloc, with_office_options(alloc, word)?)?;
             with_why_options(alloc, word)
         }
+        Arguments::OfficeAndNames => with_names(alloc, with_office_options(alloc, word)?),
         Arguments::OfficeAndFleet => { with_save_options(alloc, with_office_options(alloc, word)?) }
     }
 }

@@ -8,6 +8,7 @@ use Rattle.move_messages.specs.declared.fault.LineFault.{LineFault}
 use Rattle.move_messages.specs.declared.fault.LineFault.TheVariants.{OutOfMemory}
 use Rattle.wagons_and_orders.specs.declared.wagon_row.WagonRow.{WagonRow}
 use Rattle.line_network.specs.Network.{NetworkValue}
+use Rattle.place_names.specs.declared.named_place.NamedPlace.{NamedPlace}
 use Rattle.reply_texts.specs.Lines.{Adds}
 use Rattle.journal_notes.specs.CommandNotes.{AreLineNotes, ReadNotes}
 use Rattle.journal_notes.specs.LineNotes.{mark_note, open_note}
@@ -18,15 +19,15 @@ pub read_is : (read known : Result Command LineFault) → Gives (λ (command : C
 read_is (Ok asked) known gives isnt = sym gives
 read_is (Err fault) known gives isnt = sym (gives (λ same. isnt (cc)))
 
-pub line_noted : (line : ℕ) (networks : List NetworkValue) (wagons : List WagonRow) (heard : Heard) (bytes : List ℕ) (read : Result Command LineFault) (first noted marked new : List ℕ)
-    → Gives (λ (command : Command). command) read (command_of bytes) → read ≢ Err OutOfMemory → first ≡ [] → Adds (ReadNotes line networks wagons heard read (object_of bytes)) first noted
-    → marked ≡ noted ++ mark_note line bytes → new ≡ marked ++ open_note line bytes read → AreLineNotes line networks wagons heard bytes new
-line_noted line networks wagons heard bytes read first noted marked new gives isnt empty adds mark opens =
+pub line_noted : (line : ℕ) (networks : List NetworkValue) (named : List NamedPlace) (wagons : List WagonRow) (heard : Heard) (bytes : List ℕ) (read : Result Command LineFault) (first noted marked new : List ℕ)
+    → Gives (λ (command : Command). command) read (command_of bytes) → read ≢ Err OutOfMemory → first ≡ [] → Adds (ReadNotes line networks named wagons heard read (object_of bytes)) first noted
+    → marked ≡ noted ++ mark_note line bytes → new ≡ marked ++ open_note line bytes read → AreLineNotes line networks named wagons heard bytes new
+line_noted line networks named wagons heard bytes read first noted marked new gives isnt empty adds mark opens =
     let same : read ≡ command_of bytes = read_is read (command_of bytes) gives isnt in
     let whole : noted ≡ adds.added = adds.whole ∙ ap (λ (t : List ℕ). t ++ adds.added) empty in
     record {
       command = adds.added;
-      command_notes = subst (λ (r : Result Command LineFault). ReadNotes line networks wagons heard r (object_of bytes) adds.added) same adds.is;
+      command_notes = subst (λ (r : Result Command LineFault). ReadNotes line networks named wagons heard r (object_of bytes) adds.added) same adds.is;
       whole = opens ∙ ap (λ (t : List ℕ). t ++ open_note line bytes read) (mark ∙ ap (λ (t : List ℕ). t ++ mark_note line bytes) whole)
           ∙ ap (λ (r : Result Command LineFault). (adds.added ++ mark_note line bytes) ++ open_note line bytes r) same;
     }

@@ -5,6 +5,8 @@ use Rattle.move_messages.specs.Order.{Order}
 use Rattle.wagons_and_orders.specs.declared.wagon_row.WagonRow.{WagonRow}
 use Rattle.wagons_and_orders.specs.Listed.{is_listed}
 use Rattle.line_network.specs.Network.{NetworkValue, place_index}
+use Rattle.place_names.specs.Names.{name_of, name_word}
+use Rattle.place_names.specs.declared.named_place.NamedPlace.{NamedPlace}
 use Rattle.reply_texts.specs.Words.{IsMomentWord, next_word}
 use Rattle.journal_notes.specs.NoteText.{NotedIf, note, noted}
 
@@ -44,8 +46,12 @@ is_past wagons order = list_any (is_before_last order) wagons
 
 -- ---- the notes
 
-abbrev pub place_note : (line : ℕ) → List NetworkValue → Order → List ℕ
-place_note line networks order = noted (lacks_place networks order) (note line (codes "place") (next_word order.id ++ next_word order.place))
+-- a place, and its name behind it where it has one
+abbrev pub place_words : List NamedPlace → (place : List ℕ) → List ℕ
+place_words named place = next_word place ++ name_word (name_of named place)
+
+abbrev pub place_note : (line : ℕ) → List NetworkValue → List NamedPlace → Order → List ℕ
+place_note line networks named order = noted (lacks_place networks order) (note line (codes "place") (next_word order.id ++ place_words named order.place))
 
 -- each class that the order lists
 abbrev pub class_note : (line : ℕ) → List WagonRow → Order → List ℕ
@@ -61,7 +67,7 @@ pub record IsPastNote (line : ℕ) (order : Order) (text : List ℕ) : Type 0 wh
   pub whole : text ≡ note line (codes "past") (next_word order.id ++ latest)
 
 -- the notes of an order, in their order
-pub record AreOrderNotes (line : ℕ) (networks : List NetworkValue) (wagons : List WagonRow) (order : Order) (text : List ℕ) : Type 0 where
+pub record AreOrderNotes (line : ℕ) (networks : List NetworkValue) (named : List NamedPlace) (wagons : List WagonRow) (order : Order) (text : List ℕ) : Type 0 where
   pub past : List ℕ
   pub past_note : NotedIf (is_past wagons order) (IsPastNote line order) past
-  pub whole : text ≡ place_note line networks order ++ class_note line wagons order ++ load_note line wagons order ++ past
+  pub whole : text ≡ place_note line networks named order ++ class_note line wagons order ++ load_note line wagons order ++ past

@@ -9,6 +9,7 @@ use Rattle.move_messages.specs.declared.event.Event.TheVariants as event
 use Rattle.wagons_and_orders.specs.declared.wagon_row.WagonRow.{WagonRow}
 use Rattle.commit_book.specs.Books.{BookValue}
 use Rattle.commit_book.specs.History.{replay}
+use Rattle.place_names.specs.declared.named_place.NamedPlace.{NamedPlace}
 use Rattle.line_engine.specs.Replies.{Responds}
 use Rattle.office.specs.CommandReplies.{RepliesToLine, LineRunsOutOfMemory}
 use Rattle.journal_notes.specs.NoteText.{note}
@@ -17,16 +18,17 @@ use Rattle.journal_notes.specs.CommandNotes.{AreLineNotes}
 use Rattle.journal_notes.specs.Fullness.{entries_note, lines_note}
 use Rattle.journal_notes.specs.declared.heard.Heard.{Heard}
 
--- What a review has come to: the book; the number of the last line that wasn't blank, 0 before the first; and the last two
--- messages.
+-- What a review has come to: the book; the names of places, which stay; the number of the last line that wasn't blank, 0 before
+-- the first; and the last two messages.
 pub record ReviewValue : Type 0 where
   pub book : BookValue
+  pub named : List NamedPlace
   pub line : ℕ
   pub heard : Heard
 
--- of a book, before the first line
-abbrev pub first_review : BookValue → ReviewValue
-first_review book = record { book = book; line = 0; heard = record { last = None; before_last = None } }
+-- of a book, with these names of places, before the first line
+abbrev pub first_review : BookValue → List NamedPlace → ReviewValue
+first_review book named = record { book = book; named = named; line = 0; heard = record { last = None; before_last = None } }
 
 -- ---- lines
 
@@ -54,10 +56,11 @@ pub record IsReviewed (line : ℕ) (old : ReviewValue) (bytes : List ℕ) (text 
   pub reply : List ℕ
   pub refused : Bool
   pub brought : RepliesToLine old.book bytes reply refused new.book
+  pub named : new.named ≡ old.named
   pub number : new.line ≡ line
   pub heard : new.heard ≡ heard_by line old.heard (command_of bytes)
   pub said : List ℕ
-  pub said_notes : AreLineNotes line old.book.setting.networks (wagons_of old.book) old.heard bytes said
+  pub said_notes : AreLineNotes line old.book.setting.networks old.named (wagons_of old.book) old.heard bytes said
   pub whole : text ≡ said
       ++ entries_note line (length old.book.state.history) (length new.book.state.history) old.book.setting.entries
       ++ lines_note line old.line
@@ -68,6 +71,7 @@ pub record IsReviewedInPart (line : ℕ) (old : ReviewValue) (bytes : List ℕ) 
   pub reply : List ℕ
   pub refused : Bool
   pub brought : Responds RepliesToLine LineRunsOutOfMemory old.book bytes reply refused new.book
+  pub named : new.named ≡ old.named
   pub number : new.line ≡ line
   pub heard : (new.heard ≡ old.heard) ⊎ (new.heard ≡ heard_by line old.heard (command_of bytes))
 

@@ -16,16 +16,18 @@ use crate::note_text::push_note;
 use crate::order_notes::push_order_notes;
 use line_network::Network;
 use move_messages::{Command, Event, LineFault, object_of};
+use place_names::Places;
 use std::alloc::{AllocError, Global};
 use wagons_and_orders::WagonRow;
 
 /// The bytes that some editors put before a text.
 const BYTE_ORDER_MARK: [u8; 3] = [0xEF, 0xBB, 0xBF];
 
-/// What is known before a line: the networks, the wagons of the office, and the last two messages.
+/// What is known before a line: the networks, the names of places, the wagons of the office, and the last two messages.
 #[derive(Clone, Copy)]
 pub(crate) struct Known<'a> {
     pub networks: &'a [Network],
+    pub named: &'a Places,
     pub wagons: &'a [WagonRow],
     pub heard: &'a Heard,
 }
@@ -39,7 +41,7 @@ pub(crate) fn line_notes(
     read: &Result<Command, LineFault>,
 ) -> Result<String, AllocError>
     requires { Gives (λ command. command) read.now (command_of bytes.now) }
-    ensures notes { IfOk result (λ text. AreLineNotes line known.now.networks.now known.now.wagons.now known.now.heard.now bytes.now (string_bytes text)) }
+    ensures notes { IfOk result (λ text. AreLineNotes line known.now.networks.now known.now.named.now known.now.wagons.now known.now.heard.now bytes.now (string_bytes text)) }
     ensures is_read { OnOk result (read.now ≢ Err OutOfMemory) }
 {
     let mut text = String::new(alloc);
@@ -58,7 +60,7 @@ fn push_read_notes(
     bytes: &[u8],
     read: &Result<Command, LineFault>,
 ) -> Result<(), AllocError>
-    ensures notes { OnOk result (Adds (ReadNotes line known.now.networks.now known.now.wagons.now known.now.heard.now read.now (object_of bytes.now)) (string_bytes text.old) (string_bytes text.new)) }
+    ensures notes { OnOk result (Adds (ReadNotes line known.now.networks.now known.now.named.now known.now.wagons.now known.now.heard.now read.now (object_of bytes.now)) (string_bytes text.old) (string_bytes text.new)) }
     ensures is_read { OnOk result (read.now ≢ Err OutOfMemory) }
 {
     match read {
@@ -77,9 +79,9 @@ fn push_command_notes(
     command: &Command,
     bytes: &[u8],
 ) -> Result<(), AllocError>
-    ensures { OnOk result (Adds (AreCommandNotes line known.now.networks.now known.now.wagons.now known.now.heard.now command.now (object_of bytes.now)) (string_bytes text.old) (string_bytes text.new)) }
+    ensures { OnOk result (Adds (AreCommandNotes line known.now.networks.now known.now.named.now known.now.wagons.now known.now.heard.now command.now (object_of bytes.now)) (string_bytes text.old) (string_bytes text.new)) }
 {
-    push_notes_of_order(text, line, known.networks, known.wagons, command)?;
+    push_notes_of_order(text, line, known, command)?;
     push_notes_of_members(alloc, text, line, command, bytes)?;
     push_note_of_message(text, line, known.heard, command)
 }
@@ -88,15 +90,14 @@ fn push_command_notes(
 fn push_notes_of_order(
     text: &mut String,
     line: u64,
-    networks: &[Network],
-    wagons: &[WagonRow],
+    known: &Known<'_>,
     command: &Command,
 ) -> Result<(), AllocError>
-    ensures { OnOk result (Adds (OrderNotesOf line networks.now wagons.now command.now) (string_bytes text.old) (string_bytes text.new)) }
+    ensures { OnOk result (Adds (OrderNotesOf line known.now.networks.now known.now.named.now known.now.wagons.now command.now) (string_bytes text.old) (string_bytes text.new)) }
 {
     match command {
         Command::Event(Event::Place(order)) => {
-            push_order_notes(text, line, networks, wagons, order)
+            push_order_notes(text, line, known.networks, known.named, known.wagons, order)
         }
         _ => Ok(()),
     }

@@ -4,11 +4,12 @@ ghost use Rattle.std.specs.List.{flat_map, list_any};
 ghost use Rattle.reply_texts.specs.Lines.{Adds};
 ghost use Rattle.reply_texts.specs.Words.{next_word};
 ghost use Rattle.journal_notes.specs.NoteText.{NotedIf};
-ghost use Rattle.journal_notes.specs.OrderNotes.{AreOrderNotes, IsPastNote, carries_load, class_note, has_place, is_before_last, is_of_listed_class, is_past, lacks_class, lacks_load, lacks_place, load_note, place_note};
+ghost use Rattle.journal_notes.specs.OrderNotes.{AreOrderNotes, IsPastNote, carries_load, class_note, has_place, is_before_last, is_of_listed_class, is_past, lacks_class, lacks_load, lacks_place, load_note, place_note, place_words};
 
 use crate::note_text::{end_note, push_head};
 use line_network::Network;
 use move_messages::OrderText;
+use place_names::Places;
 use rail_codes::{ClassCode, Place};
 use reply_texts::line_words::{push_code, push_moment, push_number};
 use std::alloc::AllocError;
@@ -19,33 +20,43 @@ pub(crate) fn push_order_notes(
     text: &mut String,
     line: u64,
     networks: &[Network],
+    named: &Places,
     wagons: &[WagonRow],
     order: &OrderText,
 ) -> Result<(), AllocError>
-    ensures { OnOk result (Adds (AreOrderNotes line networks.now wagons.now order.now) (string_bytes text.old) (string_bytes text.new)) }
+    ensures { OnOk result (Adds (AreOrderNotes line networks.now named.now wagons.now order.now) (string_bytes text.old) (string_bytes text.new)) }
 {
-    push_place_note(text, line, networks, order)?;
+    push_place_note(text, line, networks, named, order)?;
     push_class_note(text, line, wagons, order)?;
     push_load_note(text, line, wagons, order)?;
     push_past_note(text, line, wagons, order)
 }
 
-/// Adds the note of an order whose place no network has.
+/// Adds the note of an order whose place no network has, with the place's name where it has one.
 fn push_place_note(
     text: &mut String,
     line: u64,
     networks: &[Network],
+    named: &Places,
     order: &OrderText,
 ) -> Result<(), AllocError>
-    ensures { OnOk result (string_bytes text.new ≡ string_bytes text.old ++ place_note line networks.now order.now) }
+    ensures { OnOk result (string_bytes text.new ≡ string_bytes text.old ++ place_note line networks.now named.now order.now) }
 {
     if !lacks_place(networks, order) {
         return Ok(());
     }
     push_head(text, line, "place")?;
     push_code(text, order.id().as_bytes())?;
-    push_code(text, order.place().as_bytes())?;
+    push_place(text, named, order.place())?;
     end_note(text)
+}
+
+/// Adds a place, and its name behind it where it has one.
+fn push_place(text: &mut String, named: &Places, place: Place) -> Result<(), AllocError>
+    ensures { OnOk result (string_bytes text.new ≡ string_bytes text.old ++ place_words named.now place) }
+{
+    push_code(text, place.as_bytes())?;
+    named.push_name(text, place)
 }
 
 /// Adds the note of an order of whose classes the office has no wagon.

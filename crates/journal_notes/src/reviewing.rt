@@ -22,6 +22,7 @@ use line_engine::{
 use line_network::Network;
 use move_messages::{Command, Event, LineFault, read_line};
 use office::CommandLines;
+use place_names::Places;
 use std::alloc::{AllocError, Global};
 use std::marker::Model;
 
@@ -29,12 +30,13 @@ use std::marker::Model;
 #[derive(Clone, Copy, Debug, PartialEq, Eq)]
 pub struct JournalNotes;
 
-/// What a review has come to: the book, and what it knows of the lines before. A contract sees the book, the number of the last
-/// line that wasn't blank, and the last two messages.
+/// What a review has come to: the book, and what it knows of the lines before. A contract sees the book, the names of places, the
+/// number of the last line that wasn't blank, and the last two messages.
 #[derive(Drop)]
 pub struct Review {
     book: Book,
     networks: Vec<Network>,
+    named: Places,
     limits: Limits,
     line: u64,
     heard: Heard,
@@ -53,21 +55,23 @@ impl Model for Review {
 
     ghost Value = { ReviewValue };
 
-    ghost view = { λ r. record { book = r.book; line = r.line; heard = r.heard } };
+    ghost view = { λ r. record { book = r.book; named = r.named; line = r.line; heard = r.heard } };
 
     ghost invariant = { λ r. (r.networks.items ≡ r.book.setting.networks) × (r.limits.entries ≡ r.book.setting.entries) };
 }
 
 impl Review {
-    /// The review of a journal that is brought to this book, which runs on these networks and has these limits.
-    pub fn new(book: Book, networks: Vec<Network>, limits: Limits) -> Review
+    /// The review of a journal that is brought to this book, which runs on these networks and has these limits. `named` has the
+    /// names of places.
+    pub fn new(book: Book, networks: Vec<Network>, limits: Limits, named: Places) -> Review
         requires networks { networks.items ≡ book.setting.networks }
         requires limits { limits.entries ≡ book.setting.entries }
-        ensures { result ≡ first_review book }
+        ensures { result ≡ first_review book named }
     {
         Review {
             book,
             networks,
+            named,
             limits,
             line: 0,
             heard: Heard {
@@ -143,11 +147,12 @@ impl Review {
         read: &Result<Command, LineFault>,
     ) -> Result<String, AllocError>
         requires { Gives (λ command. command) read.now (command_of bytes.now) }
-        ensures notes { IfOk result (λ text. AreLineNotes line self.now.book.setting.networks (wagons_of self.now.book) self.now.heard bytes.now (string_bytes text)) }
+        ensures notes { IfOk result (λ text. AreLineNotes line self.now.book.setting.networks self.now.named (wagons_of self.now.book) self.now.heard bytes.now (string_bytes text)) }
         ensures is_read { OnOk result (read.now ≢ Err OutOfMemory) }
     {
         let known = Known {
             networks: &self.networks,
+            named: &self.named,
             wagons: self.book.state().wagon_rows(),
             heard: &self.heard,
         };
@@ -167,6 +172,7 @@ impl Review {
             (λ _. (reply : List ℕ) × (refused : Bool) × RepliesToLine self.old.book bytes.now reply refused self.new.book)
             (λ _. LineRunsOutOfMemory self.old.book bytes.now self.new.book) }
         ensures setting { self.new.book.setting ≡ self.old.book.setting }
+        ensures named { self.new.named ≡ self.old.named }
         ensures line { self.new.line ≡ line }
         ensures heard { self.new.heard ≡ heard_by line self.old.heard read.now }
     {

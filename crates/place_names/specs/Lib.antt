@@ -3,6 +3,7 @@ pub mod Texts
 pub mod Values
 pub mod Records
 pub mod Reading
+pub mod Names
 pub mod PlacesOf
 pub mod Faults
 pub mod inner

@@ -1,8 +1,6 @@
 //! Places with their names and where they lie.
-ghost use Rattle.std.specs.Prelude.{◌≡◌, ◌<◌, ◌++◌, ◌∷◌, [], IfErr, IfOk, length, nat_eq, option_map};
-ghost use Rattle.std.specs.Cmp.Lexicographic.{pointwise};
-ghost use Rattle.std.specs.List.{find};
-ghost use Rattle.place_names.specs.Limits.{max_named_places};
+ghost use Rattle.std.specs.Prelude.{◌≡◌, ◌++◌, ◌∷◌, [], IfOk, OnOk, option_map, string_bytes};
+ghost use Rattle.place_names.specs.Names.{known_of, name_of, name_word};
 ghost use Rattle.place_names.specs.Reading.{has_place};
 
 use crate::NamedPlace;
@@ -65,8 +63,31 @@ impl Places {
 
     /// The first that is this place; no two are one place.
     pub fn find(&self, place: Place) -> Option<&NamedPlace>
-        ensures { option_map (λ named. named.now) result ≡ find (λ named. pointwise nat_eq place named.place) self.now }
+        ensures { option_map (λ named. named.now) result ≡ known_of self.now place }
     {
         self.places.iter().find(|named| named.place == place)
+    }
+
+    /// A place's name; nothing where it has none.
+    pub fn name_of(&self, place: Place) -> &str
+        ensures { result.now ≡ name_of self.now place }
+    {
+        match self.find(place) {
+            Some(named) => named.name.as_str(),
+            None => "",
+        }
+    }
+
+    /// Adds a place's name behind what stands there, after a space, if it has one. `Err` only when out of memory; the space may
+    /// be there then.
+    pub fn push_name(&self, text: &mut String, place: Place) -> Result<(), AllocError>
+        ensures { OnOk result (string_bytes text.new ≡ string_bytes text.old ++ name_word (name_of self.now place)) }
+    {
+        let name = self.name_of(place);
+        if name.is_empty() {
+            return Ok(());
+        }
+        text.push_str(" ")?;
+        text.push_str(name)
     }
 }

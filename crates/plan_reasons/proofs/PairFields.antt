@@ -1,5 +1,5 @@
 -- Fields and lines of a pair from their parts.
-use Rattle.std.proofs.Common.{◌≡◌, ◌+◌, ◌*◌, ◌<◌, ◌≤◌, ℕ, suc, Bool, List, [], ◌∷◌, ◌++◌, length, get_or, map, take, length-take-le, refl, sym, ap, ◌∙◌, subst, append_assoc, arith}
+use Rattle.std.proofs.Common.{◌≡◌, ◌+◌, ◌*◌, ◌<◌, ◌≤◌, ℕ, suc, Bool, Option, List, [], ◌∷◌, ◌++◌, length, get_or, map, take, length-take-le, refl, sym, ap, ◌∙◌, subst, append_assoc, arith}
 use Rattle.std.specs.Prelude.{◌==◌, if◌then◌else◌, Err, codes, false, max, slice_get, Some}
 use Rattle.std.specs.List.{join_with_byte}
 use Rattle.std.proofs.lemmas.Bool.Decides.{nat_tests}
@@ -11,6 +11,7 @@ use Rattle.move_messages.specs.Order.{Order}
 use Rattle.wagons_and_orders.specs.declared.free_wagon.FreeWagon.{FreeWagon}
 use Rattle.wagons_and_orders.specs.Wanted.{WantedOrder}
 use Rattle.line_network.specs.Network.{NetworkValue}
+use Rattle.place_names.specs.declared.named_place.NamedPlace.{NamedPlace}
 use Rattle.line_network.specs.Distance.{IsDistance}
 use Rattle.problem_table.specs.Allowed.{Reaches}
 use Rattle.cost_table.specs.Problem.{ProblemValue}
@@ -114,11 +115,11 @@ late_added style net at wagon order way seconds by old a b c d distance starts f
     }
 
 -- the lines of two tests, by the test
-pub late_line_of : (style : Style) (net : NetworkValue) (at : ℕ) (wagon : FreeWagon) (order : Order) (test : Test) (old new : List ℕ) → InTime ≡ test → Adds (IsLateLine style net at wagon order) old new → Adds (IsTestLine style net at wagon order test) old new
-late_line_of style net at wagon order test old new is adds = record { added = adds.added; is = subst (λ (t : Test). IsTestLine style net at wagon order t adds.added) is adds.is; whole = adds.whole }
+pub late_line_of : (style : Style) (names : Option (List NamedPlace)) (net : NetworkValue) (at : ℕ) (wagon : FreeWagon) (order : Order) (test : Test) (old new : List ℕ) → InTime ≡ test → Adds (IsLateLine style net at wagon order) old new → Adds (IsTestLine style names net at wagon order test) old new
+late_line_of style names net at wagon order test old new is adds = record { added = adds.added; is = subst (λ (t : Test). IsTestLine style names net at wagon order t adds.added) is adds.is; whole = adds.whole }
 
-pub costly_line_of : (style : Style) (net : NetworkValue) (at : ℕ) (wagon : FreeWagon) (order : Order) (test : Test) (old new : List ℕ) → Cheaper ≡ test → Adds (IsCostlyLine style net at wagon order) old new → Adds (IsTestLine style net at wagon order test) old new
-costly_line_of style net at wagon order test old new is adds = record { added = adds.added; is = subst (λ (t : Test). IsTestLine style net at wagon order t adds.added) is adds.is; whole = adds.whole }
+pub costly_line_of : (style : Style) (names : Option (List NamedPlace)) (net : NetworkValue) (at : ℕ) (wagon : FreeWagon) (order : Order) (test : Test) (old new : List ℕ) → Cheaper ≡ test → Adds (IsCostlyLine style net at wagon order) old new → Adds (IsTestLine style names net at wagon order test) old new
+costly_line_of style names net at wagon order test old new is adds = record { added = adds.added; is = subst (λ (t : Test). IsTestLine style names net at wagon order t adds.added) is adds.is; whole = adds.whole }
 
 pub costly_added : (style : Style) (net : NetworkValue) (at : ℕ) (wagon : FreeWagon) (order : Order) (way : ℕ × ℕ) (km : ℕ) (old new : List ℕ) → IsDistance net wagon.place order.place way → IsInTime net at wagon order → km ≡ way.0
     → new ≡ old ++ costly_line style wagon order km → Adds (IsCostlyLine style net at wagon order) old new
@@ -140,11 +141,11 @@ module _ (style : Style) (net : NetworkValue) (problem : ProblemValue) (p : Pric
     whole = three_parts old (pair_fields style (codes "fits") wagon wanted.order) (cost_fields style p pair) (ending style) a b c (first ∙ ap (λ (o : Order). old ++ pair_fields style (codes "fits") wagon o) same) second third;
   }
 
-  pub failed_added : (at : ℕ) (order : Order) (test : Test) (old new : List ℕ) → slice_get problem.wagons pair.0 ≡ Some wagon → slice_get problem.orders pair.1 ≡ Some wanted → at ≡ problem.at → order ≡ wanted.order → FailsFirst net at wagon order test
-      → Adds (IsTestLine style net at wagon order test) old new → Adds (IsFailedLine style net problem pair) old new
-  failed_added at order test old new free stands now same first line =
+  pub failed_added : (names : Option (List NamedPlace)) (at : ℕ) (order : Order) (test : Test) (old new : List ℕ) → slice_get problem.wagons pair.0 ≡ Some wagon → slice_get problem.orders pair.1 ≡ Some wanted → at ≡ problem.at → order ≡ wanted.order → FailsFirst net at wagon order test
+      → Adds (IsTestLine style names net at wagon order test) old new → Adds (IsFailedLine style names net problem pair) old new
+  failed_added names at order test old new free stands now same first line =
       let here = subst (λ (a : ℕ). FailsFirst net a wagon order test) now first in
-      let text = subst (λ (a : ℕ). IsTestLine style net a wagon order test line.added) now line.is in
+      let text = subst (λ (a : ℕ). IsTestLine style names net a wagon order test line.added) now line.is in
       record {
         added = line.added;
         is = record {
@@ -154,7 +155,7 @@ module _ (style : Style) (net : NetworkValue) (problem : ProblemValue) (p : Pric
           order = stands;
           test = test;
           first = subst (λ (o : Order). FailsFirst net problem.at wagon o test) same here;
-          text = subst (λ (o : Order). IsTestLine style net problem.at wagon o test line.added) same text;
+          text = subst (λ (o : Order). IsTestLine style names net problem.at wagon o test line.added) same text;
         };
         whole = line.whole;
       }

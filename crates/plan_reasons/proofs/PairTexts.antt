@@ -12,6 +12,7 @@ use Rattle.std.proofs.lemmas.List.Elements.{All-filter, filter_passes}
 use Rattle.std.proofs.lemmas.List.FromFn.{get_or-map-range_with_len, length-map-range_with_len}
 use Rattle.std.proofs.lemmas.List.Sorted.{All-permutation, IsNonDecreasingBy-from_sort}
 use Rattle.line_network.specs.Network.{NetworkValue}
+use Rattle.place_names.specs.declared.named_place.NamedPlace.{NamedPlace}
 use Rattle.cost_table.specs.Problem.{ProblemValue}
 use Rattle.cost_table.specs.Table.{Table}
 use Rattle.cost_table.specs.Plan.{AllAllowed, IsAllowed}
@@ -73,10 +74,10 @@ by_more {g = g} {f = f} p pairs before after is same sorted stable each =
 
 -- ---- lines
 
-module _ (style : Style) (net : NetworkValue) (problem : ProblemValue) (p : PricedPlan) (pairs : List (ℕ × ℕ)) where
+module _ (style : Style) (names : Option (List NamedPlace)) (net : NetworkValue) (problem : ProblemValue) (p : PricedPlan) (pairs : List (ℕ × ℕ)) where
   -- the lines of those that fail no test, and then of the others
   pub pair_lines : (fits shown failing : List (ℕ × ℕ)) (old a b : List ℕ) → AreByMore p pairs fits → shown ≡ fits → failing ≡ filter (λ pair. not (passes_all p.table pair)) pairs
-      → Adds (AreLines (IsFitsLine style net problem p) shown) old a → Adds (AreLines (IsFailedLine style net problem) failing) a b → Adds (ArePairLines style net problem p pairs) old b
+      → Adds (AreLines (IsFitsLine style net problem p) shown) old a → Adds (AreLines (IsFailedLine style names net problem) failing) a b → Adds (ArePairLines style names net problem p pairs) old b
   pair_lines fits shown failing old a b by_more same others first second = record {
     added = first.added ++ second.added;
     is = record {
@@ -85,31 +86,31 @@ module _ (style : Style) (net : NetworkValue) (problem : ProblemValue) (p : Pric
       fitting = first.added;
       fits_lines = subst (λ (xs : List (ℕ × ℕ)). AreLines (IsFitsLine style net problem p) xs first.added) same first.is;
       failing = second.added;
-      failed_lines = subst (λ (xs : List (ℕ × ℕ)). AreLines (IsFailedLine style net problem) xs second.added) others second.is;
+      failed_lines = subst (λ (xs : List (ℕ × ℕ)). AreLines (IsFailedLine style names net problem) xs second.added) others second.is;
       whole = refl;
     };
     whole = second.whole ∙ ap (λ (xs : List ℕ). xs ++ second.added) first.whole ∙ append_assoc old first.added second.added;
   }
 
-module _ (style : Style) (net : NetworkValue) (problem : ProblemValue) (p : PricedPlan) (pairs : List (ℕ × ℕ)) (old a b : List ℕ) (empty : old ≡ []) (rest : Adds (ArePairLines style net problem p pairs) a b) where
+module _ (style : Style) (names : Option (List NamedPlace)) (net : NetworkValue) (problem : ProblemValue) (p : PricedPlan) (pairs : List (ℕ × ℕ)) (old a b : List ℕ) (empty : old ≡ []) (rest : Adds (ArePairLines style names net problem p pairs) a b) where
   whole_text : (own : List ℕ) → a ≡ old ++ own → b ≡ own ++ rest.added
   whole_text own is = rest.whole ∙ ap (λ (t : List ℕ). t ++ rest.added) (is ∙ ap (λ (t : List ℕ). t ++ own) empty)
 
-  pub text_of_order : (j : ℕ) → pairs ≡ pairs_of_order problem j → Adds (IsOrderLine style net problem p j) old a → IsOrderText style net problem p j b
+  pub text_of_order : (j : ℕ) → pairs ≡ pairs_of_order problem j → Adds (IsOrderLine style net problem p j) old a → IsOrderText style names net problem p j b
   text_of_order j all own = record {
     own = own.added;
     line = own.is;
     rest = rest.added;
-    pairs = subst (λ (xs : List (ℕ × ℕ)). ArePairLines style net problem p xs rest.added) all rest.is;
+    pairs = subst (λ (xs : List (ℕ × ℕ)). ArePairLines style names net problem p xs rest.added) all rest.is;
     whole = whole_text own.added own.whole;
   }
 
-  pub text_of_wagon : (i : ℕ) → pairs ≡ pairs_of_wagon problem i → Adds (IsOwnLine style net problem p i (find (λ pair. pair.0 == i) p.pairs)) old a → IsWagonText style net problem p i b
+  pub text_of_wagon : (i : ℕ) → pairs ≡ pairs_of_wagon problem i → Adds (IsOwnLine style net problem p i (find (λ pair. pair.0 == i) p.pairs)) old a → IsWagonText style names net problem p i b
   text_of_wagon i all own = record {
     own = own.added;
     line = own.is;
     rest = rest.added;
-    pairs = subst (λ (xs : List (ℕ × ℕ)). ArePairLines style net problem p xs rest.added) all rest.is;
+    pairs = subst (λ (xs : List (ℕ × ℕ)). ArePairLines style names net problem p xs rest.added) all rest.is;
     whole = whole_text own.added own.whole;
   }
 

@@ -1,6 +1,7 @@
 pub mod Reasons
 pub mod OrderCounts
 pub mod Fields
+pub mod PlaceFields
 pub mod Planned
 pub mod Journeys
 pub mod WhyText

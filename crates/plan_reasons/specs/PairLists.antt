@@ -5,6 +5,7 @@ use Rattle.std.specs.List.{filter, find, range_with_len}
 use Rattle.std.specs.List.Sorted.{IsNonDecreasingBy, IsPermutation, IsStableByKey}
 use Rattle.std.specs.Ordering.{nat_cmp}
 use Rattle.line_network.specs.Network.{NetworkValue}
+use Rattle.place_names.specs.declared.named_place.NamedPlace.{NamedPlace}
 use Rattle.cost_table.specs.Problem.{ProblemValue, wagon_names}
 use Rattle.cost_table.specs.Table.{Table, cost_at, penalty_at}
 use Rattle.price_checker.specs.NamedFaults.{name_at}
@@ -42,21 +43,21 @@ pub record AreByMore (p : PricedPlan) (pairs fits : List (ℕ × ℕ)) : Type 0 
 -- ---- the texts
 
 -- the lines of pairs
-pub record ArePairLines (style : Style) (net : NetworkValue) (problem : ProblemValue) (p : PricedPlan) (pairs : List (ℕ × ℕ)) (text : List ℕ) : Type 0 where
+pub record ArePairLines (style : Style) (names : Option (List NamedPlace)) (net : NetworkValue) (problem : ProblemValue) (p : PricedPlan) (pairs : List (ℕ × ℕ)) (text : List ℕ) : Type 0 where
   pub fits : List (ℕ × ℕ)
   pub by_more : AreByMore p pairs fits
   pub fitting : List ℕ
   pub fits_lines : AreLines (IsFitsLine style net problem p) fits fitting
   pub failing : List ℕ
-  pub failed_lines : AreLines (IsFailedLine style net problem) (filter (λ pair. not (passes_all p.table pair)) pairs) failing
+  pub failed_lines : AreLines (IsFailedLine style names net problem) (filter (λ pair. not (passes_all p.table pair)) pairs) failing
   pub whole : text ≡ fitting ++ failing
 
--- the text about order j
-pub record IsOrderText (style : Style) (net : NetworkValue) (problem : ProblemValue) (p : PricedPlan) (j : ℕ) (text : List ℕ) : Type 0 where
+-- the text about order j, with the names of places where they are asked for
+pub record IsOrderText (style : Style) (names : Option (List NamedPlace)) (net : NetworkValue) (problem : ProblemValue) (p : PricedPlan) (j : ℕ) (text : List ℕ) : Type 0 where
   pub own : List ℕ
   pub line : IsOrderLine style net problem p j own
   pub rest : List ℕ
-  pub pairs : ArePairLines style net problem p (pairs_of_order problem j) rest
+  pub pairs : ArePairLines style names net problem p (pairs_of_order problem j) rest
   pub whole : text ≡ own ++ rest
 
 -- the line of wagon i where no order gets it
@@ -68,10 +69,10 @@ abbrev pub IsOwnLine : Style → NetworkValue → ProblemValue → PricedPlan �
 IsOwnLine style net problem p i None line = line ≡ stays_line style problem i
 IsOwnLine style net problem p i (Some pair) line = IsWagonLine style net problem p pair line
 
--- the text about wagon i
-pub record IsWagonText (style : Style) (net : NetworkValue) (problem : ProblemValue) (p : PricedPlan) (i : ℕ) (text : List ℕ) : Type 0 where
+-- the text about wagon i, with the names of places where they are asked for
+pub record IsWagonText (style : Style) (names : Option (List NamedPlace)) (net : NetworkValue) (problem : ProblemValue) (p : PricedPlan) (i : ℕ) (text : List ℕ) : Type 0 where
   pub own : List ℕ
   pub line : IsOwnLine style net problem p i (find (λ pair. pair.0 == i) p.pairs) own
   pub rest : List ℕ
-  pub pairs : ArePairLines style net problem p (pairs_of_wagon problem i) rest
+  pub pairs : ArePairLines style names net problem p (pairs_of_wagon problem i) rest
   pub whole : text ≡ own ++ rest

@@ -1,12 +1,13 @@
 -- The line of a free wagon with a waiting order: what every plan costs more, at least, that has this pair, where the wagon passes
 -- each test for the order; else the first test that it fails, with the two values that were compared.
-use Rattle.std.specs.Prelude.{◌≡◌, ◌+◌, ◌*◌, ◌<◌, ◌≤◌, ◌==◌, if◌then◌else◌, ℕ, Bool, true, false, max, List, [], ◌∷◌, ◌++◌, map, codes, decimal, slice_get, Some, unwrap_or}
+use Rattle.std.specs.Prelude.{◌≡◌, ◌+◌, ◌*◌, ◌<◌, ◌≤◌, ◌==◌, if◌then◌else◌, ℕ, Bool, true, false, max, List, [], ◌∷◌, ◌++◌, map, codes, decimal, slice_get, Option, Some, unwrap_or}
 use Rattle.std.specs.List.{join_with_byte}
 use Rattle.rail_codes.specs.Moment.{IsMomentText, last_second}
 use Rattle.move_messages.specs.Order.{Order}
 use Rattle.wagons_and_orders.specs.declared.free_wagon.FreeWagon.{FreeWagon}
 use Rattle.wagons_and_orders.specs.Wanted.{WantedOrder}
 use Rattle.line_network.specs.Network.{NetworkValue}
+use Rattle.place_names.specs.declared.named_place.NamedPlace.{NamedPlace}
 use Rattle.line_network.specs.Distance.{IsDistance}
 use Rattle.problem_table.specs.Allowed.{Reaches}
 use Rattle.cost_table.specs.Plan.{pair_cost}
@@ -19,6 +20,7 @@ use Rattle.plan_reasons.specs.declared.style.Style.TheVariants.{Text, Json}
 use Rattle.plan_reasons.specs.declared.reasons.Test.{Test}
 use Rattle.plan_reasons.specs.declared.reasons.Test.TheVariants.{Class, Load, Way, InTime, Cheaper}
 use Rattle.plan_reasons.specs.Fields.{ending, field, first_field, nothing, quoted}
+use Rattle.plan_reasons.specs.PlaceFields.{place_field}
 use Rattle.plan_reasons.specs.Reasons.{FailsFirst, IsCheaper}
 
 -- ---- fields
@@ -62,10 +64,11 @@ abbrev pub load_line : Style → FreeWagon → Order → List ℕ
 load_line style wagon order =
     compared_line style (codes "load") wagon order (codes "has", decimal wagon.load_limit) (codes "wants", decimal order.load)
 
--- the places between which no way leads
-abbrev pub way_line : Style → FreeWagon → Order → List ℕ
-way_line style wagon order =
-    compared_line style (codes "way") wagon order (codes "from", quoted style wagon.place) (codes "to", quoted style order.place)
+-- the places between which no way leads, each with its name where names are asked for
+abbrev pub way_line : Style → (names : Option (List NamedPlace)) → FreeWagon → Order → List ℕ
+way_line style names wagon order =
+    pair_fields style (codes "way") wagon order ++ place_field style names (codes "from") (codes "from_name") wagon.place
+    ++ place_field style names (codes "to") (codes "to_name") order.place ++ ending style
 
 -- when the wagon would be there, and by when it is wanted
 abbrev pub late_line : Style → FreeWagon → Order → (arrival latest : List ℕ) → List ℕ
@@ -93,22 +96,22 @@ pub record IsCostlyLine (style : Style) (net : NetworkValue) (at : ℕ) (wagon :
   pub text : line ≡ costly_line style wagon order km
 
 -- the line of a wagon by the test that it fails
-abbrev pub IsTestLine : Style → NetworkValue → (at : ℕ) → FreeWagon → Order → Test → (line : List ℕ) → Type 0
-IsTestLine style net at wagon order Class line = line ≡ class_line style wagon order
-IsTestLine style net at wagon order Load line = line ≡ load_line style wagon order
-IsTestLine style net at wagon order Way line = line ≡ way_line style wagon order
-IsTestLine style net at wagon order InTime line = IsLateLine style net at wagon order line
-IsTestLine style net at wagon order Cheaper line = IsCostlyLine style net at wagon order line
+abbrev pub IsTestLine : Style → (names : Option (List NamedPlace)) → NetworkValue → (at : ℕ) → FreeWagon → Order → Test → (line : List ℕ) → Type 0
+IsTestLine style names net at wagon order Class line = line ≡ class_line style wagon order
+IsTestLine style names net at wagon order Load line = line ≡ load_line style wagon order
+IsTestLine style names net at wagon order Way line = line ≡ way_line style names wagon order
+IsTestLine style names net at wagon order InTime line = IsLateLine style net at wagon order line
+IsTestLine style names net at wagon order Cheaper line = IsCostlyLine style net at wagon order line
 
 -- the line of a pair by the first test that it fails
-pub record IsFailedLine (style : Style) (net : NetworkValue) (problem : ProblemValue) (pair : ℕ × ℕ) (line : List ℕ) : Type 0 where
+pub record IsFailedLine (style : Style) (names : Option (List NamedPlace)) (net : NetworkValue) (problem : ProblemValue) (pair : ℕ × ℕ) (line : List ℕ) : Type 0 where
   pub wagon : FreeWagon
   pub free : slice_get problem.wagons pair.0 ≡ Some wagon
   pub wanted : WantedOrder
   pub order : slice_get problem.orders pair.1 ≡ Some wanted
   pub test : Test
   pub first : FailsFirst net problem.at wagon wanted.order test
-  pub text : IsTestLine style net problem.at wagon wanted.order test line
+  pub text : IsTestLine style names net problem.at wagon wanted.order test line
 
 -- ---- a wagon that passes each test
 

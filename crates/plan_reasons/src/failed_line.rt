@@ -17,9 +17,12 @@ ghost use Rattle.plan_reasons.specs.Pairs.{
   pair_fields,
   way_line,
 };
+ghost use Rattle.plan_reasons.specs.PlaceFields.{names_of};
 ghost use Rattle.plan_reasons.specs.Reasons.{FailsFirst, HasWay, IsInTime};
 ghost use Rattle.plan_reasons.specs.inner.AddedPairs.{IsArrivalField, comma};
 
+use crate::line_form::LineForm;
+use crate::place_fields::place_field;
 use crate::reasons::{Test, arrival, way_of};
 use crate::style::{
     Style, code_field, end_line, first_code, moment_field, nothing, number_field, push_field,
@@ -34,7 +37,7 @@ use wagons_and_orders::FreeWagon;
 /// Adds the line of a wagon by the first test that it fails for an order.
 pub(crate) fn push_test_line(
     text: &mut String,
-    style: Style,
+    form: &LineForm<'_>,
     tables: &Tables,
     at: Moment,
     wagon: &FreeWagon,
@@ -42,14 +45,14 @@ pub(crate) fn push_test_line(
     test: Test,
 ) -> Result<(), AllocError>
     requires { FailsFirst tables.now at wagon.now order.now test }
-    ensures { OnOk result (Adds (IsTestLine style tables.now at wagon.now order.now test) (string_bytes text.old) (string_bytes text.new)) }
+    ensures { OnOk result (Adds (IsTestLine form.now.style (names_of form.now) tables.now at wagon.now order.now test) (string_bytes text.old) (string_bytes text.new)) }
 {
     match test {
-        Test::Class => push_class(text, style, wagon, order),
-        Test::Load => push_load(text, style, wagon, order),
-        Test::Way => push_way(text, style, wagon, order),
-        Test::InTime => push_late(text, style, tables, at, wagon, order),
-        Test::Cheaper => push_costly(text, style, tables, at, wagon, order),
+        Test::Class => push_class(text, form.style, wagon, order),
+        Test::Load => push_load(text, form.style, wagon, order),
+        Test::Way => push_way(text, form, wagon, order),
+        Test::InTime => push_late(text, form.style, tables, at, wagon, order),
+        Test::Cheaper => push_costly(text, form.style, tables, at, wagon, order),
     }
 }
 
@@ -155,16 +158,16 @@ fn push_load(
 /// Adds the line of a wagon from which no way leads to the order's place.
 fn push_way(
     text: &mut String,
-    style: Style,
+    form: &LineForm<'_>,
     wagon: &FreeWagon,
     order: &OrderText,
 ) -> Result<(), AllocError>
-    ensures { OnOk result (string_bytes text.new ≡ string_bytes text.old ++ way_line style wagon.now order.now) }
+    ensures { OnOk result (string_bytes text.new ≡ string_bytes text.old ++ way_line form.now.style (names_of form.now) wagon.now order.now) }
 {
-    push_pair(text, style, "way", wagon, order)?;
-    code_field(text, style, "from", wagon.place.as_bytes())?;
-    code_field(text, style, "to", order.place().as_bytes())?;
-    end_line(text, style)
+    push_pair(text, form.style, "way", wagon, order)?;
+    place_field(text, form, "from", "from_name", wagon.place)?;
+    place_field(text, form, "to", "to_name", order.place())?;
+    end_line(text, form.style)
 }
 
 /// Adds the line of a wagon that would be there too late.

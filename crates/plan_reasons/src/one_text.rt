@@ -2,9 +2,11 @@
 ghost use Rattle.std.specs.Prelude.{◌≡◌, ◌==◌, ◌<◌, ◌++◌, IfOk, OnOk, length, string_bytes};
 ghost use Rattle.std.specs.List.{find};
 ghost use Rattle.plan_reasons.specs.PairLists.{IsOrderText, IsWagonText, pairs_of_order, pairs_of_wagon, stays_line};
+ghost use Rattle.plan_reasons.specs.PlaceFields.{names_of};
 ghost use Rattle.plan_reasons.specs.Planned.{IsPlannedProblem, priced_plan};
 ghost use Rattle.plan_reasons.specs.inner.AddedPairs.{AddsOwnLine};
 
+use crate::line_form::LineForm;
 use crate::order_line::push_order_line;
 use crate::pair_lists::push_pairs;
 use crate::planned_problem::PlannedProblem;
@@ -26,22 +28,23 @@ use std::alloc::{AllocError, Global};
 ///
 /// As JSON: `fits`, `order`, `km`, `more`, `planned` (true or false); `class`, `order`, `has`, `wants` (a list); `load`,
 /// `order`, `has`, `wants`; `way`, `order`, `from`, `to`; `late`, `order`, `arrival`, `latest`; `costly`, `order`, `km`,
-/// `penalty`.
+/// `penalty`. Where the names of places are asked for, each place has its name behind it, as JSON has a text: as JSON the members
+/// `from_name` and `to_name`, empty where a place has none.
 pub fn order_text(
     alloc: Global,
-    style: Style,
+    form: &LineForm<'_>,
     planned: &PlannedProblem,
     j: usize,
 ) -> Result<String, AllocError>
     requires planned { IsPlannedProblem planned.now }
     requires order { j < length planned.now.problem.now.orders }
-    ensures { IfOk result (λ text. IsOrderText style planned.now.tables.now planned.now.problem.now (priced_plan planned.now) j (string_bytes text)) }
+    ensures { IfOk result (λ text. IsOrderText form.now.style (names_of form.now) planned.now.tables.now planned.now.problem.now (priced_plan planned.now) j (string_bytes text)) }
 {
     let pairs = pairs_of_order(alloc, planned.problem, j)?;
     let tallies = Tallies::new(alloc, planned)?;
     let mut text = String::new(alloc);
-    push_order_line(alloc, &mut text, style, planned, &tallies, j)?;
-    push_pairs(alloc, &mut text, style, planned, &pairs)?;
+    push_order_line(alloc, &mut text, form.style, planned, &tallies, j)?;
+    push_pairs(alloc, &mut text, form, planned, &pairs)?;
     Ok(text)
 }
 
@@ -49,18 +52,18 @@ pub fn order_text(
 /// NUMBER`; then a line for each waiting order, as in the text about an order.
 pub fn wagon_text(
     alloc: Global,
-    style: Style,
+    form: &LineForm<'_>,
     planned: &PlannedProblem,
     i: usize,
 ) -> Result<String, AllocError>
     requires planned { IsPlannedProblem planned.now }
     requires wagon { i < length planned.now.problem.now.wagons }
-    ensures { IfOk result (λ text. IsWagonText style planned.now.tables.now planned.now.problem.now (priced_plan planned.now) i (string_bytes text)) }
+    ensures { IfOk result (λ text. IsWagonText form.now.style (names_of form.now) planned.now.tables.now planned.now.problem.now (priced_plan planned.now) i (string_bytes text)) }
 {
     let pairs = pairs_of_wagon(alloc, planned.problem, i)?;
     let mut text = String::new(alloc);
-    push_own_line(&mut text, style, planned, i)?;
-    push_pairs(alloc, &mut text, style, planned, &pairs)?;
+    push_own_line(&mut text, form.style, planned, i)?;
+    push_pairs(alloc, &mut text, form, planned, &pairs)?;
     Ok(text)
 }
 

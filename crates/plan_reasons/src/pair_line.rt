@@ -7,6 +7,7 @@ ghost use Rattle.plan_reasons.specs.Planned.{IsPlannedProblem, priced_plan};
 ghost use Rattle.plan_reasons.specs.inner.AddedPairs.{AddsFailedLine, AddsFitsLine, IsPairOf};
 
 use crate::failed_line::{push_pair, push_test_line};
+use crate::line_form::LineForm;
 use crate::planned_problem::PlannedProblem;
 use crate::reasons::first_failed;
 use crate::style::{Style, end_line, number_field, push_field};
@@ -35,20 +36,20 @@ pub(crate) fn push_fits_line(
 /// Adds the line of a pair by the first test that it fails.
 pub(crate) fn push_failed_line(
     text: &mut String,
-    style: Style,
+    form: &LineForm<'_>,
     planned: &PlannedProblem,
     pair: (usize, usize),
 ) -> Result<(), AllocError>
     requires planned { IsPlannedProblem planned.now }
     requires pair { IsPairOf planned.now.problem.now pair }
     requires fails { passes_all planned.now.cells.now pair ≡ false }
-    ensures { OnOk result (AddsFailedLine style planned.now pair (string_bytes text.old) (string_bytes text.new)) }
+    ensures { OnOk result (AddsFailedLine form.now planned.now pair (string_bytes text.old) (string_bytes text.new)) }
 {
     let at = planned.problem.at();
     let wagon = &planned.problem.wagons()[pair.0];
     let order = planned.problem.orders()[pair.1].order();
     let test = first_failed(planned.tables, at, wagon, order);
-    push_test_line(text, style, planned.tables, at, wagon, order, test)
+    push_test_line(text, form, planned.tables, at, wagon, order, test)
 }
 
 /// Adds the kilometres of a pair, what plans with it cost more, and whether the plan has it.

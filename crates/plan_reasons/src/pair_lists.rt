@@ -12,6 +12,7 @@ ghost use Rattle.plan_reasons.specs.inner.AddedPairs.{
   IsPairOf,
 };
 
+use crate::line_form::LineForm;
 use crate::pair_line::{more_of, push_failed_line, push_fits_line};
 use crate::planned_problem::PlannedProblem;
 use crate::style::Style;
@@ -23,18 +24,18 @@ use std::alloc::{AllocError, Global};
 pub(crate) fn push_pairs(
     alloc: Global,
     text: &mut String,
-    style: Style,
+    form: &LineForm<'_>,
     planned: &PlannedProblem,
     pairs: &[(usize, usize)],
 ) -> Result<(), AllocError>
     requires planned { IsPlannedProblem planned.now }
     requires pairs { All (IsPairOf planned.now.problem.now) pairs.now }
-    ensures { OnOk result (AddsPairLines style planned.now pairs.now (string_bytes text.old) (string_bytes text.new)) }
+    ensures { OnOk result (AddsPairLines form.now planned.now pairs.now (string_bytes text.old) (string_bytes text.new)) }
 {
     let fits = fits_by_more(alloc, planned, pairs)?;
     let failing = failing(alloc, planned.cells, pairs)?;
-    push_fits(text, style, planned, &fits)?;
-    push_failing(text, style, planned, &failing)
+    push_fits(text, form.style, planned, &fits)?;
+    push_failing(text, form, planned, &failing)
 }
 
 /// Those of the pairs that fail no test, by what plans with them cost more.
@@ -109,16 +110,16 @@ fn push_fits(
 /// Adds the lines of pairs that fail a test.
 fn push_failing(
     text: &mut String,
-    style: Style,
+    form: &LineForm<'_>,
     planned: &PlannedProblem,
     failing: &[(usize, usize)],
 ) -> Result<(), AllocError>
     requires planned { IsPlannedProblem planned.now }
     requires failing { All (IsFailing planned.now) failing.now }
-    ensures { OnOk result (AddsFailedLines style planned.now failing.now (string_bytes text.old) (string_bytes text.new)) }
+    ensures { OnOk result (AddsFailedLines form.now planned.now failing.now (string_bytes text.old) (string_bytes text.new)) }
 {
     for pair in failing {
-        push_failed_line(text, style, planned, *pair)?;
+        push_failed_line(text, form, planned, *pair)?;
     }
     Ok(())
 }

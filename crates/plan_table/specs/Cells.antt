@@ -1,7 +1,6 @@
 -- The rows of a plan's table: the cells of each wagon that goes, and of each order that misses wagons.
-use Rattle.std.specs.Prelude.{◌≡◌, ◌==◌, if◌then◌else◌, ℕ, List, [], ◌∷◌, ◌++◌, length, Option, Some, None, codes, decimal, nat_eq}
-use Rattle.std.specs.Cmp.Lexicographic.{pointwise}
-use Rattle.std.specs.List.{find}
+use Rattle.std.specs.Prelude.{◌≡◌, ℕ, List, [], ◌∷◌, ◌++◌, codes, decimal}
+use Rattle.place_names.specs.Names.{name_of, name_word}
 use Rattle.place_names.specs.declared.named_place.NamedPlace.{NamedPlace}
 use Rattle.plan_table.specs.declared.clock.Clock.{Clock}
 use Rattle.plan_reasons.specs.declared.journey.Journey.{Journey}
@@ -13,20 +12,9 @@ use Rattle.plan_table.specs.Reasons.{reason_phrase}
 abbrev pub Row : Type 0
 Row = List (List ℕ)
 
-abbrev pub name_of_found : Option NamedPlace → List ℕ
-name_of_found None = []
-name_of_found (Some named) = named.name
-
--- a place's name; nothing where it has none
-abbrev pub name_of : List NamedPlace → (place : List ℕ) → List ℕ
-name_of places place = name_of_found (find (λ named. pointwise nat_eq place named.place) places)
-
-abbrev pub with_name : (place name : List ℕ) → List ℕ
-with_name place name = if length name == 0 then place else place ++ 32 ∷ name
-
 -- a place, and its name behind it, if it has one
 abbrev pub place_cell : List NamedPlace → (place : List ℕ) → List ℕ
-place_cell places place = with_name place (name_of places place)
+place_cell places place = place ++ name_word (name_of places place)
 
 -- ---- in a table
 

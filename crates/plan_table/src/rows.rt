@@ -1,6 +1,7 @@
 //! The rows of a plan's table.
 ghost use Rattle.std.specs.Prelude.{◌≡◌, ◌++◌, ◌∷◌, [], decimal, IfOk, OnOk, map, codes, length, replicate, string_bytes};
-ghost use Rattle.plan_table.specs.Cells.{AreJourneyFields, IsJourneyRow, csv_titles, journey_titles, name_of, place_cell, shortfall_fields, shortfall_row, shortfall_titles, with_name};
+ghost use Rattle.place_names.specs.Names.{name_of};
+ghost use Rattle.plan_table.specs.Cells.{AreJourneyFields, IsJourneyRow, csv_titles, journey_titles, place_cell, shortfall_fields, shortfall_row, shortfall_titles};
 
 use crate::clock::{Clock, shown};
 use crate::phrases::phrase;
@@ -47,34 +48,13 @@ pub(crate) fn titles_row(alloc: Global, titles: &[&str]) -> Result<Row, AllocErr
     Ok(row)
 }
 
-/// A place's name; nothing where it has none.
-fn name_of(places: &Places, place: Place) -> &str
-    ensures { result.now ≡ name_of places.now place }
-{
-    match places.find(place) {
-        Some(named) => named.name.as_str(),
-        None => "",
-    }
-}
-
 /// A place with its name behind it, if it has one.
 fn place_cell(alloc: Global, places: &Places, place: Place) -> Result<String, AllocError>
     ensures { IfOk result (λ cell. string_bytes cell ≡ place_cell places.now place) }
 {
     let mut cell = place.text(alloc)?;
-    push_name(&mut cell, name_of(places, place))?;
+    places.push_name(&mut cell, place)?;
     Ok(cell)
-}
-
-/// Adds a name behind a place, if it has one.
-fn push_name(cell: &mut String, name: &str) -> Result<(), AllocError>
-    ensures { OnOk result (string_bytes cell.new ≡ with_name (string_bytes cell.old) name.now) }
-{
-    if name.is_empty() {
-        return Ok(());
-    }
-    cell.push_str(" ")?;
-    cell.push_str(name)
 }
 
 /// The row of a wagon that goes.
@@ -159,7 +139,7 @@ fn push_place(row: &mut Row, places: &Places, place: Place) -> Result<(), AllocE
     ensures { OnOk result (row.new ≡ row.old ++ place ∷ name_of places.now place ∷ []) }
 {
     row.push_code(place.as_bytes())?;
-    row.push(name_of(places, place))
+    row.push(places.name_of(place))
 }
 
 /// Adds so many empty cells.

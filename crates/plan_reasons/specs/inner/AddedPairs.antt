@@ -3,9 +3,11 @@ use Rattle.std.specs.Prelude.{◌≡◌, ◌<◌, ◌==◌, if◌then◌else◌,
 use Rattle.std.specs.List.{find}
 use Rattle.cost_table.specs.Problem.{ProblemValue}
 use Rattle.reply_texts.specs.Lines.{Adds, AreLines}
+use Rattle.plan_reasons.specs.declared.line_form.LineForm.{LineForm}
 use Rattle.plan_reasons.specs.declared.style.Style.{Style}
 use Rattle.plan_reasons.specs.declared.planned_problem.PlannedProblem.{PlannedProblem}
 use Rattle.plan_reasons.specs.Fields.{field}
+use Rattle.plan_reasons.specs.PlaceFields.{names_of}
 use Rattle.plan_reasons.specs.Planned.{priced_plan}
 use Rattle.plan_reasons.specs.Pairs.{IsArrivalValue, IsFailedLine, IsFitsLine}
 use Rattle.plan_reasons.specs.PairLists.{ArePairLines, IsOwnLine, passes_all}
@@ -35,18 +37,18 @@ pub record IsArrivalField (style : Style) (seconds : ℕ) (written : List ℕ) :
 abbrev pub AddsFitsLine : Style → PlannedProblem → (pair : ℕ × ℕ) → (old new : List ℕ) → Type 0
 AddsFitsLine style planned pair = Adds (IsFitsLine style planned.tables.now planned.problem.now (priced_plan planned) pair)
 
-abbrev pub AddsFailedLine : Style → PlannedProblem → (pair : ℕ × ℕ) → (old new : List ℕ) → Type 0
-AddsFailedLine style planned pair = Adds (IsFailedLine style planned.tables.now planned.problem.now pair)
+abbrev pub AddsFailedLine : LineForm → PlannedProblem → (pair : ℕ × ℕ) → (old new : List ℕ) → Type 0
+AddsFailedLine form planned pair = Adds (IsFailedLine form.style (names_of form) planned.tables.now planned.problem.now pair)
 
 -- the lines of pairs
 abbrev pub AddsFitsLines : Style → PlannedProblem → (pairs : List (ℕ × ℕ)) → (old new : List ℕ) → Type 0
 AddsFitsLines style planned pairs = Adds (AreLines (IsFitsLine style planned.tables.now planned.problem.now (priced_plan planned)) pairs)
 
-abbrev pub AddsFailedLines : Style → PlannedProblem → (pairs : List (ℕ × ℕ)) → (old new : List ℕ) → Type 0
-AddsFailedLines style planned pairs = Adds (AreLines (IsFailedLine style planned.tables.now planned.problem.now) pairs)
+abbrev pub AddsFailedLines : LineForm → PlannedProblem → (pairs : List (ℕ × ℕ)) → (old new : List ℕ) → Type 0
+AddsFailedLines form planned pairs = Adds (AreLines (IsFailedLine form.style (names_of form) planned.tables.now planned.problem.now) pairs)
 
-abbrev pub AddsPairLines : Style → PlannedProblem → (pairs : List (ℕ × ℕ)) → (old new : List ℕ) → Type 0
-AddsPairLines style planned pairs = Adds (ArePairLines style planned.tables.now planned.problem.now (priced_plan planned) pairs)
+abbrev pub AddsPairLines : LineForm → PlannedProblem → (pairs : List (ℕ × ℕ)) → (old new : List ℕ) → Type 0
+AddsPairLines form planned pairs = Adds (ArePairLines form.style (names_of form) planned.tables.now planned.problem.now (priced_plan planned) pairs)
 
 -- the line of a wagon
 abbrev pub AddsOwnLine : Style → PlannedProblem → (i : ℕ) → (old new : List ℕ) → Type 0

@@ -1,4 +1,5 @@
 use Rattle.std.proofs.Common.{ℕ, length, ◌∙◌}
+use Rattle.plan_reasons.specs.PlaceFields.{names_of}
 use Rattle.plan_reasons.specs.Planned.{priced_plan}
 use Rattle.plan_reasons.specs.inner.AddedPairs.{IsPairOf}
 use Rattle.plan_reasons.proofs.PairTexts.{all_of_range, text_of_order}
@@ -11,4 +12,4 @@ push_pairs-requires-clause-pairs c =
 
 pub returns : goal.returns
 returns c =
-    text_of_order c.args.style c.args.planned.now.tables.now c.args.planned.now.problem.now (priced_plan c.args.planned.now) _ _ _ _ c.new-text.ensures.bytes (c.in_ok-push_pairs.ensures {u = tt}) c.args.j (c.deref.ensures.value ∙ c.in_ok-pairs.ensures) (c.in_ok-push_order_line.ensures {u = tt})
+    text_of_order c.args.form.now.style (names_of c.args.form.now) c.args.planned.now.tables.now c.args.planned.now.problem.now (priced_plan c.args.planned.now) _ _ _ _ c.new-text.ensures.bytes (c.in_ok-push_pairs.ensures {u = tt}) c.args.j (c.deref.ensures.value ∙ c.in_ok-pairs.ensures) (c.in_ok-push_order_line.ensures {u = tt})

@@ -3,6 +3,7 @@ use Rattle.std.specs.Prelude.{slice_get}
 use Rattle.std.proofs.lemmas.Result.{on_ok_weaker}
 use Rattle.move_messages.specs.Order.{Order}
 use Rattle.plan_reasons.specs.Reasons.{IsCheaper}
+use Rattle.plan_reasons.specs.PlaceFields.{names_of}
 use Rattle.plan_reasons.specs.Planned.{priced_plan}
 use Rattle.plan_reasons.proofs.Arrivals.{standing}
 use Rattle.plan_reasons.proofs.Passing.{cheaper_passing}
@@ -31,4 +32,4 @@ returns c =
     let wanted = c.index-orders-pair.result in
     let free : slice_get problem.wagons c.args.pair.0 ≡ Some wagon = standing c.wagons.result.now problem.wagons c.args.pair.0 wagon c.wagons.ensures.wagons c.requires.pair.0 c.index-wagons-pair.is in
     let stands : slice_get problem.orders c.args.pair.1 ≡ Some wanted = standing c.orders.result.now problem.orders c.args.pair.1 wanted c.orders.ensures.orders c.requires.pair.1 c.index-orders-pair.is in
-    on_ok_weaker c.push_test_line.result (λ line. failed_added c.args.style net problem (priced_plan c.args.planned.now) c.args.pair wagon wanted c.at-at.result c.order-order.result.now c.first_failed-test.result _ _ free stands c.at-at.ensures c.order-order.ensures c.first_failed-test.ensures line) c.push_test_line.ensures
+    on_ok_weaker c.push_test_line.result (λ line. failed_added c.args.form.now.style net problem (priced_plan c.args.planned.now) c.args.pair wagon wanted (names_of c.args.form.now) c.at-at.result c.order-order.result.now c.first_failed-test.result _ _ free stands c.at-at.ensures c.order-order.ensures c.first_failed-test.ensures line) c.push_test_line.ensures

@@ -1,11 +1,12 @@
 use Rattle.std.proofs.Common.{◌+◌, ℕ, take, get_or, refl, sym, string_bytes, arith}
 use Rattle.reply_texts.proofs.Lines.{Adds-line, Adds-lines-along, taken_more}
 use Rattle.plan_reasons.specs.Pairs.{IsFailedLine}
+use Rattle.plan_reasons.specs.PlaceFields.{names_of}
 use Rattle.plan_reasons.proofs.pair_lists.push_failing.Goals as goal
 
 pub loop-pair-preserved : goal.loop-pair-preserved
 loop-pair-preserved c =
-    let is_line = IsFailedLine c.args.style c.args.planned.now.tables.now c.args.planned.now.problem.now in
+    let is_line = IsFailedLine c.args.form.now.style (names_of c.args.form.now) c.args.planned.now.tables.now c.args.planned.now.problem.now in
     let pairs = c.args.failing.now in
     let i = c.loop-pair.pair-index in
     let pair : ℕ × ℕ = get_or pairs i (0, 0) in
