@@ -80,10 +80,10 @@ impl IndexedProblem {
     }
 
     /// The same wagons and orders at another moment.
-    pub fn copy_at(&self, alloc: Global, at: Moment) -> Result<Problem, AllocError>
+    pub fn copy_at(&self, at: Moment) -> Result<Problem, AllocError>
         ensures { IfOk result (λ problem. problem ≡ record self.now { at = at }) }
     {
-        self.problem.copy_at(alloc, at)
+        self.problem.copy_at(at)
     }
 
     /// The wagon of a number, where the problem has it.

@@ -34,7 +34,7 @@ impl MadeProblem {
         ensures { IfOk result (IsMadeOf tables.now network problem.now) }
     {
         let timed = timed_cells(alloc, problem, tables)?;
-        let problem = IndexedProblem::of(alloc, problem.copy(alloc)?)?;
+        let problem = IndexedProblem::of(alloc, problem.copy()?)?;
         Ok(MadeProblem {
             problem,
             network,
@@ -55,7 +55,7 @@ impl MadeProblem {
         ensures { IfOk result (IsMadeOf tables.now self.now.network problem.now) }
     {
         let timed = changed_cells(alloc, problem, tables, self.problem.problem(), &self.timed)?;
-        let problem = self.problem.with_these_orders(problem.copy(alloc)?)?;
+        let problem = self.problem.with_these_orders(problem.copy()?)?;
         Ok(MadeProblem {
             problem,
             network: self.network,
