@@ -14,7 +14,7 @@ mod ledger;
 mod limits;
 mod made_problem;
 mod reply;
-mod same_orders;
+mod same_names;
 mod snap;
 
 pub use answer::Answer;
