@@ -396,7 +396,7 @@ impl Book {
         ensures { IfOk result (λ problem. problem ≡ problem_of (replay self.now.setting self.now.state.history) at) }
     {
         match self.made_for(at) {
-            Some(made) => made.problem.copy_at(alloc, at),
+            Some(made) => made.problem.copy_at(at),
             None => self.state().problem(alloc, at),
         }
     }

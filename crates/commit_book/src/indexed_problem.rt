@@ -9,6 +9,7 @@ ghost use Rattle.cost_table.specs.Problem.{names_of_problem, order_names, wagon_
 ghost use Rattle.commit_book.specs.Commits.{wagon_of};
 ghost use Rattle.commit_book.specs.inner.Indexed.{Ascend, IsOrderIndex};
 
+use crate::same_names::have_same_names;
 use cost_table::{PairNames, Problem};
 use rail_codes::{Moment, OrderId, WagonNumber};
 use std::alloc::{AllocError, Global};
@@ -22,7 +23,7 @@ use wagons_and_orders::{FreeWagon, Wanted};
 #[derive(Debug, Drop)]
 pub(crate) struct IndexedProblem {
     problem: Problem,
-    // The position of each order by its name. Problems with the same orders share it.
+    // The position of each order by its name. Problems whose orders have the same names share it.
     orders: Arc<BTreeMap<OrderId, usize>>,
 }
 
@@ -53,12 +54,14 @@ impl IndexedProblem {
         })
     }
 
-    /// A problem whose wagons ascend by number, with the orders of this one.
-    pub fn with_these_orders(&self, problem: Problem) -> Result<IndexedProblem, AllocError>
-        requires ascend { Ascend problem.wagons }
-        requires orders { problem.orders ≡ self.now.orders }
+    /// A problem whose wagons ascend by number, with an index of its orders: the one of this, where the names are the same.
+    pub fn changed(&self, alloc: Global, problem: Problem) -> Result<IndexedProblem, AllocError>
+        requires { Ascend problem.wagons }
         ensures { IfOk result (λ indexed. indexed ≡ problem) }
     {
+        if !have_same_names(self.problem.orders(), problem.orders()) {
+            return IndexedProblem::of(alloc, problem);
+        }
         Ok(IndexedProblem {
             problem,
             orders: Arc::try_clone(&self.orders)?,
@@ -80,10 +83,10 @@ impl IndexedProblem {
     }
 
     /// The same wagons and orders at another moment.
-    pub fn copy_at(&self, alloc: Global, at: Moment) -> Result<Problem, AllocError>
+    pub fn copy_at(&self, at: Moment) -> Result<Problem, AllocError>
         ensures { IfOk result (λ problem. problem ≡ record self.now { at = at }) }
     {
-        self.problem.copy_at(alloc, at)
+        self.problem.copy_at(at)
     }
 
     /// The wagon of a number, where the problem has it.

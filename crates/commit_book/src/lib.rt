@@ -15,7 +15,7 @@ mod ledger;
 mod limits;
 mod made_problem;
 mod reply;
-mod same_orders;
+mod same_names;
 mod snap;
 
 pub use answer::Answer;

@@ -5,7 +5,6 @@ ghost use Rattle.commit_book.specs.inner.Indexed.{Ascend};
 ghost use Rattle.commit_book.specs.inner.Kept.{IsMadeOf, IsChangeable, covers};
 
 use crate::indexed_problem::IndexedProblem;
-use crate::same_orders::are_same_orders;
 use cost_table::Problem;
 use line_network::Tables;
 use problem_table::{TimedCells, changed_cells, timed_cells};
@@ -34,7 +33,7 @@ impl MadeProblem {
         ensures { IfOk result (IsMadeOf tables.now network problem.now) }
     {
         let timed = timed_cells(alloc, problem, tables)?;
-        let problem = IndexedProblem::of(alloc, problem.copy(alloc)?)?;
+        let problem = IndexedProblem::of(alloc, problem.copy()?)?;
         Ok(MadeProblem {
             problem,
             network,
@@ -55,7 +54,7 @@ impl MadeProblem {
         ensures { IfOk result (IsMadeOf tables.now self.now.network problem.now) }
     {
         let timed = changed_cells(alloc, problem, tables, self.problem.problem(), &self.timed)?;
-        let problem = self.problem.with_these_orders(problem.copy(alloc)?)?;
+        let problem = self.problem.changed(alloc, problem.copy()?)?;
         Ok(MadeProblem {
             problem,
             network: self.network,
@@ -63,13 +62,12 @@ impl MadeProblem {
         })
     }
 
-    /// Whether the table of a problem over the same network can be made by changing this one: at the same moment or a later
-    /// one the same orders wait.
+    /// Whether the table of a problem over the same network can be made by changing this one: it is of the same moment or a
+    /// later one.
     pub fn is_changeable(&self, problem: &Problem) -> bool
         ensures { IsTrue result ↔ IsChangeable self.now problem.now }
     {
         self.problem.at() <= problem.at()
-            && are_same_orders(self.problem.problem().orders(), problem.orders())
     }
 
     /// Whether the table is that of the same wagons and orders at this moment, too.

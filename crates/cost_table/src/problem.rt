@@ -12,17 +12,18 @@ use crate::limits::{MAX_TABLE_LACK, MAX_TABLE_ORDERS, MAX_TABLE_WAGONS};
 use crate::pair_names::PairNames;
 use faults::TableFault;
 use rail_codes::{Moment, OrderId, WagonNumber};
-use std::alloc::{AllocError, Global};
+use std::alloc::AllocError;
 use std::marker::Model;
+use std::sync::Arc;
 use wagons_and_orders::{FreeWagon, Wanted};
 
 /// Free wagons and waiting orders at a moment: at most 1,000 wagons, 500 orders, and 500 lacking wagons in all;
-/// no wagon and no order is listed twice. A contract sees the moment and the two lists.
+/// no wagon and no order is listed twice. A contract sees the moment and the two lists, which copies share.
 #[derive(Debug, Drop)]
 pub struct Problem {
     at: Moment,
-    wagons: Vec<FreeWagon>,
-    orders: Vec<Wanted>,
+    wagons: Arc<Vec<FreeWagon>>,
+    orders: Arc<Vec<Wanted>>,
 }
 
 impl Model for Problem {
@@ -31,9 +32,9 @@ impl Model for Problem {
 
     ghost Value = { ProblemValue };
 
-    ghost view = { λ p. record { at = p.at; wagons = p.wagons.items; orders = p.orders.items } };
+    ghost view = { λ p. record { at = p.at; wagons = p.wagons.value.items; orders = p.orders.value.items } };
 
-    ghost invariant = { λ p. IsProblem (record { at = p.at; wagons = p.wagons.items; orders = p.orders.items }) };
+    ghost invariant = { λ p. IsProblem (record { at = p.at; wagons = p.wagons.value.items; orders = p.orders.value.items }) };
 }
 
 impl Problem {
@@ -42,10 +43,10 @@ impl Problem {
     /// with the first wagon that repeats an earlier one, else `DuplicateOrder` (52) likewise. Allocates nothing.
     pub fn new(
         at: Moment,
-        wagons: Vec<FreeWagon>,
-        orders: Vec<Wanted>,
+        wagons: Arc<Vec<FreeWagon>>,
+        orders: Arc<Vec<Wanted>>,
     ) -> Result<Problem, TableFault>
-        ensures { result ≡ problem_or_fault at wagons.items orders.items }
+        ensures { result ≡ problem_or_fault at wagons.value.items orders.value.items }
     {
         if wagons.len() > MAX_TABLE_WAGONS || lack_too_much(&orders) {
             return Err(TableFault::TooLarge);
@@ -61,26 +62,26 @@ impl Problem {
 
     /// The problem of wagons and orders that are known to make one, as an office's rows do: no list is searched for
     /// names that stand twice. Allocates nothing.
-    pub fn of_distinct(at: Moment, wagons: Vec<FreeWagon>, orders: Vec<Wanted>) -> Problem
-        requires { IsProblem (record { at = at; wagons = wagons.items; orders = orders.items }) }
-        ensures { result ≡ record { at = at; wagons = wagons.items; orders = orders.items } }
+    pub fn of_distinct(at: Moment, wagons: Arc<Vec<FreeWagon>>, orders: Arc<Vec<Wanted>>) -> Problem
+        requires { IsProblem (record { at = at; wagons = wagons.value.items; orders = orders.value.items }) }
+        ensures { result ≡ record { at = at; wagons = wagons.value.items; orders = orders.value.items } }
     {
         Problem { at, wagons, orders }
     }
 
-    /// The same problem once more.
-    pub fn copy(&self, alloc: Global) -> Result<Problem, AllocError>
+    /// The same problem once more, which shares the lists. Takes no memory.
+    pub fn copy(&self) -> Result<Problem, AllocError>
         ensures { IfOk result (λ problem. problem ≡ self.now) }
     {
-        self.copy_at(alloc, self.at)
+        self.copy_at(self.at)
     }
 
-    /// The same wagons and orders at another moment.
-    pub fn copy_at(&self, alloc: Global, at: Moment) -> Result<Problem, AllocError>
+    /// The same wagons and orders at another moment. Takes no memory.
+    pub fn copy_at(&self, at: Moment) -> Result<Problem, AllocError>
         ensures { IfOk result (λ problem. problem ≡ record self.now { at = at }) }
     {
-        let wagons = Vec::from_slice(alloc, &self.wagons)?;
-        let orders = Vec::from_slice(alloc, &self.orders)?;
+        let wagons = Arc::try_clone(&self.wagons)?;
+        let orders = Arc::try_clone(&self.orders)?;
         Ok(Problem::of_distinct(at, wagons, orders))
     }
 

@@ -29,6 +29,19 @@ impl TableRows {
         })
     }
 
+    /// No row yet, with room for the places of so many, and none to share.
+    pub fn empty(alloc: Global, count: usize) -> Result<TableRows, AllocError>
+        ensures shared { IfOk result (λ rows. rows.shared.value ≡ []) }
+        ensures rows { IfOk result (λ rows. rows_in rows ≡ []) }
+        ensures placed { IfOk result ArePlaced }
+    {
+        Ok(TableRows {
+            shared: Arc::new(alloc, RowBlock::new(alloc))?,
+            own: RowBlock::new(alloc),
+            places: Vec::with_capacity(alloc, count)?,
+        })
+    }
+
     /// No row yet, with room for the places of so many; it shares the block of another table's rows.
     pub fn sharing(alloc: Global, other: &TableRows, count: usize) -> Result<TableRows, AllocError>
         ensures shared { IfOk result (λ rows. rows.shared.value ≡ other.now.shared.value) }
@@ -87,6 +100,34 @@ impl TableRows {
             return Ok(());
         }
         self.push(other.row(i))
+    }
+
+    /// Appends row `i` of this table once more, which isn't copied. `Err` only when out of memory; then there are the same
+    /// rows.
+    pub fn repeat(&mut self, i: usize) -> Result<(), AllocError>
+        requires placed { ArePlaced self.old }
+        requires wagon { i < length (rows_in self.old) }
+        ensures pushed { OnOk result (HasRowMore self.old self.new (slice_index_or (rows_in self.old) i [])) }
+        ensures kept { OnErr result (HasSameRows self.old self.new) }
+    {
+        let place = self.places[i];
+        self.places.push(place)?;
+        Ok(())
+    }
+
+    /// The same rows, where all are the table's own: other tables may share them now.
+    pub fn to_share(self, alloc: Global) -> Result<TableRows, AllocError>
+        requires placed { ArePlaced self }
+        requires own { self.shared.value ≡ [] }
+        ensures rows { IfOk result (λ rows. rows_in rows ≡ rows_in self) }
+        ensures placed { IfOk result ArePlaced }
+    {
+        let TableRows { own, places, .. } = self;
+        Ok(TableRows {
+            shared: Arc::new(alloc, own)?,
+            own: RowBlock::new(alloc),
+            places,
+        })
     }
 
     /// Whether so many rows are the table's own that a table made anew would serve better as one to share: over a quarter

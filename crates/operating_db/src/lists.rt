@@ -36,10 +36,13 @@ fn wanted_among(
 ) -> Result<Vec<Wanted>, AllocError>
     ensures { IfOk result (λ wanted. wanted.items ≡ filter_map (wanted_at rows.now) indices.now) }
 {
-    indices
-        .iter()
-        .filter_map(|index| wanted_at(rows, *index))
-        .collect(alloc)
+    let mut wanted = Vec::with_capacity(alloc, indices.len())?;
+    for place in indices {
+        if let Some(one) = wanted_at(rows, *place) {
+            wanted.push_reserved(one);
+        }
+    }
+    Ok(wanted)
 }
 
 /// The order at an index, with how many wagons it lacks, where one stands there and lacks one.

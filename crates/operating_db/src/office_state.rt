@@ -30,6 +30,7 @@ use move_messages::{Event, Message, OrderText};
 use rail_codes::{ClassCode, Moment, OrderId, Place, WagonNumber};
 use std::alloc::{AllocError, Global};
 use std::marker::Model;
+use std::sync::Arc;
 use wagons_and_orders::{OrderRow, WagonRow, free, step};
 
 /// The rows of the wagons and of the orders, and the network in force. A wagon is promised to an order exactly where
@@ -184,8 +185,10 @@ impl OfficeState {
     {
         // For the prover alone: no name stands twice among the orders, and the open ones want at most 500 wagons.
         let _rows = self.orders.as_slice();
-        let wagons = free_wagons(alloc, self.wagons.as_slice())?;
-        let orders = waiting_orders(alloc, &self.orders)?;
+        let free = free_wagons(alloc, self.wagons.as_slice())?;
+        let waiting = waiting_orders(alloc, &self.orders)?;
+        let wagons = Arc::new(alloc, free)?;
+        let orders = Arc::new(alloc, waiting)?;
         Ok(Problem::of_distinct(at, wagons, orders))
     }
 

@@ -13,7 +13,7 @@ use Rattle.wagons_and_orders.specs.Wanted.{WantedOrder}
 use Rattle.line_network.specs.Network.{NetworkValue, place_index, are_one_place}
 use Rattle.line_network.specs.Distance.{IsDistance}
 use Rattle.problem_table.specs.declared.goals.Goal.{Goal}
-use Rattle.problem_table.specs.inner.Goals.{goal_at, goal_of, goals_from, goals_of}
+use Rattle.problem_table.specs.inner.Goals.{goal_at, goal_of, goals_from}
 use Rattle.std.proofs.lemmas.List.{get_or_push, take_more}
 use Rattle.cost_table.specs.Names.{is_name}
 use Rattle.problem_table.specs.declared.goals.ClassGoals.{ClassGoals}
@@ -124,13 +124,13 @@ module _ (net : NetworkValue) (class : List ℕ) where
       ∙ sym (append_assoc (option_to_list (goal_of net class j w)) (goals_from net class (j + 1) ws) _)
 
   -- the goals go on with that of the next order, if it has one
-  pub goals_next : (orders : List WantedOrder) (j : ℕ) (wanted : WantedOrder) (o : Option Goal) (goals new : List Goal) → j < length orders → wanted ≡ get_or orders j wanted → o ≡ goal_of net class j wanted → goals ≡ goals_of net class (take j orders) → new ≡ goals ++ option_to_list o → new ≡ goals_of net class (take (j + 1) orders)
-  goals_next orders j wanted o goals new within at is h added =
+  pub goals_next : (first : ℕ) (orders : List WantedOrder) (j : ℕ) (wanted : WantedOrder) (o : Option Goal) (goals new : List Goal) → j < length orders → wanted ≡ get_or orders j wanted → o ≡ goal_of net class (first + j) wanted → goals ≡ goals_from net class first (take j orders) → new ≡ goals ++ option_to_list o → new ≡ goals_from net class first (take (j + 1) orders)
+  goals_next first orders j wanted o goals new within at is h added =
       let short : length (take j orders) ≡ j = length-take-le j orders (omega arith) in
       let more : take (j + 1) orders ≡ take j orders ++ wanted ∷ [] = take_more orders j wanted within ∙ ap (λ y. take j orders ++ y ∷ []) (sym at) in
-      added ∙ (ap (λ gs. gs ++ option_to_list o) h ∙ ap (λ (p : Option Goal). goals_of net class (take j orders) ++ option_to_list p) is)
-      ∙ (ap (λ (k : ℕ). goals_of net class (take j orders) ++ option_to_list (goal_of net class k wanted)) (omega (arith, short))
-      ∙ (sym (goals_from-push (take j orders) 0 wanted) ∙ ap (goals_of net class) (sym more)))
+      added ∙ (ap (λ gs. gs ++ option_to_list o) h ∙ ap (λ (p : Option Goal). goals_from net class first (take j orders) ++ option_to_list p) is)
+      ∙ (ap (λ (k : ℕ). goals_from net class first (take j orders) ++ option_to_list (goal_of net class k wanted)) (omega (arith, short))
+      ∙ (sym (goals_from-push (take j orders) first wanted) ∙ ap (goals_from net class first) (sym more)))
 
 -- the next goal: its order behind the orders without a goal, and the orders behind it
 pub record NextGoal (net : NetworkValue) (class : List ℕ) (j : ℕ) (later : List WantedOrder) (goal : Goal) (rest : List Goal) : Type 0 where

@@ -11,16 +11,9 @@ use Rattle.problem_table.specs.Allowed.{Reaches}
 use Rattle.problem_table.specs.declared.goals.Goal.{Goal}
 use Rattle.problem_table.specs.inner.AllowedRows.{AddsRow}
 use Rattle.problem_table.specs.inner.Goals.{goal_of, goals_from, goals_of}
+use Rattle.problem_table.specs.inner.RowsSoFar.{RowSoFar}
 use Rattle.problem_table.proofs.AllowedLemmas.{AddsRow-start, AddsRow-next, cell_of}
 use Rattle.problem_table.proofs.GoalLemmas.{next_goal, goal_within, unreached}
-
--- The row so far has the orders before; the goals that are left are those of the later ones.
-pub record RowSoFar (net : NetworkValue) (at : ℕ) (wagon : FreeWagon) (orders : List WantedOrder) (left : List Goal) (old now : List (ℕ × ℕ)) : Type 0 where
-  pub before : List WantedOrder
-  pub later : List WantedOrder
-  pub all : before ++ later ≡ orders
-  pub left_is : left ≡ goals_from net wagon.class (length before) later
-  pub row : AddsRow (λ wanted. Reaches net at wagon wanted.order) before old now
 
 -- the next goal stands first among those that are left
 pub left_first : (goals : List Goal) (k : ℕ) (goal : Goal) → k < length goals → goal ≡ get_or goals k goal → drop k goals ≡ goal ∷ drop (k + 1) goals

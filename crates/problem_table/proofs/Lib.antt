@@ -1,5 +1,9 @@
+pub mod AlikeLemmas
 pub mod AllowedLemmas
-pub mod Made
 pub mod ChangedLemmas
 pub mod GoalLemmas
 pub mod GoalSteps
+pub mod Made
+pub mod MakingLemmas
+pub mod MovedLemmas
+pub mod MovedSteps

@@ -1,15 +1,18 @@
 //! The table of a problem over a network.
-ghost use Rattle.std.specs.Prelude.{◌≡◌, ◌+◌, ◌*◌, ◌<◌, ◌≤◌, ℕ, IfNone, IfOk, IfSome, Option, Some, length, max};
+ghost use Rattle.std.specs.Prelude.{◌≡◌, ◌+◌, ◌*◌, ◌<◌, ◌≤◌, [], ℕ, IfNone, IfOk, IfSome, Option, Some, length, max};
 ghost use Rattle.line_network.specs.Network.{place_index};
 ghost use Rattle.problem_table.specs.Allowed.{IsTableOf};
 ghost use Rattle.problem_table.specs.Lasting.{IsLastingTable};
-ghost use Rattle.problem_table.specs.inner.AllowedRows.{AddsRowUntil, AreLastingRows};
+ghost use Rattle.problem_table.specs.inner.AllowedRows.{AreLastingRows, IsLastingRow};
 ghost use Rattle.problem_table.specs.inner.Goals.{IsWayTo, goals_of};
+ghost use Rattle.problem_table.specs.inner.RowsSoFar.{RowSoFar};
+ghost use Rattle.cost_table.specs.SharedRows.{ArePlaced, rows_in};
 ghost use Rattle.cost_table.specs.TableLimits.{max_cost};
 
-use crate::goals::{Goal, class_position};
+use crate::goals::Goal;
 use crate::lasting::{TimedCells, timed};
-use cost_table::{Cells, Problem, RowBlock, TableRows};
+use crate::making::{Making, make};
+use cost_table::{Cells, Problem, TableRows};
 use line_network::Tables;
 use rail_codes::Moment;
 use std::alloc::{AllocError, Global};
@@ -36,61 +39,77 @@ pub fn timed_cells(
     ensures lasts { IfOk result (λ made. (m : ℕ) → problem.now.at ≤ m → m ≤ made.until → IsTableOf tables.now (record problem.now { at = m }) made.cells) }
     ensures by_wagon { IfOk result (λ made. IsLastingTable tables.now problem.now made.cells made.lasts.items) }
 {
-    let (block, lasts) = rows(alloc, problem, tables)?;
-    let rows = TableRows::of_block(alloc, block)?;
+    let (rows, lasts) = rows(alloc, problem, tables)?;
     timed(alloc, problem, rows, lasts)
 }
 
-/// The rows of all wagons one after another, and up to which moment each is that row.
+/// The rows of all wagons, and up to which moment each is that row.
 fn rows(
     alloc: Global,
     problem: &Problem,
     tables: &Tables,
-) -> Result<(RowBlock, Vec<u64>), AllocError>
-    ensures { IfOk result (λ r. AreLastingRows tables.now problem.now.at problem.now.wagons problem.now.orders r.0 r.1.items) }
+) -> Result<(TableRows, Vec<u64>), AllocError>
+    ensures placed { IfOk result (λ r. ArePlaced r.0) }
+    ensures rows { IfOk result (λ r. AreLastingRows tables.now problem.now.at problem.now.wagons problem.now.orders (rows_in r.0) r.1.items) }
 {
     let wagons = problem.wagons();
-    let orders = problem.orders();
-    let network = tables.network();
-    let mut classes = Vec::new(alloc);
-    let mut entries = Vec::new(alloc);
-    let mut ends = Vec::with_capacity(alloc, wagons.len())?;
-    let mut lasts = Vec::with_capacity(alloc, wagons.len())?;
-    for wagon in wagons {
-        let k = class_position(alloc, &mut classes, wagon.class, network, orders)?;
-        let last = push_row(&mut entries, problem, wagon, &classes[k].goals, tables)?;
-        ends.push(entries.len())?;
-        lasts.push(last)?;
+    let rows = TableRows::empty(alloc, wagons.len())?;
+    let mut making = Making::beginning(alloc, rows, wagons.len())?;
+    for (k, wagon) in wagons.iter().enumerate() {
+        make(alloc, &mut making, problem, tables, k, wagon)?;
     }
-    Ok((RowBlock::of(entries, ends), lasts))
+    let rows = making.rows.to_share(alloc)?;
+    Ok((rows, making.lasts))
 }
 
-/// Appends the row of one wagon, by the goals of its class, and says up to which moment it is that row.
+/// Adds the row of one wagon to no entries, by the goals of its class, and says up to which moment it is that row. The
+/// number of the wagon's place is handed in.
 pub(crate) fn push_row(
     entries: &mut Vec<(u32, u32)>,
     problem: &Problem,
     wagon: &FreeWagon,
+    from: Option<usize>,
     goals: &[Goal],
     tables: &Tables,
 ) -> Result<u64, AllocError>
+    requires none { entries.old.items ≡ [] }
+    requires from { from ≡ place_index tables.now.places wagon.now.place }
     requires goals { goals.now ≡ goals_of tables.now wagon.now.class problem.now.orders }
-    ensures row { IfOk result (AddsRowUntil tables.now problem.now.at wagon.now problem.now.orders entries.old.items entries.new.items) }
-    ensures within { IfOk result (λ until. problem.now.at ≤ until) }
+    ensures row { IfOk result (λ last. IsLastingRow tables.now problem.now.at wagon.now problem.now.orders entries.new.items last) }
+    ensures within { IfOk result (λ last. problem.now.at ≤ last) }
+{
+    // For the prover alone: a moment is below the greatest number.
+    let _at = problem.at();
+    push_goals(entries, problem, wagon, from, goals, tables, u64::MAX)
+}
+
+/// Goes on with the row of one wagon, which is known up to a last moment, by the goals of later orders, and says up to which
+/// moment it is that row.
+pub(crate) fn push_goals(
+    entries: &mut Vec<(u32, u32)>,
+    problem: &Problem,
+    wagon: &FreeWagon,
+    from: Option<usize>,
+    goals: &[Goal],
+    tables: &Tables,
+    until: u64,
+) -> Result<u64, AllocError>
+    requires from { from ≡ place_index tables.now.places wagon.now.place }
+    requires within { problem.now.at ≤ until }
+    requires so_far { (m : ℕ) → problem.now.at ≤ m → m ≤ until → RowSoFar tables.now m wagon.now problem.now.orders goals.now [] entries.old.items }
+    ensures row { IfOk result (λ last. IsLastingRow tables.now problem.now.at wagon.now problem.now.orders entries.new.items last) }
+    ensures within { IfOk result (λ last. problem.now.at ≤ last) }
 {
     let at = problem.at();
-    let mut until = u64::MAX;
-    if goals.is_empty() {
-        return Ok(until);
-    }
-    let from = tables.network().index_of(wagon.place);
+    let mut last = until;
     entries.reserve(goals.len())?;
     for goal in goals {
         if let Some(way) = way_to(tables, from, *goal, at, wagon) {
             entries.push_reserved((goal.order, way.km));
-            until = until.min(way.last_start);
+            last = last.min(way.last_start);
         }
     }
-    Ok(until)
+    Ok(last)
 }
 
 /// The way of a wagon to a goal that it reaches in time: the kilometres, and the last moment at which it may start, in

@@ -1,22 +1,27 @@
 //! The table of a problem, changed from that of an earlier one.
-ghost use Rattle.std.specs.Prelude.{◌≡◌, ◌<◌, ◌≤◌, ◌↔◌, ◌++◌, ◌∷◌, [], ℕ, All, IfOk, IfSome, IsTrue, OnOk, Some, length, slice_get, slice_index_or};
+ghost use Rattle.std.specs.Prelude.{◌≡◌, ◌+◌, ◌<◌, ◌≤◌, ◌↔◌, [], ℕ, IfOk, IfSome, IsTrue, OnOk, Some, length, slice_get, slice_index_or};
 ghost use Rattle.problem_table.specs.Allowed.{IsTableOf};
 ghost use Rattle.problem_table.specs.Lasting.{IsLastingTable};
-ghost use Rattle.problem_table.specs.inner.AllowedRows.{AddsWagon, AreLastingRows};
-ghost use Rattle.cost_table.specs.SharedRows.{ArePlaced, HasRowMore, rows_in};
-ghost use Rattle.problem_table.specs.inner.Goals.{AreGoalsOf};
+ghost use Rattle.problem_table.specs.inner.AllowedRows.{AreLastingRows, IsLastingRow};
+ghost use Rattle.problem_table.specs.inner.Making.{AddsRowUntil, AddsWagon, AreMade};
+ghost use Rattle.problem_table.specs.inner.Moved.{AreCome, AreMoved, GoesAlong, HaveSameTexts};
+ghost use Rattle.problem_table.specs.inner.RowsSoFar.{RowSoFar};
+ghost use Rattle.cost_table.specs.SharedRows.{ArePlaced, rows_in};
 
-use crate::allowed::{push_row, timed_cells};
-use crate::goals::{ClassGoals, class_position};
+use crate::alike::{Seen, is_alike_before};
+use crate::allowed::push_goals;
+use crate::goals::{ClassGoals, Goal, class_position};
 use crate::lasting::{TimedCells, timed};
+use crate::making::{Making, make, repeat};
+use crate::moved::{Moved, have_same_texts, move_cells};
 use cost_table::{Problem, TableRows};
 use line_network::Tables;
 use rail_codes::{Moment, WagonNumber};
 use std::alloc::{AllocError, Global};
 use wagons_and_orders::FreeWagon;
 
-/// What `timed_cells` answers, made out of the table of an earlier problem with the same orders: the cells of a wagon that
-/// is as it was then, and whose last moment isn't past, are taken over, and those of the others are found.
+/// What `timed_cells` answers, made out of the table of an earlier problem: the cells of a wagon that is as it was then, and
+/// whose last moment isn't past, are taken over for the orders that stay, and those of the others are found.
 pub fn changed_cells(
     alloc: Global,
     problem: &Problem,
@@ -25,34 +30,45 @@ pub fn changed_cells(
     made: &TimedCells,
 ) -> Result<TimedCells, AllocError>
     requires earlier { earlier.now.at ≤ problem.now.at }
-    requires orders { earlier.now.orders ≡ problem.now.orders }
     requires made { IsLastingTable tables.now earlier.now made.now.cells made.now.lasts.items }
     ensures table { IfOk result (λ made. IsTableOf tables.now problem.now made.cells) }
     ensures within { IfOk result (λ made. problem.now.at ≤ made.until) }
     ensures lasts { IfOk result (λ made. (m : ℕ) → problem.now.at ≤ m → m ≤ made.until → IsTableOf tables.now (record problem.now { at = m }) made.cells) }
     ensures by_wagon { IfOk result (λ made. IsLastingTable tables.now problem.now made.cells made.lasts.items) }
 {
-    let rows = made.cells.rows();
-    if rows.are_scattered() {
-        return timed_cells(alloc, problem, tables);
-    }
-    let (rows, lasts) = changed_rows(alloc, problem, tables, earlier, rows, &made.lasts)?;
+    let (rows, lasts) = rows_after(alloc, problem, tables, earlier, made)?;
     timed(alloc, problem, rows, lasts)
 }
 
-/// The rows so far, and what is kept to find more of them.
-#[derive(Drop)]
-struct Changing {
-    rows: TableRows,
-    lasts: Vec<u64>,
-    /// The goals of the classes of the wagons whose rows were found.
-    classes: Vec<ClassGoals>,
-    /// The row that was found last.
-    found: Vec<(u32, u32)>,
+/// The rows of all wagons, and up to which moment each is that row.
+fn rows_after(
+    alloc: Global,
+    problem: &Problem,
+    tables: &Tables,
+    earlier: &Problem,
+    made: &TimedCells,
+) -> Result<(TableRows, Vec<u64>), AllocError>
+    requires earlier { earlier.now.at ≤ problem.now.at }
+    requires made { IsLastingTable tables.now earlier.now made.now.cells made.now.lasts.items }
+    ensures placed { IfOk result (λ r. ArePlaced r.0) }
+    ensures rows { IfOk result (λ r. AreLastingRows tables.now problem.now.at problem.now.wagons problem.now.orders (rows_in r.0) r.1.items) }
+{
+    let rows = made.cells.rows();
+    if may_share(rows, earlier, problem) {
+        return shared_rows(alloc, problem, tables, earlier, rows, &made.lasts);
+    }
+    moved_rows(alloc, problem, tables, earlier, rows, &made.lasts)
 }
 
-/// The rows of all wagons, and up to which moment each is that row.
-fn changed_rows(
+/// Whether the rows serve as some to share: the orders are the same, and few rows stand outside of their block.
+fn may_share(rows: &TableRows, earlier: &Problem, problem: &Problem) -> bool
+    ensures { IsTrue result → HaveSameTexts earlier.now.orders problem.now.orders }
+{
+    !rows.are_scattered() && have_same_texts(earlier.orders(), problem.orders())
+}
+
+/// The same beside the block of the earlier rows, where the orders are the same.
+fn shared_rows(
     alloc: Global,
     problem: &Problem,
     tables: &Tables,
@@ -67,21 +83,59 @@ fn changed_rows(
     ensures rows { IfOk result (λ r. AreLastingRows tables.now problem.now.at problem.now.wagons problem.now.orders (rows_in r.0) r.1.items) }
 {
     let wagons = problem.wagons();
-    let mut changing = Changing {
-        rows: TableRows::sharing(alloc, rows, wagons.len())?,
-        lasts: Vec::with_capacity(alloc, wagons.len())?,
-        classes: Vec::new(alloc),
-        found: Vec::new(alloc),
-    };
-    let mut k = 0;
-    for wagon in wagons {
-        k = index_from(earlier.wagons(), k, wagon.number);
-        match lasting_row(earlier.wagons(), lasts, k, wagon, problem.at()) {
-            Some(last) => take_over(&mut changing, rows, k, last)?,
-            None => find(alloc, &mut changing, problem, tables, wagon)?,
+    let sharing = TableRows::sharing(alloc, rows, wagons.len())?;
+    let mut making = Making::beginning(alloc, sharing, wagons.len())?;
+    let mut at = 0;
+    for (k, wagon) in wagons.iter().enumerate() {
+        at = index_from(earlier.wagons(), at, wagon.number);
+        match lasting_row(earlier.wagons(), lasts, at, wagon, problem.at()) {
+            Some(last) => take_over(&mut making, rows, at, last)?,
+            None => make(alloc, &mut making, problem, tables, k, wagon)?,
         }
     }
-    Ok((changing.rows, changing.lasts))
+    Ok((making.rows, making.lasts))
+}
+
+/// The same in a block of their own.
+fn moved_rows(
+    alloc: Global,
+    problem: &Problem,
+    tables: &Tables,
+    earlier: &Problem,
+    rows: &TableRows,
+    lasts: &[u64],
+) -> Result<(TableRows, Vec<u64>), AllocError>
+    requires earlier { earlier.now.at ≤ problem.now.at }
+    requires placed { ArePlaced rows.now }
+    requires rows { AreLastingRows tables.now earlier.now.at earlier.now.wagons earlier.now.orders (rows_in rows.now) lasts.now }
+    ensures placed { IfOk result (λ r. ArePlaced r.0) }
+    ensures rows { IfOk result (λ r. AreLastingRows tables.now problem.now.at problem.now.wagons problem.now.orders (rows_in r.0) r.1.items) }
+{
+    let wagons = problem.wagons();
+    let none = TableRows::empty(alloc, wagons.len())?;
+    let mut making = Making::beginning(alloc, none, wagons.len())?;
+    let mut moving = Moving::beginning(alloc, earlier, problem)?;
+    let mut at = 0;
+    for (k, wagon) in wagons.iter().enumerate() {
+        at = index_from(earlier.wagons(), at, wagon.number);
+        match lasting_row(earlier.wagons(), lasts, at, wagon, problem.at()) {
+            Some(last) => take_along(
+                alloc,
+                &mut making,
+                &mut moving,
+                problem,
+                tables,
+                rows,
+                at,
+                last,
+                k,
+                wagon,
+            )?,
+            None => make(alloc, &mut making, problem, tables, k, wagon)?,
+        }
+    }
+    let rows = making.rows.to_share(alloc)?;
+    Ok((rows, making.lasts))
 }
 
 /// From an index on, the first index of a wagon whose number isn't below this one. Where wagons ascend by number, that is
@@ -107,20 +161,13 @@ fn lasting_row(
     ensures last { IfSome result (λ last. slice_get lasts.now k ≡ Some last) }
     ensures within { IfSome result (λ last. at ≤ last) }
 {
-    let there = wagon_at(wagons, k)?;
+    let there = wagons.get(k)?;
     let last = last_at(lasts, k)?;
-    if is_same_wagon(&there, wagon) && at.seconds() <= last {
+    if is_same_wagon(there, wagon) && at.seconds() <= last {
         Some(last)
     } else {
         None
     }
-}
-
-/// The wagon at an index, `None` past the end.
-fn wagon_at(wagons: &[FreeWagon], k: usize) -> Option<FreeWagon>
-    ensures { result ≡ slice_get wagons.now k }
-{
-    wagons.get(k).copied()
 }
 
 /// The last moment at an index, `None` past the end.
@@ -138,52 +185,143 @@ fn is_same_wagon(one: &FreeWagon, other: &FreeWagon) -> bool
 }
 
 /// Takes over the row at an index of the earlier table, which lasts up to this moment.
-fn take_over(
-    changing: &mut Changing,
-    rows: &TableRows,
-    k: usize,
-    last: u64,
-) -> Result<(), AllocError>
-    requires placed { ArePlaced changing.old.rows }
-    requires shared { changing.old.rows.shared.value ≡ rows.now.shared.value }
+fn take_over(making: &mut Making, rows: &TableRows, at: usize, last: u64) -> Result<(), AllocError>
+    requires placed { ArePlaced making.old.rows }
+    requires shared { making.old.rows.shared.value ≡ rows.now.shared.value }
     requires rows { ArePlaced rows.now }
-    requires wagon { k < length (rows_in rows.now) }
-    ensures row { OnOk result (HasRowMore changing.old.rows changing.new.rows (slice_index_or (rows_in rows.now) k [])) }
-    ensures moment { OnOk result (changing.new.lasts.items ≡ changing.old.lasts.items ++ last ∷ []) }
-    ensures classes { OnOk result (changing.new.classes ≡ changing.old.classes) }
+    requires wagon { at < length (rows_in rows.now) }
+    ensures row { OnOk result (AddsRowUntil making.old making.new (slice_index_or (rows_in rows.now) at []) last) }
+    ensures classes { making.new.classes ≡ making.old.classes }
 {
-    changing.rows.take_over(rows, k)?;
-    changing.lasts.push(last)?;
+    making.rows.take_over(rows, at)?;
+    making.lasts.push(last)?;
     Ok(())
 }
 
-/// Finds the row of a wagon.
-fn find(
+/// What is kept while rows go along with their orders.
+#[derive(Drop)]
+pub(crate) struct Moving {
+    pub(crate) moved: Moved,
+    /// The goals of orders that came, by the class of wagons whose rows went along.
+    pub(crate) came: Vec<ClassGoals>,
+    /// The wagons whose rows went along, by where the earlier rows stand.
+    seen: Seen,
+}
+
+impl Moving {
+    /// No row has gone along from an earlier problem to a later one.
+    fn beginning(alloc: Global, earlier: &Problem, problem: &Problem) -> Result<Moving, AllocError>
+        ensures moved { IfOk result (λ moving. AreMoved earlier.now.orders problem.now.orders moving.moved.places.items moving.moved.kept) }
+        ensures came { IfOk result (λ moving. moving.came.items ≡ []) }
+    {
+        Ok(Moving {
+            moved: Moved::between(alloc, earlier.orders(), problem.orders())?,
+            came: Vec::new(alloc),
+            seen: Seen::none(alloc)?,
+        })
+    }
+}
+
+/// Makes the row of wagon `k`, which is the wagon at an index of the earlier table, whose row lasts up to this moment: the
+/// row of an alike wagon before it whose row went along, else its earlier row goes along.
+fn take_along(
     alloc: Global,
-    changing: &mut Changing,
+    making: &mut Making,
+    moving: &mut Moving,
     problem: &Problem,
     tables: &Tables,
+    rows: &TableRows,
+    at: usize,
+    last: u64,
+    k: usize,
     wagon: &FreeWagon,
 ) -> Result<(), AllocError>
-    requires placed { ArePlaced changing.old.rows }
-    requires classes { All (AreGoalsOf tables.now problem.now.orders) changing.old.classes.items }
-    ensures shared { OnOk result (changing.new.rows.shared.value ≡ changing.old.rows.shared.value) }
-    ensures placed { OnOk result (ArePlaced changing.new.rows) }
-    ensures row { OnOk result (AddsWagon tables.now problem.now wagon.now changing.old changing.new) }
-    ensures classes { OnOk result (All (AreGoalsOf tables.now problem.now.orders) changing.new.classes.items) }
+    requires wagon { slice_get problem.now.wagons k ≡ Some wagon.now }
+    requires made { AreMade tables.now problem.now k making.old }
+    requires rows { ArePlaced rows.now }
+    requires row { at < length (rows_in rows.now) }
+    requires along { GoesAlong problem.now tables.now wagon.now moving.old.moved (slice_index_or (rows_in rows.now) at []) last }
+    requires within { problem.now.at ≤ last }
+    requires came { AreCome tables.now problem.now.orders moving.old }
+    ensures made { OnOk result (AreMade tables.now problem.now (k + 1) making.new) }
+    ensures shared { OnOk result (making.new.rows.shared.value ≡ making.old.rows.shared.value) }
+    ensures moved { moving.new.moved ≡ moving.old.moved }
+    ensures came { OnOk result (AreCome tables.now problem.now.orders moving.new) }
 {
-    let orders = problem.orders();
-    let k = class_position(
+    let place = rows.places[at];
+    let i = moving.seen.at(place);
+    if is_alike_before(problem.wagons(), i, k, wagon, problem.at()) {
+        return repeat(making, i);
+    }
+    moving.seen.note(place, k);
+    move_row(
         alloc,
-        &mut changing.classes,
+        making,
+        moving,
+        problem,
+        tables,
+        rows.row(at),
+        last,
+        wagon,
+    )
+}
+
+/// Has an earlier row of a wagon, which lasts up to this moment, go along with its orders, and goes on with it.
+fn move_row(
+    alloc: Global,
+    making: &mut Making,
+    moving: &mut Moving,
+    problem: &Problem,
+    tables: &Tables,
+    row: &[(u32, u32)],
+    last: u64,
+    wagon: &FreeWagon,
+) -> Result<(), AllocError>
+    requires placed { ArePlaced making.old.rows }
+    requires along { GoesAlong problem.now tables.now wagon.now moving.old.moved row.now last }
+    requires within { problem.now.at ≤ last }
+    requires came { AreCome tables.now problem.now.orders moving.old }
+    ensures row { OnOk result (AddsWagon tables.now problem.now wagon.now making.old making.new) }
+    ensures classes { making.new.classes ≡ making.old.classes }
+    ensures moved { moving.new.moved ≡ moving.old.moved }
+    ensures came { OnOk result (AreCome tables.now problem.now.orders moving.new) }
+{
+    let kept = moving.moved.kept;
+    let class = class_position(
+        alloc,
+        &mut moving.came,
         wagon.class,
         tables.network(),
-        orders,
+        kept,
+        &problem.orders()[kept..],
     )?;
-    changing.found.clear();
-    let goals = &changing.classes[k].goals;
-    let last = push_row(&mut changing.found, problem, wagon, goals, tables)?;
-    changing.rows.push(&changing.found)?;
-    changing.lasts.push(last)?;
+    making.found.clear();
+    move_cells(&mut making.found, row, &moving.moved)?;
+    let goals = &moving.came[class].goals;
+    let last = go_on(&mut making.found, problem, wagon, goals, tables, last)?;
+    making.rows.push(&making.found)?;
+    making.lasts.push(last)?;
     Ok(())
+}
+
+/// Goes on with the row of a wagon, which is known up to a last moment, by the goals of later orders, and says up to which
+/// moment it is that row.
+fn go_on(
+    entries: &mut Vec<(u32, u32)>,
+    problem: &Problem,
+    wagon: &FreeWagon,
+    goals: &[Goal],
+    tables: &Tables,
+    last: u64,
+) -> Result<u64, AllocError>
+    requires within { problem.now.at ≤ last }
+    requires so_far { (m : ℕ) → problem.now.at ≤ m → m ≤ last → RowSoFar tables.now m wagon.now problem.now.orders goals.now [] entries.old.items }
+    ensures row { IfOk result (λ last. IsLastingRow tables.now problem.now.at wagon.now problem.now.orders entries.new.items last) }
+    ensures within { IfOk result (λ last. problem.now.at ≤ last) }
+{
+    if goals.is_empty() {
+        return Ok(last);
+    }
+    let from = tables.network().index_of(wagon.place);
+    push_goals(entries, problem, wagon, from, goals, tables, last)
 }

@@ -1,9 +1,9 @@
 //! What a wagon's way to an order depends on, found once for each class of wagons.
-ghost use Rattle.std.specs.Prelude.{◌≡◌, ◌<◌, ◌≤◌, All, IfOk, OnOk, length, position, slice_index_or};
+ghost use Rattle.std.specs.Prelude.{◌≡◌, ◌+◌, ◌<◌, ◌≤◌, All, IfOk, OnOk, length, position, slice_index_or};
 ghost use Rattle.cost_table.specs.Names.{is_name};
 ghost use Rattle.cost_table.specs.TableLimits.{max_table_orders};
 ghost use Rattle.problem_table.specs.declared.goals.ClassGoals.{ClassGoals};
-ghost use Rattle.problem_table.specs.inner.Goals.{AreGoalsOf, goal_of, goals_of};
+ghost use Rattle.problem_table.specs.inner.Goals.{AreGoalsOf, goal_of, goals_from};
 
 use line_network::Network;
 use rail_codes::{ClassCode, Moment};
@@ -30,24 +30,26 @@ pub(crate) struct ClassGoals {
     pub(crate) goals: Vec<Goal>,
 }
 
-/// Where the goals of a class stand among those found so far; they go behind them where they aren't there yet.
+/// Where the goals of a class stand among those found so far; they go behind them where they aren't there yet. The first
+/// of these orders has a position in the problem, and the others follow.
 pub(crate) fn class_position(
     alloc: Global,
     found: &mut Vec<ClassGoals>,
     class: ClassCode,
     network: &Network,
+    first: usize,
     orders: &[Wanted],
 ) -> Result<usize, AllocError>
-    requires few { length orders.now ≤ max_table_orders }
-    requires found { All (AreGoalsOf network.now orders.now) found.old.items }
-    ensures found { OnOk result (All (AreGoalsOf network.now orders.now) found.new.items) }
+    requires few { first + length orders.now ≤ max_table_orders }
+    requires found { All (AreGoalsOf network.now first orders.now) found.old.items }
+    ensures found { OnOk result (All (AreGoalsOf network.now first orders.now) found.new.items) }
     ensures within { IfOk result (λ k. k < length found.new.items) }
     ensures class { IfOk result (λ k. (d : ClassGoals) → (slice_index_or found.new.items k d).class ≡ class) }
 {
     if let Some(k) = position_of_class(found, class) {
         return Ok(k);
     }
-    let goals = goals(alloc, class, network, orders)?;
+    let goals = goals(alloc, class, network, first, orders)?;
     found.push(ClassGoals { class, goals })?;
     Ok(found.len() - 1)
 }
@@ -64,14 +66,15 @@ fn goals(
     alloc: Global,
     class: ClassCode,
     network: &Network,
+    first: usize,
     orders: &[Wanted],
 ) -> Result<Vec<Goal>, AllocError>
-    requires { length orders.now ≤ max_table_orders }
-    ensures { IfOk result (λ goals. goals.items ≡ goals_of network.now class orders.now) }
+    requires { first + length orders.now ≤ max_table_orders }
+    ensures { IfOk result (λ goals. goals.items ≡ goals_from network.now class first orders.now) }
 {
     let mut goals = Vec::new(alloc);
     for (j, wanted) in orders.iter().enumerate() {
-        if let Some(goal) = goal_of(class, network, j as u32, wanted) {
+        if let Some(goal) = goal_of(class, network, (first + j) as u32, wanted) {
             goals.push(goal)?;
         }
     }

@@ -48,9 +48,9 @@ pub record IsMadeOf (network : NetworkValue) (number : ℕ) (problem : ProblemVa
   pub lasts : (m : ℕ) → problem.at ≤ m → m ≤ made.timed.until → IsTableOf network (record problem { at = m }) made.timed.cells
   pub by_wagon : IsLastingTable network problem made.timed.cells made.timed.lasts.items
 
--- whether the table of a problem can be made by changing another's: at the same moment or a later one the same orders wait
+-- whether the table of a problem can be made by changing another's: it is of the same moment or a later one
 abbrev pub IsChangeable : MadeProblem → ProblemValue → Type 0
-IsChangeable made problem = (made.problem.at ≤ problem.at) × (made.problem.orders ≡ problem.orders)
+IsChangeable made problem = made.problem.at ≤ problem.at
 
 -- what kept problems of a version share: the problem of that version at a moment, and a table that is that version's at
 -- each moment of the span

@@ -2,6 +2,7 @@
 
 use cost_table::{Problem, TableFault};
 use std::alloc::Global;
+use std::sync::Arc;
 use std::test::Fail;
 use test_samples::{FAR, NEAR, UNKNOWN, free_wagon, moment, order_id, order_text, time, wagon};
 use wagons_and_orders::{FreeWagon, Wanted};
@@ -20,7 +21,8 @@ fn problem(alloc: Global) -> Result<Problem, Fail> {
     let mut orders = Vec::new(alloc);
     orders.push(wanted("O1", "2026-03-01T04:00:00Z")?)?;
     orders.push(wanted("O2", "2026-03-01T03:59:59Z")?)?;
-    Ok(Problem::new(time(alloc, "01:00")?, wagons, orders)?)
+    let at = time(alloc, "01:00")?;
+    Ok(Problem::new(at, Arc::new(alloc, wagons)?, Arc::new(alloc, orders)?)?)
 }
 
 #[test]
@@ -55,8 +57,8 @@ fn orders(alloc: Global, count: u32) -> Result<Vec<Wanted>, Fail> {
 /// Why so many equal wagons and orders are no problem.
 fn fault_of(alloc: Global, wagon_count: u32, order_count: u32) -> Result<Option<TableFault>, Fail> {
     let at = moment("2026-03-01T01:00:00Z")?;
-    let wagons = wagons(alloc, wagon_count)?;
-    let orders = orders(alloc, order_count)?;
+    let wagons = Arc::new(alloc, wagons(alloc, wagon_count)?)?;
+    let orders = Arc::new(alloc, orders(alloc, order_count)?)?;
     Ok(Problem::new(at, wagons, orders).err())
 }
 

@@ -5,9 +5,7 @@ use Rattle.wagons_and_orders.specs.Wanted.{WantedOrder}
 use Rattle.line_network.specs.Network.{NetworkValue}
 use Rattle.problem_table.specs.Allowed.{Reaches}
 use Rattle.cost_table.specs.TableLimits.{IsRow}
-use Rattle.cost_table.specs.Problem.{ProblemValue, penalties_of, lacks_of}
-use Rattle.cost_table.specs.SharedRows.{rows_in}
-use Rattle.problem_table.specs.declared.changed.Changing.{Changing}
+use Rattle.cost_table.specs.Problem.{penalties_of, lacks_of}
 use Rattle.cost_table.specs.Table.{Table, cost_in}
 
 -- A row of cells: the orders of which R holds at a cost, ascending, each with that cost.
@@ -48,8 +46,3 @@ pub record AddsLastingRow (net : NetworkValue) (at : ℕ) (wagon : FreeWagon) (o
   pub moments : lasts' ≡ lasts ++ last ∷ []
   pub within : at ≤ last
   pub is : IsLastingRow net at wagon orders row last
-
--- the same of a table that is being changed
-abbrev pub AddsWagon : NetworkValue → ProblemValue → FreeWagon → (old new : Changing) → Type 0
-AddsWagon net problem wagon old new =
-    AddsLastingRow net problem.at wagon problem.orders (rows_in old.rows) (rows_in new.rows) old.lasts.items new.lasts.items

@@ -29,9 +29,9 @@ goals_from network class j (wanted ∷ later) = option_to_list (goal_of network 
 abbrev pub goals_of : NetworkValue → List ℕ → List WantedOrder → List Goal
 goals_of network class orders = goals_from network class 0 orders
 
--- whether goals that are kept with a class are those of that class
-abbrev pub AreGoalsOf : NetworkValue → List WantedOrder → ClassGoals → Type 0
-AreGoalsOf network orders kept = kept.goals.items ≡ goals_of network kept.class orders
+-- whether goals that are kept with a class are those of that class, where the first of these orders has a position
+abbrev pub AreGoalsOf : NetworkValue → (first : ℕ) → List WantedOrder → ClassGoals → Type 0
+AreGoalsOf network first orders kept = kept.goals.items ≡ goals_from network kept.class first orders
 
 -- the way of a wagon to a goal: at each moment up to its last start the wagon reaches an order of this goal by its
 -- kilometres; where there is no way, at none

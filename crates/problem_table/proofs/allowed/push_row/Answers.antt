@@ -1,46 +1,6 @@
-use Rattle.std.proofs.Common.{Some, None, rules, sym, append-nil, arith}
-use Rattle.std.proofs.lemmas.List.{drop_all}
-use Rattle.problem_table.proofs.GoalSteps.{left_first, next_within, row_start, row_step, row_end}
+use Rattle.std.proofs.Common.{[], arith}
+use Rattle.problem_table.proofs.GoalSteps.{row_start}
 use Rattle.problem_table.proofs.allowed.push_row.Goals as goal
-use Rattle.problem_table.proofs.allowed.push_row.Goals.{in-Some, in_default}
 
-pub returns-then-is_empty-clause-row : goal.returns-then-is_empty-clause-row
-returns-then-is_empty-clause-row c = λ m l u.
-    row_end c.args.tables.now m c.args.wagon.now c.args.problem.now.orders c.args.goals.now _ _ (drop_all 0 c.args.goals.now (search rules))
-    (row_start c.args.tables.now m c.args.wagon.now c.args.problem.now.orders c.args.goals.now _ c.requires.goals)
-
-pub loop-goal-init : goal.loop-goal-init
-loop-goal-init c = record {
-  row = λ m l u. row_start c.args.tables.now m c.args.wagon.now c.args.problem.now.orders c.args.goals.now _ c.requires.goals;
-  within = search rules;
-  room = search rules;
-}
-
-pub way_to-requires-clause-goal : goal.way_to-requires-clause-goal
-way_to-requires-clause-goal c =
-    let first = left_first c.args.goals.now c.loop-goal.goal-index c.goal-item.result c.loop-goal-test.true c.goal-item.is in
-    next_within c.args.tables.now c.args.problem.now.at c.args.wagon.now c.args.problem.now.orders c.goal-item.result _ _ _ _ first (c.loop-goal.invariant.row c.args.problem.now.at (omega arith) c.loop-goal.invariant.within)
-
-pub loop-goal-preserved : goal.loop-goal-preserved
-loop-goal-preserved c =
-    let first = left_first c.args.goals.now c.loop-goal.goal-index c.goal-item.result c.loop-goal-test.true c.goal-item.is in
-    elim c.match-way_to.branch [
-      | in-Some w ↦ record {
-        row = λ m l u.
-            row_step c.args.tables.now m c.args.wagon.now c.args.problem.now.orders c.goal-item.result _ _ (Some w.in-Some.way.km) _ _ _ first (c.loop-goal.invariant.row m l (omega (arith, u, w.until-is, w.min-until.ensures)))
-            (w.in-Some.ensures.meaning m (omega (arith, l, c.at-at.ensures)) (omega (arith, u, w.until-is, w.min-until.ensures))) w.in-Some.ensures.limit (rw w.entries-is w.push_reserved.ensures.items);
-        within = omega (arith, c.loop-goal.invariant.within, w.until-is, w.min-until.ensures, w.in-Some.ensures.within, c.at-at.ensures);
-        room = rw w.entries-is (omega (arith, w.push_reserved.ensures.len, w.push_reserved.ensures.capacity, c.loop-goal.invariant.room));
-      }
-      | in_default w ↦ record {
-        row = λ m l u.
-            row_step c.args.tables.now m c.args.wagon.now c.args.problem.now.orders c.goal-item.result _ _ None _ _ _ first (c.loop-goal.invariant.row m l (omega (arith, u, w.until-is)))
-            (w.in_default.ensures.meaning m (omega (arith, l, c.at-at.ensures)) tt) tt (rw w.entries-is (sym (append-nil _)));
-        within = omega (arith, c.loop-goal.invariant.within, w.until-is);
-        room = rw w.entries-is (omega (arith, c.loop-goal.invariant.room));
-      }
-    ]
-
-pub returns-clause-row : goal.returns-clause-row
-returns-clause-row c = λ m l u.
-    rw (← c.reserve.ensures.items) (row_end c.args.tables.now m c.args.wagon.now c.args.problem.now.orders _ _ _ (drop_all c.loop-goal.goal-index c.args.goals.now (omega arith)) (c.loop-goal.invariant.row m l u))
+pub push_goals-requires-clause-so_far : goal.push_goals-requires-clause-so_far
+push_goals-requires-clause-so_far c = rw c.requires.none (λ m l u. row_start c.args.tables.now m c.args.wagon.now c.args.problem.now.orders c.args.goals.now [] c.requires.goals)

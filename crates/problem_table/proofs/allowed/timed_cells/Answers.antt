@@ -3,13 +3,13 @@ use Rattle.problem_table.proofs.Made.{timed_lasting, timed_lasts, timed_now}
 use Rattle.problem_table.proofs.allowed.timed_cells.Goals as goal
 
 pub timed-requires-clause-ascend : goal.timed-requires-clause-ascend
-timed-requires-clause-ascend c = rw c.in_ok-rows.ensures.rows (lasting_ascend c.args.tables.now c.args.problem.now.at c.args.problem.now.wagons c.args.problem.now.orders c.in_ok-block.block c.in_ok-block.lasts.items c.in_ok-block.ensures)
+timed-requires-clause-ascend c = lasting_ascend c.args.tables.now c.args.problem.now.at c.args.problem.now.wagons c.args.problem.now.orders _ c.in_ok-rows.lasts.items c.in_ok-rows.ensures.rows
 
 pub returns-clause-table : goal.returns-clause-table
-returns-clause-table c = timed_now c.args.tables.now c.args.problem.now _ c.in_ok-block.lasts.items (rw c.in_ok-rows.ensures.rows c.in_ok-block.ensures) c.timed.result c.timed.ensures.cells
+returns-clause-table c = timed_now c.args.tables.now c.args.problem.now _ c.in_ok-rows.lasts.items c.in_ok-rows.ensures.rows c.timed.result c.timed.ensures.cells
 
 pub returns-clause-lasts : goal.returns-clause-lasts
-returns-clause-lasts c = timed_lasts c.args.tables.now c.args.problem.now _ c.in_ok-block.lasts.items (rw c.in_ok-rows.ensures.rows c.in_ok-block.ensures) c.timed.result c.timed.ensures.cells c.timed.ensures.least
+returns-clause-lasts c = timed_lasts c.args.tables.now c.args.problem.now _ c.in_ok-rows.lasts.items c.in_ok-rows.ensures.rows c.timed.result c.timed.ensures.cells c.timed.ensures.least
 
 pub returns-clause-by_wagon : goal.returns-clause-by_wagon
-returns-clause-by_wagon c = timed_lasting c.args.tables.now c.args.problem.now _ c.in_ok-block.lasts.items (rw c.in_ok-rows.ensures.rows c.in_ok-block.ensures) c.timed.result c.timed.ensures.cells c.timed.ensures.lasts
+returns-clause-by_wagon c = timed_lasting c.args.tables.now c.args.problem.now _ c.in_ok-rows.lasts.items c.in_ok-rows.ensures.rows c.timed.result c.timed.ensures.cells c.timed.ensures.lasts

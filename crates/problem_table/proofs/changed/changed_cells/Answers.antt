@@ -1,11 +1,6 @@
-use Rattle.std.proofs.Common.{◌≡◌, ◌∙◌, rules, sym, subst}
-use Rattle.problem_table.proofs.AllowedLemmas.{lasting_ascend, lasting_rows}
+use Rattle.problem_table.proofs.AllowedLemmas.{lasting_ascend}
 use Rattle.problem_table.proofs.Made.{timed_lasting, timed_lasts, timed_now}
 use Rattle.problem_table.proofs.changed.changed_cells.Goals as goal
-
-pub changed_rows-requires-clause-rows : goal.changed_rows-requires-clause-rows
-changed_rows-requires-clause-rows c =
-    rw (c.deref.ensures.value, c.rows-rows.ensures.rows, ← c.requires.orders) (lasting_rows c.args.tables.now c.args.earlier.now c.args.made.now.cells c.args.made.now.lasts.items c.rows-rows.ensures.table c.requires.made)
 
 pub timed-requires-clause-ascend : goal.timed-requires-clause-ascend
 timed-requires-clause-ascend c = lasting_ascend c.args.tables.now c.args.problem.now.at c.args.problem.now.wagons c.args.problem.now.orders _ c.in_ok-rows.lasts.items c.in_ok-rows.ensures.rows

@@ -1,0 +1,166 @@
+-- Rows whose cells go along with their orders.
+use Rattle.std.proofs.Common.{◌≡◌, ◌+◌, ◌<◌, ◌≤◌, ◌∙◌, ℕ, Bool, true, false, cond, Option, Some, None, inl, inr, List, [], ◌∷◌, ◌++◌, length, get_or, take, drop, refl, sym, ap, subst, arith, length-drop, length-take-le, ◌-◌, zero, suc}
+use Rattle.std.specs.Prelude.{◌↔◌, ◌==◌, nat_lt, All, slice_get}
+use Rattle.std.specs.List.{filter_map}
+use Rattle.std.proofs.lemmas.List.{take-append-drop, take_all}
+use Rattle.std.proofs.lemmas.Bool.{cases_lt}
+use Rattle.std.proofs.lemmas.Bool.Decides.{nat_tests}
+use Rattle.std.proofs.lemmas.Option.{slice_get_within}
+use Rattle.wagons_and_orders.specs.declared.free_wagon.FreeWagon.{FreeWagon}
+use Rattle.wagons_and_orders.specs.Wanted.{WantedOrder}
+use Rattle.line_network.specs.Network.{NetworkValue}
+use Rattle.cost_table.specs.Problem.{ProblemValue}
+use Rattle.cost_table.specs.Table.{cost_in}
+use Rattle.cost_table.specs.TableLimits.{IsRow}
+use Rattle.problem_table.specs.Allowed.{Reaches}
+use Rattle.problem_table.specs.declared.goals.Goal.{Goal}
+use Rattle.problem_table.specs.declared.moved.Moved.{Moved}
+use Rattle.problem_table.specs.inner.AllowedRows.{IsLastingRow, IsRowOf}
+use Rattle.problem_table.specs.inner.Goals.{goals_from}
+use Rattle.problem_table.specs.inner.Moved.{AreMoved, GoesAlong, HaveSameTexts, moved_cell, moved_cells}
+use Rattle.problem_table.specs.inner.RowsSoFar.{RowSoFar}
+use Rattle.problem_table.proofs.AllowedLemmas.{some_at}
+
+same_some : {X : Type 0} (x y : X) → Some x ≡ Some y → x ≡ y
+same_some x y h = cc
+
+-- what stands at a place is one thing
+same_at : {X : Type 0} (xs : List X) (i : ℕ) (x y : X) → slice_get xs i ≡ Some x → slice_get xs i ≡ Some y → x ≡ y
+same_at xs i x y h g = same_some x y (sym h ∙ g)
+
+iff_of : {P Q : Type 0} (a b : Option ℕ) (km : ℕ) → a ≡ b → P ≡ Q → (b ≡ Some km) ↔ P → (a ≡ Some km) ↔ Q
+iff_of a b km e s h = (λ i. subst (λ (T : Type 0). T) s (h.0 (sym e ∙ i)), λ q. e ∙ h.1 (subst (λ (T : Type 0). T) (sym s) q))
+
+module _ (places : List ℕ) (kept : ℕ) where
+  -- a cell whose order stays, and one whose order is gone
+  stays : (cell : ℕ × ℕ) (row : List (ℕ × ℕ)) → get_or places cell.0 0 < kept → moved_cells places kept (cell ∷ row) ≡ (get_or places cell.0 0, cell.1) ∷ moved_cells places kept row
+  stays cell row l = by (nat_lt (get_or places cell.0 0) kept) refl where
+    by : (b : Bool) → nat_lt (get_or places cell.0 0) kept ≡ b → moved_cells places kept (cell ∷ row) ≡ (get_or places cell.0 0, cell.1) ∷ moved_cells places kept row
+    by true e = rw e refl
+    by false e = absurd (grind (arith, nat_tests, e, l))
+
+  goes : (cell : ℕ × ℕ) (row : List (ℕ × ℕ)) → kept ≤ get_or places cell.0 0 → moved_cells places kept (cell ∷ row) ≡ moved_cells places kept row
+  goes cell row l = by (nat_lt (get_or places cell.0 0) kept) refl where
+    by : (b : Bool) → nat_lt (get_or places cell.0 0) kept ≡ b → moved_cells places kept (cell ∷ row) ≡ moved_cells places kept row
+    by true e = absurd (grind (arith, nat_tests, e, l))
+    by false e = rw e refl
+
+  module _ (count : ℕ) (ascend : (i j : ℕ) → i < j → j < count → get_or places i 0 < kept → get_or places j 0 < kept → get_or places i 0 < get_or places j 0) where
+    -- moved cells ascend
+    pub moved_ascend : (low low' : ℕ) (row : List (ℕ × ℕ)) → IsRow count low row → ((i : ℕ) → low ≤ i → i < count → get_or places i 0 < kept → low' ≤ get_or places i 0) → IsRow kept low' (moved_cells places kept row)
+    moved_ascend low low' [] h above = tt
+    moved_ascend low low' (cell ∷ row) h above = elim (cases_lt (get_or places cell.0 0) kept) [
+      | inl l ↦
+          let rest = moved_ascend (cell.0 + 1) (get_or places cell.0 0 + 1) row h.3 (λ i from within here. let more = ascend cell.0 i (omega (arith, from)) within l here in omega (arith, more)) in
+          subst (IsRow kept low') (sym (stays cell row l)) (above cell.0 h.0 h.1 l, l, h.2, rest)
+      | inr l ↦
+          subst (IsRow kept low') (sym (goes cell row l)) (moved_ascend (cell.0 + 1) low' row h.3 (λ i from within here. above i (omega (arith, from, h.0)) within here))
+    ]
+
+    -- a moved row has at an order's new position what the row has at the earlier one
+    pub moved_cost : (i : ℕ) → i < count → get_or places i 0 < kept → (low : ℕ) (row : List (ℕ × ℕ)) → IsRow count low row → cost_in (moved_cells places kept row) (get_or places i 0) ≡ cost_in row i
+    moved_cost i within here low [] h = refl
+    moved_cost i within here low (cell ∷ row) h = elim (cases_lt (get_or places cell.0 0) kept) [
+      | inl l ↦
+          let rest = moved_cost i within here (cell.0 + 1) row h.3 in
+          ap (λ cells. cost_in cells (get_or places i 0)) (stays cell row l)
+          ∙ (ap (λ (o : Option ℕ). cond (get_or places cell.0 0 == get_or places i 0) (Some cell.1) o) rest
+          ∙ ap (λ (b : Bool). cond b (Some cell.1) (cost_in row i)) (same_test cell.0 h.1 l))
+      | inr l ↦
+          let rest = moved_cost i within here (cell.0 + 1) row h.3 in
+          ap (λ cells. cost_in cells (get_or places i 0)) (goes cell row l)
+          ∙ (rest ∙ ap (λ (b : Bool). cond b (Some cell.1) (cost_in row i)) (sym (other_test cell.0 l)))
+    ] where
+      same_test : (c : ℕ) → c < count → get_or places c 0 < kept → (get_or places c 0 == get_or places i 0) ≡ (c == i)
+      same_test c l k = elim (cases_lt c i) [
+        | inl below ↦ let less = ascend c i below within k here in grind (arith, nat_tests, less, below)
+        | inr not_below ↦ elim (cases_lt i c) [
+          | inl above ↦ let more = ascend i c above l here k in grind (arith, nat_tests, more, above)
+          | inr not_above ↦ let at : c ≡ i = omega (arith, not_below, not_above) in rw at (both i)
+        ]
+      ] where
+        both : (i : ℕ) → (get_or places i 0 == get_or places i 0) ≡ (i == i)
+        both i = grind (arith, nat_tests)
+
+      other_test : (c : ℕ) → kept ≤ get_or places c 0 → (c == i) ≡ false
+      other_test c gone = by (c == i) refl where
+        by : (b : Bool) → (c == i) ≡ b → b ≡ false
+        by false e = refl
+        by true e = let same : c ≡ i = grind (arith, nat_tests, e) in absurd (omega (arith, gone, here, ap (λ (k : ℕ). get_or places k 0) same))
+
+-- each cell of a row is of an order
+pub cells_within : (count low : ℕ) (row : List (ℕ × ℕ)) → IsRow count low row → (k : ℕ) (d : ℕ × ℕ) → k < length row → (get_or row k d).0 < count
+cells_within count low [] h k d l = absurd (omega arith)
+cells_within count low (cell ∷ row) h zero d l = h.1
+cells_within count low (cell ∷ row) h (suc k) d l = cells_within count (cell.0 + 1) row h.3 k d (omega arith)
+
+module _ (R : WantedOrder → ℕ → Type 0) (same : (one other : WantedOrder) (km : ℕ) → other.order ≡ one.order → R one km ≡ R other km) where
+  -- a row goes along with its orders
+  pub moved_row : (earlier orders : List WantedOrder) (places : List ℕ) (kept : ℕ) (row : List (ℕ × ℕ)) → AreMoved earlier orders places kept → IsRowOf R earlier row → IsRowOf R (take kept orders) (moved_cells places kept row)
+  moved_row earlier orders places kept row h is =
+      let short : length (take kept orders) ≡ kept = length-take-le kept orders h.within in
+      record {
+        ascends = subst (λ (n : ℕ). IsRow n 0 (moved_cells places kept row)) (sym short)
+            (moved_ascend places kept (length earlier) h.ascend 0 0 row is.ascends (λ i from within here. omega arith));
+        cells = λ k km wanted there. at k km wanted there (omega (arith, slice_get_within (take kept orders) k wanted there, short));
+      } where
+        of_take : (k : ℕ) (os : List WantedOrder) (i : ℕ) (o : WantedOrder) → slice_get (take k os) i ≡ Some o → slice_get os i ≡ Some o
+        of_take zero [] i o e = cc e
+        of_take zero (x ∷ os) i o e = cc e
+        of_take (suc k) [] i o e = cc e
+        of_take (suc k) (x ∷ os) zero o e = e
+        of_take (suc k) (x ∷ os) (suc i) o e = of_take k os i o e
+
+        at : (k km : ℕ) (wanted : WantedOrder) → slice_get (take kept orders) k ≡ Some wanted → k < kept → (cost_in (moved_cells places kept row) k ≡ Some km) ↔ R wanted km
+        at k km wanted there within =
+            let source = h.from k within in
+            let one = some_at earlier source.0 source.1 in
+            let stays_here : get_or places source.0 0 < kept = omega (arith, source.2, within) in
+            let to : slice_get orders (get_or places source.0 0) ≡ Some wanted = ap (slice_get orders) source.2 ∙ of_take kept orders k wanted there in
+            let order = h.each source.0 one.0 wanted one.1 stays_here to in
+            let cost = ap (cost_in (moved_cells places kept row)) (sym source.2) ∙ moved_cost places kept (length earlier) h.ascend source.0 source.1 stays_here 0 row is.ascends in
+            iff_of _ (cost_in row source.0) km cost (same one.0 wanted km order) (is.cells source.0 km one.0 one.1)
+
+  -- a row over the same orders, whatever they lack
+  pub same_row : (earlier orders : List WantedOrder) (row : List (ℕ × ℕ)) → HaveSameTexts earlier orders → IsRowOf R earlier row → IsRowOf R orders row
+  same_row earlier orders row h is = record {
+    ascends = subst (λ (n : ℕ). IsRow n 0 row) h.count is.ascends;
+    cells = λ k km wanted there.
+        let one = some_at earlier k (omega (arith, h.count, slice_get_within orders k wanted there)) in
+        iff_of _ (cost_in row k) km refl (same one.0 wanted km (h.each k one.0 wanted one.1 there)) (is.cells k km one.0 one.1);
+  }
+
+-- which order a wagon reaches is a matter of its text
+pub by_text : (net : NetworkValue) (m : ℕ) (wagon : FreeWagon) (one other : WantedOrder) (km : ℕ) → other.order ≡ one.order → Reaches net m wagon one.order km ≡ Reaches net m wagon other.order km
+by_text net m wagon one other km h = rw h refl
+
+-- the orders from a position on, as a part of all
+pub came_part : (k : ℕ) (orders : List WantedOrder) → take (length orders - k) (drop k orders) ≡ drop k orders
+came_part k orders = take_all (length orders - k) (drop k orders) (omega (arith, length-drop k orders))
+
+-- each cell of a row that goes along is of an earlier order
+pub along_within : (net : NetworkValue) (problem : ProblemValue) (wagon : FreeWagon) (moved : Moved) (row : List (ℕ × ℕ)) (last : ℕ) → GoesAlong problem net wagon moved row last → problem.at ≤ last → All (λ (cell : ℕ × ℕ). cell.0 < length moved.places.items) row
+along_within net problem wagon moved row last h within = λ k d l.
+    let earlier = cells_within (length h.earlier) 0 row (h.is problem.at (omega arith) within).ascends k d l in
+    omega (arith, earlier, h.are.count)
+
+-- a row that went along, before the goals of the orders that came
+pub along_so_far : (net : NetworkValue) (problem : ProblemValue) (wagon : FreeWagon) (moved : Moved) (row now : List (ℕ × ℕ)) (last : ℕ) (goals : List Goal)
+    → GoesAlong problem net wagon moved row last → now ≡ moved_cells moved.places.items moved.kept row → goals ≡ goals_from net wagon.class moved.kept (drop moved.kept problem.orders)
+    → (m : ℕ) → problem.at ≤ m → m ≤ last → RowSoFar net m wagon problem.orders goals [] now
+along_so_far net problem wagon moved row now last goals h is left m from up =
+    let short : length (take moved.kept problem.orders) ≡ moved.kept = length-take-le moved.kept problem.orders h.are.within in
+    record {
+      before = take moved.kept problem.orders;
+      later = drop moved.kept problem.orders;
+      all = take-append-drop moved.kept problem.orders;
+      left_is = left ∙ ap (λ (k : ℕ). goals_from net wagon.class k (drop moved.kept problem.orders)) (sym short);
+      row = record {
+        row = moved_cells moved.places.items moved.kept row;
+        behind = is;
+        is = moved_row (λ (wanted : WantedOrder). Reaches net m wagon wanted.order) (by_text net m wagon) h.earlier problem.orders moved.places.items moved.kept row h.are (h.is m from up);
+      };
+    }
+
+pub same_lasting_row : (net : NetworkValue) (at : ℕ) (wagon : FreeWagon) (earlier orders : List WantedOrder) (row : List (ℕ × ℕ)) (end : ℕ) → HaveSameTexts earlier orders → IsLastingRow net at wagon earlier row end → IsLastingRow net at wagon orders row end
+same_lasting_row net at wagon earlier orders row end same h = λ m from up. same_row (λ (wanted : WantedOrder). Reaches net m wagon wanted.order) (by_text net m wagon) earlier orders row same (h m from up)

@@ -1,0 +1,33 @@
+use Rattle.std.proofs.Common.{◌∙◌, rules, sym}
+use Rattle.problem_table.proofs.MakingLemmas.{made_again, made_next, moment_within, on_ok, row_within}
+use Rattle.problem_table.proofs.making.make_of_class.Goals as goal
+
+pub repeat-requires-clause-row : goal.repeat-requires-clause-row
+repeat-requires-clause-row c =
+    row_within c.args.tables.now c.args.problem.now c.args.k c.args.wagon.now c.requires.wagon c.args.making.now c.requires.made _ (c.is_alike_before.ensures.before c.if-is_alike_before.true)
+
+pub repeat-requires-clause-moment : goal.repeat-requires-clause-moment
+repeat-requires-clause-moment c =
+    moment_within c.args.tables.now c.args.problem.now c.args.k c.args.wagon.now c.requires.wagon c.args.making.now c.requires.made _ (c.is_alike_before.ensures.before c.if-is_alike_before.true)
+
+pub returns-then-is_alike_before-clause-made : goal.returns-then-is_alike_before-clause-made
+returns-then-is_alike_before-clause-made c =
+    let net = c.args.tables.now in
+    let problem = c.args.problem.now in
+    on_ok c.repeat.result (λ more.
+    made_next net problem c.args.k c.args.wagon.now c.requires.wagon c.args.making.now c.requires.made c.repeat.new.making
+    (made_again net problem c.args.k c.args.wagon.now c.requires.wagon c.args.making.now c.requires.made _ c.repeat.new.making (c.is_alike_before.ensures.before c.if-is_alike_before.true)
+    (rw (c.wagons.ensures.wagons, c.at.ensures) at (c.is_alike_before.ensures.alike c.if-is_alike_before.true)) more)
+    (rw c.repeat.ensures.classes c.requires.made.classes)) c.repeat.ensures.row
+
+pub returns-then-is_alike_before-clause-shared : goal.returns-then-is_alike_before-clause-shared
+returns-then-is_alike_before-clause-shared c = on_ok c.repeat.result (λ more. more.shared) c.repeat.ensures.row
+
+pub returns-clause-made : goal.returns-clause-made
+returns-clause-made c =
+    on_ok c.find.result (λ adds.
+    made_next c.args.tables.now c.args.problem.now c.args.k c.args.wagon.now c.requires.wagon c.args.making.now c.requires.made c.find.new.making adds
+    (rw c.find.ensures.classes c.requires.made.classes)) c.find.ensures.row
+
+pub returns-clause-shared : goal.returns-clause-shared
+returns-clause-shared c = on_ok c.find.result (λ adds. adds.more.shared) c.find.ensures.row

@@ -1,0 +1,43 @@
+-- The orders of an earlier problem in a later one.
+use Rattle.std.specs.Prelude.{◌≡◌, ◌<◌, ◌≤◌, ℕ, if◌then◌else◌, nat_lt, List, length, drop, All, Option, Some, None, slice_get, slice_index}
+use Rattle.std.specs.List.{filter_map}
+use Rattle.wagons_and_orders.specs.declared.free_wagon.FreeWagon.{FreeWagon}
+use Rattle.wagons_and_orders.specs.Wanted.{WantedOrder}
+use Rattle.line_network.specs.Network.{NetworkValue}
+use Rattle.cost_table.specs.Problem.{ProblemValue}
+use Rattle.problem_table.specs.declared.changed.Moving.{Moving}
+use Rattle.problem_table.specs.declared.moved.Moved.{Moved}
+use Rattle.problem_table.specs.inner.AllowedRows.{IsLastingRow}
+use Rattle.problem_table.specs.inner.Goals.{AreGoalsOf}
+
+-- the same orders, whatever they lack
+pub record HaveSameTexts (one other : List WantedOrder) : Type 0 where
+  pub count : length one ≡ length other
+  pub each : (k : ℕ) (a b : WantedOrder) → slice_get one k ≡ Some a → slice_get other k ≡ Some b → b.order ≡ a.order
+
+-- where earlier orders stand among later ones, the first of which they are; one that is gone has a position behind all
+pub record AreMoved (earlier orders : List WantedOrder) (places : List ℕ) (kept : ℕ) : Type 0 where
+  pub count : length places ≡ length earlier
+  pub within : kept ≤ length orders
+  pub each :
+      (i : ℕ) (one there : WantedOrder) → slice_get earlier i ≡ Some one → slice_index places i < kept → slice_get orders (slice_index places i) ≡ Some there → there.order ≡ one.order
+  pub from : (k : ℕ) → k < kept → (i : ℕ) × (i < length earlier) × (slice_index places i ≡ k)
+  pub gone : (i : ℕ) → i < length earlier → kept ≤ slice_index places i → length orders < slice_index places i
+  pub ascend : (i j : ℕ) → i < j → j < length earlier → slice_index places i < kept → slice_index places j < kept → slice_index places i < slice_index places j
+
+-- a cell at the new position of its order, where that stays
+abbrev pub moved_cell : (places : List ℕ) → (kept : ℕ) → ℕ × ℕ → Option (ℕ × ℕ)
+moved_cell places kept cell = if nat_lt (slice_index places cell.0) kept then Some (slice_index places cell.0, cell.1) else None
+
+abbrev pub moved_cells : (places : List ℕ) → (kept : ℕ) → List (ℕ × ℕ) → List (ℕ × ℕ)
+moved_cells places kept row = filter_map (moved_cell places kept) row
+
+-- a wagon's row over earlier orders, which are among those of the problem
+pub record GoesAlong (problem : ProblemValue) (net : NetworkValue) (wagon : FreeWagon) (moved : Moved) (row : List (ℕ × ℕ)) (last : ℕ) : Type 0 where
+  pub earlier : List WantedOrder
+  pub are : AreMoved earlier problem.orders moved.places.items moved.kept
+  pub is : IsLastingRow net problem.at wagon earlier row last
+
+-- goals that are kept are those of the orders that came
+abbrev pub AreCome : NetworkValue → List WantedOrder → Moving → Type 0
+AreCome net orders moving = All (AreGoalsOf net moving.moved.kept (drop moving.moved.kept orders)) moving.came.items

@@ -1,0 +1,74 @@
+//! Wagons with the same row.
+ghost use Rattle.std.specs.Prelude.{◌≡◌, ◌<◌, ◌↔◌, IsTrue, Some, max, slice_get};
+ghost use Rattle.wagons_and_orders.specs.declared.free_wagon.FreeWagon.{FreeWagon};
+ghost use Rattle.problem_table.specs.inner.Alike.{AreAlike};
+
+use rail_codes::Moment;
+use std::alloc::{AllocError, Global};
+use wagons_and_orders::FreeWagon;
+
+/// How many wagons are remembered.
+const SLOTS: usize = 2_048;
+
+/// Wagons that were seen. They are hints, on which nothing rests: what is remembered is looked at before it is used.
+#[derive(Drop)]
+pub(crate) struct Seen {
+    wagons: Vec<usize>,
+}
+
+impl Seen {
+    /// None.
+    pub(crate) fn none(alloc: Global) -> Result<Seen, AllocError> {
+        Ok(Seen {
+            wagons: Vec::from_elem(alloc, usize::MAX, SLOTS)?,
+        })
+    }
+
+    /// The wagon that was noted last under a number, or one under which another was.
+    pub(crate) fn at(&self, number: usize) -> usize {
+        let wagon = self.wagons.get(number % SLOTS);
+        wagon.copied().unwrap_or(usize::MAX)
+    }
+
+    /// Notes a wagon under a number.
+    pub(crate) fn note(&mut self, number: usize, wagon: usize) {
+        if let Some(at) = self.wagons.get_mut(number % SLOTS) {
+            *at = wagon;
+        }
+    }
+}
+
+/// Whether wagon `i` is one of the first `count`, and alike to this one from a moment on.
+pub(crate) fn is_alike_before(
+    wagons: &[FreeWagon],
+    i: usize,
+    count: usize,
+    wagon: &FreeWagon,
+    at: Moment,
+) -> bool
+    ensures before { IsTrue result → i < count }
+    ensures alike { IsTrue result → (one : FreeWagon) → slice_get wagons.now i ≡ Some one → AreAlike at one wagon.now }
+{
+    match wagons.get(i) {
+        Some(one) => i < count && are_alike(one, wagon, at),
+        None => false,
+    }
+}
+
+/// Whether two wagons have the same way to each order from a moment on: they have one class, one load limit and one place,
+/// and are ready at one moment, or by then.
+fn are_alike(one: &FreeWagon, other: &FreeWagon, at: Moment) -> bool
+    ensures { IsTrue result ↔ AreAlike at one.now other.now }
+{
+    one.place == other.place
+        && one.class == other.class
+        && one.load_limit == other.load_limit
+        && start_of(one, at) == start_of(other, at)
+}
+
+/// When a wagon may start at the earliest, in seconds since 1970.
+fn start_of(wagon: &FreeWagon, at: Moment) -> u64
+    ensures { result ≡ max wagon.now.ready at }
+{
+    wagon.ready.seconds().max(at.seconds())
+}
