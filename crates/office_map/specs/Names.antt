@@ -1,21 +1,9 @@
--- What is known of a place beside its code: its name, and where it lies.
-use Rattle.std.specs.Prelude.{ℕ, ◌&&◌, ◌==◌, if◌then◌else◌, nat_eq, nat_le, List, [], ◌∷◌, ◌++◌, chars, codes, encode_utf8, length, Option, Some, None}
-use Rattle.std.specs.Cmp.Lexicographic.{pointwise}
-use Rattle.std.specs.List.{find, flat_map}
+-- A place's name in a cell, and where the place lies.
+use Rattle.std.specs.Prelude.{ℕ, ◌&&◌, ◌==◌, if◌then◌else◌, nat_le, List, [], ◌∷◌, ◌++◌, chars, codes, encode_utf8, length, Option, Some, None}
+use Rattle.std.specs.List.{flat_map}
+use Rattle.place_names.specs.Names.{known_of}
 use Rattle.place_names.specs.declared.named_place.Coordinates.{Coordinates}
 use Rattle.place_names.specs.declared.named_place.NamedPlace.{NamedPlace}
-
--- what is known of a place, if anything is
-abbrev pub known_of : List NamedPlace → (place : List ℕ) → Option NamedPlace
-known_of named place = find (λ one. pointwise nat_eq place one.place) named
-
-abbrev pub name_in : Option NamedPlace → List ℕ
-name_in None = []
-name_in (Some one) = one.name
-
--- a place's name; nothing where it has none
-abbrev pub name_of : List NamedPlace → (place : List ℕ) → List ℕ
-name_of named place = name_in (known_of named place)
 
 abbrev pub coordinates_in : Option NamedPlace → Option Coordinates
 coordinates_in None = None

@@ -3,7 +3,8 @@ use Rattle.std.specs.Prelude.{◌≡◌, ℕ, List, ◌++◌, codes, filter}
 use Rattle.place_names.specs.declared.named_place.NamedPlace.{NamedPlace}
 use Rattle.reply_texts.specs.Lines.{AreLines}
 use Rattle.wagons_and_orders.specs.declared.wagon_row.WagonRow.{WagonRow}
-use Rattle.office_map.specs.Names.{coordinates_of, name_of, name_words}
+use Rattle.place_names.specs.Names.{name_of}
+use Rattle.office_map.specs.Names.{coordinates_of, name_words}
 use Rattle.office_map.specs.Orders.{IsOrderLine}
 use Rattle.office_map.specs.Positions.{position_of}
 use Rattle.office_map.specs.Shown.{stands_at, wants_at}

@@ -21,3 +21,4 @@ mod words;
 pub use choice::Choice;
 pub use laws::names_stay_in_quotes;
 pub use map::map_text;
+pub use shown::is_drawn;

@@ -1,21 +1,11 @@
-//! What is known of a place beside its code: its name, and where it lies.
+//! A place's name in a cell, and where the place lies.
 ghost use Rattle.std.specs.Prelude.{◌≡◌, ◌++◌, chars, OnOk, option_map, string_bytes};
 ghost use Rattle.std.specs.List.{flat_map};
-ghost use Rattle.office_map.specs.Names.{coordinates_of, escaped, escaped_character, name_of, name_words};
+ghost use Rattle.office_map.specs.Names.{coordinates_of, escaped, escaped_character, name_words};
 
 use place_names::{Coordinates, Places};
 use rail_codes::Place;
 use std::alloc::AllocError;
-
-/// A place's name; nothing where it has none.
-pub(crate) fn name_of(named: &Places, place: Place) -> &str
-    ensures { result.now ≡ name_of named.now place }
-{
-    match named.find(place) {
-        Some(one) => one.name.as_str(),
-        None => "",
-    }
-}
 
 /// Where a place lies, if that is said.
 pub(crate) fn coordinates_of(named: &Places, place: Place) -> Option<&Coordinates>

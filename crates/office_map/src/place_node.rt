@@ -5,7 +5,7 @@ ghost use Rattle.office_map.specs.Places.{name_line, place_back, place_front, ti
 ghost use Rattle.office_map.specs.Shown.{stands_at, wants_at};
 
 use crate::class_lines::push_class_lines;
-use crate::named::{coordinates_of, name_of, push_name};
+use crate::named::{coordinates_of, push_name};
 use crate::order_lines::push_order_lines;
 use crate::position::push_position;
 use crate::shown::ShownOrder;
@@ -103,7 +103,7 @@ fn push_title(text: &mut String, named: &Places, place: Place) -> Result<(), All
         place.as_bytes(),
         "</B>",
     )?;
-    push_name(text, name_of(named, place))?;
+    push_name(text, named.name_of(place))?;
     push_words(text, "</TD></TR>\n")
 }
 

@@ -114,7 +114,7 @@ fn asks_any(asked: Option<ClassCode>, classes: &[ClassCode]) -> bool
 }
 
 /// Whether an order lacks wagons, or has some promised.
-fn is_drawn(row: &OrderRow) -> bool
+pub fn is_drawn(row: &OrderRow) -> bool
     ensures { result ≡ is_drawn row.now }
 {
     row.is_waiting() || !row.promised().is_empty()
