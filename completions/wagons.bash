@@ -19,11 +19,12 @@ _wagons() {
         --entries | --kept | --workers | --at | --upto | --without | --order | --wagon | --class | --zone | --line-bytes) return ;;
     esac
     case $word in
-        run | review) ;;
+        run) ;;
+        review) office+=' --places' ;;
         map) office+=' --places --busy --order --class' ;;
         plan) office+=' --at --places --zone --csv' ;;
         table) office+=' --at' ;;
-        why) office+=' --at --order --wagon --json' ;;
+        why) office+=' --at --places --order --wagon --json' ;;
         save) office+=' --upto --with --without' ;;
         feed) [[ $current == -* ]] || { mapfile -t COMPREPLY < <(compgen -f -- "$current"); return; } ;;
         check | solve) office='--line-bytes --help' ;;

@@ -21,7 +21,7 @@ complete -c wagons -n '__fish_seen_subcommand_from run feed map plan table why r
 complete -c wagons -n '__fish_seen_subcommand_from run feed map plan table why review save' -l kept -x -d 'Most problems kept for commits, 1 to 64'
 complete -c wagons -n '__fish_seen_subcommand_from run feed map plan table why review save' -l workers -x -d 'Threads for the distances, 1 to 64'
 complete -c wagons -n '__fish_seen_subcommand_from plan table why' -l at -x -d 'The moment at which the wagons may start'
-complete -c wagons -n '__fish_seen_subcommand_from map plan' -l places -r -F -d 'The names of places, a CSV file'
+complete -c wagons -n '__fish_seen_subcommand_from map plan why review' -l places -r -F -d 'The names of places, a CSV file'
 complete -c wagons -n '__fish_seen_subcommand_from plan' -l zone -x -d 'The time zone of the moments'
 complete -c wagons -n '__fish_seen_subcommand_from plan' -l csv -d 'Print CSV for a spreadsheet'
 complete -c wagons -n '__fish_seen_subcommand_from map' -l busy -d 'Leave out places with nothing on them'

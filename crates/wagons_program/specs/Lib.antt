@@ -6,6 +6,7 @@ pub mod Brought
 pub mod Laws
 pub mod TableOfLast
 pub mod ReasonsOfLast
+pub mod PlacesFor
 pub mod PlanOfLast
 pub mod ZoneClock
 pub mod MapOfLast

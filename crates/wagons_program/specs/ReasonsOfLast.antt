@@ -1,5 +1,5 @@
 -- The reasons of a plan of a history's last version at a moment: what is asked about it, and the text that answers.
-use Rattle.std.specs.Prelude.{◌≡◌, ℕ, Bool, true, false, List, length, Some, slice_get}
+use Rattle.std.specs.Prelude.{◌≡◌, ℕ, Bool, true, false, List, length, Option, Some, slice_get}
 use Rattle.command_line.specs.declared.why_options.Asked.{Asked}
 use Rattle.command_line.specs.declared.why_options.Asked.TheVariants.{Plan, Order, Wagon}
 use Rattle.commit_book.specs.History.{problem_at, version}
@@ -8,6 +8,7 @@ use Rattle.cost_table.specs.Problem.{ProblemValue, order_names, wagon_names}
 use Rattle.line_network.specs.Network.{NetworkValue}
 use Rattle.line_network.specs.Networks.{network_at}
 use Rattle.move_messages.specs.declared.event.Event.{Event}
+use Rattle.place_names.specs.declared.named_place.NamedPlace.{NamedPlace}
 use Rattle.plan_bounds.specs.PricedPlan.{IsCertified, PricedPlan}
 use Rattle.plan_reasons.specs.PairLists.{IsOrderText, IsWagonText}
 use Rattle.plan_reasons.specs.WhyText.{IsWhyText}
@@ -20,20 +21,21 @@ abbrev pub style_of : (json : Bool) → Style
 style_of true = Json
 style_of false = Text
 
--- the text that answers what is asked about a plan of a problem: of the whole, of a waiting order, or of a free wagon
-abbrev pub IsAnswer : Style → Asked → (last : ℕ) → NetworkValue → ProblemValue → PricedPlan → (text : List ℕ) → Type 0
-IsAnswer style Plan last network problem plan text = IsWhyText style last network problem plan text
-IsAnswer style (Order id) last network problem plan text =
-    (j : ℕ) × (slice_get (order_names problem.orders) j ≡ Some id) × IsOrderText style network problem plan j text
-IsAnswer style (Wagon number) last network problem plan text =
-    (i : ℕ) × (slice_get (wagon_names problem.wagons) i ≡ Some number) × IsWagonText style network problem plan i text
+-- the text that answers what is asked about a plan of a problem: of the whole, of a waiting order, or of a free wagon, with the
+-- names of places where they are asked for
+abbrev pub IsAnswer : Style → (names : Option (List NamedPlace)) → Asked → (last : ℕ) → NetworkValue → ProblemValue → PricedPlan → (text : List ℕ) → Type 0
+IsAnswer style names Plan last network problem plan text = IsWhyText style last network problem plan text
+IsAnswer style names (Order id) last network problem plan text =
+    (j : ℕ) × (slice_get (order_names problem.orders) j ≡ Some id) × IsOrderText style names network problem plan j text
+IsAnswer style names (Wagon number) last network problem plan text =
+    (i : ℕ) × (slice_get (wagon_names problem.wagons) i ≡ Some number) × IsWagonText style names network problem plan i text
 
 -- The problem of the last version at a moment, over the network in force, has a plan whose prices show that none costs less;
 -- and the text answers what is asked about that plan.
-pub record AreReasonsOfLast (setting : Setting) (history : List Event) (at : ℕ) (style : Style) (asked : Asked) (text : List ℕ) : Type 0 where
+pub record AreReasonsOfLast (setting : Setting) (history : List Event) (at : ℕ) (style : Style) (names : Option (List NamedPlace)) (asked : Asked) (text : List ℕ) : Type 0 where
   pub network : NetworkValue
   pub in_force : network_at setting.networks (version setting history (length history)).network ≡ Some network
   pub plan : PricedPlan
   pub table : IsTableOf network (problem_at setting history (length history) at) plan.table
   pub certified : IsCertified plan
-  pub answers : IsAnswer style asked (length history) network (problem_at setting history (length history) at) plan text
+  pub answers : IsAnswer style names asked (length history) network (problem_at setting history (length history) at) plan text

@@ -12,7 +12,7 @@ use crate::stopped::Stopped;
 use command_line::MapOptions;
 use commit_book::Book;
 use line_network::Network;
-use office_map::{Choice, map_text};
+use office_map::{Choice, is_drawn, map_text};
 use operating_db::OfficeState;
 use place_names::Places;
 use rail_codes::OrderId;
@@ -97,7 +97,7 @@ fn is_on_map(state: &OfficeState, id: OrderId) -> bool
     ensures { result ≡ is_on_map (order_in state.now.office.orders id) }
 {
     match state.order(id) {
-        Some(row) => row.is_waiting() || !row.promised().is_empty(),
+        Some(row) => is_drawn(row),
         None => false,
     }
 }

@@ -1,5 +1,5 @@
 //! The word `review`.
-ghost use Rattle.std.specs.Prelude.{◌≡◌, ◌⊎◌, IfErr, IfOk, List, OnOk};
+ghost use Rattle.std.specs.Prelude.{◌≡◌, ◌⊎◌, IfErr, IfOk, List, OnOk, option_map};
 ghost use Rattle.std.specs.Io.KnownBytes.{Appends};
 ghost use Rattle.commit_book.specs.Books.{BookValue};
 ghost use Rattle.journal_notes.specs.JournalEnd.{end_note};
@@ -7,21 +7,25 @@ ghost use Rattle.journal_notes.specs.Reviews.{ReviewValue, first_review};
 ghost use Rattle.line_engine.specs.Lines.{max_line_bytes};
 ghost use Rattle.line_network.specs.Network.{NetworkValue};
 ghost use Rattle.operating_db.specs.Office.{Office};
+ghost use Rattle.place_names.specs.declared.named_place.NamedPlace.{NamedPlace};
 ghost use Rattle.wagons_program.specs.Brought.{Lines, lines_over};
 ghost use Rattle.wagons_program.specs.FirstBook.{BeginsWith, IsFirstBook};
+ghost use Rattle.wagons_program.specs.PlacesFor.{ArePlacesFor};
 ghost use Rattle.wagons_program.specs.Reviewed.{AreReviewed, IsReviewStopped, status_of_notes};
 ghost use Rattle.wagons_program.specs.declared.stop.Stop.TheVariants as stop;
 
 use crate::bringing::leave;
 use crate::new_book::{NewBook, OfficeFiles, new_book, read_files};
+use crate::places::read_places;
 use crate::printing::write_whole;
 use crate::status::{REFUSED, status_of_run};
 use crate::stop::Stop;
 use crate::stopped::{Stopped, told_of_lines};
-use command_line::OfficeOptions;
+use command_line::{OfficeOptions, ReviewOptions};
 use journal_notes::{EndingSource, Review, end_note, review_journal};
 use line_engine::{LineLimit, StdDevice};
 use office::RunCount;
+use place_names::Places;
 use std::alloc::Global;
 use std::io;
 use std::io::{Read, Write};
@@ -30,33 +34,36 @@ use std::sync::Wait;
 use std::thread::Threads;
 
 /// Opens an office, brings the command lines of an input to it as `run` does, and prints their notes in place of replies:
-/// status 0, or 1 where there is a note.
+/// status 0, or 1 where there is a note. The names of places are read first.
 pub(crate) fn review<R: Print + Files + Threads + Wait + AllocGlobal, I: Read + Drop>(
     rt: &R,
-    options: &OfficeOptions<'_>,
+    options: &ReviewOptions<'_>,
     input: I,
 ) -> Result<u8, Stopped>
-    ensures { IfOk result (λ status. (office : Office) × (networks : List NetworkValue) × (book : BookValue) × (lines : Lines ReviewValue)
-        × (lines.input ≡ I.remaining input) × (lines.most ≡ max_line_bytes) × BeginsWith options.now.start office
-        × IsFirstBook office networks options.now.limits book × (lines.old ≡ first_review book) × AreReviewed lines status) }
+    ensures { IfOk result (λ status. (office : Office) × (networks : List NetworkValue) × (book : BookValue) × (named : List NamedPlace) × (lines : Lines ReviewValue)
+        × (lines.input ≡ I.remaining input) × (lines.most ≡ max_line_bytes) × BeginsWith options.now.office.start office
+        × IsFirstBook office networks options.now.office.limits book × ArePlacesFor (option_map (λ text. text.now) options.now.places) named
+        × (lines.old ≡ first_review book named) × AreReviewed lines status) }
 {
-    let mut review = begin_review(rt, options)?;
+    let places = read_places(rt, options.places)?;
+    let mut review = begin_review(rt, &options.office, places)?;
     let outcome = review_lines(rt.alloc(), input, io::writer(rt), &mut review);
     leave(review.into_book());
     told_of_lines(rt.alloc(), LineLimit::standard(), outcome)
 }
 
-/// Opens an office, and begins a review of its lines.
+/// Opens an office, and begins a review of its lines with these names of places.
 fn begin_review<R: Files + Threads + Wait + AllocGlobal>(
     rt: &R,
     options: &OfficeOptions<'_>,
+    named: Places,
 ) -> Result<Review, Stopped>
     ensures { IfOk result (λ review. (office : Office) × (networks : List NetworkValue) × (book : BookValue) × BeginsWith options.now.start office
-        × IsFirstBook office networks options.now.limits book × (review ≡ first_review book)) }
+        × IsFirstBook office networks options.now.limits book × (review ≡ first_review book named)) }
 {
     let OfficeFiles { first, networks } = read_files(rt, options)?;
     let NewBook { book, networks: _ } = new_book(rt, options, first, &networks)?;
-    Ok(Review::new(book, networks, options.limits))
+    Ok(Review::new(book, networks, options.limits, named))
 }
 
 /// Brings the command lines of an input to a review's book, and writes their notes: status 0, or 1 where there is one.

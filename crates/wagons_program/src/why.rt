@@ -1,17 +1,19 @@
 //! The word `why`.
-ghost use Rattle.std.specs.Prelude.{◌≡◌, IfOk, length, string_bytes};
+ghost use Rattle.std.specs.Prelude.{◌≡◌, IfOk, length, option_map, string_bytes};
 ghost use Rattle.plan_reasons.specs.Planned.{IsPlannedProblem, priced_plan};
 ghost use Rattle.wagons_program.specs.ReasonsOfLast.{AreReasonsOfLast, IsAnswer, style_of};
 
 use crate::bringing::{Brought, bring};
+use crate::places::read_names;
 use crate::printing::print_last;
 use crate::stop::Stop;
 use crate::stopped::Stopped;
 use command_line::{Asked, WhyOptions};
 use commit_book::Book;
 use line_network::Networks;
+use place_names::Places;
 use plan_reasons::{
-    PlannedProblem, Style, find_order, find_wagon, order_text, wagon_text, why_text,
+    LineForm, PlannedProblem, Style, find_order, find_wagon, order_text, wagon_text, why_text,
 };
 use std::alloc::Global;
 use std::io;
@@ -22,31 +24,34 @@ use std::thread::Threads;
 
 /// Opens an office, brings the command lines of an input to it without replies, plans the problem of its last version at a
 /// moment, and prints why that plan is as it is, or what it says of an order or a wagon: status 0, or 1 where a line was refused.
+/// The names of places are read first.
 pub(crate) fn why<R: Print + Files + Threads + Wait + AllocGlobal, I: Read + Drop>(
     rt: &R,
     options: &WhyOptions<'_>,
     input: I,
 ) -> Result<u8, Stopped> {
+    let names = read_names(rt, options.places)?;
     let Brought {
         mut book,
         networks: _,
         distances,
         status,
     } = bring(rt, &options.problem.office, input, io::sink())?;
-    let text = last_reasons(rt.alloc(), &mut book, &distances, options);
+    let text = last_reasons(rt.alloc(), &mut book, &distances, options, names.as_ref());
     print_last(rt, book, text, status)
 }
 
-/// What is asked about a plan of a book's last version at a moment, over the network in force. `OrderNotInProblem` or
-/// `WagonNotInProblem` (84) where the problem doesn't have what is asked about.
+/// What is asked about a plan of a book's last version at a moment, over the network in force, with the names of places where they
+/// are asked for. `OrderNotInProblem` or `WagonNotInProblem` (84) where the problem doesn't have what is asked about.
 fn last_reasons(
     alloc: Global,
     book: &mut Book,
     distances: &Networks,
     options: &WhyOptions<'_>,
+    names: Option<&Places>,
 ) -> Result<String, Stop>
     requires { distances.now ≡ book.old.setting.networks }
-    ensures { IfOk result (λ text. AreReasonsOfLast book.old.setting book.old.state.history options.now.problem.at (style_of options.now.json) options.now.asked (string_bytes text)) }
+    ensures { IfOk result (λ text. AreReasonsOfLast book.old.setting book.old.state.history options.now.problem.at (style_of options.now.json) (option_map (λ places. places.now) names.entry) options.now.asked (string_bytes text)) }
 {
     let (snap, index) = book.begin_indexed(alloc, options.problem.at)?;
     // A book's network in force is one of its networks.
@@ -62,28 +67,30 @@ fn last_reasons(
         plan: &plan,
         prices: &prices,
     };
-    answer(alloc, options, snap.version(), &planned)
+    answer(alloc, options, names, snap.version(), &planned)
 }
 
 /// The text that answers what is asked about a plan.
 fn answer(
     alloc: Global,
     options: &WhyOptions<'_>,
+    names: Option<&Places>,
     version: u64,
     planned: &PlannedProblem<'_>,
 ) -> Result<String, Stop>
     requires { IsPlannedProblem planned.now }
-    ensures { IfOk result (λ text. IsAnswer (style_of options.now.json) options.now.asked version planned.now.tables.now planned.now.problem.now (priced_plan planned.now) (string_bytes text)) }
+    ensures { IfOk result (λ text. IsAnswer (style_of options.now.json) (option_map (λ places. places.now) names.entry) options.now.asked version planned.now.tables.now planned.now.problem.now (priced_plan planned.now) (string_bytes text)) }
 {
     let style = style_of(options.json);
+    let form = LineForm { style, names };
     match &options.asked {
         Asked::Plan => Ok(why_text(alloc, style, version, planned)?),
         Asked::Order(id) => match find_order(planned.problem, id) {
-            Some(j) => Ok(order_text(alloc, style, planned, j)?),
+            Some(j) => Ok(order_text(alloc, &form, planned, j)?),
             None => Err(Stop::OrderNotInProblem(*id)),
         },
         Asked::Wagon(number) => match find_wagon(planned.problem, number) {
-            Some(i) => Ok(wagon_text(alloc, style, planned, i)?),
+            Some(i) => Ok(wagon_text(alloc, &form, planned, i)?),
             None => Err(Stop::WagonNotInProblem(*number)),
         },
     }
