@@ -1,5 +1,7 @@
 //! The word `plan`.
 ghost use Rattle.std.specs.Prelude.{◌≡◌, IfOk, option_map};
+ghost use Rattle.plan_reasons.specs.Planned.{IsPlannedProblem, priced_plan};
+ghost use Rattle.plan_table.specs.ListOf.{IsListOf};
 ghost use Rattle.wagons_program.specs.PlanOfLast.{IsPlanOfLast, IsPlanTextOfLast, IsPrinted, IsPrintedIn};
 ghost use Rattle.wagons_program.specs.ZoneClock.{HasZoneFor, IsReadFor, name_of};
 
@@ -87,7 +89,15 @@ fn last_plan(
         plan: &plan,
         prices: &prices,
     };
-    Ok(list_of_plan(alloc, snap.version(), &planned)?)
+    listed(alloc, snap.version(), &planned)
+}
+
+/// A plan of a version as a list.
+fn listed(alloc: Global, version: u64, planned: &PlannedProblem<'_>) -> Result<PlanList, Stop>
+    requires { IsPlannedProblem planned.now }
+    ensures { IfOk result (IsListOf version planned.now.tables.now planned.now.problem.now (priced_plan planned.now)) }
+{
+    Ok(list_of_plan(alloc, version, planned)?)
 }
 
 /// What is printed of a list, with moments as they are shown in a time zone.
