@@ -14,8 +14,8 @@ use Rattle.commit_book.specs.Headline.{IsProved}
 use Rattle.book_feed.specs.FeedCounts.{IsFed}
 use Rattle.book_feed.specs.FeedReports.{IsFeedReport}
 use Rattle.book_feed.specs.inner.Fed.{AreFed, IsCountOf, given_with, no_file, one_file}
-use Rattle.dispatch_sheet.specs.declared.feed_report.FeedReport.{FeedReport}
-use Rattle.dispatch_sheet.specs.declared.feed_report.FileCount.{FileCount}
+use Rattle.book_feed.specs.declared.feed_report.FeedReport.{FeedReport}
+use Rattle.book_feed.specs.declared.feed_report.FileCount.{FileCount}
 
 module _ {R : Type 0} (remaining : R → Option (List ℕ)) (has_failed : R → Bool) where
   -- what came of the files before the rest

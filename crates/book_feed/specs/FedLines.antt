@@ -11,7 +11,7 @@ use Rattle.move_messages.specs.declared.command.Command.TheVariants as command
 use Rattle.move_messages.specs.declared.commit_text.CommitText.{CommitText}
 use Rattle.move_messages.specs.declared.event.Event.{Event}
 use Rattle.move_messages.specs.declared.event.Event.TheVariants as event
-use Rattle.commit_book.specs.Snap.{SnapValue, named_pair}
+use Rattle.price_checker.specs.Snap.{SnapValue, named_pair}
 use Rattle.faults.specs.declared.faults.Refusal.{Refusal}
 use Rattle.commit_book.specs.declared.reply.Reply.{Reply}
 use Rattle.commit_book.specs.declared.reply.Reply.TheVariants as reply

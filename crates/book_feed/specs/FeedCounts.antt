@@ -12,7 +12,7 @@ use Rattle.move_messages.specs.declared.event.Event.{Event}
 use Rattle.sessions.specs.Closing.{HasEntries}
 use Rattle.sessions.specs.Seat.{SeatValue, count_of}
 use Rattle.book_feed.specs.FedLines.{IsSeatFed}
-use Rattle.dispatch_sheet.specs.declared.feed_report.FileCount.{FileCount}
+use Rattle.book_feed.specs.declared.feed_report.FileCount.{FileCount}
 
 -- whether a command must be counted: an event and a plan, but no begin and no sheet
 abbrev pub is_command_counted : Command → Bool

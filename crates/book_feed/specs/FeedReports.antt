@@ -7,7 +7,7 @@ use Rattle.line_network.specs.Network.{NetworkValue}
 use Rattle.commit_book.specs.Books.{BookValue}
 use Rattle.commit_book.specs.Headline.{IsProved}
 use Rattle.book_feed.specs.FeedCounts.{IsFed}
-use Rattle.dispatch_sheet.specs.declared.feed_report.FeedReport.{FeedReport}
+use Rattle.book_feed.specs.declared.feed_report.FeedReport.{FeedReport}
 
 -- 1 to 16 readers, of which none has failed, and a book without entries
 pub record MayBeFed {R : Type 0} (has_failed : R → Bool) (readers : Vec R Global) (book : BookValue) : Type 0 where

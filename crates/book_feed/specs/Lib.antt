@@ -1,4 +1,5 @@
 pub mod FedLines
 pub mod FeedCounts
+pub mod ReportText
 pub mod FeedReports
 pub mod inner

@@ -3,8 +3,9 @@
 
 mod fed_file;
 mod feed_lines;
+mod feed_report;
 mod feeding;
 
-pub use dispatch_sheet::{FeedReport, FileCount, report_text};
 pub use faults::FeedFault;
+pub use feed_report::{FeedReport, FileCount, report_text};
 pub use feeding::feed;

@@ -10,7 +10,7 @@ use Rattle.book_feed.specs.FedLines.{IsSeatFed}
 use Rattle.book_feed.specs.FeedCounts.{IsFileRun}
 use Rattle.book_feed.specs.declared.fed_file.FedFile.{FedFile}
 use Rattle.book_feed.specs.declared.fed_file.FileOf.{FileOf}
-use Rattle.dispatch_sheet.specs.declared.feed_report.FileCount.{FileCount}
+use Rattle.book_feed.specs.declared.feed_report.FileCount.{FileCount}
 
 -- the number of what stopped a run
 abbrev pub stop_number : Result RunCount RunFault → Option ℕ

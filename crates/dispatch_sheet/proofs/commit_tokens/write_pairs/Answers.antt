@@ -4,7 +4,7 @@ use Rattle.std.proofs.lemmas.Result.{on_ok_weaker}
 use Rattle.json.specs.Token.{begin_array, key}
 use Rattle.move_messages.specs.Written.{list_data, pair_data}
 use Rattle.move_messages.proofs.Writing.{holds-whole}
-use Rattle.commit_book.specs.Snap.{named_pair}
+use Rattle.price_checker.specs.Snap.{named_pair}
 use Rattle.dispatch_sheet.specs.inner.Readable.{IsReadablePair}
 use Rattle.move_messages.specs.WrittenTokens.{data_tokens}
 use Rattle.move_messages.proofs.WrittenTokens.{items-more, list-written, named_list-tokens}
