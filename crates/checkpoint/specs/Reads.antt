@@ -7,7 +7,7 @@ use Rattle.line_engine.specs.declared.run.RunFault.{RunFault}
 use Rattle.line_engine.specs.declared.run.RunFault.TheVariants.{OutOfMemory, TooManyLines, LineTooLong, ReadFailed, WriteFailed}
 use Rattle.move_messages.specs.declared.fault.LineFault.{LineFault}
 use Rattle.operating_db.specs.State.{StateValue}
-use Rattle.checkpoint_lines.specs.LineReading.{checkpoint_line_of}
+use Rattle.checkpoint.specs.LineReading.{checkpoint_line_of}
 use Rattle.checkpoint.specs.Checkpoint.{IsCheckpointOf}
 use Rattle.checkpoint.specs.OfficeOf.{office_of_lines}
 use Rattle.checkpoint.specs.declared.read_fault.ReadFault.{ReadFault}

@@ -12,10 +12,10 @@ use Rattle.fleet_rows.specs.Kept.{compare_numbers, max_roster_wagons}
 use Rattle.fleet_rows.specs.Rows.{max_open_wagons, open_wagons, order_in, wagon_in}
 use Rattle.fleet_rows.specs.SameWagons.{has_wagon}
 use Rattle.operating_db.specs.Promises.{is_among, is_promise_to, promise_of, promised_of}
-use Rattle.checkpoint_lines.specs.LineReading.{checkpoint_line_of}
-use Rattle.checkpoint_lines.specs.OrderLine.{OrderLineValue}
-use Rattle.checkpoint_lines.specs.declared.line.CheckpointLine.{CheckpointLine}
-use Rattle.checkpoint_lines.specs.declared.line.CheckpointLine.TheVariants.{Head, Wagon, Order, End}
+use Rattle.checkpoint.specs.LineReading.{checkpoint_line_of}
+use Rattle.checkpoint.specs.OrderLine.{OrderLineValue}
+use Rattle.checkpoint.specs.declared.line.CheckpointLine.{CheckpointLine}
+use Rattle.checkpoint.specs.declared.line.CheckpointLine.TheVariants.{Head, Wagon, Order, End}
 use Rattle.checkpoint.specs.Parts.{PartsValue}
 use Rattle.checkpoint.specs.declared.read_fault.ReadFault.{ReadFault}
 use Rattle.checkpoint.specs.declared.read_fault.ReadFault.TheVariants.{Line, Unread}

@@ -10,7 +10,7 @@ ghost use Rattle.wagons_and_orders.specs.Lack.{is_open};
 
 use crate::parts::Parts;
 use crate::read_fault::ReadFault;
-use checkpoint_lines::{CheckpointLine, OrderLine, read_line};
+use crate::{CheckpointLine, OrderLine, read_line};
 use faults::CheckpointFault;
 use fleet_rows::{MAX_OPEN_WAGONS, MAX_ROSTER_WAGONS, OrderRows};
 use line_engine::RunFault;

@@ -3,7 +3,7 @@ ghost use Rattle.std.specs.Prelude.{◌≡◌};
 ghost use Rattle.std.specs.Str.{IsAscii};
 ghost use Rattle.wagons_program.specs.Stop.{stop_number};
 
-use book_feed::FeedFault;
+use sessions::FeedFault;
 use checkpoint::ReadFault;
 use faults::FleetFault;
 use fleet_rows::RosterFault;

@@ -4,7 +4,7 @@ ghost use Rattle.wagons_program.specs.Told.{reason_of, words_of};
 ghost use Rattle.wagons_program.specs.declared.stop.Stop.TheVariants as stop;
 
 use crate::stop::Stop;
-use book_feed::FeedFault;
+use sessions::FeedFault;
 use fault_texts::line_text;
 use faults::FleetFault;
 use line_engine::LineLimit;

@@ -1,6 +1,6 @@
 //! Every fault with its name.
 
-use book_feed::FeedFault;
+use sessions::FeedFault;
 use checkpoint::ReadFault;
 use commit_book::Refusal;
 use cost_table::TableFault;

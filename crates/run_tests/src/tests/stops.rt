@@ -1,7 +1,7 @@
 //! What the program says on standard error where it could not run or stopped, for what no script brings about: memory,
 //! threads, devices that fail, and files that are too large for a script.
 
-use book_feed::FeedFault;
+use sessions::FeedFault;
 use checkpoint::ReadFault;
 use faults::{CheckpointFault, FleetFault};
 use fleet_rows::RosterFault;

@@ -3,7 +3,7 @@ ghost use Rattle.std.specs.Prelude.{◌≡◌, None, false};
 
 use super::feeds::fed;
 use super::files::{FIRST, REPORT, SECOND, is_text_of};
-use book_feed::FeedReport;
+use sessions::FeedReport;
 use line_engine::{DeviceFailed, Source};
 use std::alloc::Global;
 use std::sync::Wait;
