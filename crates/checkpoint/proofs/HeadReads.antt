@@ -4,12 +4,12 @@ use Rattle.json.specs.Tree.{depth}
 use Rattle.serde_json.specs.Read.{of_json, max_depth}
 use Rattle.serde_json.specs.Written.{outline}
 use Rattle.serde_json.proofs.Numbers.{number_of-decimal}
-use Rattle.move_messages.specs.Commands.{max_revision}
-use Rattle.move_messages.specs.declared.field.Field.TheVariants as field
-use Rattle.move_messages.specs.Field.{field_name}
-use Rattle.move_messages.specs.Fields.{member, field_of}
-use Rattle.move_messages.specs.Values.{text_of}
-use Rattle.move_messages.proofs.Writing.{number_reads}
+use Rattle.line_fields.specs.Commands.{max_revision}
+use Rattle.line_fields.specs.declared.field.Field.TheVariants as field
+use Rattle.line_fields.specs.Field.{field_name}
+use Rattle.line_fields.specs.Fields.{member, field_of}
+use Rattle.line_fields.specs.Values.{text_of}
+use Rattle.line_fields.proofs.Writing.{number_reads}
 use Rattle.checkpoint.specs.Limits.{IsNetworkNumber, line_format, max_lines}
 use Rattle.checkpoint.specs.declared.line.CheckpointLine.TheVariants.{End, Head}
 use Rattle.checkpoint.specs.LineReading.{end_of, head_of, line_of_type}

@@ -11,12 +11,12 @@ use Rattle.serde_json.specs.Find.{as_object}
 use Rattle.serde_json.specs.Read.{of_json, max_depth}
 use Rattle.serde_json.specs.Written.{compact_text, outline}
 use Rattle.serde_json.proofs.Texts.{print-outline}
-use Rattle.move_messages.specs.declared.field.Field.TheVariants as field
-use Rattle.move_messages.specs.Fields.{field_of}
-use Rattle.move_messages.specs.Values.{text_of}
-use Rattle.move_messages.specs.WrittenTokens.{data_tokens}
-use Rattle.move_messages.proofs.Lines.{object_of-ok}
-use Rattle.move_messages.proofs.WrittenTokens.{read-tokens}
+use Rattle.line_fields.specs.declared.field.Field.TheVariants as field
+use Rattle.line_fields.specs.Fields.{field_of}
+use Rattle.line_fields.specs.Values.{text_of}
+use Rattle.line_fields.specs.WrittenTokens.{data_tokens}
+use Rattle.line_fields.proofs.Lines.{object_of-ok}
+use Rattle.line_fields.proofs.WrittenTokens.{read-tokens}
 use Rattle.checkpoint.specs.declared.line.CheckpointLine.{CheckpointLine}
 use Rattle.checkpoint.specs.LineReading.{checkpoint_line_of, line_of_type}
 use Rattle.checkpoint.specs.LineWriting.{IsTextIfThere}

@@ -4,8 +4,8 @@ use Rattle.json.specs.Token.{Token, begin_object, end_object}
 use Rattle.json.specs.Tree.{members_tokens}
 use Rattle.serde_json.specs.Data.{Members, no_members, member, boolean, string}
 use Rattle.serde_json.specs.Written.{members_outline}
-use Rattle.move_messages.specs.Written.{list_data, number_data}
-use Rattle.move_messages.specs.WrittenTokens.{data_tokens, member_tokens}
+use Rattle.line_fields.specs.Written.{list_data, number_data}
+use Rattle.line_fields.specs.WrittenTokens.{data_tokens, member_tokens}
 use Rattle.wagons_and_orders.specs.declared.wagon_row.WagonRow.{WagonRow}
 use Rattle.wagons_and_orders.specs.OrderRow.{OrderRowValue}
 use Rattle.checkpoint.specs.Limits.{line_format}

@@ -1,7 +1,7 @@
 -- The objects that the lines spell, their members ascending by name.
 use Rattle.std.proofs.Common.{ℕ, List, Option, codes}
 use Rattle.serde_json.specs.Data.{Data, boolean, string, object, no_members, member}
-use Rattle.move_messages.specs.Written.{list_data, number_data}
+use Rattle.line_fields.specs.Written.{list_data, number_data}
 use Rattle.wagons_and_orders.specs.declared.wagon_row.WagonRow.{WagonRow}
 use Rattle.wagons_and_orders.specs.OrderRow.{OrderRowValue}
 use Rattle.wagons_and_orders.specs.StatusTable.{place_of}

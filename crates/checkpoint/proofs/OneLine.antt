@@ -12,7 +12,7 @@ use Rattle.serde_json.specs.View.{items_of}
 use Rattle.serde_json.specs.Written.{number_text, comma_if, compact_text, items_text, members_text}
 use Rattle.line_engine.specs.Lines.{has_feed, is_blank}
 use Rattle.line_engine.proofs.Feeds.{has_feed-append}
-use Rattle.move_messages.specs.Commands.{max_revision}
+use Rattle.line_fields.specs.Commands.{max_revision}
 use Rattle.move_messages.specs.OrderLimits.{IsOrder}
 use Rattle.move_messages.specs.MaxLoad.{max_load}
 use Rattle.wagons_and_orders.specs.declared.wagon_row.WagonRow.{WagonRow}

@@ -15,15 +15,15 @@ use Rattle.rail_codes.specs.OrderId.{order_id_of}
 use Rattle.rail_codes.specs.Place.{place_read}
 use Rattle.rail_codes.specs.WagonNumber.{wagon_number_of}
 use Rattle.move_messages.specs.Classes.{max_classes, IsClassList}
-use Rattle.move_messages.specs.Commands.{classes_from, order_text_of}
-use Rattle.move_messages.specs.declared.field.Field.TheVariants as field
-use Rattle.move_messages.specs.Field.{field_name}
-use Rattle.move_messages.specs.Fields.{member, field_of, optional_field_of}
+use Rattle.line_fields.specs.Commands.{classes_from, order_text_of}
+use Rattle.line_fields.specs.declared.field.Field.TheVariants as field
+use Rattle.line_fields.specs.Field.{field_name}
+use Rattle.line_fields.specs.Fields.{member, field_of, optional_field_of}
 use Rattle.move_messages.specs.OrderLimits.{IsOrder, max_order_wagons, max_penalty}
 use Rattle.move_messages.specs.MaxLoad.{max_load}
-use Rattle.move_messages.specs.Values.{class_from, each, list_of, list_of_each, list_within, text_of, wagon_number_from}
-use Rattle.move_messages.proofs.Writing.{code-reads, list-reads, moment-reads, number_reads}
-use Rattle.move_messages.specs.Written.{list_data}
+use Rattle.line_fields.specs.Values.{class_from, each, list_of, list_of_each, list_within, text_of, wagon_number_from}
+use Rattle.line_fields.proofs.Writing.{code-reads, list-reads, moment-reads, number_reads}
+use Rattle.line_fields.specs.Written.{list_data}
 use Rattle.wagons_and_orders.specs.OrderRow.{OrderRowValue}
 use Rattle.checkpoint.specs.declared.line.CheckpointLine.TheVariants.{Order}
 use Rattle.checkpoint.specs.LineReading.{line_of_type, order_line_of}

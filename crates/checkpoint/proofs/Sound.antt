@@ -10,7 +10,7 @@ use Rattle.std.proofs.lemmas.List.Elements.{All-nil, All-push}
 use Rattle.std.proofs.lemmas.List.Sums.{sum_by-append}
 use Rattle.std.proofs.lemmas.Map.Keys.{IsDistinct-push}
 use Rattle.move_messages.specs.MaxLoad.{max_load}
-use Rattle.move_messages.specs.declared.fault.LineFault.{LineFault}
+use Rattle.line_fields.specs.declared.fault.LineFault.{LineFault}
 use Rattle.line_engine.specs.Lines.{is_blank}
 use Rattle.wagons_and_orders.specs.declared.wagon_row.WagonRow.{WagonRow}
 use Rattle.wagons_and_orders.specs.Lack.{is_open}

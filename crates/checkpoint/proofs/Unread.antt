@@ -4,7 +4,7 @@ use Rattle.std.specs.Prelude.{nat_le}
 use Rattle.std.proofs.lemmas.Bool.{cases_Bool}
 use Rattle.faults.specs.declared.faults.CheckpointFault.{CheckpointFault}
 use Rattle.faults.specs.declared.faults.CheckpointFault.TheVariants.{BadCheckpointLine, DuplicateWagon, TooLarge}
-use Rattle.move_messages.specs.declared.fault.LineFault.{LineFault}
+use Rattle.line_fields.specs.declared.fault.LineFault.{LineFault}
 use Rattle.line_engine.specs.Lines.{is_blank}
 use Rattle.wagons_and_orders.specs.declared.wagon_row.WagonRow.{WagonRow}
 use Rattle.wagons_and_orders.specs.OrderRow.{OrderRowValue}

@@ -12,12 +12,12 @@ use Rattle.rail_codes.specs.Moment.{moment_of}
 use Rattle.rail_codes.specs.OrderId.{order_id_of}
 use Rattle.rail_codes.specs.Place.{place_read}
 use Rattle.rail_codes.specs.WagonNumber.{wagon_number_of}
-use Rattle.move_messages.specs.declared.field.Field.TheVariants as field
-use Rattle.move_messages.specs.Field.{field_name}
-use Rattle.move_messages.specs.Fields.{member, field_of, optional_field_of}
+use Rattle.line_fields.specs.declared.field.Field.TheVariants as field
+use Rattle.line_fields.specs.Field.{field_name}
+use Rattle.line_fields.specs.Fields.{member, field_of, optional_field_of}
 use Rattle.move_messages.specs.MaxLoad.{max_load}
-use Rattle.move_messages.specs.Values.{◌>>=◌, boolean_of, text_of}
-use Rattle.move_messages.proofs.Writing.{code-reads, moment-reads, number_reads}
+use Rattle.line_fields.specs.Values.{◌>>=◌, boolean_of, text_of}
+use Rattle.line_fields.proofs.Writing.{code-reads, moment-reads, number_reads}
 use Rattle.wagons_and_orders.specs.declared.load.Load.TheVariants.{Loaded, Unladen}
 use Rattle.wagons_and_orders.specs.declared.status.Status.{Status}
 use Rattle.wagons_and_orders.specs.declared.status.Status.TheVariants.{Empty, Loading, Ready, Journey, Yard, Arrived, Unloading}

@@ -1,6 +1,6 @@
 -- The numbers of a checkpoint and their limits.
 use Rattle.std.specs.Prelude.{ℕ, ◌≤◌}
-use Rattle.move_messages.specs.Commands.{max_revision}
+use Rattle.line_fields.specs.Commands.{max_revision}
 
 -- the one format that there is
 abbrev pub line_format : ℕ

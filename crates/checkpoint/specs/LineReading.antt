@@ -2,15 +2,15 @@
 use Rattle.std.specs.Prelude.{ℕ, List, Option, Some, None, unwrap_or, if◌then◌else◌, codes, Result, Ok, Err}
 use Rattle.std.specs.Option.{ok_or}
 use Rattle.serde_json.specs.Data.{Data}
-use Rattle.move_messages.specs.declared.field.Field.TheVariants as field
-use Rattle.move_messages.specs.declared.fault.FieldFault.TheVariants.{OutOfRange}
-use Rattle.move_messages.specs.declared.fault.LineFault.{LineFault}
-use Rattle.move_messages.specs.declared.fault.LineFault.TheVariants.{UnknownType, BadField}
-use Rattle.move_messages.specs.Commands.{max_revision, order_text_of}
-use Rattle.move_messages.specs.Fields.{field_of, list_at, optional_field_of}
-use Rattle.move_messages.specs.Line.{object_of}
+use Rattle.line_fields.specs.declared.field.Field.TheVariants as field
+use Rattle.line_fields.specs.declared.fault.FieldFault.TheVariants.{OutOfRange}
+use Rattle.line_fields.specs.declared.fault.LineFault.{LineFault}
+use Rattle.line_fields.specs.declared.fault.LineFault.TheVariants.{UnknownType, BadField}
+use Rattle.line_fields.specs.Commands.{max_revision, order_text_of}
+use Rattle.line_fields.specs.Fields.{field_of, list_at, optional_field_of}
+use Rattle.line_fields.specs.Line.{object_of}
 use Rattle.move_messages.specs.MaxLoad.{max_load}
-use Rattle.move_messages.specs.Values.{◌>>=◌, boolean_of, class_from, moment_from, number_within, order_id_from, place_from, text_of, wagon_number_from}
+use Rattle.line_fields.specs.Values.{◌>>=◌, boolean_of, class_from, moment_from, number_within, order_id_from, place_from, text_of, wagon_number_from}
 use Rattle.wagons_and_orders.specs.declared.status.Status.{Status}
 use Rattle.wagons_and_orders.specs.declared.wagon_row.WagonRow.{WagonRow}
 use Rattle.wagons_and_orders.specs.StatusWords.{is_word, status_of_word}

@@ -4,7 +4,7 @@ use Rattle.serde_json.specs.Data.{Data, boolean, string, object, Members, no_mem
 use Rattle.serde_json.specs.Written.{compact_text}
 use Rattle.rail_codes.specs.Moment.{IsMomentText}
 use Rattle.line_engine.specs.Lines.{has_feed, is_blank}
-use Rattle.move_messages.specs.Written.{list_data, number_data}
+use Rattle.line_fields.specs.Written.{list_data, number_data}
 use Rattle.wagons_and_orders.specs.declared.wagon_row.WagonRow.{WagonRow}
 use Rattle.wagons_and_orders.specs.OrderRow.{OrderRowValue}
 use Rattle.wagons_and_orders.specs.StatusTable.{place_of}

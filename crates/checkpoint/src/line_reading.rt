@@ -1,15 +1,13 @@
 //! Lines of a checkpoint, read field by field.
 ghost use Rattle.std.specs.Prelude.{◌≡◌};
 ghost use Rattle.serde_json.specs.View.{view};
-ghost use Rattle.move_messages.specs.Fields.{Gives};
+ghost use Rattle.line_fields.specs.Fields.{Gives};
 ghost use Rattle.checkpoint.specs.LineReading as meaning;
 
 use crate::limits::{LINE_FORMAT, MAX_LINES};
 use crate::line::{CheckpointLine, OrderLine};
-use move_messages::{
-    Field, FieldFault, LineFault, MAX_LOAD, MAX_REVISION, boolean_at, code_at, codes_at, count_at,
-    number_at, object_of, optional_code_at, order_at, text_at,
-};
+use line_fields::{Field, FieldFault, LineFault, MAX_REVISION, boolean_at, code_at, codes_at, count_at, number_at, object_of, optional_code_at, order_at, text_at};
+use move_messages::MAX_LOAD;
 use rail_codes::Moment;
 use serde_json::Value;
 use std::alloc::Global;

@@ -14,7 +14,7 @@ use crate::order_tokens::write_order;
 use crate::tokens::{begin_line, write_moment_if_there, write_number};
 use crate::wagon_tokens::write_wagon;
 use json::Writer;
-use move_messages::written_text;
+use line_fields::written_text;
 use rail_codes::Moment;
 use std::alloc::{AllocError, Global};
 use wagons_and_orders::{OrderRow, WagonRow};

@@ -2,13 +2,13 @@
 ghost use Rattle.std.specs.Prelude.{◌≡◌, ◌++◌, ◌∷◌, All, Ok, OnOk, codes};
 ghost use Rattle.json.specs.Token.{begin_object};
 ghost use Rattle.serde_json.specs.Data.{boolean, string};
-ghost use Rattle.move_messages.specs.Written.{list_data, number_data};
-ghost use Rattle.move_messages.specs.WrittenTokens.{member_tokens};
+ghost use Rattle.line_fields.specs.Written.{list_data, number_data};
+ghost use Rattle.line_fields.specs.WrittenTokens.{member_tokens};
 ghost use Rattle.checkpoint.specs.inner.Readable.{IsPromiseRead};
 ghost use Rattle.checkpoint.specs.inner.Written.{AddsMoment, AddsMomentIfThere, tokens_if_there};
 
 use json::Writer;
-use move_messages::code_str;
+use line_fields::code_str;
 use rail_codes::{Code, Moment, OrderId, Shape};
 use std::alloc::{AllocError, Global};
 

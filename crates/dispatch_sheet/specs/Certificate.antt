@@ -3,7 +3,7 @@ use Rattle.std.specs.Prelude.{◌≡◌, ℕ, List, map, codes}
 use Rattle.serde_json.specs.Data.{Data, string, object, no_members, member}
 use Rattle.serde_json.specs.Written.{compact_text}
 use Rattle.rail_codes.specs.Moment.{IsMomentText}
-use Rattle.move_messages.specs.Written.{list_data, number_data, pair_data}
+use Rattle.line_fields.specs.Written.{list_data, number_data, pair_data}
 use Rattle.move_messages.specs.declared.commit_text.CommitText.{CommitText}
 use Rattle.cost_table.specs.Problem.{ProblemValue}
 use Rattle.price_checker.specs.declared.prices.Prices.{Prices}

@@ -2,9 +2,9 @@
 use Rattle.std.proofs.Common.{◌≡◌, ℕ, Bool, true, false, List, [], ◌∷◌, ◌++◌, Option, Some, Result, Ok, Err, codes, decimal, refl, sym, ap, ◌∙◌, subst, append_assoc, append-nil}
 use Rattle.std.specs.List.{flat_map}
 use Rattle.move_messages.specs.Order.{Order}
-use Rattle.move_messages.specs.declared.command.Command.{Command}
+use Rattle.line_fields.specs.declared.command.Command.{Command}
 use Rattle.serde_json.specs.Data.{Data}
-use Rattle.move_messages.specs.declared.fault.LineFault.{LineFault}
+use Rattle.line_fields.specs.declared.fault.LineFault.{LineFault}
 use Rattle.wagons_and_orders.specs.declared.wagon_row.WagonRow.{WagonRow}
 use Rattle.line_network.specs.Network.{NetworkValue}
 use Rattle.reply_texts.specs.Lines.{Adds}

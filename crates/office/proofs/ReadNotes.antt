@@ -1,11 +1,11 @@
 -- The notes of a line, by what was read.
 use Rattle.std.proofs.Common.{◌≡◌, ◌≢◌, ℕ, List, [], ◌++◌, Result, Ok, Err, sym, ap, ◌∙◌, subst}
-use Rattle.move_messages.specs.Commands.{command_of}
-use Rattle.move_messages.specs.Fields.{Gives}
-use Rattle.move_messages.specs.Line.{object_of}
-use Rattle.move_messages.specs.declared.command.Command.{Command}
-use Rattle.move_messages.specs.declared.fault.LineFault.{LineFault}
-use Rattle.move_messages.specs.declared.fault.LineFault.TheVariants.{OutOfMemory}
+use Rattle.line_fields.specs.Commands.{command_of}
+use Rattle.line_fields.specs.Fields.{Gives}
+use Rattle.line_fields.specs.Line.{object_of}
+use Rattle.line_fields.specs.declared.command.Command.{Command}
+use Rattle.line_fields.specs.declared.fault.LineFault.{LineFault}
+use Rattle.line_fields.specs.declared.fault.LineFault.TheVariants.{OutOfMemory}
 use Rattle.wagons_and_orders.specs.declared.wagon_row.WagonRow.{WagonRow}
 use Rattle.line_network.specs.Network.{NetworkValue}
 use Rattle.place_names.specs.declared.named_place.NamedPlace.{NamedPlace}

@@ -3,11 +3,11 @@ use Rattle.std.proofs.Common.{◌≡◌, ◌≢◌, ◌⊎◌, ℕ, Bool, true, 
 use Rattle.std.specs.Prelude.{IfOk, IsOk, MatchResult, OnOk, String}
 use Rattle.std.specs.declared.alloc.AllocError.{AllocError}
 use Rattle.std.specs.declared.alloc.Global.{Global}
-use Rattle.move_messages.specs.Commands.{command_of}
-use Rattle.move_messages.specs.Fields.{Gives}
-use Rattle.move_messages.specs.declared.command.Command.{Command}
-use Rattle.move_messages.specs.declared.fault.LineFault.{LineFault}
-use Rattle.move_messages.specs.declared.fault.LineFault.TheVariants.{OutOfMemory}
+use Rattle.line_fields.specs.Commands.{command_of}
+use Rattle.line_fields.specs.Fields.{Gives}
+use Rattle.line_fields.specs.declared.command.Command.{Command}
+use Rattle.line_fields.specs.declared.fault.LineFault.{LineFault}
+use Rattle.line_fields.specs.declared.fault.LineFault.TheVariants.{OutOfMemory}
 use Rattle.commit_book.specs.Setting.{Setting}
 use Rattle.line_engine.specs.Replies.{out_of_memory_body}
 use Rattle.office.specs.CommandReplies.{LineRunsOutOfMemory, RepliesToLine}

@@ -1,9 +1,9 @@
 -- What a run replies to a command line, behind the line's number, and what the line does to the book.
 use Rattle.std.specs.Prelude.{◌≡◌, ◌⊎◌, ℕ, Bool, true, false, List, [], ◌∷◌, ◌++◌, length, Result, Ok, Err}
-use Rattle.move_messages.specs.declared.fault.LineFault.{LineFault}
-use Rattle.move_messages.specs.Commands.{command_of}
-use Rattle.move_messages.specs.declared.command.Command.{Command}
-use Rattle.move_messages.specs.declared.command.Command.TheVariants as command
+use Rattle.line_fields.specs.declared.fault.LineFault.{LineFault}
+use Rattle.line_fields.specs.Commands.{command_of}
+use Rattle.line_fields.specs.declared.command.Command.{Command}
+use Rattle.line_fields.specs.declared.command.Command.TheVariants as command
 use Rattle.move_messages.specs.declared.event.Event.{Event}
 use Rattle.move_messages.specs.declared.event.Event.TheVariants as event
 use Rattle.cost_table.specs.Plan.{IsOptimal, cost_of}

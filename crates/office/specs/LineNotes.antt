@@ -1,9 +1,9 @@
 -- What is noted of a line's bytes.
 use Rattle.std.specs.Prelude.{◌≡◌, ℕ, Bool, ◌&&◌, ◌||◌, ◌==◌, nat_eq, nat_lt, if◌then◌else◌, List, [], ◌∷◌, take, codes, Result, Ok, Err}
 use Rattle.std.specs.List.{count_by, starts_with}
-use Rattle.move_messages.specs.declared.fault.LineFault.{LineFault}
-use Rattle.move_messages.specs.declared.fault.LineFault.TheVariants.{NotJson, OutOfMemory, NotAnObject, UnknownType, MissingField, BadField}
-use Rattle.move_messages.specs.declared.command.Command.{Command}
+use Rattle.line_fields.specs.declared.fault.LineFault.{LineFault}
+use Rattle.line_fields.specs.declared.fault.LineFault.TheVariants.{NotJson, OutOfMemory, NotAnObject, UnknownType, MissingField, BadField}
+use Rattle.line_fields.specs.declared.command.Command.{Command}
 use Rattle.office.specs.NoteText.{note, noted}
 use Rattle.office.specs.declared.brackets.Reading.{Reading}
 use Rattle.office.specs.declared.brackets.Reading.TheVariants.{Outside, Inside, Escaped}

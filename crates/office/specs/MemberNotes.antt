@@ -3,12 +3,12 @@ use Rattle.std.specs.Prelude.{ℕ, Bool, not, nat_eq, nat_le, ◌&&◌, ◌||◌
 use Rattle.std.specs.List.{flat_map, list_any}
 use Rattle.std.specs.Cmp.Lexicographic.{pointwise}
 use Rattle.serde_json.specs.Data.{Data, null, boolean, number, string, array, object, Members, no_members, member}
-use Rattle.move_messages.specs.Field.{field_name}
-use Rattle.move_messages.specs.declared.field.Field.{Field}
-use Rattle.move_messages.specs.declared.field.Field.TheVariants as field
-use Rattle.move_messages.specs.declared.fault.LineFault.{LineFault}
-use Rattle.move_messages.specs.declared.command.Command.{Command}
-use Rattle.move_messages.specs.declared.command.Command.TheVariants as command
+use Rattle.line_fields.specs.Field.{field_name}
+use Rattle.line_fields.specs.declared.field.Field.{Field}
+use Rattle.line_fields.specs.declared.field.Field.TheVariants as field
+use Rattle.line_fields.specs.declared.fault.LineFault.{LineFault}
+use Rattle.line_fields.specs.declared.command.Command.{Command}
+use Rattle.line_fields.specs.declared.command.Command.TheVariants as command
 use Rattle.move_messages.specs.declared.event.Event.{Event}
 use Rattle.move_messages.specs.declared.event.Event.TheVariants as event
 use Rattle.move_messages.specs.declared.message.MessageKind.{MessageKind}

@@ -1,9 +1,9 @@
 -- What a review writes of a line, and what the line does to the office.
 use Rattle.std.specs.Prelude.{◌≡◌, ◌⊎◌, ℕ, Bool, true, nat_lt, List, [], ◌++◌, length, codes, None, Result, Ok, Err}
-use Rattle.move_messages.specs.Commands.{command_of}
-use Rattle.move_messages.specs.declared.fault.LineFault.{LineFault}
-use Rattle.move_messages.specs.declared.command.Command.{Command}
-use Rattle.move_messages.specs.declared.command.Command.TheVariants as command
+use Rattle.line_fields.specs.Commands.{command_of}
+use Rattle.line_fields.specs.declared.fault.LineFault.{LineFault}
+use Rattle.line_fields.specs.declared.command.Command.{Command}
+use Rattle.line_fields.specs.declared.command.Command.TheVariants as command
 use Rattle.move_messages.specs.declared.event.Event.{Event}
 use Rattle.move_messages.specs.declared.event.Event.TheVariants as event
 use Rattle.wagons_and_orders.specs.declared.wagon_row.WagonRow.{WagonRow}

@@ -1,9 +1,9 @@
 //! The notes of a line by itself and by what was known before it. `Err` only when out of memory; part of the text may be there then.
 ghost use Rattle.std.specs.Prelude.{◌≡◌, ◌≢◌, ◌++◌, Err, IfOk, OnOk, string_bytes};
-ghost use Rattle.move_messages.specs.Commands.{command_of};
-ghost use Rattle.move_messages.specs.Fields.{Gives};
-ghost use Rattle.move_messages.specs.Line.{object_of};
-ghost use Rattle.move_messages.specs.declared.fault.LineFault.TheVariants.{OutOfMemory};
+ghost use Rattle.line_fields.specs.Commands.{command_of};
+ghost use Rattle.line_fields.specs.Fields.{Gives};
+ghost use Rattle.line_fields.specs.Line.{object_of};
+ghost use Rattle.line_fields.specs.declared.fault.LineFault.TheVariants.{OutOfMemory};
 ghost use Rattle.reply_texts.specs.Lines.{Adds};
 ghost use Rattle.office.specs.LineNotes.{is_marked, mark_note, open_note};
 ghost use Rattle.office.specs.MemberNotes.{fields_of, member_notes};
@@ -15,7 +15,8 @@ use crate::member_notes::{fields_of, push_member_notes};
 use crate::note_text::push_note;
 use crate::order_notes::push_order_notes;
 use line_network::Network;
-use move_messages::{Command, Event, LineFault, object_of};
+use line_fields::{Command, LineFault, object_of};
+use move_messages::Event;
 use place_names::Places;
 use std::alloc::{AllocError, Global};
 use wagons_and_orders::WagonRow;

@@ -7,7 +7,8 @@ ghost use Rattle.serde_json.specs.View.{members_view, view};
 ghost use Rattle.office.specs.MemberNotes.{commit_fields, exception_fields, fields_of, fields_of_event, fields_of_kind, is_known, max_shown, member_names, member_note, message_fields, moment_fields, names_of, network_fields, order_fields, sheet_fields, shown_byte, shown_name, withdraw_fields};
 
 use crate::note_text::{end_note, push_head};
-use move_messages::{Command, Event, Field, MessageKind};
+use line_fields::{Command, Field};
+use move_messages::{Event, MessageKind};
 use rail_codes::push_ascii;
 use serde_json::{Map, Value};
 use std::alloc::AllocError;

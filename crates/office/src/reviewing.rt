@@ -3,9 +3,9 @@ ghost use Rattle.std.specs.Prelude.{◌≡◌, ◌≢◌, ◌++◌, Bool, Err, f
 ghost use Rattle.line_engine.specs.Lines.{max_line_bytes};
 ghost use Rattle.line_engine.specs.Outcome.{is_refusal};
 ghost use Rattle.line_engine.specs.Runs.{Runs, run_over};
-ghost use Rattle.move_messages.specs.Commands.{command_of};
-ghost use Rattle.move_messages.specs.Fields.{Gives};
-ghost use Rattle.move_messages.specs.declared.fault.LineFault.TheVariants.{OutOfMemory};
+ghost use Rattle.line_fields.specs.Commands.{command_of};
+ghost use Rattle.line_fields.specs.Fields.{Gives};
+ghost use Rattle.line_fields.specs.declared.fault.LineFault.TheVariants.{OutOfMemory};
 ghost use Rattle.office.specs.CommandReplies.{LineRunsOutOfMemory, RepliesToLine};
 ghost use Rattle.office.specs.CommandNotes.{AreLineNotes};
 ghost use Rattle.office.specs.Fullness.{entries_note, lines_note};
@@ -21,7 +21,8 @@ use line_engine::{
     Source, run_replies,
 };
 use line_network::Network;
-use move_messages::{Command, Event, LineFault, read_line};
+use line_fields::{Command, LineFault, read_line};
+use move_messages::Event;
 use place_names::Places;
 use std::alloc::{AllocError, Global};
 use std::marker::Model;

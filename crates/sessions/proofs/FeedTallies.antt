@@ -8,7 +8,7 @@ use Rattle.std.proofs.lemmas.List.Sums.{sum_by-cons}
 use Rattle.line_engine.specs.Lines.{BeginsWith, line_feed, lines_of, first_line, begin_with, is_blank, max_input_lines, max_line_bytes, with_feeds}
 use Rattle.line_engine.proofs.Running.{lines_of-with_feeds}
 use Rattle.line_network.specs.Network.{NetworkValue}
-use Rattle.move_messages.specs.Commands.{command_of}
+use Rattle.line_fields.specs.Commands.{command_of}
 use Rattle.sessions.specs.Seat.{SeatValue, count_of}
 use Rattle.sessions.specs.FedLines.{AreTaken, IsSeatFed, blank_line, is_accepted, is_refused, is_repeated, no_line, one_line}
 use Rattle.sessions.specs.FeedCounts.{IsFileRun, IsStopNumber, is_counted, may_count, must_count}

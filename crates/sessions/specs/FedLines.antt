@@ -2,12 +2,12 @@
 use Rattle.std.specs.Prelude.{◌≡◌, ◌⊎◌, ◌<◌, ◌≤◌, ℕ, Bool, true, false, List, [], ◌∷◌, Option, MatchOption, Result, Ok, Err, length, map}
 use Rattle.std.specs.List.{count_by}
 use Rattle.std.specs.Io.KnownBytes.{Consumes, IsAtEnd}
-use Rattle.move_messages.specs.declared.fault.LineFault.{LineFault}
+use Rattle.line_fields.specs.declared.fault.LineFault.{LineFault}
 use Rattle.line_engine.specs.Lines.{BeginsWith, first_line, has_feed, is_blank, lines_of, max_input_lines, max_line_bytes}
 use Rattle.line_network.specs.Network.{NetworkValue}
-use Rattle.move_messages.specs.Commands.{command_of}
-use Rattle.move_messages.specs.declared.command.Command.{Command}
-use Rattle.move_messages.specs.declared.command.Command.TheVariants as command
+use Rattle.line_fields.specs.Commands.{command_of}
+use Rattle.line_fields.specs.declared.command.Command.{Command}
+use Rattle.line_fields.specs.declared.command.Command.TheVariants as command
 use Rattle.move_messages.specs.declared.commit_text.CommitText.{CommitText}
 use Rattle.move_messages.specs.declared.event.Event.{Event}
 use Rattle.move_messages.specs.declared.event.Event.TheVariants as event

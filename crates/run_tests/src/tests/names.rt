@@ -8,7 +8,7 @@ use csv_records::RecordFault;
 use faults::{CheckpointFault, FleetFault};
 use fleet_rows::RosterFault;
 use line_network::{NetworkFault, NetworksFault, WorkFault};
-use move_messages::{Field, FieldFault, LineFault};
+use line_fields::{Field, FieldFault, LineFault};
 use office::RunFault;
 use operating_db::ApplyFault;
 use price_checker::{CheckFault, NamedFault};

@@ -6,7 +6,7 @@ use checkpoint::ReadFault;
 use faults::{CheckpointFault, FleetFault};
 use fleet_rows::RosterFault;
 use line_network::{NetworkFault, WorkFault};
-use move_messages::LineFault;
+use line_fields::LineFault;
 use office::RunFault;
 use std::test::Fail;
 use test_samples::misnamed;

@@ -1,7 +1,7 @@
 use Rattle.std.proofs.Common.{◌++◌, codes, ap, ◌∙◌}
 use Rattle.std.proofs.lemmas.Result.{on_ok_weaker}
-use Rattle.move_messages.specs.Written.{number_data}
-use Rattle.move_messages.specs.WrittenTokens.{member_tokens}
+use Rattle.line_fields.specs.Written.{number_data}
+use Rattle.line_fields.specs.WrittenTokens.{member_tokens}
 use Rattle.checkpoint.proofs.LineTokens.{five-written, head-parts}
 use Rattle.checkpoint.proofs.lines.write_head.Goals as goal
 

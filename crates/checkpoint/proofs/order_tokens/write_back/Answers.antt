@@ -1,8 +1,8 @@
 use Rattle.std.proofs.Common.{◌++◌, codes, ap, subst, ◌∙◌}
 use Rattle.std.proofs.lemmas.Result.{on_ok_weaker}
 use Rattle.serde_json.specs.Data.{string}
-use Rattle.move_messages.specs.Written.{list_data, number_data}
-use Rattle.move_messages.specs.WrittenTokens.{member_tokens}
+use Rattle.line_fields.specs.Written.{list_data, number_data}
+use Rattle.line_fields.specs.WrittenTokens.{member_tokens}
 use Rattle.checkpoint.specs.inner.Readable.{AreNumbersRead, IsReadableText}
 use Rattle.checkpoint.proofs.LineTokens.{six-written}
 use Rattle.checkpoint.proofs.order_tokens.write_back.Goals as goal

@@ -5,8 +5,8 @@ use Rattle.rail_codes.specs.OrderId.{order_id_of}
 use Rattle.rail_codes.specs.Place.{place_read}
 use Rattle.move_messages.specs.Classes.{IsClassList}
 use Rattle.move_messages.specs.OrderLimits.{IsOrder}
-use Rattle.move_messages.specs.Written.{list_data, number_data}
-use Rattle.move_messages.specs.WrittenTokens.{member_tokens}
+use Rattle.line_fields.specs.Written.{list_data, number_data}
+use Rattle.line_fields.specs.WrittenTokens.{member_tokens}
 use Rattle.checkpoint.specs.inner.Readable.{AreClassesRead}
 use Rattle.checkpoint.proofs.LineTokens.{five-written}
 use Rattle.checkpoint.proofs.order_tokens.write_front.Goals as goal

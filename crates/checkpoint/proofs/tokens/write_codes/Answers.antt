@@ -2,10 +2,10 @@ use Rattle.std.proofs.Common.{◌≡◌, ◌∷◌, [], ◌++◌, ap, ◌∙◌,
 use Rattle.std.proofs.lemmas.Result.{on_ok_weaker}
 use Rattle.json.specs.Token.{begin_array, key}
 use Rattle.serde_json.specs.Data.{string}
-use Rattle.move_messages.specs.Written.{list_data}
-use Rattle.move_messages.specs.WrittenTokens.{data_tokens}
-use Rattle.move_messages.proofs.Writing.{holds-more, holds-whole}
-use Rattle.move_messages.proofs.WrittenTokens.{items-more, list-tokens, list-written}
+use Rattle.line_fields.specs.Written.{list_data}
+use Rattle.line_fields.specs.WrittenTokens.{data_tokens}
+use Rattle.line_fields.proofs.Writing.{holds-more, holds-whole}
+use Rattle.line_fields.proofs.WrittenTokens.{items-more, list-tokens, list-written}
 use Rattle.checkpoint.proofs.tokens.write_codes.Goals as goal
 
 pub loop-code-preserved : goal.loop-code-preserved

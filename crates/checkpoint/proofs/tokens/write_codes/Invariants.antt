@@ -2,7 +2,7 @@ use Rattle.std.proofs.Common.{◌≡◌, ◌++◌, take, Ok}
 use Rattle.std.specs.Prelude.{All}
 use Rattle.std.specs.List.{flat_map}
 use Rattle.serde_json.specs.Data.{string}
-use Rattle.move_messages.specs.WrittenTokens.{data_tokens}
+use Rattle.line_fields.specs.WrittenTokens.{data_tokens}
 use Rattle.checkpoint.proofs.tokens.write_codes.Given as goal
 
 abbrev pub invariant-loop-code : goal.invariant-loop-code

@@ -2,8 +2,8 @@ use Rattle.std.proofs.Common.{◌≡◌, ◌++◌, codes, Ok, ap, subst, ◌∙�
 use Rattle.std.proofs.lemmas.Result.{on_ok_weaker}
 use Rattle.serde_json.specs.Data.{string}
 use Rattle.rail_codes.specs.Place.{place_read}
-use Rattle.move_messages.specs.Written.{number_data}
-use Rattle.move_messages.specs.WrittenTokens.{member_tokens}
+use Rattle.line_fields.specs.Written.{number_data}
+use Rattle.line_fields.specs.WrittenTokens.{member_tokens}
 use Rattle.checkpoint.proofs.LineTokens.{six-written}
 use Rattle.checkpoint.proofs.wagon_tokens.write_front.Goals as goal
 

@@ -1,5 +1,5 @@
 use Rattle.std.proofs.Common.{inl}
-use Rattle.move_messages.specs.Commands.{command_of}
+use Rattle.line_fields.specs.Commands.{command_of}
 use Rattle.sessions.proofs.FedSeats.{turned_away}
 use Rattle.sessions.proofs.feed_lines.FeedLines.take_line.Goals as goal
 
