@@ -6,7 +6,10 @@ ghost use Rattle.checkpoint.specs.LineReading as meaning;
 
 use crate::limits::{LINE_FORMAT, MAX_LINES};
 use crate::line::{CheckpointLine, OrderLine};
-use line_fields::{Field, FieldFault, LineFault, MAX_REVISION, boolean_at, code_at, codes_at, count_at, number_at, object_of, optional_code_at, order_at, text_at};
+use line_fields::{
+    Field, FieldFault, LineFault, MAX_REVISION, boolean_at, code_at, codes_at, count_at, number_at,
+    object_of, optional_code_at, order_at, text_at,
+};
 use move_messages::MAX_LOAD;
 use rail_codes::Moment;
 use serde_json::Value;

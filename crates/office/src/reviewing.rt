@@ -20,8 +20,8 @@ use line_engine::{
     Handler, LineLimit, MAX_INPUT_LINES, Outcome, ReplyText, Responder, RunCount, RunFault, Sink,
     Source, run_replies,
 };
-use line_network::Network;
 use line_fields::{Command, LineFault, read_line};
+use line_network::Network;
 use move_messages::Event;
 use place_names::Places;
 use std::alloc::{AllocError, Global};

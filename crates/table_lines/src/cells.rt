@@ -9,7 +9,9 @@ ghost use Rattle.table_lines.specs.TableLine as meaning;
 ghost use Rattle.cost_table.specs.Rows.{IsNumber};
 
 use cost_table::MAX_COST;
-use line_fields::{Field, FieldFault, ItemKind, LineFault, in_field, list_of, list_of_each, member, number_within};
+use line_fields::{
+    Field, FieldFault, ItemKind, LineFault, in_field, list_of, list_of_each, member, number_within,
+};
 use serde_json::Value;
 use std::alloc::Global;
 
