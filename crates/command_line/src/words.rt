@@ -102,9 +102,19 @@ pub fn not_utf8(alloc: Global) -> Result<Error, AllocError> {
 fn command_line<'a>(alloc: Global) -> Result<Command<'a>, AllocError> {
     let mut program = program(alloc)?;
     for help in WORDS {
-        program = program.subcommand(word_command(alloc, help)?)?;
+        program = with_word(alloc, program, help)?;
     }
     Ok(program)
+}
+
+/// The program, and one more word.
+fn with_word<'a>(
+    alloc: Global,
+    program: Command<'a>,
+    help: WordHelp,
+) -> Result<Command<'a>, AllocError> {
+    let word = word_command(alloc, help)?;
+    program.subcommand(word)
 }
 
 /// The program, and no word.
