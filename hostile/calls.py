@@ -22,8 +22,8 @@ from program import EACH, HERE, Table
 
 ROOT = os.path.dirname(HERE)
 NAME = "hostile_calls"
-LIBRARIES = """checkpoint book_feed office office_map problem_table sessions assignment dispatch_sheet table_lines commit_book operating_db price_checker cost_table
-line_network line_engine fleet_rows place_names move_messages rail_codes test_samples""".split()
+LIBRARIES = """checkpoint office office_map problem_table sessions assignment dispatch_sheet table_lines commit_book operating_db price_checker cost_table
+line_network line_engine fleet_rows place_names line_fields move_messages rail_codes test_samples""".split()
 # How many runs of `rt try` share the cases: each builds the program again, which takes two processor minutes.
 SHARES = 2
 # The request that is refused, and more requests than come before it. MANY stands in calls/trying.rs too.

@@ -4,7 +4,8 @@
 use crate::samples::{book, command};
 use crate::trying::{must, prepared, say_refused, shown};
 use commit_book::{Answer, Book, Call, Refusal, Reply};
-use move_messages::{Command, Event};
+use line_fields::Command;
+use move_messages::Event;
 use std::alloc::{AllocError, Global};
 
 const ORDER: &str =

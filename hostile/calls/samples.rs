@@ -3,7 +3,7 @@
 use commit_book::{Book, Limits};
 use line_network::{Networks, tables};
 use line_network::read_lines;
-use move_messages::{Command, read_line};
+use line_fields::{Command, read_line};
 use std::alloc::Global;
 use std::sync::Arc;
 use test_samples::{NETWORK, ROSTER};

@@ -9,7 +9,7 @@ use Rattle.std.proofs.lemmas.List.{append-nil}
 use Rattle.std.proofs.lemmas.List.Elements.{recursion_from_All}
 use Rattle.std.proofs.lemmas.List.Sums.{AllPass-from_list_all, sum_by-append, sum_by-cons}
 use Rattle.move_messages.specs.MaxLoad.{max_load}
-use Rattle.move_messages.specs.declared.fault.LineFault.{LineFault}
+use Rattle.line_fields.specs.declared.fault.LineFault.{LineFault}
 use Rattle.line_engine.specs.Lines.{is_blank}
 use Rattle.wagons_and_orders.specs.declared.wagon_row.WagonRow.{WagonRow}
 use Rattle.wagons_and_orders.specs.Lack.{is_open}
@@ -21,10 +21,10 @@ use Rattle.fleet_rows.proofs.Named.{is_same, same_name}
 use Rattle.faults.specs.declared.faults.CheckpointFault.TheVariants.{OrderFull, DuplicateOrder}
 use Rattle.operating_db.specs.FirstOffice.{IsFirstOffice}
 use Rattle.operating_db.specs.Office.{Office}
-use Rattle.checkpoint_lines.specs.LineReading.{checkpoint_line_of}
-use Rattle.checkpoint_lines.specs.OrderLine.{OrderLineValue, line_of_row}
-use Rattle.checkpoint_lines.specs.declared.line.CheckpointLine.{CheckpointLine}
-use Rattle.checkpoint_lines.specs.declared.line.CheckpointLine.TheVariants.{Wagon, End}
+use Rattle.checkpoint.specs.LineReading.{checkpoint_line_of}
+use Rattle.checkpoint.specs.OrderLine.{OrderLineValue, line_of_row}
+use Rattle.checkpoint.specs.declared.line.CheckpointLine.{CheckpointLine}
+use Rattle.checkpoint.specs.declared.line.CheckpointLine.TheVariants.{Wagon, End}
 use Rattle.checkpoint.specs.Checkpoint.{IsCheckpointOf, lines_for, order_said, written_lines}
 use Rattle.checkpoint.specs.OfficeOf.{closed, office_of_lines, office_of_taken, with_lines}
 use Rattle.checkpoint.specs.Parts.{PartsValue, no_parts}

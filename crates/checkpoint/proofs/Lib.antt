@@ -8,3 +8,10 @@ pub mod Complete
 pub mod Unread
 pub mod Writes
 pub mod Runs
+pub mod LineTokens
+pub mod Objects
+pub mod HeadReads
+pub mod WagonReads
+pub mod OrderReads
+pub mod LineReads
+pub mod OneLine

@@ -10,7 +10,7 @@ use Rattle.std.proofs.lemmas.List.Elements.{All-nil, All-push}
 use Rattle.std.proofs.lemmas.List.Sums.{sum_by-append}
 use Rattle.std.proofs.lemmas.Map.Keys.{IsDistinct-push}
 use Rattle.move_messages.specs.MaxLoad.{max_load}
-use Rattle.move_messages.specs.declared.fault.LineFault.{LineFault}
+use Rattle.line_fields.specs.declared.fault.LineFault.{LineFault}
 use Rattle.line_engine.specs.Lines.{is_blank}
 use Rattle.wagons_and_orders.specs.declared.wagon_row.WagonRow.{WagonRow}
 use Rattle.wagons_and_orders.specs.Lack.{is_open}
@@ -20,10 +20,10 @@ use Rattle.fleet_rows.specs.Kept.{max_roster_wagons}
 use Rattle.fleet_rows.specs.Rows.{max_open_wagons, names_of, open_wagons, order_in, wanted_open}
 use Rattle.fleet_rows.specs.SameWagons.{has_wagon}
 use Rattle.fleet_rows.proofs.Named.{is_same, nothing_named, same_name}
-use Rattle.checkpoint_lines.specs.LineReading.{checkpoint_line_of}
-use Rattle.checkpoint_lines.specs.OrderLine.{OrderLineValue, line_of_row}
-use Rattle.checkpoint_lines.specs.declared.line.CheckpointLine.{CheckpointLine}
-use Rattle.checkpoint_lines.specs.declared.line.CheckpointLine.TheVariants.{Head, Wagon, Order, End}
+use Rattle.checkpoint.specs.LineReading.{checkpoint_line_of}
+use Rattle.checkpoint.specs.OrderLine.{OrderLineValue, line_of_row}
+use Rattle.checkpoint.specs.declared.line.CheckpointLine.{CheckpointLine}
+use Rattle.checkpoint.specs.declared.line.CheckpointLine.TheVariants.{Head, Wagon, Order, End}
 use Rattle.checkpoint.specs.Checkpoint.{order_said, written_lines}
 use Rattle.checkpoint.specs.OfficeOf.{with_lines}
 use Rattle.checkpoint.specs.Parts.{PartsValue, no_parts}

@@ -4,7 +4,7 @@ use Rattle.std.specs.Prelude.{nat_le}
 use Rattle.std.proofs.lemmas.Bool.{cases_Bool}
 use Rattle.faults.specs.declared.faults.CheckpointFault.{CheckpointFault}
 use Rattle.faults.specs.declared.faults.CheckpointFault.TheVariants.{BadCheckpointLine, DuplicateWagon, TooLarge}
-use Rattle.move_messages.specs.declared.fault.LineFault.{LineFault}
+use Rattle.line_fields.specs.declared.fault.LineFault.{LineFault}
 use Rattle.line_engine.specs.Lines.{is_blank}
 use Rattle.wagons_and_orders.specs.declared.wagon_row.WagonRow.{WagonRow}
 use Rattle.wagons_and_orders.specs.OrderRow.{OrderRowValue}
@@ -12,10 +12,10 @@ use Rattle.wagons_and_orders.specs.RowParts.{row_of_parts}
 use Rattle.fleet_rows.specs.Kept.{max_roster_wagons}
 use Rattle.fleet_rows.specs.Rows.{order_in}
 use Rattle.fleet_rows.specs.SameWagons.{has_wagon}
-use Rattle.checkpoint_lines.specs.LineReading.{checkpoint_line_of}
-use Rattle.checkpoint_lines.specs.OrderLine.{OrderLineValue}
-use Rattle.checkpoint_lines.specs.declared.line.CheckpointLine.{CheckpointLine}
-use Rattle.checkpoint_lines.specs.declared.line.CheckpointLine.TheVariants.{Head, Wagon, Order, End}
+use Rattle.checkpoint.specs.LineReading.{checkpoint_line_of}
+use Rattle.checkpoint.specs.OrderLine.{OrderLineValue}
+use Rattle.checkpoint.specs.declared.line.CheckpointLine.{CheckpointLine}
+use Rattle.checkpoint.specs.declared.line.CheckpointLine.TheVariants.{Head, Wagon, Order, End}
 use Rattle.checkpoint.specs.OfficeOf.{closed, office_of_lines, office_of_taken, with_lines}
 use Rattle.checkpoint.specs.Parts.{PartsValue, no_parts}
 use Rattle.checkpoint.specs.Reads.{IsUnread}

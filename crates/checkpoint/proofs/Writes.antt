@@ -10,7 +10,7 @@ use Rattle.std.proofs.lemmas.List.Elements.{filter-append}
 use Rattle.std.proofs.lemmas.List.Sums.{sum_by-cons}
 use Rattle.line_engine.proofs.Running.{lines_of-with_feeds}
 use Rattle.line_engine.specs.Lines.{has_feed, is_blank, line_feed, lines_of, with_feeds}
-use Rattle.move_messages.specs.declared.fault.LineFault.{LineFault}
+use Rattle.line_fields.specs.declared.fault.LineFault.{LineFault}
 use Rattle.wagons_and_orders.specs.declared.wagon_row.WagonRow.{WagonRow}
 use Rattle.wagons_and_orders.specs.Lack.{is_open}
 use Rattle.wagons_and_orders.specs.OrderRow.{OrderRowValue}
@@ -19,10 +19,10 @@ use Rattle.operating_db.proofs.CompactOffices.{compact_begins}
 use Rattle.operating_db.specs.Compact.{compact}
 use Rattle.operating_db.specs.FirstOffice.{IsFirstOffice}
 use Rattle.operating_db.specs.Office.{Office}
-use Rattle.checkpoint_lines.specs.LineReading.{checkpoint_line_of}
-use Rattle.checkpoint_lines.specs.LineWriting.{IsEndLine, IsHeadLine, IsOrderLine, IsWagonLine}
-use Rattle.checkpoint_lines.specs.declared.line.CheckpointLine.{CheckpointLine}
-use Rattle.checkpoint_lines.specs.declared.line.CheckpointLine.TheVariants.{Head, Wagon, End}
+use Rattle.checkpoint.specs.LineReading.{checkpoint_line_of}
+use Rattle.checkpoint.specs.LineWriting.{IsEndLine, IsHeadLine, IsOrderLine, IsWagonLine}
+use Rattle.checkpoint.specs.declared.line.CheckpointLine.{CheckpointLine}
+use Rattle.checkpoint.specs.declared.line.CheckpointLine.TheVariants.{Head, Wagon, End}
 use Rattle.checkpoint.specs.Checkpoint.{lines_for, order_said, written_lines}
 use Rattle.checkpoint.specs.OfficeOf.{office_of_lines}
 use Rattle.checkpoint.specs.Taking.{lines_before_last}

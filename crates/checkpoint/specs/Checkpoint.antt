@@ -6,10 +6,10 @@ use Rattle.wagons_and_orders.specs.Lack.{is_open}
 use Rattle.wagons_and_orders.specs.OrderRow.{OrderRowValue}
 use Rattle.operating_db.specs.FirstOffice.{IsFirstOffice}
 use Rattle.operating_db.specs.Office.{Office}
-use Rattle.checkpoint_lines.specs.LineReading.{checkpoint_line_of}
-use Rattle.checkpoint_lines.specs.OrderLine.{line_of_row}
-use Rattle.checkpoint_lines.specs.declared.line.CheckpointLine.{CheckpointLine}
-use Rattle.checkpoint_lines.specs.declared.line.CheckpointLine.TheVariants.{Head, Wagon, Order, End}
+use Rattle.checkpoint.specs.LineReading.{checkpoint_line_of}
+use Rattle.checkpoint.specs.OrderLine.{line_of_row}
+use Rattle.checkpoint.specs.declared.line.CheckpointLine.{CheckpointLine}
+use Rattle.checkpoint.specs.declared.line.CheckpointLine.TheVariants.{Head, Wagon, Order, End}
 use Rattle.checkpoint.specs.Taking.{lines_before_last}
 
 -- the lines that aren't blank

@@ -6,4 +6,8 @@ pub mod Checkpoint
 pub mod Laws
 pub mod Reads
 pub mod Written
+pub mod OrderLine
+pub mod Limits
+pub mod LineReading
+pub mod LineWriting
 pub mod inner

@@ -5,9 +5,9 @@ use Rattle.std.specs.List.{AllByRecursion}
 use Rattle.line_engine.specs.Lines.{BeginsWith, IsWithin, first_line, has_feed, lines_of, max_input_lines, max_line_bytes}
 use Rattle.line_engine.specs.declared.run.RunFault.{RunFault}
 use Rattle.line_engine.specs.declared.run.RunFault.TheVariants.{OutOfMemory, TooManyLines, LineTooLong, ReadFailed, WriteFailed}
-use Rattle.move_messages.specs.declared.fault.LineFault.{LineFault}
+use Rattle.line_fields.specs.declared.fault.LineFault.{LineFault}
 use Rattle.operating_db.specs.State.{StateValue}
-use Rattle.checkpoint_lines.specs.LineReading.{checkpoint_line_of}
+use Rattle.checkpoint.specs.LineReading.{checkpoint_line_of}
 use Rattle.checkpoint.specs.Checkpoint.{IsCheckpointOf}
 use Rattle.checkpoint.specs.OfficeOf.{office_of_lines}
 use Rattle.checkpoint.specs.declared.read_fault.ReadFault.{ReadFault}

@@ -4,7 +4,7 @@ use Rattle.std.specs.List.{list_all}
 use Rattle.std.specs.Ordering.{is_lt}
 use Rattle.faults.specs.declared.faults.CheckpointFault.TheVariants.{DuplicateWagon, DuplicateOrder, TooLarge, TooManyOpen, UnknownNetwork, BadCheckpointLine, OneSidedPromise, OrderFull, CheckpointCut}
 use Rattle.move_messages.specs.MaxLoad.{max_load}
-use Rattle.move_messages.specs.declared.fault.LineFault.{LineFault}
+use Rattle.line_fields.specs.declared.fault.LineFault.{LineFault}
 use Rattle.wagons_and_orders.specs.declared.wagon_row.WagonRow.{WagonRow}
 use Rattle.wagons_and_orders.specs.OrderRow.{OrderRowValue}
 use Rattle.wagons_and_orders.specs.RowParts.{row_of_parts}
@@ -12,10 +12,10 @@ use Rattle.fleet_rows.specs.Kept.{compare_numbers, max_roster_wagons}
 use Rattle.fleet_rows.specs.Rows.{max_open_wagons, open_wagons, order_in, wagon_in}
 use Rattle.fleet_rows.specs.SameWagons.{has_wagon}
 use Rattle.operating_db.specs.Promises.{is_among, is_promise_to, promise_of, promised_of}
-use Rattle.checkpoint_lines.specs.LineReading.{checkpoint_line_of}
-use Rattle.checkpoint_lines.specs.OrderLine.{OrderLineValue}
-use Rattle.checkpoint_lines.specs.declared.line.CheckpointLine.{CheckpointLine}
-use Rattle.checkpoint_lines.specs.declared.line.CheckpointLine.TheVariants.{Head, Wagon, Order, End}
+use Rattle.checkpoint.specs.LineReading.{checkpoint_line_of}
+use Rattle.checkpoint.specs.OrderLine.{OrderLineValue}
+use Rattle.checkpoint.specs.declared.line.CheckpointLine.{CheckpointLine}
+use Rattle.checkpoint.specs.declared.line.CheckpointLine.TheVariants.{Head, Wagon, Order, End}
 use Rattle.checkpoint.specs.Parts.{PartsValue}
 use Rattle.checkpoint.specs.declared.read_fault.ReadFault.{ReadFault}
 use Rattle.checkpoint.specs.declared.read_fault.ReadFault.TheVariants.{Line, Unread}

@@ -4,7 +4,7 @@ use Rattle.line_engine.specs.Lines.{with_feeds}
 use Rattle.wagons_and_orders.specs.declared.wagon_row.WagonRow.{WagonRow}
 use Rattle.operating_db.specs.Compact.{compact}
 use Rattle.operating_db.specs.Office.{Office}
-use Rattle.checkpoint_lines.specs.LineWriting.{IsEndLine, IsHeadLine, IsOrderLine, IsWagonLine}
+use Rattle.checkpoint.specs.LineWriting.{IsEndLine, IsHeadLine, IsOrderLine, IsWagonLine}
 use Rattle.checkpoint.specs.Taking.{lines_before_last}
 
 -- the later of two moments

@@ -3,3 +3,5 @@ pub mod Steps
 pub mod Runs
 pub mod IsParts
 pub mod Lines
+pub mod Readable
+pub mod Written

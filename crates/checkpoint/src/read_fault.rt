@@ -5,7 +5,7 @@ ghost use Rattle.std.specs.Prelude.{◌≡◌};
 
 use faults::CheckpointFault;
 use line_engine::RunFault;
-use move_messages::LineFault;
+use line_fields::LineFault;
 use std::alloc::{AllocError, AllocFailed};
 use thiserror::Error;
 

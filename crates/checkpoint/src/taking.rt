@@ -10,11 +10,12 @@ ghost use Rattle.wagons_and_orders.specs.Lack.{is_open};
 
 use crate::parts::Parts;
 use crate::read_fault::ReadFault;
-use checkpoint_lines::{CheckpointLine, OrderLine, read_line};
+use crate::{CheckpointLine, OrderLine, read_line};
 use faults::CheckpointFault;
 use fleet_rows::{MAX_OPEN_WAGONS, MAX_ROSTER_WAGONS, OrderRows};
 use line_engine::RunFault;
-use move_messages::{LineFault, MAX_LOAD};
+use line_fields::LineFault;
+use move_messages::MAX_LOAD;
 use rail_codes::{OrderId, WagonNumber};
 use std::alloc::Global;
 use wagons_and_orders::{OrderRow, WagonRow};

@@ -5,14 +5,14 @@ ghost use Rattle.checkpoint.specs.Checkpoint.{order_said};
 ghost use Rattle.checkpoint.specs.OfficeOf.{office_of_lines};
 ghost use Rattle.checkpoint.specs.Written.{IsCheckpointText, later_of, newest_of};
 ghost use Rattle.checkpoint.specs.inner.Lines.{AddsLines};
-ghost use Rattle.checkpoint_lines.specs.LineWriting.{IsOrderLine, IsWagonLine};
-ghost use Rattle.checkpoint_lines.specs.declared.line.CheckpointLine.TheVariants.{Wagon};
+ghost use Rattle.checkpoint.specs.LineWriting.{IsOrderLine, IsWagonLine};
+ghost use Rattle.checkpoint.specs.declared.line.CheckpointLine.TheVariants.{Wagon};
 ghost use Rattle.fleet_rows.specs.Kept.{IsWagonRows};
 ghost use Rattle.line_engine.specs.Lines.{line_feed, lines_of};
 ghost use Rattle.operating_db.specs.Compact.{compact};
 ghost use Rattle.wagons_and_orders.specs.Lack.{is_open};
 
-use checkpoint_lines::{end_line, head_line, order_line, wagon_line};
+use crate::{end_line, head_line, order_line, wagon_line};
 use operating_db::OfficeState;
 use rail_codes::Moment;
 use std::alloc::{AllocError, Global};

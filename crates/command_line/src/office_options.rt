@@ -3,9 +3,9 @@ use crate::help;
 use crate::values::{code_from, file_option, number_of, number_option, value_option};
 use clap::builder::ValueParser;
 use clap::{Arg, ArgAction, ArgGroup, ArgMatches, Command, Error};
-use commit_book::{Limits, MAX_ENTRIES, MAX_KEPT_PROBLEMS};
 use line_engine::{MAX_FILES, MAX_INPUT_LINES};
 use line_network::MAX_WORKERS;
+use price_checker::{Limits, MAX_ENTRIES, MAX_KEPT_PROBLEMS};
 use rail_codes::{Moment, WagonNumber};
 use std::alloc::{AllocError, Global};
 

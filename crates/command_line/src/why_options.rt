@@ -70,7 +70,13 @@ pub(crate) fn with_why_options<'a>(
         wagon_option(alloc),
         json_option(alloc),
     ]?)?;
-    word.group(ArgGroup::new(alloc, "asked").arg("order")?.arg("wagon")?)
+    word.group(asked_group(alloc)?)
+}
+
+/// An order or a wagon may be given, and not both.
+fn asked_group<'a>(alloc: Global) -> Result<ArgGroup<'a>, AllocError> {
+    let group = ArgGroup::new(alloc, "asked").arg("order")?;
+    group.arg("wagon")
 }
 
 /// The option of an order.

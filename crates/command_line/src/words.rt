@@ -102,9 +102,19 @@ pub fn not_utf8(alloc: Global) -> Result<Error, AllocError> {
 fn command_line<'a>(alloc: Global) -> Result<Command<'a>, AllocError> {
     let mut program = program(alloc)?;
     for help in WORDS {
-        program = program.subcommand(word_command(alloc, help)?)?;
+        program = with_word(alloc, program, help)?;
     }
     Ok(program)
+}
+
+/// The program, and one more word.
+fn with_word<'a>(
+    alloc: Global,
+    program: Command<'a>,
+    help: WordHelp,
+) -> Result<Command<'a>, AllocError> {
+    let word = word_command(alloc, help)?;
+    program.subcommand(word)
 }
 
 /// The program, and no word.
@@ -127,22 +137,38 @@ pub(crate) fn word_command<'a>(alloc: Global, help: WordHelp) -> Result<Command<
     match help.arguments {
         Arguments::Lines => with_line_options(alloc, word),
         Arguments::Code => with_code(alloc, word),
-        Arguments::Office => with_office_options(alloc, word),
-        Arguments::OfficeAndFiles => with_files(alloc, with_office_options(alloc, word)?),
-        Arguments::OfficeAndChoice => { with_map_options(alloc, with_office_options(alloc, word)?) }
-        Arguments::OfficeAndMoment => {
-            with_problem_options(alloc, with_office_options(alloc, word)?)
+        arguments => with_office_arguments(alloc, with_office_options(alloc, word)?, arguments),
+    }
+}
+
+/// A word that opens an office, with what else it takes.
+fn with_office_arguments<'a>(
+    alloc: Global,
+    word: Command<'a>,
+    arguments: Arguments,
+) -> Result<Command<'a>, AllocError> {
+    match arguments {
+        Arguments::OfficeAndFiles => with_files(alloc, word),
+        Arguments::OfficeAndChoice => with_map_options(alloc, word),
+        Arguments::OfficeAndNames => with_names(alloc, word),
+        Arguments::OfficeAndFleet => with_save_options(alloc, word),
+        Arguments::OfficeAndMoment | Arguments::OfficeAndPlan | Arguments::OfficeAndReasons => {
+            with_problem_arguments(alloc, with_problem_options(alloc, word)?, arguments)
         }
-        Arguments::OfficeAndPlan => {
-            let word = with_problem_options(alloc, with_office_options(alloc, word)?)?;
-            with_plan_options(alloc, word)
-        }
-        Arguments::OfficeAndReasons => {
-            let word = with_problem_options(alloc, with_office_options(alloc, word)?)?;
-            with_why_options(alloc, word)
-        }
-        Arguments::OfficeAndNames => with_names(alloc, with_office_options(alloc, word)?),
-        Arguments::OfficeAndFleet => { with_save_options(alloc, with_office_options(alloc, word)?) }
+        Arguments::Lines | Arguments::Code | Arguments::Office => Ok(word),
+    }
+}
+
+/// A word that makes the problem of a moment, with what else it takes.
+fn with_problem_arguments<'a>(
+    alloc: Global,
+    word: Command<'a>,
+    arguments: Arguments,
+) -> Result<Command<'a>, AllocError> {
+    match arguments {
+        Arguments::OfficeAndPlan => with_plan_options(alloc, word),
+        Arguments::OfficeAndReasons => with_why_options(alloc, word),
+        _ => Ok(word),
     }
 }
 

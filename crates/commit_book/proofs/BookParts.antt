@@ -21,7 +21,7 @@ use Rattle.commit_book.specs.BookStep.{is_full, is_kept, is_this}
 use Rattle.commit_book.specs.History.{IsEntry, IsTableAt, Owes, after_all, problem_at, replay, version}
 use Rattle.commit_book.specs.inner.Kept.{IsBook, IsBookOf, IsInSpan, IsIndexOfKept, IsKeptAt, IsMade, IsMadeOf, is_covering, setting_of, which_of, with_kept}
 use Rattle.commit_book.specs.inner.Ledger.{LedgerValue, office_of}
-use Rattle.commit_book.specs.Limits.{LimitNumbers}
+use Rattle.price_checker.specs.Limits.{LimitNumbers}
 use Rattle.commit_book.specs.Setting.{Setting}
 use Rattle.commit_book.specs.declared.kept_problems.KeptProblem.{KeptProblem}
 use Rattle.commit_book.specs.declared.made_problem.MadeProblem.{MadeProblem}

@@ -2,25 +2,31 @@
 use Rattle.std.specs.Prelude.{ℕ, List, length, Option, None, Result, Ok, Err, slice_get, zero, suc}
 use Rattle.move_messages.specs.declared.event.Event.{Event}
 use Rattle.commit_book.specs.Setting.{Setting}
+use Rattle.commit_book.specs.History.{replay}
 use Rattle.commit_book.specs.declared.answer.Answer.{Answer}
 use Rattle.commit_book.specs.declared.answer.Answer.TheVariants.{Done, Begun, Refused}
 use Rattle.faults.specs.declared.faults.Refusal.{Refusal}
 use Rattle.faults.specs.declared.faults.Refusal.TheVariants.{OutOfMemory}
 use Rattle.std.specs.declared.alloc.AllocError.{AllocError}
-use Rattle.commit_book.specs.Snap.{SnapValue}
+use Rattle.price_checker.specs.Snap.{SnapValue}
 use Rattle.commit_book.specs.declared.reply.Reply.{Reply}
 use Rattle.commit_book.specs.declared.reply.Reply.TheVariants.{Accepted, Repeated}
 use Rattle.commit_book.specs.BookStep.{BookState}
 use Rattle.operating_db.specs.FirstOffice.{IsFirstOffice}
 use Rattle.operating_db.specs.Office.{Office}
+use Rattle.operating_db.specs.State.{StateValue}
 use Rattle.line_network.specs.NetworkCount.{IsNetworkCount}
 use Rattle.line_network.specs.Network.{NetworkValue}
-use Rattle.commit_book.specs.Limits.{AreLimits, LimitNumbers}
+use Rattle.price_checker.specs.Limits.{AreLimits, LimitNumbers}
 
 -- what a contract sees of a book: what it was given, its history, and which problems it keeps
 pub record BookValue : Type 0 where
   pub setting : Setting
   pub state : BookState
+
+-- the office of a book's present version
+abbrev pub present_office : BookValue → StateValue
+present_office book = record { office = replay book.setting book.state.history; networks = length book.setting.networks }
 
 -- what a call that enters an event returned, as an answer; what a begin did
 abbrev pub answer_of : Result Reply Refusal → Answer

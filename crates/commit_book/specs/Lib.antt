@@ -3,7 +3,6 @@ pub mod Books
 pub mod Commits
 pub mod Headline
 pub mod History
-pub mod Limits
 pub mod Setting
 pub mod Snap
 pub mod inner

@@ -5,7 +5,7 @@ ghost use Rattle.operating_db.specs.Problem.{problem_of};
 ghost use Rattle.operating_db.specs.RosterOffice.{first_office};
 ghost use Rattle.operating_db.specs.Steps.{IsPromised};
 ghost use Rattle.commit_book.specs.BookStep.{IsCall, is_full, is_kept};
-ghost use Rattle.commit_book.specs.Books.{IsNoEntry, IsSetting, answer_of, begun_of, begun_with, entry_at, setting_with};
+ghost use Rattle.commit_book.specs.Books.{IsNoEntry, IsSetting, answer_of, begun_of, begun_with, entry_at, present_office, setting_with};
 ghost use Rattle.commit_book.specs.inner.Entered.{IsEntered};
 ghost use Rattle.commit_book.specs.inner.CommitTests.{IsAccepted, IsRefused};
 ghost use Rattle.commit_book.specs.Headline.{IsProved};
@@ -13,7 +13,8 @@ ghost use Rattle.commit_book.specs.History.{IsTableAt, Owes, replay};
 ghost use Rattle.move_messages.specs.declared.event.Event.TheVariants as event;
 ghost use Rattle.commit_book.specs.inner.Kept.{IsInSpan, IsIndexOfKept, IsKeptAt, IsLasting, IsMade, IsChangeable, begun_at, which_of};
 ghost use Rattle.commit_book.specs.inner.Ledger.{IsMessageAt, IsNoMessage};
-ghost use Rattle.commit_book.specs.Snap.{IsVersionNumber, snap_of};
+ghost use Rattle.price_checker.specs.Snap.{IsVersionNumber};
+ghost use Rattle.commit_book.specs.Snap.{snap_of};
 ghost use Rattle.commit_book.specs.declared.answer.Answer.TheVariants.{Refused};
 ghost use Rattle.commit_book.specs.declared.call.Call.TheVariants as call;
 
@@ -111,7 +112,7 @@ impl Book {
     /// The office after all entries. Whatever led to this book, its history is as the headline says, and it was given what
     /// a book can be given. Takes no memory.
     pub fn state(&self) -> &OfficeState
-        ensures state { result.now ≡ record { office = replay self.now.setting self.now.state.history; networks = length self.now.setting.networks } }
+        ensures state { result.now ≡ present_office self.now }
         ensures proved { IsProved self.now.setting self.now.state.history }
         ensures setting { IsSetting self.now.setting }
     {

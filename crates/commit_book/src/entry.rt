@@ -48,6 +48,16 @@ impl Entry {
         }
     }
 
+    /// The event. Only a commit's copy takes memory.
+    pub fn event(&self, alloc: Global) -> Result<Event, AllocError>
+        ensures { IfOk result (λ event. event ≡ self.now) }
+    {
+        match &self.kept {
+            KeptEvent::Message(message) => Ok(Event::Message(*message)),
+            KeptEvent::Other(other) => other.copy(alloc),
+        }
+    }
+
     /// Whether it is this event. Takes no memory.
     pub fn is_event(&self, event: &Event) -> bool
         ensures { IsTrue result ↔ (self.now ≡ event.now) }

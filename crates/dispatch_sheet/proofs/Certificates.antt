@@ -12,21 +12,21 @@ use Rattle.serde_json.specs.View.{items_of}
 use Rattle.serde_json.specs.Written.{items_outline, outline}
 use Rattle.serde_json.proofs.Numbers.{number_of-decimal}
 use Rattle.rail_codes.specs.Moment.{moment_of}
-use Rattle.move_messages.specs.Values.{list_of_each, number_within, text_of, wagon_and_order}
-use Rattle.move_messages.specs.Written.{list_data, number_data, pair_data}
-use Rattle.move_messages.specs.Field.{field_name}
-use Rattle.move_messages.specs.Fields.{member, field_of}
-use Rattle.move_messages.proofs.Lines.{object_of-ok}
-use Rattle.move_messages.proofs.Writing.{list-reads, moment-reads, number_reads}
-use Rattle.move_messages.proofs.WrittenTokens.{read-tokens}
+use Rattle.line_fields.specs.Values.{list_of_each, number_within, text_of, wagon_and_order}
+use Rattle.line_fields.specs.Written.{list_data, number_data, pair_data}
+use Rattle.line_fields.specs.Field.{field_name}
+use Rattle.line_fields.specs.Fields.{member, field_of}
+use Rattle.line_fields.proofs.Lines.{object_of-ok}
+use Rattle.line_fields.proofs.Writing.{list-reads, moment-reads, number_reads}
+use Rattle.line_fields.proofs.WrittenTokens.{read-tokens}
 use Rattle.move_messages.specs.declared.commit_text.CommitText.{CommitText}
-use Rattle.move_messages.specs.declared.command.Command.TheVariants.{Event}
+use Rattle.line_fields.specs.declared.command.Command.TheVariants.{Event}
 use Rattle.move_messages.specs.declared.event.Event.TheVariants.{Commit}
-use Rattle.move_messages.specs.LineType.{line_type_of, type_name}
-use Rattle.move_messages.specs.Commands.{command_of, command_of_type, commit_text_of, max_version}
+use Rattle.line_fields.specs.LineType.{line_type_of, type_name}
+use Rattle.line_fields.specs.Commands.{command_of, command_of_type, commit_text_of, max_version}
 use Rattle.dispatch_sheet.specs.Certificate.{commit_data}
 use Rattle.dispatch_sheet.specs.inner.Readable.{AreReadablePrices, IsReadable, IsReadablePair}
-use Rattle.move_messages.specs.WrittenTokens.{data_tokens}
+use Rattle.line_fields.specs.WrittenTokens.{data_tokens}
 
 -- ---- it nests little
 

@@ -2,8 +2,8 @@
 use Rattle.std.proofs.Common.{◌≡◌, ℕ, List, [], ◌∷◌, ◌++◌, codes, refl, ap, ◌∙◌, append_assoc}
 use Rattle.json.specs.Token.{Token, begin_object, end_object}
 use Rattle.serde_json.specs.Data.{string}
-use Rattle.move_messages.specs.Written.{list_data, number_data, pair_data}
-use Rattle.move_messages.specs.WrittenTokens.{data_tokens, member_tokens}
+use Rattle.line_fields.specs.Written.{list_data, number_data, pair_data}
+use Rattle.line_fields.specs.WrittenTokens.{data_tokens, member_tokens}
 use Rattle.move_messages.specs.declared.commit_text.CommitText.{CommitText}
 use Rattle.dispatch_sheet.specs.Certificate.{commit_data}
 

@@ -6,7 +6,7 @@ use Rattle.wagons_and_orders.specs.Wanted.{WantedOrder}
 use Rattle.cost_table.specs.Plan.{AllAllowed}
 use Rattle.cost_table.specs.Problem.{ProblemValue}
 use Rattle.cost_table.specs.Table.{Table, order_count}
-use Rattle.commit_book.specs.Snap.{IsInRange}
+use Rattle.price_checker.specs.Snap.{IsInRange}
 use Rattle.dispatch_sheet.specs.PlanText.{FitsProblem}
 
 -- a table has as many orders as its problem

@@ -3,11 +3,11 @@ use Rattle.std.specs.Prelude.{◌≡◌, ℕ, List, map, codes}
 use Rattle.serde_json.specs.Data.{Data, string, object, no_members, member}
 use Rattle.serde_json.specs.Written.{compact_text}
 use Rattle.rail_codes.specs.Moment.{IsMomentText}
-use Rattle.move_messages.specs.Written.{list_data, number_data, pair_data}
+use Rattle.line_fields.specs.Written.{list_data, number_data, pair_data}
 use Rattle.move_messages.specs.declared.commit_text.CommitText.{CommitText}
 use Rattle.cost_table.specs.Problem.{ProblemValue}
 use Rattle.price_checker.specs.declared.prices.Prices.{Prices}
-use Rattle.commit_book.specs.Snap.{SnapValue, named_pair}
+use Rattle.price_checker.specs.Snap.{SnapValue, named_pair}
 
 -- the commit of a plan and its prices: the snapshot's version and moment, the plan's pairs by name
 abbrev pub commit_of : SnapValue → List (ℕ × ℕ) → (u v : List ℕ) → CommitText

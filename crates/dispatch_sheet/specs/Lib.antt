@@ -1,5 +1,4 @@
 pub mod PlanText
 pub mod Sheet
 pub mod Certificate
-pub mod ReportText
 pub mod inner

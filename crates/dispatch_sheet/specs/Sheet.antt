@@ -13,8 +13,6 @@ use Rattle.wagons_and_orders.specs.OrderRow.{OrderRowValue}
 use Rattle.operating_db.specs.State.{StateValue}
 use Rattle.reply_texts.specs.Lines.{AreLines}
 use Rattle.reply_texts.specs.Words.{next_word}
-use Rattle.commit_book.specs.Books.{BookValue}
-use Rattle.commit_book.specs.History.{replay}
 
 -- ---- wagons
 
@@ -73,10 +71,6 @@ pub record IsOrderLine (row : OrderRowValue) (line : List ℕ) : Type 0 where
   pub text : line ≡ order_text row latest
 
 -- ---- the sheet
-
--- the office of a book's present version
-abbrev pub present_office : BookValue → StateValue
-present_office book = record { office = replay book.setting book.state.history; networks = length book.setting.networks }
 
 -- the version that the sheet is of
 abbrev pub version_line : ℕ → List ℕ

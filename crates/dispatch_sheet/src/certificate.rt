@@ -1,17 +1,16 @@
 //! The line of a plan's certificate.
 ghost use Rattle.std.specs.Prelude.{◌≡◌, All, IfOk, Ok, string_bytes};
-ghost use Rattle.move_messages.specs.Commands.{command_of};
-ghost use Rattle.move_messages.specs.declared.command.Command.TheVariants.{Event};
+ghost use Rattle.line_fields.specs.Commands.{command_of};
+ghost use Rattle.line_fields.specs.declared.command.Command.TheVariants.{Event};
 ghost use Rattle.move_messages.specs.declared.event.Event.TheVariants.{Commit};
-ghost use Rattle.commit_book.specs.Snap.{IsInRange};
+ghost use Rattle.price_checker.specs.Snap.{IsInRange};
 ghost use Rattle.dispatch_sheet.specs.Certificate.{commit_of, IsCertificateLine};
 
 use crate::commit_tokens::write_commit;
-use commit_book::Snap;
 use cost_table::Plan;
 use json::Writer;
-use move_messages::written_text;
-use price_checker::Prices;
+use line_fields::written_text;
+use price_checker::{Prices, Snap};
 use std::alloc::{AllocError, Global};
 
 /// The commit of a plan and its prices as one line of JSON, without its line feed: members ascending by name, and no

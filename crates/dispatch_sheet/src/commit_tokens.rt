@@ -2,17 +2,16 @@
 ghost use Rattle.std.specs.Prelude.{◌≡◌, ◌++◌, ◌∷◌, [], codes, map, All, OnOk};
 ghost use Rattle.json.specs.Token.{begin_object, end_object};
 ghost use Rattle.serde_json.specs.Data.{string};
-ghost use Rattle.move_messages.specs.Written.{list_data, number_data, pair_data};
-ghost use Rattle.move_messages.specs.WrittenTokens.{data_tokens, member_tokens};
-ghost use Rattle.commit_book.specs.Snap.{IsInRange, named_pair};
+ghost use Rattle.line_fields.specs.Written.{list_data, number_data, pair_data};
+ghost use Rattle.line_fields.specs.WrittenTokens.{data_tokens, member_tokens};
+ghost use Rattle.price_checker.specs.Snap.{IsInRange, named_pair};
 ghost use Rattle.dispatch_sheet.specs.Certificate.{commit_data, commit_with, pairs_data};
 ghost use Rattle.dispatch_sheet.specs.inner.Readable.{AreReadablePrices, IsReadable, IsReadablePair};
 
-use commit_book::Snap;
 use cost_table::{Plan, Problem};
 use json::Writer;
-use move_messages::code_str;
-use price_checker::{Prices, order_name, wagon_name};
+use line_fields::code_str;
+use price_checker::{Prices, Snap, order_name, wagon_name};
 use rail_codes::{OrderId, WagonNumber};
 use std::alloc::AllocError;
 

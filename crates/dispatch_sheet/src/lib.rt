@@ -1,12 +1,10 @@
-//! What a dispatcher reads: the lines of a plan, the line of its certificate, the sheet of an office, and the report on
-//! files that were fed to a book.
+//! What a dispatcher reads: the lines of a plan, the line of its certificate, and the sheet of an office.
 //!
 //! Each text is made of what is handed in, and nothing is changed. `Err` only when out of memory.
 #![tactic(auto)]
 
 mod certificate;
 mod commit_tokens;
-mod feed_report;
 mod order_line;
 mod plan_lines;
 mod row_lines;
@@ -15,6 +13,5 @@ mod wagon_line;
 mod wagon_list;
 
 pub use certificate::certificate_line;
-pub use feed_report::{FeedReport, FileCount, report_text};
 pub use plan_lines::plan_text;
 pub use sheet::sheet_text;

@@ -6,9 +6,8 @@ ghost use Rattle.cost_table.specs.Table.{lack_at};
 ghost use Rattle.dispatch_sheet.specs.PlanText.{assign_line, plan_text_of, refuse_line, FitsProblem};
 ghost use Rattle.dispatch_sheet.specs.inner.PairLines.{lines_of_pairs};
 
-use commit_book::Snap;
 use cost_table::{Cells, Plan, Problem};
-use price_checker::{order_name, wagon_name};
+use price_checker::{Snap, order_name, wagon_name};
 use reply_texts::line_words::{push_code, push_number};
 use std::alloc::{AllocError, Global};
 

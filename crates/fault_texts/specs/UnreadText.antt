@@ -1,13 +1,13 @@
 -- What is said of a file of which a line can't be read as any line of a checkpoint.
 use Rattle.std.specs.Prelude.{ℕ, Bool, true, false, if◌then◌else◌, List, ◌++◌, codes}
 use Rattle.fleet_rows.specs.declared.roster_field.RosterField.TheVariants as roster
-use Rattle.move_messages.specs.Field.{field_name}
-use Rattle.move_messages.specs.declared.fault.FieldFault.{FieldFault}
-use Rattle.move_messages.specs.declared.fault.FieldFault.TheVariants.{Code, WrongKind, OutOfRange}
-use Rattle.move_messages.specs.declared.fault.LineFault.{LineFault}
-use Rattle.move_messages.specs.declared.fault.LineFault.TheVariants.{OutOfMemory, NotJson, NotAnObject, UnknownType, MissingField, BadField}
-use Rattle.move_messages.specs.declared.field.Field.{Field}
-use Rattle.move_messages.specs.declared.field.Field.TheVariants.{TypeName, Wagon, Place, Order, Classes, Load, Latest, Penalty, Wagons, Format, Network, Class, Status, Ready, Last, Held, Promise, Promised, Filled, Lines}
+use Rattle.line_fields.specs.Field.{field_name}
+use Rattle.line_fields.specs.declared.fault.FieldFault.{FieldFault}
+use Rattle.line_fields.specs.declared.fault.FieldFault.TheVariants.{Code, WrongKind, OutOfRange}
+use Rattle.line_fields.specs.declared.fault.LineFault.{LineFault}
+use Rattle.line_fields.specs.declared.fault.LineFault.TheVariants.{OutOfMemory, NotJson, NotAnObject, UnknownType, MissingField, BadField}
+use Rattle.line_fields.specs.declared.field.Field.{Field}
+use Rattle.line_fields.specs.declared.field.Field.TheVariants.{TypeName, Wagon, Place, Order, Classes, Load, Latest, Penalty, Wagons, Format, Network, Class, Status, Ready, Last, Held, Promise, Promised, Filled, Lines}
 use Rattle.fault_texts.specs.RosterText.{complaint}
 use Rattle.fault_texts.specs.Where.{at_line}
 

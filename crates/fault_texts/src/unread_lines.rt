@@ -5,7 +5,7 @@ ghost use Rattle.fault_texts.specs.UnreadText.{at_member, is_text, member_compla
 use crate::roster_faults::complaint;
 use crate::words::{at_line, push_words, said_of_line};
 use fleet_rows::RosterField;
-use move_messages::{Field, FieldFault, LineFault};
+use line_fields::{Field, FieldFault, LineFault};
 use std::alloc::{AllocError, Global};
 
 /// What is said of the file at a path of which this line can't be read as any line of a checkpoint: the line, and what it

@@ -1,9 +1,1 @@
-pub mod Names
 pub mod ClassLists
-pub mod PlainMessages
-pub mod Bounds
-pub mod Items
-pub mod Lines
-pub mod PlainTexts
-pub mod Writing
-pub mod WrittenTokens

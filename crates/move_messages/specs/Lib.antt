@@ -3,13 +3,4 @@ pub mod MaxLoad
 pub mod Order
 pub mod OrderLimits
 pub mod Pairs
-pub mod LineType
-pub mod Commands
-pub mod Field
-pub mod Faults
-pub mod Values
-pub mod Fields
-pub mod Line
-pub mod Written
-pub mod WrittenTokens
 pub mod inner

@@ -49,7 +49,7 @@ impl Classes {
     }
 
     /// One class.
-    pub(crate) fn one(class: ClassCode) -> Classes
+    pub fn one(class: ClassCode) -> Classes
         ensures { result ≡ class ∷ [] }
     {
         Classes {
@@ -58,8 +58,8 @@ impl Classes {
         }
     }
 
-    /// Puts one more class behind the others.
-    pub(crate) fn push(&mut self, class: ClassCode)
+    /// Puts one more class behind the others, which are at most 7.
+    pub fn push(&mut self, class: ClassCode)
         requires { length self.old < max_classes }
         ensures { self.new ≡ self.old ++ class ∷ [] }
     {

@@ -1,4 +1,4 @@
-//! The limits of the numbers in a command line.
+//! The limits of an order's numbers.
 
 /// The most classes that an order accepts; it accepts one at least.
 pub const MAX_CLASSES: usize = 8;
@@ -11,9 +11,3 @@ pub const MAX_PENALTY: u64 = 1_000_000_000;
 
 /// The most wagons that one order asks for; it asks for one at least.
 pub const MAX_ORDER_WAGONS: u32 = 20;
-
-/// The greatest version that a commit names.
-pub const MAX_VERSION: u64 = 1_000_000;
-
-/// The highest number of a network that a line may name; networks are numbered from 1.
-pub const MAX_REVISION: u32 = 8;

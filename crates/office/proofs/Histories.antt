@@ -1,15 +1,15 @@
 -- What a run has done to a book: calls, one after the other.
 use Rattle.std.proofs.Common.{◌≡◌, ◌+◌, ℕ, Bool, true, false, List, [], ◌∷◌, ◌++◌, Result, Ok, Err, refl, sym, ◌∙◌, subst, inl, inr}
-use Rattle.move_messages.specs.declared.fault.LineFault.{LineFault}
+use Rattle.line_fields.specs.declared.fault.LineFault.{LineFault}
 use Rattle.line_engine.specs.Lines.{is_blank}
 use Rattle.line_engine.specs.Replies.{AnswersLine, Numbered, Replies, Responds}
 use Rattle.line_engine.specs.Runs.{Failures, Run, Runs, Stops}
 use Rattle.line_engine.specs.declared.run.RunCount.{RunCount}
 use Rattle.line_engine.specs.declared.run.RunFault.{RunFault}
 use Rattle.line_engine.specs.declared.run.RunFault.TheVariants.{OutOfMemory, TooManyLines, LineTooLong, ReadFailed, WriteFailed}
-use Rattle.move_messages.specs.Commands.{command_of}
-use Rattle.move_messages.specs.declared.command.Command.{Command}
-use Rattle.move_messages.specs.declared.command.Command.TheVariants as command
+use Rattle.line_fields.specs.Commands.{command_of}
+use Rattle.line_fields.specs.declared.command.Command.{Command}
+use Rattle.line_fields.specs.declared.command.Command.TheVariants as command
 use Rattle.move_messages.specs.declared.event.Event.{Event}
 use Rattle.commit_book.specs.BookStep.{BookState, IsRun, IsStep}
 use Rattle.commit_book.specs.Books.{BookValue}

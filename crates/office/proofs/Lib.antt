@@ -1,2 +1,5 @@
 pub mod Histories
 pub mod Plans
+mod Adding
+mod ReadNotes
+mod Reviewed

@@ -1,19 +1,20 @@
 -- What a run replies to a command line, behind the line's number, and what the line does to the book.
 use Rattle.std.specs.Prelude.{◌≡◌, ◌⊎◌, ℕ, Bool, true, false, List, [], ◌∷◌, ◌++◌, length, Result, Ok, Err}
-use Rattle.move_messages.specs.declared.fault.LineFault.{LineFault}
-use Rattle.move_messages.specs.Commands.{command_of}
-use Rattle.move_messages.specs.declared.command.Command.{Command}
-use Rattle.move_messages.specs.declared.command.Command.TheVariants as command
+use Rattle.line_fields.specs.declared.fault.LineFault.{LineFault}
+use Rattle.line_fields.specs.Commands.{command_of}
+use Rattle.line_fields.specs.declared.command.Command.{Command}
+use Rattle.line_fields.specs.declared.command.Command.TheVariants as command
 use Rattle.move_messages.specs.declared.event.Event.{Event}
 use Rattle.move_messages.specs.declared.event.Event.TheVariants as event
 use Rattle.cost_table.specs.Plan.{IsOptimal, cost_of}
 use Rattle.cost_table.specs.PlanList.{IsPlanList}
 use Rattle.cost_table.specs.Table.{Table}
 use Rattle.price_checker.specs.Certificate.{IsCertificate}
-use Rattle.commit_book.specs.Books.{BookValue}
+use Rattle.commit_book.specs.Books.{BookValue, present_office}
 use Rattle.commit_book.specs.BookStep.{IsRun, IsStep}
 use Rattle.commit_book.specs.History.{IsTableAt}
-use Rattle.commit_book.specs.Snap.{SnapValue, snap_of}
+use Rattle.price_checker.specs.Snap.{SnapValue}
+use Rattle.commit_book.specs.Snap.{snap_of}
 use Rattle.commit_book.specs.declared.answer.Answer.{Answer}
 use Rattle.commit_book.specs.declared.answer.Answer.TheVariants.{Done, Begun, Refused}
 use Rattle.commit_book.specs.declared.call.Call.{Call}
@@ -22,7 +23,7 @@ use Rattle.commit_book.specs.declared.reply.Reply.TheVariants.{Accepted, Repeate
 use Rattle.reply_texts.specs.ReplyTexts.{accepted_text, begun_text, book_refused_text, line_refused_text, planned_text, repeated_text}
 use Rattle.dispatch_sheet.specs.Certificate.{IsCertificateLine, commit_of}
 use Rattle.dispatch_sheet.specs.PlanText.{plan_text_of}
-use Rattle.dispatch_sheet.specs.Sheet.{IsSheetText, present_office}
+use Rattle.dispatch_sheet.specs.Sheet.{IsSheetText}
 
 -- the version that a book has reached, and its problem at a moment
 abbrev pub present : BookValue → (at : ℕ) → SnapValue

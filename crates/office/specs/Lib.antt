@@ -1,2 +1,11 @@
 pub mod CommandReplies
+pub mod NoteText
+pub mod OrderNotes
+pub mod MemberNotes
+pub mod AheadNotes
+pub mod LineNotes
+pub mod CommandNotes
+pub mod Fullness
+pub mod Reviews
+pub mod JournalEnd
 pub mod inner

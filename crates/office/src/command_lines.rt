@@ -21,7 +21,7 @@ use dispatch_sheet::{certificate_line, plan_text, sheet_text};
 use line_engine::{
     Handler, LineLimit, Outcome, ReplyText, RunCount, RunFault, Sink, Source, run_lines,
 };
-use move_messages::{Command, LineFault, read_line};
+use line_fields::{Command, LineFault, read_line};
 use price_checker::Prices;
 use rail_codes::Moment;
 use reply_texts::{

@@ -7,7 +7,7 @@ ghost use Rattle.plan_reasons.specs.PlaceFields.{json_text, name_field, names_of
 use crate::line_form::LineForm;
 use crate::style::{Style, code_field, push_field};
 use json::Writer;
-use move_messages::written_text;
+use line_fields::written_text;
 use rail_codes::Place;
 use std::alloc::{AllocError, Global};
 

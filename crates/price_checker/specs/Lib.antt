@@ -2,6 +2,8 @@ pub mod Certificate
 pub mod Faults
 pub mod NamesAt
 pub mod inner
+pub mod Limits
 pub mod NamedFaults
 pub mod NamedPairs
+pub mod Snap
 pub mod CertifiedPairs

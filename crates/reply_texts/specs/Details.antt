@@ -1,9 +1,9 @@
 -- The details of a refusal: what its reply has behind the number.
 use Rattle.std.specs.Prelude.{ℕ, List, [], ◌∷◌, ◌++◌, decimal}
-use Rattle.move_messages.specs.Field.{field_name}
-use Rattle.move_messages.specs.Faults.{field_fault_number}
-use Rattle.move_messages.specs.declared.fault.LineFault.{LineFault}
-use Rattle.move_messages.specs.declared.fault.LineFault.TheVariants as line
+use Rattle.line_fields.specs.Field.{field_name}
+use Rattle.line_fields.specs.Faults.{field_fault_number}
+use Rattle.line_fields.specs.declared.fault.LineFault.{LineFault}
+use Rattle.line_fields.specs.declared.fault.LineFault.TheVariants as line
 use Rattle.faults.specs.declared.faults.NamedFault.{NamedFault}
 use Rattle.faults.specs.declared.faults.NamedFault.TheVariants as check
 use Rattle.faults.specs.declared.faults.Refusal.{Refusal}

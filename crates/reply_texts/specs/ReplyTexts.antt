@@ -1,7 +1,7 @@
 -- The texts of replies, each with its line feed: what stands behind the line's number and a space.
 use Rattle.std.specs.Prelude.{ℕ, List, [], ◌∷◌, ◌++◌, codes, decimal}
-use Rattle.move_messages.specs.Faults.{line_fault_number}
-use Rattle.move_messages.specs.declared.fault.LineFault.{LineFault}
+use Rattle.line_fields.specs.Faults.{line_fault_number}
+use Rattle.line_fields.specs.declared.fault.LineFault.{LineFault}
 use Rattle.faults.specs.Numbers.{refusal_number}
 use Rattle.faults.specs.declared.faults.Refusal.{Refusal}
 use Rattle.reply_texts.specs.Details.{book_details, line_details}

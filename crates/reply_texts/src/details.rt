@@ -5,7 +5,7 @@ ghost use Rattle.reply_texts.specs.Details.{book_details, check_details, line_de
 use crate::words::{push_number, push_numbers, push_pair, push_word};
 use faults::{NamedFault, Refusal};
 use line_engine::ReplyText;
-use move_messages::LineFault;
+use line_fields::LineFault;
 use std::alloc::AllocError;
 
 /// A fault or a refusal that has details in its reply.

@@ -8,7 +8,7 @@ use crate::details::Detailed;
 use crate::words::{push_number, push_numbers};
 use faults::Refusal;
 use line_engine::ReplyText;
-use move_messages::LineFault;
+use line_fields::LineFault;
 use std::alloc::AllocError;
 
 /// Adds `refused`, the number of a refusal, its details, and the line feed.

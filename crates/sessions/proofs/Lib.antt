@@ -6,3 +6,8 @@ pub mod Receipts
 pub mod SameTables
 pub mod SameVec
 pub mod Unchanged
+pub mod FedFiles
+pub mod FedSeats
+pub mod FeedTallies
+pub mod Handles
+pub mod NewSeats

@@ -15,7 +15,7 @@ use Rattle.cost_table.specs.Table.{Table}
 use Rattle.cost_table.proofs.NameLemmas.{held_at}
 use Rattle.price_checker.specs.NamedFaults.{name_at}
 use Rattle.price_checker.specs.NamedPairs.{before_rest, found_or, positions_of}
-use Rattle.commit_book.specs.Snap.{named_pair}
+use Rattle.price_checker.specs.Snap.{named_pair}
 use Rattle.sessions.proofs.SameTables.{columns}
 
 -- ---- positions

@@ -5,7 +5,8 @@ use Rattle.commit_book.specs.BookStep.{BookState, IsCall}
 use Rattle.commit_book.specs.Books.{answer_of, IsSetting}
 use Rattle.commit_book.specs.Headline.{IsProved}
 use Rattle.commit_book.specs.Setting.{Setting}
-use Rattle.commit_book.specs.Snap.{SnapValue, snap_of}
+use Rattle.price_checker.specs.Snap.{SnapValue}
+use Rattle.commit_book.specs.Snap.{snap_of}
 use Rattle.commit_book.specs.declared.answer.Answer.{Answer}
 use Rattle.commit_book.specs.declared.call.Call.{Call}
 use Rattle.commit_book.specs.declared.call.Call.TheVariants as call

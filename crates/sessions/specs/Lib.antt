@@ -6,4 +6,8 @@ pub mod Planning
 pub mod PlannersCommit
 pub mod Seat
 pub mod Submitted
+pub mod FedLines
+pub mod FeedCounts
+pub mod ReportText
+pub mod FeedReports
 pub mod inner

@@ -11,7 +11,8 @@ use Rattle.move_messages.specs.declared.event.Event.TheVariants as event
 use Rattle.commit_book.specs.BookStep.{BookState, IsCall}
 use Rattle.commit_book.specs.History.{IsLegal, IsTableAt, problem_at}
 use Rattle.commit_book.specs.Setting.{Setting}
-use Rattle.commit_book.specs.Snap.{SnapValue, named_pair, snap_of}
+use Rattle.price_checker.specs.Snap.{SnapValue, named_pair}
+use Rattle.commit_book.specs.Snap.{snap_of}
 use Rattle.commit_book.specs.declared.answer.Answer.{Answer}
 use Rattle.commit_book.specs.declared.answer.Answer.TheVariants.{Begun, Done, Refused}
 use Rattle.commit_book.specs.declared.call.Call.TheVariants as call

@@ -6,7 +6,7 @@ use Rattle.problem_table.specs.Allowed.{IsTableOf}
 use Rattle.cost_table.specs.Plan.{IsOptimal}
 use Rattle.cost_table.specs.Table.{Table}
 use Rattle.price_checker.specs.Certificate.{IsCertificate}
-use Rattle.commit_book.specs.Snap.{SnapValue}
+use Rattle.price_checker.specs.Snap.{SnapValue}
 
 -- Networks are numbered from 1: there is none of number 0, and none past the last.
 abbrev pub IsUnknownNetwork : List NetworkValue → ℕ → Type 0

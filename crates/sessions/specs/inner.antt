@@ -1,3 +1,5 @@
 -- What only the proofs and the private functions of this crate need.
 pub mod Counted
 pub mod Others
+pub mod Fed
+pub mod FeedLines

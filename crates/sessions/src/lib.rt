@@ -1,10 +1,15 @@
 //! Sessions: several callers, each with a seat of its own, at one book behind one lock; and the work of a planner, which
-//! takes no lock.
+//! takes no lock. The feed of several files of lines to one book, each by a thread and a seat of its own; and the report on
+//! them.
 #![tactic(auto)]
 
 mod close_fault;
 mod closing;
 mod counted_book;
+mod fed_file;
+mod feed_lines;
+mod feed_report;
+mod feeding;
 mod laws;
 mod open_fault;
 mod opening;
@@ -15,7 +20,9 @@ mod shared_book;
 
 pub use close_fault::CloseFault;
 pub use closing::close;
-pub use faults::PlanFault;
+pub use faults::{FeedFault, PlanFault};
+pub use feed_report::{FeedReport, FileCount, report_text};
+pub use feeding::feed;
 pub use laws::{a_plan_for_the_present_is_accepted, receipts_are_the_history};
 pub use open_fault::OpenFault;
 pub use opening::{MAX_SEATS, open};

@@ -1,6 +1,6 @@
 //! A planner's work: from a snapshot to a plan and its prices.
 ghost use Rattle.std.specs.Prelude.{◌↔◌, All, IfOk, IsErrOf};
-ghost use Rattle.commit_book.specs.Snap.{IsInRange};
+ghost use Rattle.price_checker.specs.Snap.{IsInRange};
 ghost use Rattle.sessions.specs.Planning.{IsPlanned, IsUnknownNetwork};
 
 use crate::PlanFault;

@@ -6,12 +6,12 @@ use Rattle.std.specs.List.{AllByRecursion}
 use Rattle.std.proofs.lemmas.List.Elements.{All-from_recursion, recursion_from_All}
 use Rattle.serde_json.specs.Data.{Data}
 use Rattle.serde_json.specs.Find.{as_null}
-use Rattle.move_messages.specs.declared.field.Field.TheVariants.{Cells, Lacks}
-use Rattle.move_messages.specs.declared.fault.FieldFault.{FieldFault}
-use Rattle.move_messages.specs.declared.fault.LineFault.{LineFault}
-use Rattle.move_messages.specs.Values.{◌>>=◌, number_within, list_of_each}
-use Rattle.move_messages.specs.Fields.{Gives}
-use Rattle.move_messages.proofs.Bounds.{bind_ok, number_is_within, HoldsOfRead, list_holds, field_holds, optional_field_holds}
+use Rattle.line_fields.specs.declared.field.Field.TheVariants.{Cells, Lacks}
+use Rattle.line_fields.specs.declared.fault.FieldFault.{FieldFault}
+use Rattle.line_fields.specs.declared.fault.LineFault.{LineFault}
+use Rattle.line_fields.specs.Values.{◌>>=◌, number_within, list_of_each}
+use Rattle.line_fields.specs.Fields.{Gives}
+use Rattle.line_fields.proofs.Bounds.{bind_ok, number_is_within, HoldsOfRead, list_holds, field_holds, optional_field_holds}
 use Rattle.move_messages.specs.OrderLimits.{max_order_wagons}
 use Rattle.cost_table.specs.TableLimits.{max_cost}
 use Rattle.cost_table.specs.Rows.{IsNumber}

@@ -7,7 +7,7 @@ use Rattle.std.proofs.lemmas.Bool.Decides.{nat_tests}
 use Rattle.cost_table.specs.Table.{Table, wagon_count, order_count}
 use Rattle.cost_table.specs.Names.{NameLists}
 use Rattle.cost_table.specs.DistinctNames.{names_or_fault, unrepeated, first_repeated}
-use Rattle.move_messages.specs.Values.{◌>>=◌}
+use Rattle.line_fields.specs.Values.{◌>>=◌}
 use Rattle.table_lines.specs.TableLine.{TableText}
 use Rattle.cost_table.specs.Rows.{Rows, cells_of, table_of, is_even as are_even, is_too_large as are_too_large, rows_fault}
 use Rattle.cost_table.specs.TableLimits.{max_table_lack, max_table_orders, max_table_wagons}

@@ -11,16 +11,16 @@ use Rattle.json.proofs.Grammar.{value-begin_object}
 use Rattle.serde_json.specs.Data.{Data, array, object, Members, no_members, put}
 use Rattle.serde_json.specs.Read.{of_json, of_members, converted}
 use Rattle.serde_json.proofs.Views.{get_member-put, get_member-put_other}
-use Rattle.move_messages.specs.declared.field.Field.{Field}
-use Rattle.move_messages.specs.declared.field.Field.TheVariants.{Wagons, Orders, Penalties, Pairs, WagonPrices, OrderPrices}
-use Rattle.move_messages.specs.declared.fault.FieldFault.{FieldFault}
-use Rattle.move_messages.specs.Field.{field_name}
+use Rattle.line_fields.specs.declared.field.Field.{Field}
+use Rattle.line_fields.specs.declared.field.Field.TheVariants.{Wagons, Orders, Penalties, Pairs, WagonPrices, OrderPrices}
+use Rattle.line_fields.specs.declared.fault.FieldFault.{FieldFault}
+use Rattle.line_fields.specs.Field.{field_name}
 use Rattle.move_messages.specs.OrderLimits.{max_order_wagons}
-use Rattle.move_messages.specs.Values.{number_within, wagon_number_from, order_id_from, wagon_and_order}
-use Rattle.move_messages.specs.Fields.{field_of, optional_field_of, member, list_at}
-use Rattle.move_messages.specs.Line.{object_of}
-use Rattle.move_messages.proofs.Lines.{object_of-ok}
-use Rattle.move_messages.proofs.Bounds.{numbers_within}
+use Rattle.line_fields.specs.Values.{number_within, wagon_number_from, order_id_from, wagon_and_order}
+use Rattle.line_fields.specs.Fields.{field_of, optional_field_of, member, list_at}
+use Rattle.line_fields.specs.Line.{object_of}
+use Rattle.line_fields.proofs.Lines.{object_of-ok}
+use Rattle.line_fields.proofs.Bounds.{numbers_within}
 use Rattle.cost_table.specs.TableLimits.{max_cost}
 use Rattle.table_lines.specs.declared.found_lists.FoundLists.{FoundLists}
 use Rattle.table_lines.specs.declared.table_line.TableLine.{TableLine}

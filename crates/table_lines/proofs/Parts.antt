@@ -6,9 +6,9 @@ use Rattle.cost_table.specs.DistinctNames.{names_or_fault}
 use Rattle.cost_table.specs.Table.{Table}
 use Rattle.faults.specs.declared.faults.TableFault.{TableFault}
 use Rattle.faults.specs.declared.faults.TableFault.TheVariants.{TooLarge}
-use Rattle.move_messages.specs.declared.fault.LineFault.{LineFault}
-use Rattle.move_messages.specs.Values.{◌>>=◌}
-use Rattle.move_messages.specs.Line.{object_of}
+use Rattle.line_fields.specs.declared.fault.LineFault.{LineFault}
+use Rattle.line_fields.specs.Values.{◌>>=◌}
+use Rattle.line_fields.specs.Line.{object_of}
 use Rattle.price_checker.specs.NamedPairs.{checked}
 use Rattle.table_lines.specs.TableLine.{TableText, table_line_of, table_of, table_text_of, with_plan_of}
 use Rattle.table_lines.specs.TablePart.{table_then_plan}

@@ -7,8 +7,8 @@ use Rattle.json.proofs.Grammar.{value_is, value-begin_array}
 use Rattle.serde_json.specs.Data.{Data, null, unsigned, number, string, array, Items, no_items, item}
 use Rattle.serde_json.specs.Read.{number_of, of_json, of_items, converted}
 use Rattle.table_lines.proofs.Turns.{converted-array, item_read, items_over, none_before}
-use Rattle.move_messages.specs.declared.fault.FieldFault.{FieldFault}
-use Rattle.move_messages.specs.Values.{text_of, code_from, number_within, wagon_number_from, order_id_from, list_of, each, list_of_each, wagon_and_order}
+use Rattle.line_fields.specs.declared.fault.FieldFault.{FieldFault}
+use Rattle.line_fields.specs.Values.{text_of, code_from, number_within, wagon_number_from, order_id_from, list_of, each, list_of_each, wagon_and_order}
 use Rattle.rail_codes.specs.declared.code_fault.CodeFault.{CodeFault}
 use Rattle.cost_table.specs.TableLimits.{max_cost}
 use Rattle.std.specs.Prelude.{◌^◌, ◌==◌, ⊤, SomeIff, IfSome, nat_le, nat_lt, slice_index, true, false}

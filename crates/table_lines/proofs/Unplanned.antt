@@ -8,14 +8,14 @@ use Rattle.json.specs.Tree as tree
 use Rattle.serde_json.specs.Data.{string, depth}
 use Rattle.serde_json.specs.Read.{of_json, read, max_depth}
 use Rattle.serde_json.specs.Written.{outline}
-use Rattle.move_messages.specs.Field.{field_name}
-use Rattle.move_messages.specs.Fields.{member, field_of, optional_field_of}
-use Rattle.move_messages.specs.Values.{list_of_each, number_within, order_id_from, wagon_number_from}
-use Rattle.move_messages.specs.Written.{list_data, number_data, number_or_null}
-use Rattle.move_messages.specs.WrittenTokens.{data_tokens, member_tokens}
-use Rattle.move_messages.proofs.Lines.{object_of-ok}
-use Rattle.move_messages.proofs.Writing.{list-reads}
-use Rattle.move_messages.proofs.WrittenTokens.{read-tokens}
+use Rattle.line_fields.specs.Field.{field_name}
+use Rattle.line_fields.specs.Fields.{member, field_of, optional_field_of}
+use Rattle.line_fields.specs.Values.{list_of_each, number_within, order_id_from, wagon_number_from}
+use Rattle.line_fields.specs.Written.{list_data, number_data, number_or_null}
+use Rattle.line_fields.specs.WrittenTokens.{data_tokens, member_tokens}
+use Rattle.line_fields.proofs.Lines.{object_of-ok}
+use Rattle.line_fields.proofs.Writing.{list-reads}
+use Rattle.line_fields.proofs.WrittenTokens.{read-tokens}
 use Rattle.cost_table.specs.TableLimits.{max_cost}
 use Rattle.wagons_and_orders.specs.WantedLimits.{IsLack}
 use Rattle.table_lines.specs.TableLine.{IsWithinLimits, TableText, row_of, table_of, table_text, with_plan}

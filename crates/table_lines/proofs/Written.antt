@@ -13,14 +13,14 @@ use Rattle.serde_json.specs.Read.{of_items, of_json, read, max_depth}
 use Rattle.serde_json.specs.View.{items_of}
 use Rattle.serde_json.specs.Written.{items_outline, members_outline, outline}
 use Rattle.serde_json.proofs.Numbers.{number_of-decimal}
-use Rattle.move_messages.specs.Field.{field_name}
-use Rattle.move_messages.specs.Fields.{member, field_of, optional_field_of}
-use Rattle.move_messages.specs.Values.{list_of_each, number_within, order_id_from, wagon_and_order, wagon_number_from}
-use Rattle.move_messages.specs.Written.{list_data, number_data, number_or_null, pair_data}
-use Rattle.move_messages.specs.WrittenTokens.{data_tokens, member_tokens}
-use Rattle.move_messages.proofs.Lines.{object_of-ok}
-use Rattle.move_messages.proofs.Writing.{list-reads, number_reads}
-use Rattle.move_messages.proofs.WrittenTokens.{read-tokens}
+use Rattle.line_fields.specs.Field.{field_name}
+use Rattle.line_fields.specs.Fields.{member, field_of, optional_field_of}
+use Rattle.line_fields.specs.Values.{list_of_each, number_within, order_id_from, wagon_and_order, wagon_number_from}
+use Rattle.line_fields.specs.Written.{list_data, number_data, number_or_null, pair_data}
+use Rattle.line_fields.specs.WrittenTokens.{data_tokens, member_tokens}
+use Rattle.line_fields.proofs.Lines.{object_of-ok}
+use Rattle.line_fields.proofs.Writing.{list-reads, number_reads}
+use Rattle.line_fields.proofs.WrittenTokens.{read-tokens}
 use Rattle.move_messages.specs.OrderLimits.{max_order_wagons}
 use Rattle.cost_table.specs.Rows.{IsNumber, Rows}
 use Rattle.cost_table.specs.TableLimits.{max_cost}

@@ -4,9 +4,9 @@ use Rattle.std.specs.List.{flat_map}
 use Rattle.std.proofs.lemmas.List.{take_all}
 use Rattle.json.specs.Token.{Token, begin_array, end_array, key}
 use Rattle.serde_json.specs.Data.{Data}
-use Rattle.move_messages.specs.Written.{list_data}
-use Rattle.move_messages.specs.WrittenTokens.{data_tokens, member_tokens}
-use Rattle.move_messages.proofs.WrittenTokens.{list-tokens}
+use Rattle.line_fields.specs.Written.{list_data}
+use Rattle.line_fields.specs.WrittenTokens.{data_tokens, member_tokens}
+use Rattle.line_fields.proofs.WrittenTokens.{list-tokens}
 
 regrouped : (old items : List Token) (b e : Token) → ((old ++ b ∷ []) ++ items) ++ e ∷ [] ≡ old ++ b ∷ (items ++ e ∷ [])
 regrouped old items b e = simp append_assoc refl

@@ -2,7 +2,7 @@
 use Rattle.std.specs.Prelude.{ℕ, List, Option, Some, None, codes}
 use Rattle.serde_json.specs.Data.{Data, Members, string, object, no_members, member}
 use Rattle.serde_json.specs.Written.{compact_text}
-use Rattle.move_messages.specs.Written.{list_data, number_data, number_or_null, pair_data}
+use Rattle.line_fields.specs.Written.{list_data, number_data, number_or_null, pair_data}
 use Rattle.price_checker.specs.declared.prices.Prices.{Prices}
 use Rattle.table_lines.specs.TableLine.{TableText, table_text, with_plan}
 use Rattle.table_lines.specs.declared.table_line.TableLine.{TableLine}

@@ -4,7 +4,7 @@ use Rattle.cost_table.specs.Names.{NameLists}
 use Rattle.cost_table.specs.DistinctNames.{names_or_fault}
 use Rattle.cost_table.specs.Table.{Table}
 use Rattle.faults.specs.declared.faults.TableFault.TheVariants.{TooLarge}
-use Rattle.move_messages.specs.Values.{◌>>=◌}
+use Rattle.line_fields.specs.Values.{◌>>=◌}
 use Rattle.price_checker.specs.NamedPairs.{checked}
 use Rattle.table_lines.specs.TableLine.{TableText, with_plan}
 use Rattle.table_lines.specs.TablePart.{table_of_line}

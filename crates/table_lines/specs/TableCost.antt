@@ -13,8 +13,8 @@ use Rattle.faults.specs.declared.faults.TableFault.TheVariants.{TooLarge, Uneven
 use Rattle.price_checker.specs.Certificate.{IsCertificate}
 use Rattle.price_checker.specs.NamedPairs.{checked, positions_of}
 use Rattle.faults.specs.declared.faults.NamedFault.{NamedFault}
-use Rattle.move_messages.specs.Values.{◌>>=◌}
-use Rattle.move_messages.specs.declared.fault.LineFault.{LineFault}
+use Rattle.line_fields.specs.Values.{◌>>=◌}
+use Rattle.line_fields.specs.declared.fault.LineFault.{LineFault}
 use Rattle.table_lines.specs.TableLine.{TableText, table_line_of}
 use Rattle.table_lines.specs.TableRefusals.{refusal_of_check, refusal_of_line, refusal_of_table}
 use Rattle.table_lines.specs.declared.table_refusal.TableRefusal.{TableRefusal}

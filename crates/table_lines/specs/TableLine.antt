@@ -2,13 +2,13 @@
 use Rattle.std.specs.Prelude.{ℕ, ◌^◌, ◌-◌, ◌≤◌, All, IfSome, List, [], map, if◌then◌else◌, Option, Some, None, option_map, is_some, Result, Ok}
 use Rattle.serde_json.specs.Data.{Data}
 use Rattle.serde_json.specs.Find.{as_null}
-use Rattle.move_messages.specs.declared.field.Field.{Field}
-use Rattle.move_messages.specs.declared.field.Field.TheVariants.{Wagons, Orders, Cells, Penalties, Lacks, Pairs, WagonPrices, OrderPrices}
-use Rattle.move_messages.specs.declared.fault.FieldFault.{FieldFault}
-use Rattle.move_messages.specs.declared.fault.LineFault.{LineFault}
-use Rattle.move_messages.specs.Values.{◌>>=◌, number_within, wagon_number_from, order_id_from, list_of_each, wagon_and_order}
-use Rattle.move_messages.specs.Fields.{list_at, optional_list_at}
-use Rattle.move_messages.specs.Line.{object_of}
+use Rattle.line_fields.specs.declared.field.Field.{Field}
+use Rattle.line_fields.specs.declared.field.Field.TheVariants.{Wagons, Orders, Cells, Penalties, Lacks, Pairs, WagonPrices, OrderPrices}
+use Rattle.line_fields.specs.declared.fault.FieldFault.{FieldFault}
+use Rattle.line_fields.specs.declared.fault.LineFault.{LineFault}
+use Rattle.line_fields.specs.Values.{◌>>=◌, number_within, wagon_number_from, order_id_from, list_of_each, wagon_and_order}
+use Rattle.line_fields.specs.Fields.{list_at, optional_list_at}
+use Rattle.line_fields.specs.Line.{object_of}
 use Rattle.move_messages.specs.OrderLimits.{max_order_wagons}
 use Rattle.wagons_and_orders.specs.WantedLimits.{IsLack}
 use Rattle.cost_table.specs.Rows.{IsNumber}

@@ -1,8 +1,8 @@
 -- A line that states a table, whatever plan stands there or none: what is read of it, and how it is read with its plan.
 use Rattle.std.specs.Prelude.{ℕ, List, Result}
-use Rattle.move_messages.specs.declared.fault.LineFault.{LineFault}
-use Rattle.move_messages.specs.Values.{◌>>=◌}
-use Rattle.move_messages.specs.Line.{object_of}
+use Rattle.line_fields.specs.declared.fault.LineFault.{LineFault}
+use Rattle.line_fields.specs.Values.{◌>>=◌}
+use Rattle.line_fields.specs.Line.{object_of}
 use Rattle.table_lines.specs.TableLine.{TableText, table_of, with_plan_of}
 
 -- the table that a line states, without a plan, or the first fault

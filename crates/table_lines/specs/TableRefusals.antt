@@ -1,8 +1,8 @@
 -- The refusals of a table line: their numbers, and the faults that they come from.
 use Rattle.std.specs.Prelude.{ℕ}
-use Rattle.move_messages.specs.Faults.{line_fault_number}
-use Rattle.move_messages.specs.declared.fault.LineFault.{LineFault}
-use Rattle.move_messages.specs.declared.fault.LineFault.TheVariants as line
+use Rattle.line_fields.specs.Faults.{line_fault_number}
+use Rattle.line_fields.specs.declared.fault.LineFault.{LineFault}
+use Rattle.line_fields.specs.declared.fault.LineFault.TheVariants as line
 use Rattle.faults.specs.Numbers.{table_fault_number, named_fault_number}
 use Rattle.faults.specs.declared.faults.TableFault.{TableFault}
 use Rattle.faults.specs.declared.faults.TableFault.TheVariants as table

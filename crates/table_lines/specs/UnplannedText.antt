@@ -2,7 +2,7 @@
 use Rattle.std.specs.Prelude.{ℕ, List, codes}
 use Rattle.serde_json.specs.Data.{Data, Members, string, object, no_members, member}
 use Rattle.serde_json.specs.Written.{compact_text}
-use Rattle.move_messages.specs.Written.{list_data, number_data, number_or_null}
+use Rattle.line_fields.specs.Written.{list_data, number_data, number_or_null}
 use Rattle.table_lines.specs.TableLine.{TableText}
 use Rattle.table_lines.specs.SolvedText.{with_lacks}
 

@@ -2,14 +2,14 @@
 
 ghost use Rattle.std.specs.Prelude.{All, IfOk, Result, map};
 ghost use Rattle.serde_json.specs.View.{view, items_view};
-ghost use Rattle.move_messages.specs.declared.fault.FieldFault.{FieldFault};
-ghost use Rattle.move_messages.specs.Values.{each};
-ghost use Rattle.move_messages.specs.Fields.{Gives, in_field};
+ghost use Rattle.line_fields.specs.declared.fault.FieldFault.{FieldFault};
+ghost use Rattle.line_fields.specs.Values.{each};
+ghost use Rattle.line_fields.specs.Fields.{Gives, in_field};
 ghost use Rattle.table_lines.specs.TableLine as meaning;
 ghost use Rattle.cost_table.specs.Rows.{IsNumber};
 
 use cost_table::MAX_COST;
-use move_messages::{
+use line_fields::{
     Field, FieldFault, ItemKind, LineFault, in_field, list_of, list_of_each, member, number_within,
 };
 use serde_json::Value;
@@ -48,7 +48,7 @@ fn rows_of(alloc: Global, rows: &[Value]) -> Result<Vec<Vec<Option<u64>>>, LineF
 }
 
 /// The rows of costs, one for each wagon.
-#[tactic(auto, unfolding(move_messages::specs::Fields::field_of, move_messages::specs::Values::list_of_each))]
+#[tactic(auto, unfolding(line_fields::specs::Fields::field_of, line_fields::specs::Values::list_of_each))]
 pub(crate) fn cells_at(alloc: Global, object: &Value) -> Result<Vec<Vec<Option<u64>>>, LineFault>
     ensures meaning { Gives (λ rows. map (λ row. row.items) rows.items) result
         (meaning.cells_of (view object.now)) }

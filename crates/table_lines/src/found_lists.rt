@@ -4,7 +4,7 @@ ghost use Rattle.std.specs.Prelude.{◌≡◌, ◌<◌, ⊤, IfSome, OnSome, Ok,
 ghost use Rattle.json.specs.Json.{members, read_key, value};
 ghost use Rattle.serde_json.specs.Data.{Members, object, no_members};
 ghost use Rattle.serde_json.specs.Read.{of_members, converted};
-ghost use Rattle.move_messages.specs.Line.{object_of};
+ghost use Rattle.line_fields.specs.Line.{object_of};
 ghost use Rattle.table_lines.specs.inner.Tokens.{Spells};
 ghost use Rattle.table_lines.specs.inner.FoundLists.{Hold, IsFilled, TakesMember};
 

@@ -2,11 +2,12 @@
 
 ghost use Rattle.std.specs.Prelude.{All, IfOk, IfSome, option_map};
 ghost use Rattle.serde_json.specs.View.{view};
-ghost use Rattle.move_messages.specs.Fields.{Gives};
+ghost use Rattle.line_fields.specs.Fields.{Gives};
 ghost use Rattle.table_lines.specs.TableLine as meaning;
 ghost use Rattle.wagons_and_orders.specs.WantedLimits.{IsLack};
 
-use move_messages::{CountKind, Field, LineFault, MAX_ORDER_WAGONS, optional_list_at};
+use line_fields::{CountKind, Field, LineFault, optional_list_at};
+use move_messages::MAX_ORDER_WAGONS;
 use serde_json::Value;
 use std::alloc::Global;
 

@@ -2,7 +2,7 @@
 
 ghost use Rattle.std.specs.Prelude.{◌≡◌, IfOk};
 ghost use Rattle.serde_json.specs.View.{view};
-ghost use Rattle.move_messages.specs.Fields.{Gives};
+ghost use Rattle.line_fields.specs.Fields.{Gives};
 ghost use Rattle.table_lines.specs.TableLine.{IsWithinLimits, table_line_of, table_of, table_text};
 ghost use Rattle.table_lines.specs.TablePart.{table_of_line, table_then_plan};
 
@@ -11,7 +11,7 @@ use crate::lacks::lacks_at;
 use crate::table_line::TableLine;
 use crate::table_off_tokens::stated_off_tokens;
 use cost_table::MAX_COST;
-use move_messages::{Field, LineFault, codes_at, numbers_at, object_of};
+use line_fields::{Field, LineFault, codes_at, numbers_at, object_of};
 use serde_json::Value;
 use std::alloc::Global;
 

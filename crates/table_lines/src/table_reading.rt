@@ -2,13 +2,13 @@
 
 ghost use Rattle.std.specs.Prelude.{IfOk};
 ghost use Rattle.serde_json.specs.View.{view};
-ghost use Rattle.move_messages.specs.Fields.{Gives};
+ghost use Rattle.line_fields.specs.Fields.{Gives};
 ghost use Rattle.table_lines.specs.TableLine.{IsWithinLimits, table_text, table_text_of, table_line_of};
 
 use crate::table_line::TableLine;
 use crate::table_off_tokens::planned_off_tokens;
 use crate::table_part::table_part;
-use move_messages::{Field, LineFault, numbers_at, object_of, pairs_at};
+use line_fields::{Field, LineFault, numbers_at, object_of, pairs_at};
 use serde_json::Value;
 use std::alloc::Global;
 

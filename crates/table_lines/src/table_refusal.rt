@@ -4,7 +4,7 @@ ghost use Rattle.table_lines.specs.TableRefusals.{refusal_of_check, refusal_of_l
 ghost use Rattle.table_lines.specs.declared.table_refusal.TableRefusal.TheVariants.{OutOfMemory};
 
 use cost_table::TableFault;
-use move_messages::LineFault;
+use line_fields::LineFault;
 use price_checker::NamedFault;
 use std::alloc::{AllocError, AllocFailed};
 use thiserror::Error;

@@ -5,7 +5,7 @@ ghost use Rattle.json.specs.Token as token;
 ghost use Rattle.serde_json.specs.Data.{Data, unsigned};
 ghost use Rattle.serde_json.specs.Read.{number_of};
 ghost use Rattle.move_messages.specs.OrderLimits.{max_order_wagons};
-ghost use Rattle.move_messages.specs.Values as values;
+ghost use Rattle.line_fields.specs.Values as values;
 ghost use Rattle.table_lines.specs.TableLine as meaning;
 ghost use Rattle.table_lines.specs.inner.Tokens.{IsListOf, Spells, SpellsItems};
 

@@ -1,6 +1,6 @@
 //! The line of a table without a plan, written token by token. `Err` only when out of memory.
 ghost use Rattle.std.specs.Prelude.{◌≡◌, ◌++◌, [], IfOk, Ok, OnOk, string_bytes};
-ghost use Rattle.move_messages.specs.WrittenTokens.{data_tokens};
+ghost use Rattle.line_fields.specs.WrittenTokens.{data_tokens};
 ghost use Rattle.table_lines.specs.TableLine.{IsWithinLimits, table_text, with_plan};
 ghost use Rattle.table_lines.specs.TablePart.{table_of_line};
 ghost use Rattle.table_lines.specs.UnplannedText.{unplanned_data, unplanned_text};
@@ -10,7 +10,7 @@ use crate::solved_tokens::{begin_with_cells, end_with_wagons, write_lacks};
 use crate::table_line::TableLine;
 use crate::written_lists::write_list;
 use json::Writer;
-use move_messages::written_text;
+use line_fields::written_text;
 use std::alloc::{AllocError, Global};
 
 /// The line of a table without its plan and without a line feed: members ascending by name, and no space. It reads as

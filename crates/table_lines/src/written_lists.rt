@@ -3,12 +3,12 @@
 
 ghost use Rattle.std.specs.Prelude.{◌≡◌, ◌++◌, ◌^◌, ◌<◌, Ok, All, OnOk};
 ghost use Rattle.serde_json.specs.Data.{Data, string};
-ghost use Rattle.move_messages.specs.Values as values;
-ghost use Rattle.move_messages.specs.Written as written;
-ghost use Rattle.move_messages.specs.WrittenTokens.{data_tokens, member_tokens};
+ghost use Rattle.line_fields.specs.Values as values;
+ghost use Rattle.line_fields.specs.Written as written;
+ghost use Rattle.line_fields.specs.WrittenTokens.{data_tokens, member_tokens};
 
 use json::Writer;
-use move_messages::code_str;
+use line_fields::code_str;
 use rail_codes::{Code, OrderId, Shape, WagonNumber};
 use std::alloc::AllocError;
 
@@ -32,7 +32,7 @@ impl<S: Shape<ROOM>, const ROOM: usize> ListItem for Code<S, ROOM> {
 
     ghost holds = { λ code. values.code_from S.code_of (string code) ≡ Ok code };
 
-    #[tactic(auto, unfolding(move_messages::specs::Values::code_from, move_messages::specs::Values::text_of))]
+    #[tactic(auto, unfolding(line_fields::specs::Values::code_from, line_fields::specs::Values::text_of))]
     fn write(&self, out: &mut Writer) -> Result<(), AllocError> {
         out.string(code_str(self))
     }

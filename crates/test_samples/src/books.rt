@@ -1,6 +1,6 @@
 //! Books that the tests start from.
 ghost use Rattle.std.specs.Prelude.{◌≡◌, [], All, IfOk, IsTrue};
-ghost use Rattle.commit_book.specs.Snap.{IsInRange};
+ghost use Rattle.price_checker.specs.Snap.{IsInRange};
 
 use crate::{NETWORK, ROSTER};
 use commit_book::{Book, Limits};

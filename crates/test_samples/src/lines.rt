@@ -2,7 +2,7 @@
 
 use crate::{FAR, NEAR};
 use commit_book::Call;
-use move_messages::{Command, read_line};
+use line_fields::{Command, read_line};
 use std::alloc::{AllocError, Global};
 use std::test::Fail;
 

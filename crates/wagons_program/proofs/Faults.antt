@@ -2,11 +2,11 @@
 use Rattle.std.proofs.Common.{ℕ, zero, suc, List, [], ◌∷◌, map, codes, refl, arith, Vec, Global}
 use Rattle.sessions.specs.Seat.{SeatValue}
 use Rattle.faults.specs.RefusalNumbers.{refusals}
-use Rattle.move_messages.specs.declared.field.Field.TheVariants.{Wagon}
+use Rattle.line_fields.specs.declared.field.Field.TheVariants.{Wagon}
 use Rattle.line_network.specs.declared.networks_fault.NetworksFault.TheVariants.{BadNetworkCount}
 use Rattle.rail_codes.specs.declared.code_fault.CodeFault.TheVariants as code
-use Rattle.move_messages.specs.declared.fault.FieldFault.TheVariants as field
-use Rattle.move_messages.specs.declared.fault.LineFault.TheVariants as line
+use Rattle.line_fields.specs.declared.fault.FieldFault.TheVariants as field
+use Rattle.line_fields.specs.declared.fault.LineFault.TheVariants as line
 use Rattle.faults.specs.declared.faults.StepFault.TheVariants as step
 use Rattle.faults.specs.declared.faults.RecordFault.TheVariants as records
 use Rattle.faults.specs.declared.faults.RosterFault.TheVariants as roster

@@ -3,7 +3,7 @@ use Rattle.std.specs.Prelude.{◌≡◌, List, []}
 use Rattle.command_line.specs.declared.office_options.Start.{Start}
 use Rattle.command_line.specs.declared.office_options.Start.TheVariants as start
 use Rattle.commit_book.specs.Books.{BookValue}
-use Rattle.commit_book.specs.Limits.{LimitNumbers}
+use Rattle.price_checker.specs.Limits.{LimitNumbers}
 use Rattle.fleet_rows.specs.Roster.{IsRoster}
 use Rattle.line_network.specs.Network.{NetworkValue}
 use Rattle.operating_db.specs.Office.{Office}

@@ -1,8 +1,8 @@
 -- What a review of the lines of an input does, up to the status of the program.
 use Rattle.std.specs.Prelude.{◌≡◌, ◌⊎◌, ℕ, ◌==◌, if◌then◌else◌, List, length, Option}
 use Rattle.std.specs.Io.KnownBytes.{Appends}
-use Rattle.journal_notes.specs.JournalEnd.{end_note}
-use Rattle.journal_notes.specs.Reviews.{ReviewValue, Reviews}
+use Rattle.office.specs.JournalEnd.{end_note}
+use Rattle.office.specs.Reviews.{ReviewValue, Reviews}
 use Rattle.line_engine.specs.Runs.{RunEnds}
 use Rattle.line_engine.specs.declared.run.RunCount.{RunCount}
 use Rattle.wagons_program.specs.Brought.{AreStopped, Lines, run_of}

@@ -3,7 +3,7 @@ use Rattle.std.specs.Prelude.{ℕ, ◌==◌, nat_lt, if◌then◌else◌, is_som
 use Rattle.std.specs.List.{list_any}
 use Rattle.line_engine.specs.declared.run.RunCount.{RunCount}
 use Rattle.line_engine.specs.declared.run.RunFault.{RunFault}
-use Rattle.dispatch_sheet.specs.declared.feed_report.FileCount.{FileCount}
+use Rattle.sessions.specs.declared.feed_report.FileCount.{FileCount}
 use Rattle.wagons_program.specs.declared.stop.Stop.{Stop}
 use Rattle.wagons_program.specs.declared.stop.Stop.TheVariants.{Run}
 use Rattle.wagons_program.specs.declared.stopped.Stopped.{Stopped}

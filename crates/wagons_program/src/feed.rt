@@ -10,9 +10,9 @@ use crate::status::{DONE, REFUSED, STOPPED};
 use crate::stop::Stop;
 use crate::stopped::Stopped;
 use crate::told_file::open_plain;
-use book_feed::{FeedReport, report_text};
 use command_line::FeedOptions;
 use line_engine::{MAX_FILES, Source, StdDevice};
+use sessions::{FeedReport, report_text};
 use std::rt::Files;
 use std::sync::Wait;
 use std::thread::Threads;
@@ -34,7 +34,7 @@ where
     if readers.is_empty() || readers.len() > MAX_FILES {
         return Err(Stopped::from(Stop::OpenFailed));
     }
-    match book_feed::feed(rt, rt.alloc(), readers, book, &networks) {
+    match sessions::feed(rt, rt.alloc(), readers, book, &networks) {
         Ok(report) => {
             let status = print_report(rt, &report);
             leave(report.book);

@@ -3,7 +3,6 @@ ghost use Rattle.std.specs.Prelude.{◌≡◌};
 ghost use Rattle.std.specs.Str.{IsAscii};
 ghost use Rattle.wagons_program.specs.Stop.{stop_number};
 
-use book_feed::FeedFault;
 use checkpoint::ReadFault;
 use faults::FleetFault;
 use fleet_rows::RosterFault;
@@ -11,6 +10,7 @@ use line_network::{NetworkFault, NetworksFault, WorkFault};
 use office::RunFault;
 use place_names::PlacesFault;
 use rail_codes::{OrderId, WagonNumber};
+use sessions::FeedFault;
 use std::alloc::{AllocError, AllocFailed};
 use std::fmt;
 use std::fmt::{Display, Formatter};

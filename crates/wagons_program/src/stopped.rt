@@ -4,10 +4,10 @@ ghost use Rattle.wagons_program.specs.Told.{reason_of, words_of};
 ghost use Rattle.wagons_program.specs.declared.stop.Stop.TheVariants as stop;
 
 use crate::stop::Stop;
-use book_feed::FeedFault;
 use fault_texts::line_text;
 use faults::FleetFault;
 use line_engine::LineLimit;
+use sessions::FeedFault;
 use std::alloc::{AllocError, AllocFailed, Global};
 use std::fmt;
 use std::fmt::{Display, Formatter};

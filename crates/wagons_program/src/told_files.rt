@@ -7,7 +7,7 @@ ghost use Rattle.fault_texts.specs.NetworkText.{network_text};
 ghost use Rattle.fault_texts.specs.RosterText.{roster_text};
 ghost use Rattle.fault_texts.specs.UnreadText.{unread_text};
 ghost use Rattle.faults.specs.declared.faults.CheckpointFault.{CheckpointFault};
-ghost use Rattle.move_messages.specs.declared.fault.LineFault.{LineFault};
+ghost use Rattle.line_fields.specs.declared.fault.LineFault.{LineFault};
 ghost use Rattle.wagons_program.specs.declared.stop.Stop.TheVariants as stop;
 
 use crate::stop::Stop;

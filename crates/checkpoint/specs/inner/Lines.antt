@@ -1,9 +1,9 @@
 -- Lines that are written: each is what it must be, and reads back.
 use Rattle.std.specs.Prelude.{◌≡◌, ℕ, List, ◌++◌, Ok}
 use Rattle.line_engine.specs.Lines.{with_feeds}
-use Rattle.checkpoint_lines.specs.LineReading.{checkpoint_line_of}
-use Rattle.checkpoint_lines.specs.LineWriting.{IsOneLine}
-use Rattle.checkpoint_lines.specs.declared.line.CheckpointLine.{CheckpointLine}
+use Rattle.checkpoint.specs.LineReading.{checkpoint_line_of}
+use Rattle.checkpoint.specs.LineWriting.{IsOneLine}
+use Rattle.checkpoint.specs.declared.line.CheckpointLine.{CheckpointLine}
 use Rattle.checkpoint.specs.Written.{AreLinesOf}
 
 -- one line, which isn't blank, and reads as this

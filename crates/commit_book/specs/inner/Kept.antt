@@ -10,7 +10,7 @@ use Rattle.commit_book.specs.BookStep.{BookState, is_kept, kept_after}
 use Rattle.commit_book.specs.Books.{BookValue, setting_with}
 use Rattle.commit_book.specs.History.{IsLegal, IsTableAt, problem_at}
 use Rattle.commit_book.specs.inner.Ledger.{LedgerValue}
-use Rattle.commit_book.specs.Limits.{LimitNumbers}
+use Rattle.price_checker.specs.Limits.{LimitNumbers}
 use Rattle.commit_book.specs.Setting.{Setting}
 use Rattle.commit_book.specs.declared.kept_problems.KeptProblem.{KeptProblem}
 use Rattle.commit_book.specs.declared.made_problem.MadeProblem.{MadeProblem}

@@ -1,8 +1,8 @@
 -- What makes the line of a commit read as that commit.
 use Rattle.std.specs.Prelude.{◌≡◌, ◌<◌, ◌≤◌, ◌^◌, ℕ, List, All, Ok}
-use Rattle.move_messages.specs.Values.{wagon_and_order}
-use Rattle.move_messages.specs.Written.{pair_data}
-use Rattle.move_messages.specs.Commands.{max_version}
+use Rattle.line_fields.specs.Values.{wagon_and_order}
+use Rattle.line_fields.specs.Written.{pair_data}
+use Rattle.line_fields.specs.Commands.{max_version}
 use Rattle.move_messages.specs.declared.commit_text.CommitText.{CommitText}
 
 -- a wagon and an order that are read as themselves

@@ -1,6 +1,7 @@
 //! The copy of a commit, which no reply of the program shows, and its lists taken out of it, which no word of the program does.
 
-use move_messages::{Command, CommitText, Event, Pairs, PriceList, read_line};
+use line_fields::{Command, read_line};
+use move_messages::{CommitText, Event, Pairs, PriceList};
 use std::alloc::Global;
 use std::test::Fail;
 use test_samples::{NEAR, moment, order_id, wagon};

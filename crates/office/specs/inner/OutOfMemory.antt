@@ -2,8 +2,8 @@
 use Rattle.std.specs.Prelude.{◌≡◌, ◌⊎◌, true}
 use Rattle.commit_book.specs.Books.{BookValue}
 use Rattle.commit_book.specs.BookStep.{IsEventAnswer, MayWantMemory}
-use Rattle.move_messages.specs.declared.command.Command.{Command}
-use Rattle.move_messages.specs.declared.command.Command.TheVariants as command
+use Rattle.line_fields.specs.declared.command.Command.{Command}
+use Rattle.line_fields.specs.declared.command.Command.TheVariants as command
 use Rattle.move_messages.specs.declared.event.Event.{Event}
 use Rattle.commit_book.specs.declared.answer.Answer.{Answer}
 use Rattle.office.specs.CommandReplies.{is_refused}

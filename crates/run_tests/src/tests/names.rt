@@ -1,18 +1,18 @@
 //! Every fault with its name.
 
-use book_feed::FeedFault;
 use checkpoint::ReadFault;
 use commit_book::Refusal;
 use cost_table::TableFault;
 use csv_records::RecordFault;
 use faults::{CheckpointFault, FleetFault};
 use fleet_rows::RosterFault;
+use line_fields::{Field, FieldFault, LineFault};
 use line_network::{NetworkFault, NetworksFault, WorkFault};
-use move_messages::{Field, FieldFault, LineFault};
 use office::RunFault;
 use operating_db::ApplyFault;
 use price_checker::{CheckFault, NamedFault};
 use rail_codes::CodeFault;
+use sessions::FeedFault;
 use std::test::Fail;
 use table_lines::TableRefusal;
 use test_samples::{FAR, misnamed, order_id, wagon};

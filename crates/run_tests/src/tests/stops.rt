@@ -1,13 +1,13 @@
 //! What the program says on standard error where it could not run or stopped, for what no script brings about: memory,
 //! threads, devices that fail, and files that are too large for a script.
 
-use book_feed::FeedFault;
 use checkpoint::ReadFault;
 use faults::{CheckpointFault, FleetFault};
 use fleet_rows::RosterFault;
+use line_fields::LineFault;
 use line_network::{NetworkFault, WorkFault};
-use move_messages::LineFault;
 use office::RunFault;
+use sessions::FeedFault;
 use std::test::Fail;
 use test_samples::misnamed;
 use wagons_program::Stop;

@@ -7,7 +7,7 @@ use Rattle.serde_json.specs.Data.{Data, Items, Members, array, put}
 use Rattle.serde_json.specs.Find.{get_member}
 use Rattle.serde_json.specs.Read.{of_json, converted}
 use Rattle.move_messages.specs.OrderLimits.{max_order_wagons}
-use Rattle.move_messages.specs.Values.{number_within, wagon_number_from, order_id_from, wagon_and_order}
+use Rattle.line_fields.specs.Values.{number_within, wagon_number_from, order_id_from, wagon_and_order}
 use Rattle.cost_table.specs.TableLimits.{max_cost}
 use Rattle.table_lines.specs.TableLine.{row_of}
 use Rattle.table_lines.specs.inner.Tokens.{AreRead, IsListOf, Spells}

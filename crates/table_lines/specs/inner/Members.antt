@@ -2,9 +2,9 @@
 use Rattle.std.specs.Prelude.{◌≡◌, ◌^◌, ◌<◌, ℕ, List, [], Option, Some, None, Ok, All, codes}
 use Rattle.json.specs.Token.{Token}
 use Rattle.serde_json.specs.Data.{string}
-use Rattle.move_messages.specs.Values.{order_id_from, wagon_and_order, wagon_number_from}
-use Rattle.move_messages.specs.Written.{list_data, number_data, pair_data}
-use Rattle.move_messages.specs.WrittenTokens.{member_tokens}
+use Rattle.line_fields.specs.Values.{order_id_from, wagon_and_order, wagon_number_from}
+use Rattle.line_fields.specs.Written.{list_data, number_data, pair_data}
+use Rattle.line_fields.specs.WrittenTokens.{member_tokens}
 use Rattle.price_checker.specs.declared.prices.Prices.{Prices}
 use Rattle.table_lines.specs.declared.table_line.TableLine.{TableLine}
 

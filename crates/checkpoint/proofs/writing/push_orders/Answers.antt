@@ -4,7 +4,7 @@ use Rattle.line_engine.specs.Lines.{line_feed}
 use Rattle.wagons_and_orders.specs.Lack.{is_open}
 use Rattle.checkpoint.specs.Checkpoint.{order_said}
 use Rattle.checkpoint.specs.inner.Lines.{AddsLines}
-use Rattle.checkpoint_lines.specs.LineWriting.{IsOrderLine}
+use Rattle.checkpoint.specs.LineWriting.{IsOrderLine}
 use Rattle.checkpoint.proofs.Writes.{adds_along, adds_line, filter_more}
 use Rattle.checkpoint.proofs.writing.push_orders.Goals as goal
 use Rattle.checkpoint.proofs.writing.push_orders.Goals.{then-is_open+in_ok-order_line+in_ok-push_line, else-is_open}

@@ -2,7 +2,7 @@ use Rattle.std.proofs.Common.{take, string_bytes}
 use Rattle.std.specs.List.{filter}
 use Rattle.checkpoint.specs.Checkpoint.{order_said}
 use Rattle.checkpoint.specs.inner.Lines.{AddsLines}
-use Rattle.checkpoint_lines.specs.LineWriting.{IsOrderLine}
+use Rattle.checkpoint.specs.LineWriting.{IsOrderLine}
 use Rattle.wagons_and_orders.specs.Lack.{is_open}
 use Rattle.checkpoint.proofs.writing.push_orders.Given as goal
 

@@ -2,8 +2,8 @@ use Rattle.std.proofs.Common.{◌<◌, ◌≤◌, ◌++◌, ◌∷◌, [], ◌�
 use Rattle.move_messages.specs.MaxLoad.{max_load}
 use Rattle.line_engine.specs.Lines.{line_feed}
 use Rattle.wagons_and_orders.specs.declared.wagon_row.WagonRow.{WagonRow}
-use Rattle.checkpoint_lines.specs.LineWriting.{IsWagonLine}
-use Rattle.checkpoint_lines.specs.declared.line.CheckpointLine.TheVariants.{Wagon}
+use Rattle.checkpoint.specs.LineWriting.{IsWagonLine}
+use Rattle.checkpoint.specs.declared.line.CheckpointLine.TheVariants.{Wagon}
 use Rattle.checkpoint.proofs.Writes.{adds_along, adds_line, taken_more}
 use Rattle.checkpoint.proofs.writing.push_wagons.Goals as goal
 

@@ -4,7 +4,7 @@ use Rattle.json.specs.Print.{print}
 use Rattle.serde_json.proofs.Texts.{print-outline}
 use Rattle.rail_codes.specs.Moment.{IsMomentText}
 use Rattle.dispatch_sheet.specs.Certificate.{commit_data, commit_of}
-use Rattle.move_messages.specs.WrittenTokens.{data_tokens}
+use Rattle.line_fields.specs.WrittenTokens.{data_tokens}
 use Rattle.dispatch_sheet.proofs.Certificates.{line-reads}
 use Rattle.dispatch_sheet.proofs.certificate.certificate_line.Goals as goal
 

@@ -2,11 +2,11 @@ use Rattle.std.proofs.Common.{◌++◌, ◌∷◌, [], codes, map, subst, ap, ap
 use Rattle.std.specs.Prelude.{All}
 use Rattle.std.proofs.lemmas.Result.{on_ok_weaker}
 use Rattle.json.specs.Token.{end_object}
-use Rattle.move_messages.specs.Written.{list_data, number_data, pair_data}
-use Rattle.commit_book.specs.Snap.{named_pair}
+use Rattle.line_fields.specs.Written.{list_data, number_data, pair_data}
+use Rattle.price_checker.specs.Snap.{named_pair}
 use Rattle.dispatch_sheet.specs.Certificate.{commit_of}
 use Rattle.dispatch_sheet.specs.inner.Readable.{AreReadablePrices, IsReadablePair}
-use Rattle.move_messages.specs.WrittenTokens.{member_tokens}
+use Rattle.line_fields.specs.WrittenTokens.{member_tokens}
 use Rattle.dispatch_sheet.proofs.CommitTokens.{commit-written}
 use Rattle.dispatch_sheet.proofs.commit_tokens.write_commit.Goals as goal
 

@@ -1,5 +1,5 @@
 use Rattle.std.proofs.lemmas.Result.{on_ok_weaker}
-use Rattle.move_messages.proofs.Writing.{pair_reads}
+use Rattle.line_fields.proofs.Writing.{pair_reads}
 use Rattle.dispatch_sheet.proofs.commit_tokens.write_pair.Goals as goal
 
 pub returns-clause-readable : goal.returns-clause-readable

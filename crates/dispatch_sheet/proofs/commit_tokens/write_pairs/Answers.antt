@@ -2,12 +2,12 @@ use Rattle.std.proofs.Common.{◌≡◌, ℕ, List, ◌∷◌, [], ◌++◌, get
 use Rattle.std.proofs.lemmas.List.Elements.{All-map, All-more}
 use Rattle.std.proofs.lemmas.Result.{on_ok_weaker}
 use Rattle.json.specs.Token.{begin_array, key}
-use Rattle.move_messages.specs.Written.{list_data, pair_data}
-use Rattle.move_messages.proofs.Writing.{holds-whole}
-use Rattle.commit_book.specs.Snap.{named_pair}
+use Rattle.line_fields.specs.Written.{list_data, pair_data}
+use Rattle.line_fields.proofs.Writing.{holds-whole}
+use Rattle.price_checker.specs.Snap.{named_pair}
 use Rattle.dispatch_sheet.specs.inner.Readable.{IsReadablePair}
-use Rattle.move_messages.specs.WrittenTokens.{data_tokens}
-use Rattle.move_messages.proofs.WrittenTokens.{items-more, list-written, named_list-tokens}
+use Rattle.line_fields.specs.WrittenTokens.{data_tokens}
+use Rattle.line_fields.proofs.WrittenTokens.{items-more, list-written, named_list-tokens}
 use Rattle.dispatch_sheet.proofs.commit_tokens.write_pairs.Goals as goal
 
 pub loop-i-preserved : goal.loop-i-preserved

@@ -1,10 +1,10 @@
 use Rattle.std.proofs.Common.{◌≡◌, ◌++◌, take}
 use Rattle.std.specs.Prelude.{All}
 use Rattle.std.specs.List.{flat_map}
-use Rattle.move_messages.specs.Written.{pair_data}
-use Rattle.commit_book.specs.Snap.{named_pair}
+use Rattle.line_fields.specs.Written.{pair_data}
+use Rattle.price_checker.specs.Snap.{named_pair}
 use Rattle.dispatch_sheet.specs.inner.Readable.{IsReadablePair}
-use Rattle.move_messages.specs.WrittenTokens.{data_tokens}
+use Rattle.line_fields.specs.WrittenTokens.{data_tokens}
 use Rattle.dispatch_sheet.proofs.commit_tokens.write_pairs.Given as goal
 
 abbrev pub invariant-loop-i : goal.invariant-loop-i

@@ -2,9 +2,9 @@ use Rattle.std.proofs.Common.{◌≡◌, ◌∷◌, [], ◌++◌, arith, rules}
 use Rattle.std.proofs.lemmas.Grind.{get_or_default_zero}
 use Rattle.std.proofs.lemmas.Result.{on_ok_weaker}
 use Rattle.json.specs.Token.{begin_array, key}
-use Rattle.move_messages.specs.Written.{list_data, number_data}
-use Rattle.move_messages.specs.WrittenTokens.{data_tokens}
-use Rattle.move_messages.proofs.WrittenTokens.{list-tokens, list-written}
+use Rattle.line_fields.specs.Written.{list_data, number_data}
+use Rattle.line_fields.specs.WrittenTokens.{data_tokens}
+use Rattle.line_fields.proofs.WrittenTokens.{list-tokens, list-written}
 use Rattle.dispatch_sheet.proofs.commit_tokens.write_prices.Goals as goal
 
 pub returns-clause-tokens : goal.returns-clause-tokens

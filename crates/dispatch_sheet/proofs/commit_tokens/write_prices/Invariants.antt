@@ -1,7 +1,7 @@
 use Rattle.std.proofs.Common.{◌≡◌, ◌++◌, take}
 use Rattle.std.specs.List.{flat_map}
-use Rattle.move_messages.specs.Written.{number_data}
-use Rattle.move_messages.specs.WrittenTokens.{data_tokens}
+use Rattle.line_fields.specs.Written.{number_data}
+use Rattle.line_fields.specs.WrittenTokens.{data_tokens}
 use Rattle.dispatch_sheet.proofs.commit_tokens.write_prices.Given as goal
 
 abbrev pub invariant-loop-price : goal.invariant-loop-price

@@ -2,10 +2,10 @@
 ghost use Rattle.std.specs.Prelude.{◌≡◌, ◌≤◌, [], All, IfOk, false, length, vec_len};
 ghost use Rattle.line_engine.specs.Lines.{max_files};
 
-use book_feed::{FeedReport, feed};
 use commit_book::{Book, Limits};
 use fleet_rows::Roster;
 use line_engine::Source;
+use sessions::{FeedReport, feed};
 use std::alloc::{AllocError, Global};
 use std::sync::{Arc, Wait};
 use std::test::Fail;

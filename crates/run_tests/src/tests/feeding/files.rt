@@ -1,7 +1,7 @@
 //! Files with the same lines: which file's line is taken is open, but not how many are.
 
 use super::feeds::{fed_texts, totals};
-use book_feed::{FeedReport, report_text};
+use sessions::{FeedReport, report_text};
 use std::alloc::Global;
 use std::test::Fail;
 use test_samples::ORDER_TEXT;

@@ -3,8 +3,8 @@ ghost use Rattle.std.specs.Prelude.{◌≡◌, None, false};
 
 use super::feeds::fed;
 use super::files::{FIRST, REPORT, SECOND, is_text_of};
-use book_feed::FeedReport;
 use line_engine::{DeviceFailed, Source};
+use sessions::FeedReport;
 use std::alloc::Global;
 use std::sync::Wait;
 use std::sync::atomic::{AtomicU64, Ordering};

@@ -1,7 +1,7 @@
 //! Files that plan for one order.
 
 use super::feeds::{fed_texts, totals};
-use book_feed::report_text;
+use sessions::report_text;
 use std::alloc::Global;
 use std::sync::Wait;
 use std::test::Fail;

@@ -8,7 +8,7 @@ use Rattle.problem_table.specs.Allowed.{IsTableOf}
 use Rattle.cost_table.specs.Plan.{AllAllowed}
 use Rattle.cost_table.specs.Problem.{ProblemValue}
 use Rattle.cost_table.specs.Table.{Table}
-use Rattle.commit_book.specs.Snap.{IsInRange}
+use Rattle.price_checker.specs.Snap.{IsInRange}
 use Rattle.sessions.specs.Planning.{IsUnknownNetwork}
 use Rattle.sessions.proofs.SameTables.{columns}
 use Rattle.sessions.proofs.planning.work.Goals as goal

@@ -1,8 +1,8 @@
 use Rattle.std.proofs.Common.{map, arith}
 use Rattle.std.proofs.lemmas.Grind.{common_steps}
 use Rattle.serde_json.specs.View.{view}
-use Rattle.move_messages.specs.Values.{list_of_each}
-use Rattle.move_messages.specs.Fields.{Gives, field_of}
+use Rattle.line_fields.specs.Values.{list_of_each}
+use Rattle.line_fields.specs.Fields.{Gives, field_of}
 use Rattle.table_lines.specs.TableLine.{cells_of}
 use Rattle.table_lines.proofs.Bounds.{cells_are}
 use Rattle.table_lines.proofs.cells.cells_at.Goals as goal

@@ -2,10 +2,10 @@ use Rattle.std.proofs.Common.{arith, ◌≡◌, ◌++◌, ◌∷◌, [], map, sy
 use Rattle.std.proofs.lemmas.List.{map_push}
 use Rattle.std.proofs.lemmas.Result.{err_from_is_err_and}
 use Rattle.serde_json.specs.View.{view, items_view}
-use Rattle.move_messages.specs.declared.field.Field.TheVariants.{Cells}
-use Rattle.move_messages.specs.Values.{each}
-use Rattle.move_messages.specs.Fields.{in_field}
-use Rattle.move_messages.proofs.Items.{in_field_ok, goes_on, is_done}
+use Rattle.line_fields.specs.declared.field.Field.TheVariants.{Cells}
+use Rattle.line_fields.specs.Values.{each}
+use Rattle.line_fields.specs.Fields.{in_field}
+use Rattle.line_fields.proofs.Items.{in_field_ok, goes_on, is_done}
 use Rattle.table_lines.specs.TableLine.{row_of}
 use Rattle.table_lines.proofs.Rows.{row_fails}
 use Rattle.table_lines.proofs.cells.rows_of.Goals as goal

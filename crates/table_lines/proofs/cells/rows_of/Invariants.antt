@@ -1,8 +1,8 @@
 use Rattle.std.proofs.Common.{◌≡◌, ◌≤◌, map, drop, length}
 use Rattle.std.specs.Prelude.{vec_len, vec_capacity}
 use Rattle.serde_json.specs.View.{items_view}
-use Rattle.move_messages.specs.Values.{each}
-use Rattle.move_messages.specs.inner.Loops.{with_front}
+use Rattle.line_fields.specs.Values.{each}
+use Rattle.line_fields.specs.inner.Loops.{with_front}
 use Rattle.table_lines.specs.TableLine.{row_of}
 use Rattle.table_lines.proofs.cells.rows_of.Given as goal
 

@@ -1,8 +1,8 @@
 use Rattle.std.proofs.Common.{◌≡◌, ◌∷◌, [], ◌++◌, codes, ap, ap₂, ◌∙◌, append_assoc, rules}
 use Rattle.std.proofs.lemmas.Result.{on_ok_weaker}
 use Rattle.json.specs.Token.{begin_object}
-use Rattle.move_messages.specs.Written.{list_data, number_or_null}
-use Rattle.move_messages.specs.WrittenTokens.{member_tokens}
+use Rattle.line_fields.specs.Written.{list_data, number_or_null}
+use Rattle.line_fields.specs.WrittenTokens.{member_tokens}
 use Rattle.table_lines.specs.TableLine.{table_text}
 use Rattle.table_lines.proofs.Written.{rows_data}
 use Rattle.table_lines.proofs.solved_tokens.begin_with_cells.Goals as goal

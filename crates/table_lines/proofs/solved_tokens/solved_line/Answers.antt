@@ -2,7 +2,7 @@ use Rattle.std.proofs.Common.{◌++◌, ap, ◌∙◌, string_bytes, arith}
 use Rattle.std.proofs.lemmas.Str.{IsUtf8-string_bytes}
 use Rattle.json.specs.Print.{print}
 use Rattle.serde_json.proofs.Texts.{print-outline}
-use Rattle.move_messages.specs.WrittenTokens.{data_tokens}
+use Rattle.line_fields.specs.WrittenTokens.{data_tokens}
 use Rattle.table_lines.specs.SolvedText.{planned_table, solved_data}
 use Rattle.table_lines.proofs.Written.{planned_line_reads}
 use Rattle.table_lines.proofs.solved_tokens.solved_line.Goals as goal

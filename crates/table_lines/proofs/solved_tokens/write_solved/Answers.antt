@@ -2,8 +2,8 @@ use Rattle.std.proofs.Common.{◌++◌, ◌∷◌, [], codes, ap, ◌∙◌}
 use Rattle.std.proofs.lemmas.Result.{on_ok_weaker}
 use Rattle.json.specs.Token.{end_object}
 use Rattle.serde_json.specs.Data.{string}
-use Rattle.move_messages.specs.Written.{list_data, number_data}
-use Rattle.move_messages.specs.WrittenTokens.{member_tokens}
+use Rattle.line_fields.specs.Written.{list_data, number_data}
+use Rattle.line_fields.specs.WrittenTokens.{member_tokens}
 use Rattle.table_lines.specs.SolvedText.{planned_table}
 use Rattle.table_lines.proofs.Written.{solved_written}
 use Rattle.table_lines.proofs.solved_tokens.write_solved.Goals as goal

@@ -1,9 +1,9 @@
 use Rattle.std.proofs.Common.{◌≡◌, ◌∷◌, [], ◌++◌, ap, ◌∙◌, rules}
 use Rattle.std.proofs.lemmas.Result.{on_ok_weaker}
 use Rattle.json.specs.Token.{begin_array}
-use Rattle.move_messages.specs.WrittenTokens.{data_tokens}
-use Rattle.move_messages.proofs.Writing.{holds-more, holds-whole}
-use Rattle.move_messages.proofs.WrittenTokens.{items-more}
+use Rattle.line_fields.specs.WrittenTokens.{data_tokens}
+use Rattle.line_fields.proofs.Writing.{holds-more, holds-whole}
+use Rattle.line_fields.proofs.WrittenTokens.{items-more}
 use Rattle.table_lines.proofs.WrittenLists.{items_written}
 use Rattle.table_lines.proofs.written_lists.write_items.Goals as goal
 

@@ -1,7 +1,7 @@
 use Rattle.std.proofs.Common.{◌≡◌, ◌++◌, take}
 use Rattle.std.specs.Prelude.{All}
 use Rattle.std.specs.List.{flat_map}
-use Rattle.move_messages.specs.WrittenTokens.{data_tokens}
+use Rattle.line_fields.specs.WrittenTokens.{data_tokens}
 use Rattle.table_lines.proofs.written_lists.write_items.Given as goal
 
 abbrev pub invariant-loop-item : goal.invariant-loop-item

@@ -1,7 +1,7 @@
 use Rattle.std.proofs.Common.{◌≡◌, ◌∷◌, [], ◌++◌, rules}
 use Rattle.std.proofs.lemmas.Result.{on_ok_weaker}
 use Rattle.json.specs.Token.{key}
-use Rattle.move_messages.specs.Written.{list_data}
+use Rattle.line_fields.specs.Written.{list_data}
 use Rattle.table_lines.proofs.WrittenLists.{member_written}
 use Rattle.table_lines.proofs.written_lists.write_list.Goals as goal
 

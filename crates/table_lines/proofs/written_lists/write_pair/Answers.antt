@@ -1,5 +1,5 @@
 use Rattle.std.proofs.lemmas.Result.{on_ok_weaker}
-use Rattle.move_messages.proofs.Writing.{pair_reads}
+use Rattle.line_fields.proofs.Writing.{pair_reads}
 use Rattle.table_lines.proofs.written_lists.write_pair.Goals as goal
 
 pub returns-clause-reads : goal.returns-clause-reads

@@ -1,5 +1,5 @@
 use Rattle.std.proofs.Common.{◌∙◌, ap, inl}
-use Rattle.journal_notes.specs.Reviews.{Reviews}
+use Rattle.office.specs.Reviews.{Reviews}
 use Rattle.wagons_program.proofs.Outcomes.{are_stopped}
 use Rattle.wagons_program.proofs.review.review_lines.Goals as goal
 

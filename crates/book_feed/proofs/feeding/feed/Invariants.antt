@@ -1,4 +1,0 @@
-use Rattle.book_feed.proofs.feeding.feed.Given as goal
-
-abbrev pub ghosts-feed_by : goal.ghosts-feed_by
-ghosts-feed_by g a = record { name = a.blank.name; parts = a.blank.parts }

@@ -1,4 +1,0 @@
-pub mod FedLines
-pub mod FeedCounts
-pub mod FeedReports
-pub mod inner

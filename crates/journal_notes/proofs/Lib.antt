@@ -1,3 +1,0 @@
-mod Adding
-mod ReadNotes
-mod Reviewed

@@ -1,4 +1,0 @@
-use Rattle.journal_notes.proofs.reviewing.review_journal.Goals as goal
-
-pub returns : goal.returns
-returns g c = rw c.standard-limit.ensures at c.run_replies.ensures

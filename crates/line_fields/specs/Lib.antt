@@ -1,0 +1,10 @@
+pub mod LineType
+pub mod Commands
+pub mod Field
+pub mod Faults
+pub mod Values
+pub mod Fields
+pub mod Line
+pub mod Written
+pub mod WrittenTokens
+pub mod inner

@@ -1,6 +1,0 @@
-use Rattle.serde_json.specs.View.{view}
-use Rattle.move_messages.proofs.Bounds.{numbers_within}
-use Rattle.move_messages.proofs.lists.numbers_at.Goals as goal
-
-pub returns-clause-limits : goal.returns-clause-limits
-returns-clause-limits c = numbers_within c.args.low c.args.high c.args.field (view c.args.object.now) c.list_at.result c.list_at.ensures

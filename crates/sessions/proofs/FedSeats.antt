@@ -1,0 +1,303 @@
+-- What the lines of a file do at its seat, by a run over them.
+use Rattle.std.proofs.Common.{◌≡◌, ◌+◌, ◌<◌, ◌≤◌, ◌^◌, ◌∷◌, ℕ, Bool, true, false, cond, List, [], length, refl, sym, ap, ◌∙◌, subst, arith, inl, inr}
+use Rattle.std.specs.Prelude.{Option, Some, None, Result, Ok, Err, IfOk, IfErr, IfSome}
+use Rattle.std.specs.List.{count_by}
+use Rattle.std.specs.Io.KnownBytes.{Consumes, Keeps}
+use Rattle.std.proofs.lemmas.List.{length-append}
+use Rattle.std.proofs.lemmas.List.Sums.{sum_by-cons}
+use Rattle.line_fields.specs.declared.fault.LineFault.{LineFault}
+use Rattle.line_engine.specs.Lines.{first_line, has_feed, is_blank, lines_of, max_input_lines, max_line_bytes}
+use Rattle.line_engine.specs.Replies.{Answering, RunningOut, AnswersLine, Replies, Responds}
+use Rattle.line_engine.specs.RunFault.{number_of}
+use Rattle.line_engine.specs.Runs.{Ends, Failures, IsLineOrNext, Run, StandsAt, Stops}
+use Rattle.line_engine.specs.declared.run.RunCount.{RunCount}
+use Rattle.line_engine.specs.declared.run.RunFault.{RunFault}
+use Rattle.line_engine.specs.declared.run.RunFault.TheVariants.{OutOfMemory, TooManyLines, LineTooLong, ReadFailed, WriteFailed}
+use Rattle.line_network.specs.Network.{NetworkValue}
+use Rattle.line_fields.specs.Commands.{command_of}
+use Rattle.line_fields.specs.declared.command.Command.{Command}
+use Rattle.line_fields.specs.declared.command.Command.TheVariants as command
+use Rattle.move_messages.specs.declared.event.Event.{Event}
+use Rattle.commit_book.specs.declared.reply.Reply.{Reply}
+use Rattle.commit_book.specs.declared.reply.Reply.TheVariants as reply
+use Rattle.faults.specs.declared.faults.Refusal.{Refusal}
+use Rattle.sessions.specs.declared.receipt.Receipt.{Receipt}
+use Rattle.sessions.specs.Seat.{IsAnswered, SeatValue, count_of, new_seat}
+use Rattle.sessions.specs.FedLines.{AreDone, AreTaken, IsLineTaken, IsReadIn, IsSeatFed, IsStoppedAt, IsSubmitted, IsTakenIn, IsTurnedAway, blank_line, counted_by, is_accepted, is_refused, is_repeated, no_line, one_line}
+use Rattle.sessions.specs.FeedCounts.{IsStopNumber, is_counted, is_command_counted}
+use Rattle.sessions.specs.inner.Fed.{stop_number}
+use Rattle.sessions.specs.inner.FeedLines.{Adds, IsLineFed}
+use Rattle.sessions.specs.declared.feed_lines.Counted.{Counted}
+use Rattle.sessions.specs.declared.feed_lines.Counted.TheVariants.{Refused, Nowhere}
+use Rattle.sessions.specs.declared.feed_lines.FileSeat.{FileSeat}
+
+-- ---- receipts
+
+-- a seat has one receipt more where a line counts as accepted, and else as many
+abbrev Gains : (old new : SeatValue) → Counted → Type 0
+Gains old new counted = count_of new ≡ count_of old + cond (is_accepted counted) 1 0
+
+gains_by : (old new : SeatValue) (event : Event) (result : Result Reply Refusal) → IsAnswered old new event result → Gains old new (counted_by result)
+gains_by old new event (Ok (reply.Accepted n)) answered = omega (arith, ap count_of answered.0, length-append old.receipts (record { entry = n; event = event } ∷ []))
+gains_by old new event (Ok (reply.Repeated n)) answered = omega (arith, ap count_of answered)
+gains_by old new event (Err refusal) answered = omega (arith, ap count_of answered)
+
+submitted_gains : (old new : SeatValue) (event : Event) (counted : Counted) → IsSubmitted old new event counted → Gains old new counted
+submitted_gains old new event counted submitted = rw submitted.counts (gains_by old new event submitted.result submitted.answered.seat)
+
+-- a line that leaves the seat as it was, and doesn't count as accepted
+same_gains : (old new : SeatValue) (counted : Counted) → new ≡ old → is_accepted counted ≡ false → Gains old new counted
+same_gains old new counted same none = rw none (omega (arith, ap count_of same))
+
+away_gains : (old new : SeatValue) (counted : Counted) → IsTurnedAway old new counted → Gains old new counted
+away_gains old new counted away = same_gains old new counted away.0 (ap is_accepted away.1)
+
+taken_gains : (networks : List NetworkValue) (old new : SeatValue) (asked : Command) (counted : Counted) → IsTakenIn networks old new asked counted → Gains old new counted
+taken_gains networks old new (command.Event event) counted taken = submitted_gains old new event counted taken
+taken_gains networks old new (command.Begin at) counted taken =
+    same_gains old new counted taken.0 (elim taken.1 [
+      | inl refused ↦ ap is_accepted refused
+      | inr begun ↦ ap is_accepted begun.0
+    ])
+taken_gains networks old new (command.Plan at) counted taken = elim taken [
+  | inl committed ↦ submitted_gains old new _ counted committed.submitted
+  | inr away ↦ away_gains old new counted away
+]
+taken_gains networks old new command.Sheet counted taken = same_gains old new counted taken.0 (ap is_accepted taken.1)
+
+read_gains : (networks : List NetworkValue) (old new : SeatValue) (read : Result Command LineFault) (counted : Counted) → IsReadIn networks old new read counted → Gains old new counted
+read_gains networks old new (Ok asked) counted is = elim is [
+  | inl taken ↦ taken_gains networks old new asked counted taken
+  | inr away ↦ away_gains old new counted away
+]
+read_gains networks old new (Err fault) counted away = away_gains old new counted away
+
+-- a line that isn't read may be any
+pub turned_away : (networks : List NetworkValue) (seat : SeatValue) (read : Result Command LineFault) → IsReadIn networks seat seat read Refused
+turned_away networks seat (Ok asked) = inr (refl, refl)
+turned_away networks seat (Err fault) = (refl, refl)
+
+-- ---- lines that must count
+
+answer_counts : (result : Result Reply Refusal) → counted_by result ≡ Nowhere → ⊥
+answer_counts (Ok (reply.Accepted n)) nowhere = cc
+answer_counts (Ok (reply.Repeated n)) nowhere = cc
+answer_counts (Err refusal) nowhere = cc
+
+submitted_counts : (old new : SeatValue) (event : Event) (counted : Counted) → IsSubmitted old new event counted → counted ≡ Nowhere → ⊥
+submitted_counts old new event counted submitted nowhere = answer_counts submitted.result (sym submitted.counts ∙ nowhere)
+
+away_counts : (old new : SeatValue) (counted : Counted) → IsTurnedAway old new counted → counted ≡ Nowhere → ⊥
+away_counts old new counted away nowhere = let both : Refused ≡ Nowhere = sym away.1 ∙ nowhere in cc
+
+-- what counts nowhere is a begin or a sheet
+taken_nowhere : (networks : List NetworkValue) (old new : SeatValue) (asked : Command) (counted : Counted) → IsTakenIn networks old new asked counted → counted ≡ Nowhere → is_command_counted asked ≡ false
+taken_nowhere networks old new (command.Event event) counted taken nowhere = absurd (submitted_counts old new event counted taken nowhere)
+taken_nowhere networks old new (command.Begin at) counted taken nowhere = refl
+taken_nowhere networks old new (command.Plan at) counted taken nowhere = elim taken [
+  | inl committed ↦ absurd (submitted_counts old new _ counted committed.submitted nowhere)
+  | inr away ↦ absurd (away_counts old new counted away nowhere)
+]
+taken_nowhere networks old new command.Sheet counted taken nowhere = refl
+
+pub read_nowhere : (networks : List NetworkValue) (old new : SeatValue) (read : Result Command LineFault) (counted : Counted) → IsReadIn networks old new read counted → counted ≡ Nowhere → is_counted read ≡ false
+read_nowhere networks old new (Ok asked) counted is nowhere = elim is [
+  | inl taken ↦ taken_nowhere networks old new asked counted taken nowhere
+  | inr away ↦ absurd (away_counts old new counted away nowhere)
+]
+read_nowhere networks old new (Err fault) counted away nowhere = absurd (away_counts old new counted away nowhere)
+
+-- ---- lines, one after the other
+
+-- by one line with room for one more
+added : (more : Bool) (old new : ℕ) → Adds more old new → old + 1 < 2 ^ 64 → new ≡ old + cond more 1 0
+added true old new adds room = adds.exact room
+added false old new same room = omega arith
+
+at_most_one : (more : Bool) (old new : ℕ) → Adds more old new → new ≤ old + 1
+at_most_one true old new adds = adds.little
+at_most_one false old new same = omega arith
+
+-- What a run over lines leads to, where 64 bits hold the counts.
+record AreFedLines {L : Type 0} (networks : List NetworkValue) (old : FileSeat L) (lines : List (List ℕ)) (new : FileSeat L) : Type 0 where
+  counts : List Counted
+  taken : AreTaken networks old.seat new.seat lines counts
+  accepted : count_of new.seat ≡ count_of old.seat + count_by is_accepted counts
+  repeated : old.repeated + length lines < 2 ^ 64 → new.repeated ≡ old.repeated + count_by is_repeated counts
+  refused : old.refused + length lines < 2 ^ 64 → new.refused ≡ old.refused + count_by is_refused counts
+
+module _ {L : Type 0} where
+  abbrev pub Answers : Answering (FileSeat L)
+  Answers old line body refused new = IsLineFed old line new
+
+  abbrev pub NeverOut : RunningOut (FileSeat L)
+  NeverOut old line new = ⊥
+
+  fed_response : (old new : FileSeat L) (line body : List ℕ) (refused : Bool) → Responds Answers NeverOut old line body refused new → IsLineFed old line new
+  fed_response old new line body refused (inl fed) = fed
+  fed_response old new line body refused (inr out) = absurd out.0
+
+  nothing_fed : (networks : List NetworkValue) (old new : FileSeat L) → new ≡ old → AreFedLines networks old [] new
+  nothing_fed networks old new same = record {
+    counts = [];
+    taken = subst (λ (file : FileSeat L). AreTaken networks old.seat file.seat [] []) (sym same) no_line;
+    accepted = omega (arith, ap (λ (file : FileSeat L). count_of file.seat) same);
+    repeated = λ room. omega (arith, ap (λ (file : FileSeat L). file.repeated) same);
+    refused = λ room. omega (arith, ap (λ (file : FileSeat L). file.refused) same);
+  }
+
+  blank_fed : (networks : List NetworkValue) (old new : FileSeat L) (line : List ℕ) (lines : List (List ℕ)) → is_blank line ≡ true → AreFedLines networks old lines new → AreFedLines networks old (line ∷ lines) new
+  blank_fed networks old new line lines blank rest = record {
+    counts = rest.counts;
+    taken = blank_line blank rest.taken;
+    accepted = rest.accepted;
+    repeated = λ room. rest.repeated (omega (arith, room));
+    refused = λ room. rest.refused (omega (arith, room));
+  }
+
+  line_fed : (networks : List NetworkValue) (old mid new : FileSeat L) (line : List ℕ) (lines : List (List ℕ)) → old.networks.now ≡ networks → is_blank line ≡ false → IsLineFed old line mid → AreFedLines networks mid lines new
+      → AreFedLines networks old (line ∷ lines) new
+  line_fed networks old mid new line lines over filled fed rest =
+      let counted = fed.counted in
+      let taken : IsLineTaken networks old.seat mid.seat line counted = subst (λ (all : List NetworkValue). IsLineTaken all old.seat mid.seat line counted) over fed.taken in
+      let gains = read_gains networks old.seat mid.seat (command_of line) counted taken in
+      record {
+        counts = counted ∷ rest.counts;
+        taken = one_line mid.seat counted filled taken rest.taken;
+        accepted = omega (arith, gains, rest.accepted, sum_by-cons (λ (c : Counted). cond (is_accepted c) 1 0) counted rest.counts);
+        repeated = λ room.
+            let one = added (is_repeated counted) old.repeated mid.repeated fed.repeated (omega (arith, room)) in
+            let few = at_most_one (is_repeated counted) old.repeated mid.repeated fed.repeated in
+            let others = rest.repeated (omega (arith, room, few)) in
+            omega (arith, one, others, sum_by-cons (λ (c : Counted). cond (is_repeated c) 1 0) counted rest.counts);
+        refused = λ room.
+            let one = added (is_refused counted) old.refused mid.refused fed.refused (omega (arith, room)) in
+            let few = at_most_one (is_refused counted) old.refused mid.refused fed.refused in
+            let others = rest.refused (omega (arith, room, few)) in
+            omega (arith, one, others, sum_by-cons (λ (c : Counted). cond (is_refused c) 1 0) counted rest.counts);
+      }
+
+  one_fed : (networks : List NetworkValue) (n : ℕ) (old mid new : FileSeat L) (line text : List ℕ) (refused : Bool) (lines : List (List ℕ)) (blank : Bool) → is_blank line ≡ blank → old.networks.now ≡ networks
+      → AnswersLine Answers NeverOut n old line text refused mid → (mid.networks.now ≡ networks → AreFedLines networks mid lines new) → AreFedLines networks old (line ∷ lines) new
+  one_fed networks n old mid new line text refused lines true is over answers rest =
+      let same : mid ≡ old = (rw is at answers).2 in
+      let others : AreFedLines networks mid lines new = rest (ap (λ (file : FileSeat L). file.networks.now) same ∙ over) in
+      blank_fed networks old new line lines is (subst (λ (file : FileSeat L). AreFedLines networks file lines new) same others)
+  one_fed networks n old mid new line text refused lines false is over answers rest =
+      let says = rw is at answers in
+      let fed = fed_response old mid line says.0 refused says.2 in
+      line_fed networks old mid new line lines over is fed (rest (fed.networks ∙ over))
+
+  lines_fed : (networks : List NetworkValue) (n : ℕ) (old new : FileSeat L) (lines : List (List ℕ)) (output : List ℕ) (refusals : ℕ) → old.networks.now ≡ networks → Replies Answers NeverOut n old lines output refusals new
+      → AreFedLines networks old lines new
+  lines_fed networks n old new [] output refusals over replies = nothing_fed networks old new replies.2
+  lines_fed networks n old new (line ∷ lines) output refusals over replies =
+      one_fed networks n old replies.4 new line replies.0 replies.2 lines (is_blank line) refl over replies.5
+      (λ still. lines_fed networks (n + 1) replies.4 new lines replies.1 replies.3 still replies.6)
+
+-- ---- a file's run
+
+-- a seat with no receipt is new
+fresh_by : (number : ℕ) (receipts : List Receipt) → length receipts ≡ 0 → let seat : SeatValue = record { number = number; receipts = receipts } in seat ≡ new_seat number
+fresh_by number [] none = refl
+fresh_by number (receipt ∷ receipts) none = absurd (omega arith)
+
+fresh_seat : (seat : SeatValue) → count_of seat ≡ 0 → seat ≡ new_seat seat.number
+fresh_seat seat none = fresh_by seat.number seat.receipts none
+
+-- bytes that stay as they were lose none
+pub consumes_none : (from to : Option (List ℕ)) → Keeps from to → Consumes from to []
+consumes_none None to keeps = tt
+consumes_none (Some xs) None keeps = absurd keeps
+consumes_none (Some xs) (Some ys) keeps = sym keeps
+
+module _ {L : Type 0} (networks : List NetworkValue) (run : Run (FileSeat L)) (failed : Failures) (over : run.old.networks.now ≡ networks) (new : count_of run.old.seat ≡ 0) (no_repeated : run.old.repeated ≡ 0) (no_refused : run.old.refused ≡ 0) (standard : run.most ≡ max_line_bytes) where
+  abbrev Fed : Option ℕ → Type 0
+  Fed stop = IsSeatFed networks run.from run.to stop run.new.seat run.new.repeated run.new.refused
+
+  fed_by : (stop : Option ℕ) (lines : List (List ℕ)) → AreDone run.from run.to stop lines → AreFedLines networks run.old lines run.new → Fed stop
+  fed_by stop lines done fed = record {
+    lines = lines;
+    done = done;
+    number = run.old.seat.number;
+    counts = fed.counts;
+    taken = subst (λ (seat : SeatValue). AreTaken networks seat run.new.seat lines fed.counts) (fresh_seat run.old.seat new) fed.taken;
+    counts_accepted = omega (arith, fed.accepted, new);
+    counts_repeated = let is = fed.repeated (omega (arith, no_repeated, done.few)) in omega (arith, is, no_repeated);
+    counts_refused = let is = fed.refused (omega (arith, no_refused, done.few)) in omega (arith, is, no_refused);
+  }
+
+  fed_to_end : (count : RunCount) → Ends Answers NeverOut run count → Fed None
+  fed_to_end count ends =
+      fed_by None (lines_of ends.input) (record { read = ends.input; consumed = ends.consumed; which = (ends.ended, refl); few = omega (arith, ends.lines, ends.few) })
+      (lines_fed networks 1 run.old run.new (lines_of ends.input) ends.output count.refused over ends.replies)
+
+  fed_to_stop : (n code : ℕ) (at : StandsAt Answers NeverOut run n) → IsStoppedAt code at.input at.lines → n ≤ max_input_lines + 1 → Fed (Some code)
+  fed_to_stop n code at stopped few =
+      fed_by (Some code) at.lines (record { read = at.input; consumed = at.consumed; which = stopped; few = omega (arith, few, at.number) })
+      (lines_fed networks 1 run.old run.new at.lines at.output at.refusals over at.replies)
+
+  -- a stop behind some lines, by what each number says of it
+  stopped_at : (n code : ℕ) (at : StandsAt Answers NeverOut run n) → 1 < code → (code ≡ 91 → (length at.lines ≡ max_input_lines) × (0 < length at.rest)) → (code ≡ 92 → max_line_bytes < length (first_line at.rest))
+      → (code ≡ 93 → has_feed at.rest ≡ false) → n ≤ max_input_lines + 1 → Fed (Some code)
+  stopped_at n code at later many long unread few =
+      fed_to_stop n code at (record { rest = at.rest; begins = at.begins; memory = λ e. absurd (omega (arith, later, e)); many = many; long = long; unread = unread }) few
+
+  few_by : (n : ℕ) (rest : List ℕ) → IsLineOrNext n rest → n ≤ max_input_lines + 1
+  few_by n rest (inl line) = omega (arith, line)
+  few_by n rest (inr next) = omega (arith, next.0)
+
+  fed_until : (fault : RunFault) → failed.writer ≡ false → Stops Answers NeverOut run failed fault → Fed (Some (number_of fault))
+  fed_until OutOfMemory quiet stops =
+      fed_by (Some 1) [] (record {
+        read = [];
+        consumed = consumes_none run.from run.to stops.0;
+        which = record {
+          rest = [];
+          begins = record { bytes = refl; free = tt };
+          memory = λ e. (refl, refl);
+          many = λ e. absurd (omega arith);
+          long = λ e. absurd (omega arith);
+          unread = λ e. refl;
+        };
+        few = omega arith;
+      })
+      (nothing_fed networks run.old run.new stops.2)
+  fed_until (TooManyLines n) quiet stops =
+      stopped_at n 91 stops.0 (omega arith) (λ e. (omega (arith, stops.0.number, stops.1), stops.2)) (λ e. absurd (omega arith)) (λ e. absurd (omega arith)) (omega (arith, stops.1))
+  fed_until (LineTooLong n) quiet stops =
+      stopped_at n 92 stops.0 (omega arith) (λ e. absurd (omega arith)) (λ e. omega (arith, stops.2, standard)) (λ e. absurd (omega arith)) (omega (arith, stops.1))
+  fed_until (ReadFailed n) quiet stops =
+      stopped_at n 93 stops.0 (omega arith) (λ e. absurd (omega arith)) (λ e. absurd (omega arith)) (λ e. stops.2) (few_by n stops.0.rest stops.1)
+  fed_until (WriteFailed n) quiet stops = absurd (let wrote : failed.writer ≡ true = stops.5 in cc)
+
+  stop_is : (fault : RunFault) → failed.writer ≡ false → Stops Answers NeverOut run failed fault → IsStopNumber (number_of fault)
+  stop_is OutOfMemory quiet stops = inl refl
+  stop_is (TooManyLines n) quiet stops = inr (inl refl)
+  stop_is (LineTooLong n) quiet stops = inr (inr (inl refl))
+  stop_is (ReadFailed n) quiet stops = inr (inr (inr refl))
+  stop_is (WriteFailed n) quiet stops = absurd (let wrote : failed.writer ≡ true = stops.5 in cc)
+
+  stop_number_is : (result : Result RunCount RunFault) → failed.writer ≡ false → IfErr result (λ fault. Stops Answers NeverOut run failed fault) → IfSome (stop_number result) IsStopNumber
+  stop_number_is (Ok count) quiet stops = tt
+  stop_number_is (Err fault) quiet stops = stop_is fault quiet stops
+
+  unread_by : (fault : RunFault) → Stops Answers NeverOut run failed fault → number_of fault ≡ 93 → failed.reader ≡ true
+  unread_by OutOfMemory stops is = absurd (omega arith)
+  unread_by (TooManyLines n) stops is = absurd (omega arith)
+  unread_by (LineTooLong n) stops is = absurd (omega arith)
+  unread_by (ReadFailed n) stops is = stops.3
+  unread_by (WriteFailed n) stops is = absurd (omega arith)
+
+  reader_failed : (result : Result RunCount RunFault) → IfErr result (λ fault. Stops Answers NeverOut run failed fault) → stop_number result ≡ Some 93 → failed.reader ≡ true
+  reader_failed (Ok count) stops is = absurd cc
+  reader_failed (Err fault) stops is = unread_by fault stops (let same : number_of fault ≡ 93 = cc in same)
+
+  lines_by : (result : Result RunCount RunFault) → failed.writer ≡ false → IfOk result (λ count. Ends Answers NeverOut run count) → IfErr result (λ fault. Stops Answers NeverOut run failed fault) → Fed (stop_number result)
+  lines_by (Ok count) quiet ends stops = fed_to_end count ends
+  lines_by (Err fault) quiet ends stops = fed_until fault quiet stops
+
+  -- what a file's lines did at its seat, however the run ended; the number of what stopped it; its reader has failed at 93
+  pub seat_fed : (result : Result RunCount RunFault) → failed.writer ≡ false → IfOk result (λ count. Ends Answers NeverOut run count) → IfErr result (λ fault. Stops Answers NeverOut run failed fault)
+      → Fed (stop_number result) × IfSome (stop_number result) IsStopNumber × (stop_number result ≡ Some 93 → failed.reader ≡ true)
+  seat_fed result quiet ends stops = (lines_by result quiet ends stops, stop_number_is result quiet stops, reader_failed result stops)

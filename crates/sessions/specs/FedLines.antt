@@ -1,0 +1,145 @@
+-- What the lines of a file that is fed to a book do at the file's seat, and what each of them counts as.
+use Rattle.std.specs.Prelude.{◌≡◌, ◌⊎◌, ◌<◌, ◌≤◌, ℕ, Bool, true, false, List, [], ◌∷◌, Option, MatchOption, Result, Ok, Err, length, map}
+use Rattle.std.specs.List.{count_by}
+use Rattle.std.specs.Io.KnownBytes.{Consumes, IsAtEnd}
+use Rattle.line_fields.specs.declared.fault.LineFault.{LineFault}
+use Rattle.line_engine.specs.Lines.{BeginsWith, first_line, has_feed, is_blank, lines_of, max_input_lines, max_line_bytes}
+use Rattle.line_network.specs.Network.{NetworkValue}
+use Rattle.line_fields.specs.Commands.{command_of}
+use Rattle.line_fields.specs.declared.command.Command.{Command}
+use Rattle.line_fields.specs.declared.command.Command.TheVariants as command
+use Rattle.move_messages.specs.declared.commit_text.CommitText.{CommitText}
+use Rattle.move_messages.specs.declared.event.Event.{Event}
+use Rattle.move_messages.specs.declared.event.Event.TheVariants as event
+use Rattle.price_checker.specs.Snap.{SnapValue, named_pair}
+use Rattle.faults.specs.declared.faults.Refusal.{Refusal}
+use Rattle.commit_book.specs.declared.reply.Reply.{Reply}
+use Rattle.commit_book.specs.declared.reply.Reply.TheVariants as reply
+use Rattle.sessions.specs.AnyBook.{IsSnapAt}
+use Rattle.sessions.specs.Planning.{IsPlanned}
+use Rattle.sessions.specs.Seat.{SeatValue, count_of, new_seat}
+use Rattle.sessions.specs.Submitted as session
+use Rattle.sessions.specs.declared.feed_lines.Counted.{Counted}
+use Rattle.sessions.specs.declared.feed_lines.Counted.TheVariants.{Accepted, Repeated, Refused, Nowhere}
+
+-- ---- what a line counts as
+
+-- what an answer to an event counts as
+abbrev pub counted_by : Result Reply Refusal → Counted
+counted_by (Ok (reply.Accepted n)) = Accepted
+counted_by (Ok (reply.Repeated n)) = Repeated
+counted_by (Err refusal) = Refused
+
+abbrev pub is_accepted : Counted → Bool
+is_accepted Accepted = true
+is_accepted Repeated = false
+is_accepted Refused = false
+is_accepted Nowhere = false
+
+abbrev pub is_repeated : Counted → Bool
+is_repeated Accepted = false
+is_repeated Repeated = true
+is_repeated Refused = false
+is_repeated Nowhere = false
+
+abbrev pub is_refused : Counted → Bool
+is_refused Accepted = false
+is_refused Repeated = false
+is_refused Refused = true
+is_refused Nowhere = false
+
+-- ---- commands
+
+-- an event brought to a seat: some book answers the call for this event, the seat has what that answer gives it, and the line
+-- counts as that answer
+pub record IsSubmitted (old new : SeatValue) (event : Event) (counted : Counted) : Type 0 where
+  pub result : Result Reply Refusal
+  pub answered : session.IsSubmitted old new event result
+  pub counts : counted ≡ counted_by result
+
+-- the commit of a certificate of a snapshot's problem, over the network of its version
+pub record IsPlansCommit (networks : List NetworkValue) (snap : SnapValue) (commit : CommitText) : Type 0 where
+  pub pairs : List (ℕ × ℕ)
+  pub planned : IsPlanned networks snap pairs commit.u commit.v
+  pub version : commit.version ≡ snap.version
+  pub at : commit.at ≡ snap.problem.at
+  pub named : commit.pairs ≡ map (named_pair snap.problem) pairs
+
+-- a plan that was begun at a moment, and whose commit was brought to the seat
+pub record IsCommitted (networks : List NetworkValue) (old new : SeatValue) (at : ℕ) (counted : Counted) : Type 0 where
+  pub snap : SnapValue
+  pub begun : IsSnapAt (count_of old) at snap
+  pub commit : CommitText
+  pub is_commit : IsPlansCommit networks snap commit
+  pub submitted : IsSubmitted old new (event.Commit commit) counted
+
+-- nothing was done at the seat, and the line counts as refused
+abbrev pub IsTurnedAway : (old new : SeatValue) → Counted → Type 0
+IsTurnedAway old new counted = (new ≡ old) × (counted ≡ Refused)
+
+-- a plan line: its commit, or the begin or the planning was refused
+abbrev pub IsPlannedIn : List NetworkValue → (old new : SeatValue) → (at : ℕ) → Counted → Type 0
+IsPlannedIn networks old new at counted = IsCommitted networks old new at counted ⊎ IsTurnedAway old new counted
+
+-- a begin counts where it is refused; else the problem of a version was begun, and it counts nowhere
+abbrev pub IsBegunIn : (old new : SeatValue) → (at : ℕ) → Counted → Type 0
+IsBegunIn old new at counted = (new ≡ old) × ((counted ≡ Refused) ⊎ ((counted ≡ Nowhere) × (snap : SnapValue) × IsSnapAt (count_of old) at snap))
+
+-- what a command does at a seat, and what its line counts as; a sheet counts nowhere
+abbrev pub IsTakenIn : List NetworkValue → (old new : SeatValue) → Command → Counted → Type 0
+IsTakenIn networks old new (command.Event event) counted = IsSubmitted old new event counted
+IsTakenIn networks old new (command.Begin at) counted = IsBegunIn old new at counted
+IsTakenIn networks old new (command.Plan at) counted = IsPlannedIn networks old new at counted
+IsTakenIn networks old new command.Sheet counted = (new ≡ old) × (counted ≡ Nowhere)
+
+-- ---- lines
+
+-- A line that is read so: what its command asks for is taken in. A line that is no command is turned away, and so is one
+-- for whose reading memory is refused, which may be any.
+abbrev pub IsReadIn : List NetworkValue → (old new : SeatValue) → Result Command LineFault → Counted → Type 0
+IsReadIn networks old new (Ok asked) counted = IsTakenIn networks old new asked counted ⊎ IsTurnedAway old new counted
+IsReadIn networks old new (Err fault) counted = IsTurnedAway old new counted
+
+-- what a line that isn't blank does at a seat, and what it counts as
+abbrev pub IsLineTaken : List NetworkValue → (old new : SeatValue) → (line : List ℕ) → Counted → Type 0
+IsLineTaken networks old new line counted = IsReadIn networks old new (command_of line) counted
+
+-- Lines, one after the other, take a seat from one state to another, and this is what each counts as that isn't blank. A
+-- blank line does nothing.
+pub data AreTaken (networks : List NetworkValue) : (old new : SeatValue) → (lines : List (List ℕ)) → List Counted → Type 0 where
+  no_line : {seat : SeatValue} → AreTaken networks seat seat [] []
+  blank_line : {old new : SeatValue} {line : List ℕ} {lines : List (List ℕ)} {counts : List Counted} → is_blank line ≡ true → AreTaken networks old new lines counts → AreTaken networks old new (line ∷ lines) counts
+  one_line : {old new : SeatValue} {line : List ℕ} {lines : List (List ℕ)} {counts : List Counted} (between : SeatValue) (counted : Counted) → is_blank line ≡ false → IsLineTaken networks old between line counted
+      → AreTaken networks between new lines counts → AreTaken networks old new (line ∷ lines) (counted ∷ counts)
+
+-- ---- files
+
+-- These lines of the bytes that were read, each with its line feed, are those before a stop of this number: nothing was
+-- read (1), a byte of line 1,000,001 was read (91), the next line has over 65,536 bytes (92), or its end wasn't read (93).
+pub record IsStoppedAt (code : ℕ) (read : List ℕ) (lines : List (List ℕ)) : Type 0 where
+  pub rest : List ℕ
+  pub begins : BeginsWith read lines rest
+  pub memory : code ≡ 1 → (read ≡ []) × (lines ≡ [])
+  pub many : code ≡ 91 → (length lines ≡ max_input_lines) × (0 < length rest)
+  pub long : code ≡ 92 → max_line_bytes < length (first_line rest)
+  pub unread : code ≡ 93 → has_feed rest ≡ false
+
+-- The lines of a file that were done: all of them, or those before what stopped the file. The file's bytes are those that
+-- its reader tells before the first line, and those that it still has are told after the last, where it tells them.
+pub record AreDone (told left : Option (List ℕ)) (failed : Option ℕ) (lines : List (List ℕ)) : Type 0 where
+  pub read : List ℕ
+  pub consumed : Consumes told left read
+  pub which : MatchOption failed (IsAtEnd left × (lines ≡ lines_of read)) (λ code. IsStoppedAt code read lines)
+  pub few : length lines ≤ max_input_lines
+
+-- What a file's lines did at a seat: those that were done took it there from a new seat, which has a receipt for each that
+-- counts as accepted, and so many count as repeated and as refused.
+pub record IsSeatFed (networks : List NetworkValue) (told left : Option (List ℕ)) (failed : Option ℕ) (seat : SeatValue) (repeated refused : ℕ) : Type 0 where
+  pub lines : List (List ℕ)
+  pub done : AreDone told left failed lines
+  pub number : ℕ
+  pub counts : List Counted
+  pub taken : AreTaken networks (new_seat number) seat lines counts
+  pub counts_accepted : count_of seat ≡ count_by is_accepted counts
+  pub counts_repeated : repeated ≡ count_by is_repeated counts
+  pub counts_refused : refused ≡ count_by is_refused counts

@@ -1,0 +1,60 @@
+-- Files whose lines were brought to their seats.
+use Rattle.std.specs.Prelude.{◌≡◌, ◌+◌, ◌≤◌, ℕ, Bool, false, List, [], ◌∷◌, All, Option, Some, None, Result, Ok, Err, Vec, vec_capacity, vec_len}
+use Rattle.std.specs.declared.alloc.Global.{Global}
+use Rattle.line_engine.specs.RunFault.{number_of}
+use Rattle.line_engine.specs.declared.run.RunCount.{RunCount}
+use Rattle.line_engine.specs.declared.run.RunFault.{RunFault}
+use Rattle.line_network.specs.Network.{NetworkValue}
+use Rattle.sessions.specs.Seat.{SeatValue, count_of}
+use Rattle.sessions.specs.FedLines.{IsSeatFed}
+use Rattle.sessions.specs.FeedCounts.{IsFileRun}
+use Rattle.sessions.specs.declared.fed_file.FedFile.{FedFile}
+use Rattle.sessions.specs.declared.fed_file.FileOf.{FileOf}
+use Rattle.sessions.specs.declared.feed_report.FileCount.{FileCount}
+
+-- the number of what stopped a run
+abbrev pub stop_number : Result RunCount RunFault → Option ℕ
+stop_number (Ok count) = None
+stop_number (Err fault) = Some (number_of fault)
+
+-- what came of a file over this reader, whose plans are made over these networks, where readers tell their bytes and their
+-- failures so
+pub record IsFedFile {L R : Type 0} (networks : List NetworkValue) (remaining : R → Option (List ℕ)) (has_failed : R → Bool) (reader : R) (file : FedFile L R) : Type 0 where
+  pub run : IsFileRun (remaining reader) (remaining file.reader) (count_of file.seat + file.repeated + file.refused) file.failed (has_failed file.reader)
+  pub lines : IsSeatFed networks (remaining reader) (remaining file.reader) file.failed file.seat file.repeated file.refused
+
+-- the networks and the reader that a thread was given
+abbrev pub handed_to : {R : Type 0} → FileOf R → List NetworkValue × R
+handed_to before = (before.networks.value, before.reader.value)
+
+abbrev pub given_with : {R : Type 0} → List NetworkValue → R → List NetworkValue × R
+given_with networks reader = (networks, reader)
+
+-- the same of a file's counts and its seat
+pub record IsCountOf {R : Type 0} (remaining : R → Option (List ℕ)) (has_failed : R → Bool) (given : List NetworkValue × R) (file : FileCount R) (seat : SeatValue) : Type 0 where
+  pub run : IsFileRun (remaining given.1) (remaining file.reader) (file.accepted + file.repeated + file.refused) file.failed (has_failed file.reader)
+  pub lines : IsSeatFed given.0 (remaining given.1) (remaining file.reader) file.failed seat file.repeated file.refused
+  pub accepted : file.accepted ≡ count_of seat
+
+-- so of each file
+pub data AreFed {R : Type 0} (remaining : R → Option (List ℕ)) (has_failed : R → Bool) : List (List NetworkValue × R) → List (FileCount R) → List SeatValue → Type 0 where
+  no_file : AreFed remaining has_failed [] [] []
+  one_file : {given : List NetworkValue × R} {file : FileCount R} {seat : SeatValue} {others : List (List NetworkValue × R)} {files : List (FileCount R)} {seats : List SeatValue}
+      → IsCountOf remaining has_failed given file seat → AreFed remaining has_failed others files seats → AreFed remaining has_failed (given ∷ others) (file ∷ files) (seat ∷ seats)
+
+-- ---- before the threads are started
+
+-- readers of which none has failed, a seat without a receipt for each, and room for a thread of each
+pub record AreToStart {R H : Type 0} (has_failed : R → Bool) (readers : Vec R Global) (seats : Vec SeatValue Global) (running : Vec H Global) : Type 0 where
+  pub fresh : All (λ reader. has_failed reader ≡ false) readers.items
+  pub new : All (λ seat. count_of seat ≡ 0) seats.items
+  pub one_each : vec_len seats ≡ vec_len readers
+  pub none : running.items ≡ []
+  pub room : vec_len readers ≤ vec_capacity running
+
+-- room for what comes of so many files
+pub record HasRoom {R : Type 0} (count : ℕ) (files : Vec (FileCount R) Global) (seats : Vec SeatValue Global) : Type 0 where
+  pub no_file : files.items ≡ []
+  pub file_room : count ≤ vec_capacity files
+  pub no_seat : seats.items ≡ []
+  pub seat_room : count ≤ vec_capacity seats

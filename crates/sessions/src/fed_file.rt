@@ -1,0 +1,86 @@
+//! One file's lines, brought to a seat.
+ghost use Rattle.std.specs.Prelude.{◌≡◌, false};
+ghost use Rattle.sessions.specs.Seat.{count_of};
+ghost use Rattle.sessions.specs.inner.Fed.{IsFedFile, stop_number};
+
+use crate::feed_lines::{FeedLines, FileSeat, NoReplies};
+use crate::{Seat, SharedBook};
+use line_engine::{LineLimit, RunCount, RunFault, Source, run_lines};
+use line_network::Networks;
+use std::alloc::Global;
+use std::snapshot::Snapshot;
+use std::sync::Wait;
+use std::sync::ledger::Ledger;
+use std::thread::Promise;
+
+/// A file whose lines were brought to its seat.
+#[derive(Drop)]
+pub(crate) struct FedFile<L: Ledger, R> {
+    pub(crate) seat: Seat<L>,
+    pub(crate) repeated: u64,
+    pub(crate) refused: u64,
+    pub(crate) failed: Option<u32>,
+    pub(crate) reader: R,
+}
+
+/// What a file's thread is given: the networks over which plans are made, and the file's reader before its first line.
+#[derive(Drop)]
+pub(crate) struct FileOf<R> {
+    pub(crate) networks: Snapshot<Networks>,
+    pub(crate) reader: Snapshot<R>,
+}
+
+impl<L: Ledger, R: Source> Promise<FedFile<L, R>> for FileOf<R> {
+    ghost use Rattle.sessions.specs.inner.Fed.{IsFedFile};
+
+    ghost kept_by = { λ before file. IsFedFile before.networks.value R.remaining R.has_failed before.reader.value file };
+}
+
+/// The number of what stopped a run before its reader's end.
+fn stop_of(run: Result<RunCount, RunFault>) -> Option<u32>
+    ensures { result ≡ stop_number run }
+{
+    match run {
+        Ok(_) => None,
+        Err(fault) => Some(fault.number()),
+    }
+}
+
+/// Brings the lines of a reader to a new seat, up to the reader's end or to what stops it.
+pub(crate) fn fed_file<W: Wait, L: Ledger, R: Source>(
+    rt: &W,
+    alloc: Global,
+    shared: &SharedBook<L>,
+    networks: &Networks,
+    seat: Seat<L>,
+    reader: R,
+) -> FedFile<L, R>
+    requires fresh { R.has_failed reader ≡ false }
+    requires new { count_of seat ≡ 0 }
+    ensures { IsFedFile networks.now R.remaining R.has_failed reader result }
+{
+    let mut reader = reader;
+    let mut file = FileSeat {
+        networks,
+        seat,
+        repeated: 0,
+        refused: 0,
+    };
+    let lines = FeedLines { rt, shared };
+    let limit = LineLimit::standard();
+    let run = run_lines(alloc, limit, &mut reader, &mut NoReplies, &lines, &mut file);
+    let failed = stop_of(run);
+    let FileSeat {
+        networks: _,
+        seat,
+        repeated,
+        refused,
+    } = file;
+    FedFile {
+        seat,
+        repeated,
+        refused,
+        failed,
+        reader,
+    }
+}

@@ -1,0 +1,180 @@
+//! What a file's lines do at the file's seat.
+ghost use Rattle.std.specs.Prelude.{◌≡◌, IfSome, None, Some, false};
+ghost use Rattle.sessions.specs.FedLines.{IsLineTaken, IsPlannedIn, IsPlansCommit, IsSubmitted, IsTakenIn, counted_by, is_refused, is_repeated};
+ghost use Rattle.sessions.specs.inner.FeedLines.{Adds, IsLineFed};
+
+use crate::{Seat, SharedBook, work};
+use commit_book::{Refusal, Reply, Snap};
+use line_engine::{DeviceFailed, Handler, Outcome, ReplyText, Sink};
+use line_fields::{Command, read_line};
+use line_network::Networks;
+use move_messages::{CommitText, Event};
+use rail_codes::Moment;
+use std::alloc::{AllocError, Global};
+use std::sync::Wait;
+use std::sync::ledger::Ledger;
+
+/// A file's seat, how many of its lines were answered without an entry, and the networks over which its plans are made.
+#[derive(Drop)]
+pub(crate) struct FileSeat<'a, L: Ledger> {
+    pub(crate) networks: &'a Networks,
+    pub(crate) seat: Seat<L>,
+    pub(crate) repeated: u64,
+    pub(crate) refused: u64,
+}
+
+/// What a line counts as.
+#[derive(Clone, Copy, Debug, PartialEq, Eq)]
+pub(crate) enum Counted {
+    Accepted,
+    Repeated,
+    Refused,
+    Nowhere,
+}
+
+impl<'a, L: Ledger> FileSeat<'a, L> {
+    /// Counts a line. One that is accepted is on the seat's own count.
+    fn count(&mut self, counted: Counted)
+        ensures repeated { Adds (is_repeated counted) self.old.repeated self.new.repeated }
+        ensures refused { Adds (is_refused counted) self.old.refused self.new.refused }
+        ensures seat { self.new.seat ≡ self.old.seat }
+        ensures networks { self.new.networks.now ≡ self.old.networks.now }
+    {
+        match counted {
+            Counted::Repeated => self.repeated = self.repeated.saturating_add(1),
+            Counted::Refused => self.refused = self.refused.saturating_add(1),
+            Counted::Accepted | Counted::Nowhere => {}
+        }
+    }
+}
+
+/// What an answer to an event counts as.
+fn counted_as(answer: Result<Reply, Refusal>) -> Counted
+    ensures { result ≡ counted_by answer }
+{
+    match answer {
+        Ok(Reply::Accepted(_)) => Counted::Accepted,
+        Ok(Reply::Repeated(_)) => Counted::Repeated,
+        Err(_) => Counted::Refused,
+    }
+}
+
+/// Brings the lines of a file to a shared book that several files share. It gives no replies.
+pub(crate) struct FeedLines<'a, W: Wait, L: Ledger> {
+    pub(crate) rt: &'a W,
+    pub(crate) shared: &'a SharedBook<L>,
+}
+
+impl<'a, W: Wait, L: Ledger> Drop for FeedLines<'a, W, L> {
+    fn drop(self) {
+        let FeedLines { rt: _, shared: _ } = self;
+    }
+}
+
+impl<'a, W: Wait, L: Ledger> FeedLines<'a, W, L> {
+    /// Does at a seat what a line asks for. One that isn't read counts as refused.
+    fn take_line(
+        &self,
+        alloc: Global,
+        networks: &Networks,
+        seat: &mut Seat<L>,
+        line: &[u8],
+    ) -> Counted
+        ensures { IsLineTaken networks.now seat.old seat.new line.now result }
+    {
+        match read_line(alloc, line) {
+            Ok(command) => self.take_in(alloc, networks, seat, command),
+            Err(_) => Counted::Refused,
+        }
+    }
+
+    /// Does at a seat what a command asks for.
+    fn take_in(
+        &self,
+        alloc: Global,
+        networks: &Networks,
+        seat: &mut Seat<L>,
+        command: Command,
+    ) -> Counted
+        ensures { IsTakenIn networks.now seat.old seat.new command result }
+    {
+        match command {
+            Command::Event(event) => self.submit(alloc, seat, event),
+            Command::Begin(at) => match self.shared.begin(self.rt, alloc, seat, at) {
+                Ok(_) => Counted::Nowhere,
+                Err(_) => Counted::Refused,
+            },
+            Command::Plan(at) => self.plan(alloc, networks, seat, at),
+            Command::Sheet => Counted::Nowhere,
+        }
+    }
+
+    /// Submits an event at a seat.
+    fn submit(&self, alloc: Global, seat: &mut Seat<L>, event: Event) -> Counted
+        ensures { IsSubmitted seat.old seat.new event result }
+    {
+        counted_as(self.shared.submit(self.rt, alloc, seat, event))
+    }
+
+    /// Begins at a moment, plans with no lock held, and commits what was planned. It counts as the commit's answer, or as
+    /// refused where the begin or the planning was.
+    fn plan(&self, alloc: Global, networks: &Networks, seat: &mut Seat<L>, at: Moment) -> Counted
+        ensures { IsPlannedIn networks.now seat.old seat.new at result }
+    {
+        let Ok(snap) = self.shared.begin(self.rt, alloc, seat, at) else {
+            return Counted::Refused;
+        };
+        match planned_commit(alloc, &snap, networks) {
+            Some(commit) => self.submit(alloc, seat, Event::Commit(commit)),
+            None => Counted::Refused,
+        }
+    }
+}
+
+/// The commit of what is planned for a snapshot; none where planning is refused.
+fn planned_commit(alloc: Global, snap: &Snap, networks: &Networks) -> Option<CommitText>
+    ensures { IfSome result (IsPlansCommit networks.now snap.now) }
+{
+    match work(alloc, snap, networks) {
+        Ok((plan, prices)) => snap.commit_text(alloc, &plan, &prices).ok(),
+        Err(_) => None,
+    }
+}
+
+impl<'a, W: Wait, L: Ledger> Handler for FeedLines<'a, W, L> {
+    type State = FileSeat<'a, L>;
+
+    ghost answers = { λ old line _ _ new. IsLineFed old line new };
+
+    ghost runs_out = { λ _ _ _. ⊥ };
+
+    fn answer(
+        &self,
+        alloc: Global,
+        file: &mut FileSeat<'a, L>,
+        line: &[u8],
+        _reply: &mut ReplyText,
+    ) -> Result<Outcome, AllocError> {
+        let counted = self.take_line(alloc, file.networks, &mut file.seat, line);
+        file.count(counted);
+        Ok(Outcome::Answered)
+    }
+}
+
+/// Where replies go that nobody reads.
+#[derive(Drop)]
+pub(crate) struct NoReplies;
+
+impl Sink for NoReplies {
+    ghost contents = { λ _. None };
+
+    ghost has_failed = { λ _. false };
+
+    fn write(&mut self, piece: &[u8]) -> Result<usize, DeviceFailed> {
+        Ok(piece.len())
+    }
+
+    fn failed(&self) -> bool {
+        false
+    }
+}

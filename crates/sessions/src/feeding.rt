@@ -1,0 +1,284 @@
+//! Several files, fed to one book by a thread each.
+ghost use Rattle.std.specs.Prelude.{◌≡◌, ◌≤◌, [], All, IfOk, false, length, map, vec_len, vec_capacity};
+ghost use Rattle.std.specs.List.{sum_by};
+ghost use Rattle.commit_book.specs.Headline.{IsProved};
+ghost use Rattle.sessions.specs.Closing.{HasEntries};
+ghost use Rattle.sessions.specs.Seat.{count_of};
+ghost use Rattle.sessions.specs.FeedReports.{IsFeedReport, MayBeFed};
+ghost use Rattle.sessions.specs.inner.Fed.{AreFed, AreToStart, HasRoom, IsFedFile, handed_to, given_with};
+
+use crate::fed_file::{FedFile, FileOf, fed_file};
+use crate::{CloseFault, FeedFault, FeedReport, FileCount, Seat, SharedBook, close, open};
+use commit_book::Book;
+use line_engine::Source;
+use line_network::Networks;
+use std::alloc::{AllocError, Global};
+use std::marker::Brand;
+use std::snapshot::Snapshot;
+use std::sync::Wait;
+use std::sync::ledger::{Blank, Ledger};
+use std::thread;
+use std::thread::{PromisedHandle, Scope, Threads};
+
+/// A thread that brings a file's lines to its seat.
+type Running<L, R> = PromisedHandle<FedFile<L, R>, FileOf<R>>;
+
+/// Memory for what comes of the files, allocated before any thread is started.
+#[derive(Drop)]
+struct Room<L: Ledger, R: Source> {
+    running: Vec<Running<L, R>>,
+    files: Vec<FileCount<R>>,
+    seats: Vec<Seat<L>>,
+}
+
+/// What a thread brings lines to, and with what.
+struct Feeding<'e, L: Ledger, T> {
+    rt: &'e T,
+    alloc: Global,
+    shared: &'e SharedBook<L>,
+    networks: &'e Networks,
+}
+
+/// What came of the files: their counts, and their seats.
+#[derive(Drop)]
+struct Fed<L: Ledger, R> {
+    files: Vec<FileCount<R>>,
+    seats: Vec<Seat<L>>,
+}
+
+/// Brings the command lines of 1 to 16 readers to a book without entries, by a thread and a seat for each, and answers what
+/// became of each file, in their order, and the book. Lines of several files are taken in as they come.
+///
+/// A message, an order, a withdrawal, a revision and a commit count as they are answered. A plan line is a begin, planning
+/// with no lock held, and a commit of the plan's certificate; it counts as that commit's answer, or as refused where the
+/// begin or the planning was. A begin counts only where it is refused; a sheet line is skipped; a line that isn't read
+/// counts as refused. A file stops at 1,000,001 lines (91), at a line of over 65,536 bytes (92), where its reader fails (93),
+/// or where memory is refused before its first line (1); the other files go on.
+///
+/// Lines count in the file's order, each by the answer that some book gives to its own event. An accepted one gives the
+/// file's seat a receipt, and each receipt is an entry of the book that is handed back.
+///
+/// Refused with `OutOfMemory` (1) before any thread is started; with `NoThread` (46) where no thread could be started for a
+/// file, after those that ran have ended; with `ReceiptLost` (96) as `close` says. May wait.
+pub fn feed<T: Threads + Wait + Sync, R: Source + Send + Drop>(
+    rt: &T,
+    alloc: Global,
+    readers: Vec<R>,
+    book: Book,
+    networks: &Networks,
+) -> Result<FeedReport<R>, FeedFault>
+    requires given { MayBeFed R.has_failed readers book }
+    ensures report { IfOk result (IsFeedReport networks.now R.remaining R.has_failed readers.items) }
+{
+    let blank = Blank::new(readers.len() as u64);
+    feed_by::<Brand, T, R>(rt, alloc, blank, readers, book, networks)
+}
+
+/// The same, over a ledger with a part for each file.
+fn feed_by<L: Ledger + Send + Sync, T: Threads + Wait + Sync, R: Source + Send + Drop>(
+    rt: &T,
+    alloc: Global,
+    blank: Blank,
+    readers: Vec<R>,
+    book: Book,
+    networks: &Networks,
+) -> Result<FeedReport<R>, FeedFault>
+    requires ledger { blank.name ≡ L.name }
+    requires parts { blank.parts ≡ L.parts }
+    requires one_each { blank.parts ≡ vec_len readers }
+    requires given { MayBeFed R.has_failed readers book }
+    ensures report { IfOk result (IsFeedReport networks.now R.remaining R.has_failed readers.items) }
+{
+    let count = readers.len();
+    let Ok(room) = Room::new(alloc, count) else {
+        return Err(FeedFault::OutOfMemory);
+    };
+    let Ok((shared, seats)) = open::<L>(alloc, blank, book, count as u32) else {
+        return Err(FeedFault::OutOfMemory);
+    };
+    let feeding = Feeding {
+        rt,
+        alloc,
+        shared: &shared,
+        networks,
+    };
+    match fed_in_threads(feeding, readers, seats, room) {
+        Ok(fed) => closed(shared, fed),
+        Err(fault) => Err(fault),
+    }
+}
+
+impl<L: Ledger, R: Source + Drop> Room<L, R> {
+    /// Memory for so many files.
+    fn new(alloc: Global, count: usize) -> Result<Room<L, R>, AllocError>
+        ensures running { IfOk result (λ room. (room.running.items ≡ []) × (count ≤ vec_capacity room.running)) }
+        ensures done { IfOk result (λ room. HasRoom count room.files room.seats) }
+    {
+        let running = Vec::with_capacity(alloc, count)?;
+        let files = Vec::with_capacity(alloc, count)?;
+        let seats = Vec::with_capacity(alloc, count)?;
+        Ok(Room {
+            running,
+            files,
+            seats,
+        })
+    }
+}
+
+/// What came of all files, each brought to its seat by a thread of its own.
+fn fed_in_threads<L: Ledger + Send + Sync, T: Threads + Wait + Sync, R: Source + Send + Drop>(
+    feeding: Feeding<'_, L, T>,
+    readers: Vec<R>,
+    seats: Vec<Seat<L>>,
+    room: Room<L, R>,
+) -> Result<Fed<L, R>, FeedFault>
+    requires ready { AreToStart R.has_failed readers seats room.running }
+    requires room { HasRoom (vec_len readers) room.files room.seats }
+    ensures { IfOk result (λ fed. AreFed R.remaining R.has_failed (map (given_with feeding.entry.networks.now) readers.items) fed.files.items fed.seats.items) }
+{
+    let Feeding {
+        rt,
+        alloc,
+        shared,
+        networks,
+    } = feeding;
+    thread::scope(
+        thread::scope_env(),
+        rt,
+        |scope| -> Result<Fed<L, R>, FeedFault>
+            requires ready { AreToStart R.has_failed readers seats room.running }
+            requires room { HasRoom (vec_len readers) room.files room.seats }
+            ensures { IfOk result (λ fed. AreFed R.remaining R.has_failed (map (given_with networks.entry.now) readers.items) fed.files.items fed.seats.items) }
+        {
+            let Room {
+                running,
+                files,
+                seats: done,
+            } = room;
+            let feeding = Feeding {
+                rt,
+                alloc,
+                shared,
+                networks,
+            };
+            match started(scope, feeding, readers, seats, running) {
+                Ok(running) => Ok(gathered(rt, running, files, done)),
+                Err(running) => {
+                    drop_all(rt, running);
+                    Err(FeedFault::NoThread)
+                }
+            }
+        },
+    )
+}
+
+/// The threads of all files; those that run, where one could not be started.
+fn started<
+    's,
+    'e: 's,
+    L: Ledger + Send + Sync + 'e,
+    T: Threads + Wait + Sync,
+    R: Source + Send + Drop + 'e,
+>(
+    scope: &'s Scope<'s, &'e ()>,
+    feeding: Feeding<'e, L, T>,
+    readers: Vec<R>,
+    seats: Vec<Seat<L>>,
+    running: Vec<Running<L, R>>,
+) -> Result<Vec<Running<L, R>>, Vec<Running<L, R>>>
+    requires { AreToStart R.has_failed readers seats running }
+    ensures { IfOk result (λ running. map (λ handle. handed_to handle.promise) running.items ≡ map (given_with feeding.entry.networks.now) readers.items) }
+{
+    let Feeding {
+        rt,
+        alloc,
+        shared,
+        networks,
+    } = feeding;
+    let mut running = running;
+    let mut seats = seats.into_iter();
+    for reader in readers {
+        let Some(seat) = seats.next() else {
+            unreachable!()
+        };
+        let before = FileOf {
+            networks: Snapshot::of(networks),
+            reader: Snapshot::of(&reader),
+        };
+        let work = move || -> FedFile<L, R>
+            requires fresh { R.has_failed reader ≡ false }
+            requires new { count_of seat ≡ 0 }
+            ensures { IsFedFile networks.entry.now R.remaining R.has_failed reader result }
+        { fed_file(rt, alloc, shared, networks, seat, reader) };
+        match scope.spawn_with(before, work) {
+            Ok(handle) => running.push_reserved(handle),
+            Err(_) => return Err(running),
+        }
+    }
+    Ok(running)
+}
+
+/// What came of the files, each of whose threads has ended.
+fn gathered<L: Ledger, T: Threads, R: Source + Drop>(
+    rt: &T,
+    running: Vec<Running<L, R>>,
+    files: Vec<FileCount<R>>,
+    seats: Vec<Seat<L>>,
+) -> Fed<L, R>
+    requires { HasRoom (vec_len running) files seats }
+    ensures { AreFed R.remaining R.has_failed (map (λ handle. handed_to handle.promise) running.items) result.files.items result.seats.items }
+{
+    let mut files = files;
+    let mut seats = seats;
+    for handle in running {
+        let FedFile {
+            seat,
+            repeated,
+            refused,
+            failed,
+            reader,
+        } = handle.join(rt);
+        let accepted = seat.count();
+        files.push_reserved(FileCount {
+            accepted,
+            repeated,
+            refused,
+            failed,
+            reader,
+        });
+        seats.push_reserved(seat);
+    }
+    Fed { files, seats }
+}
+
+/// Waits for threads whose files are no longer needed.
+fn drop_all<L: Ledger, T: Threads, R: Source + Drop>(rt: &T, running: Vec<Running<L, R>>) {
+    for handle in running {
+        drop(handle.join(rt));
+    }
+}
+
+/// The report, once the shared book is closed.
+fn closed<L: Ledger, R: Drop>(
+    shared: SharedBook<L>,
+    fed: Fed<L, R>,
+) -> Result<FeedReport<R>, FeedFault>
+    requires ledger { shared.seats ≡ L.parts }
+    requires all { shared.seats ≤ vec_len fed.seats }
+    ensures files { IfOk result (λ report. report.files ≡ fed.files) }
+    ensures receipts { IfOk result (λ report. All (HasEntries report.book.state.history) fed.seats.items) }
+    ensures entries { IfOk result (λ report. length report.book.state.history ≡ sum_by count_of fed.seats.items) }
+    ensures proved { IfOk result (λ report. IsProved report.book.setting report.book.state.history) }
+{
+    let Fed { files, seats } = fed;
+    match close(shared, seats) {
+        Ok(book) => {
+            book.for_the_prover();
+            Ok(FeedReport { files, book })
+        }
+        Err(CloseFault::ReceiptLost(seat, entry, _, _)) => {
+            Err(FeedFault::ReceiptLost(seat, entry))
+        }
+        Err(CloseFault::SeatsMissing(_, _)) => unreachable!(),
+    }
+}
