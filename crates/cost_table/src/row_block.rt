@@ -35,7 +35,11 @@ impl RowBlock {
     }
 
     /// No row yet, with room for so many, and for so many cells in all.
-    pub(crate) fn with_room(alloc: Global, rows: usize, cells: usize) -> Result<RowBlock, AllocError>
+    pub(crate) fn with_room(
+        alloc: Global,
+        rows: usize,
+        cells: usize,
+    ) -> Result<RowBlock, AllocError>
         ensures { IfOk result (λ block. block ≡ []) }
     {
         Ok(RowBlock {

@@ -1,7 +1,6 @@
 -- Rows whose cells go along with their orders.
-use Rattle.std.proofs.Common.{◌≡◌, ◌+◌, ◌<◌, ◌≤◌, ◌∙◌, ℕ, Bool, true, false, cond, Option, Some, None, inl, inr, List, [], ◌∷◌, ◌++◌, length, get_or, take, drop, refl, sym, ap, subst, arith, append_assoc, length-drop, length-take-le, ◌-◌, zero, suc}
+use Rattle.std.proofs.Common.{◌≡◌, ◌+◌, ◌<◌, ◌≤◌, ◌∙◌, ℕ, Bool, true, false, cond, Option, Some, inl, inr, List, [], ◌∷◌, ◌++◌, length, get_or, take, drop, refl, sym, ap, subst, arith, append_assoc, length-drop, length-take-le, ◌-◌, zero, suc}
 use Rattle.std.specs.Prelude.{◌↔◌, ◌==◌, nat_lt, All, slice_get}
-use Rattle.std.specs.List.{filter_map}
 use Rattle.std.proofs.lemmas.List.{take-append-drop, take_all}
 use Rattle.std.proofs.lemmas.List.Elements.{All-cons, All-drop, All-head, All-nil, All-tail, filter_map-append}
 use Rattle.std.proofs.lemmas.Bool.{cases_lt}
@@ -98,10 +97,10 @@ from_low count low (cell ∷ row) h (suc k) d l = let more = from_low count (cel
 -- so those up to one are of orders before another where that one is
 before_up_to : (count low order : ℕ) (row : List (ℕ × ℕ)) → IsRow count low row → (k : ℕ) (d : ℕ × ℕ) → k < length row → (get_or row k d).0 < order → All (λ (cell : ℕ × ℕ). cell.0 < order) (take (suc k) row)
 before_up_to count low order [] h k d l is = absurd (omega arith)
-before_up_to count low order (cell ∷ row) h zero d l is = All-cons cell [] is All-nil
+before_up_to count low order (cell ∷ row) h zero d l is = All-cons (λ (cell : ℕ × ℕ). cell.0 < order) cell [] is (All-nil (λ (cell : ℕ × ℕ). cell.0 < order))
 before_up_to count low order (cell ∷ row) h (suc k) d l is =
     let more = from_low count (cell.0 + 1) row h.3 k d (omega arith) in
-    All-cons cell (take (suc k) row) (omega (arith, more, is)) (before_up_to count (cell.0 + 1) order row h.3 k d (omega arith) is)
+    All-cons (λ (cell : ℕ × ℕ). cell.0 < order) cell (take (suc k) row) (omega (arith, more, is)) (before_up_to count (cell.0 + 1) order row h.3 k d (omega arith) is)
 
 pub first_before : (count order : ℕ) (row : List (ℕ × ℕ)) → IsRow count 0 row → (k : ℕ) → 1 ≤ k → k ≤ length row → (d : ℕ × ℕ) → (get_or row (k - 1) d).0 < order → All (λ (cell : ℕ × ℕ). cell.0 < order) (take k row)
 first_before count order row h k some within d is =
@@ -112,9 +111,9 @@ first_before count order row h k some within d is =
 steady_same : (places : List ℕ) (kept steady : ℕ) → AreSteady places kept steady → (row : List (ℕ × ℕ)) → All (λ (cell : ℕ × ℕ). cell.0 < steady) row → moved_cells places kept row ≡ row
 steady_same places kept steady h [] all = refl
 steady_same places kept steady h (cell ∷ row) all =
-    let here = h cell.0 (All-head cell row all) in
+    let here = h cell.0 (All-head (λ (cell : ℕ × ℕ). cell.0 < steady) cell row all) in
     stays places kept cell row (omega (arith, here.0, here.1))
-    ∙ (ap (λ (place : ℕ). (place, cell.1) ∷ moved_cells places kept row) here.0 ∙ ap (λ (cells : List (ℕ × ℕ)). cell ∷ cells) (steady_same places kept steady h row (All-tail cell row all)))
+    ∙ (ap (λ (place : ℕ). (place, cell.1) ∷ moved_cells places kept row) here.0 ∙ ap (λ (cells : List (ℕ × ℕ)). cell ∷ cells) (steady_same places kept steady h row (All-tail (λ (cell : ℕ × ℕ). cell.0 < steady) cell row all)))
 
 -- each cell of a row is of an order
 pub cells_within : (count low : ℕ) (row : List (ℕ × ℕ)) → IsRow count low row → (k : ℕ) (d : ℕ × ℕ) → k < length row → (get_or row k d).0 < count

@@ -1,4 +1,4 @@
-use Rattle.std.proofs.Common.{◌≡◌, ◌∙◌, ◌++◌, ℕ, List, ap, drop, rules, subst, sym}
+use Rattle.std.proofs.Common.{◌∙◌, ◌++◌, ℕ, List, ap, drop, rules, subst, sym}
 use Rattle.problem_table.specs.declared.goals.ClassGoals.{ClassGoals}
 use Rattle.problem_table.specs.inner.Goals.{AreGoalsOf, goals_from}
 use Rattle.problem_table.specs.inner.Moved.{moved_cells}

@@ -1,4 +1,4 @@
-use Rattle.std.proofs.Common.{◌∙◌, rules, sym, arith}
+use Rattle.std.proofs.Common.{◌∙◌}
 use Rattle.problem_table.proofs.ChangedLemmas.{alike_earlier_row}
 use Rattle.problem_table.proofs.MakingLemmas.{stands_at}
 use Rattle.problem_table.proofs.changed.moved_rows.Goals as goal

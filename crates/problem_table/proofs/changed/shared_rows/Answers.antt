@@ -1,4 +1,4 @@
-use Rattle.std.proofs.Common.{◌∙◌, get_or, sym, arith}
+use Rattle.std.proofs.Common.{◌∙◌, arith}
 use Rattle.problem_table.proofs.ChangedLemmas.{alike_earlier_row, place_within}
 use Rattle.problem_table.proofs.MakingLemmas.{made_next, stands_at}
 use Rattle.problem_table.proofs.changed.shared_rows.Goals as goal
