@@ -57,7 +57,7 @@ impl Groups {
         ensures within { result ≡ true → group < length self.now.first.items }
         ensures same { result ≡ true → row_at cells.now i ≡ row_at cells.now (slice_index self.now.first.items group) }
     {
-        group < self.first.len() && is_same(cells.row(i), cells.row(self.first[group] as usize))
+        group < self.first.len() && have_same_row(cells, i, self.first[group] as usize)
     }
 
     /// Wagon `i` joins a group.
@@ -90,6 +90,15 @@ impl Groups {
         self.first.push_reserved(i as u32);
         self.last.push_reserved(i);
     }
+}
+
+/// Whether two wagons have the same row. One that both share isn't read.
+fn have_same_row(cells: &Cells, i: usize, k: usize) -> bool
+    requires wagon { i < wagon_count cells.now }
+    requires other { k < wagon_count cells.now }
+    ensures { result ≡ true → row_at cells.now i ≡ row_at cells.now k }
+{
+    cells.share_row(i, k) || is_same(cells.row(i), cells.row(k))
 }
 
 /// The same number for rows that are the same. It reads three cells, as rows that differ do so nearly everywhere.

@@ -1,5 +1,5 @@
 //! Rows of cells that lie one after another in one list.
-ghost use Rattle.std.specs.Prelude.{◌≡◌, ◌<◌, ◌≤◌, ◌^◌, [], ◌∷◌, ◌++◌, OnErr, OnOk, length, slice_index, slice_index_or};
+ghost use Rattle.std.specs.Prelude.{◌≡◌, ◌<◌, ◌≤◌, ◌^◌, [], ◌∷◌, ◌++◌, IfOk, OnErr, OnOk, length, slice_index, slice_index_or};
 ghost use Rattle.cost_table.specs.RowBlocks.{rows_of, AreEnds, HoldRows};
 
 use std::alloc::{AllocError, Global};
@@ -34,6 +34,20 @@ impl RowBlock {
         }
     }
 
+    /// No row yet, with room for so many, and for so many cells in all.
+    pub(crate) fn with_room(
+        alloc: Global,
+        rows: usize,
+        cells: usize,
+    ) -> Result<RowBlock, AllocError>
+        ensures { IfOk result (λ block. block ≡ []) }
+    {
+        Ok(RowBlock {
+            entries: Vec::with_capacity(alloc, cells)?,
+            ends: Vec::with_capacity(alloc, rows)?,
+        })
+    }
+
     /// The rows of these entries, each of which ends where the list says.
     pub fn of(entries: Vec<(u32, u32)>, ends: Vec<usize>) -> RowBlock
         requires { HoldRows entries.items ends.items (rows_of entries.items 0 ends.items) }
@@ -59,6 +73,11 @@ impl RowBlock {
         ensures limit { result < 2 ^ 63 }
     {
         self.ends.len()
+    }
+
+    /// How many cells the rows have in all.
+    pub(crate) fn cells(&self) -> usize {
+        self.entries.len()
     }
 
     /// Row `i`.

@@ -1,5 +1,5 @@
 //! The table of a distribution.
-ghost use Rattle.std.specs.Prelude.{◌≡◌, ◌<◌, ◌≤◌, ℕ, All, IfOk, OnOk, IfSome, OnSome, IfErr, unwrap_or};
+ghost use Rattle.std.specs.Prelude.{◌≡◌, ◌<◌, ◌≤◌, ℕ, All, IfOk, OnOk, IfSome, OnSome, IfErr, IsTrue, unwrap_or};
 ghost use Rattle.std.specs.Result.{result_err};
 ghost use Rattle.cost_table.specs.TableLimits.{max_cost, IsTable, IsRow};
 ghost use Rattle.cost_table.specs.Rows.{IsNumber, table_of, number_at, rows_fault};
@@ -144,6 +144,15 @@ impl Cells {
         ensures cells { IsRow (order_count self.now) 0 result.now }
     {
         self.rows.row(i)
+    }
+
+    /// Whether two wagons share one row. The rows of others may still have the same cells.
+    pub fn share_row(&self, i: usize, k: usize) -> bool
+        requires wagon { i < wagon_count self.now }
+        requires other { k < wagon_count self.now }
+        ensures { IsTrue result → row_at self.now i ≡ row_at self.now k }
+    {
+        self.rows.share_row(i, k)
     }
 
     /// The cost of wagon `i` for order `j` in kilometres, `None` where it may not serve it or one is out of range.

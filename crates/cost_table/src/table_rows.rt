@@ -1,5 +1,5 @@
 //! The rows of a table, some of which it may share with other tables.
-ghost use Rattle.std.specs.Prelude.{◌≡◌, ◌+◌, ◌<◌, [], IfOk, OnErr, OnOk, length, slice_index_or};
+ghost use Rattle.std.specs.Prelude.{◌≡◌, ◌+◌, ◌<◌, [], IfOk, IsTrue, OnErr, OnOk, length, slice_index_or};
 ghost use Rattle.cost_table.specs.SharedRows.{ArePlaced, ArePlaces, HasRowMore, HasSameRows, are_scattered, row_among, rows_among, rows_in};
 
 use crate::row_block::RowBlock;
@@ -42,6 +42,25 @@ impl TableRows {
         })
     }
 
+    /// The same, with room for as many cells as another table has, and an eighth more: a block that is too short is copied
+    /// while it grows.
+    pub fn empty_like(
+        alloc: Global,
+        other: &TableRows,
+        count: usize,
+    ) -> Result<TableRows, AllocError>
+        ensures shared { IfOk result (λ rows. rows.shared.value ≡ []) }
+        ensures rows { IfOk result (λ rows. rows_in rows ≡ []) }
+        ensures placed { IfOk result ArePlaced }
+    {
+        let cells = other.shared.cells().saturating_add(other.own.cells());
+        Ok(TableRows {
+            shared: Arc::new(alloc, RowBlock::new(alloc))?,
+            own: RowBlock::with_room(alloc, count, cells.saturating_add(cells / 8))?,
+            places: Vec::with_capacity(alloc, count)?,
+        })
+    }
+
     /// No row yet, with room for the places of so many; it shares the block of another table's rows.
     pub fn sharing(alloc: Global, other: &TableRows, count: usize) -> Result<TableRows, AllocError>
         ensures shared { IfOk result (λ rows. rows.shared.value ≡ other.now.shared.value) }
@@ -69,6 +88,15 @@ impl TableRows {
         ensures { result.now ≡ slice_index_or (rows_in self.now) i [] }
     {
         row_at(&self.shared, &self.own, self.places[i])
+    }
+
+    /// Whether two wagons share one row. The rows of others may still have the same cells.
+    pub fn share_row(&self, i: usize, k: usize) -> bool
+        requires wagon { i < length (rows_in self.now) }
+        requires other { k < length (rows_in self.now) }
+        ensures { IsTrue result → slice_index_or (rows_in self.now) i [] ≡ slice_index_or (rows_in self.now) k [] }
+    {
+        self.places[i] == self.places[k]
     }
 
     /// Appends a row. `Err` only when out of memory; then there are the same rows.

@@ -1,5 +1,5 @@
 -- Wagons that are alike have the same rows.
-use Rattle.std.proofs.Common.{◌≡◌, ◌+◌, ◌<◌, ◌≤◌, ℕ, zero, suc, Some, List, [], ◌∷◌, ◌++◌, length, get_or, take, sym, subst, arith, length-take-le}
+use Rattle.std.proofs.Common.{◌≡◌, ◌<◌, ◌≤◌, ℕ, zero, suc, Some, List, [], ◌∷◌, length, get_or, take, sym, subst, arith, length-take-le}
 use Rattle.std.specs.Prelude.{slice_get}
 use Rattle.std.specs.List.{Contains}
 use Rattle.std.proofs.lemmas.Option.{slice_get_within}
@@ -28,7 +28,7 @@ module _ (net : NetworkValue) (at : ℕ) where
   back : (one other : FreeWagon) → AreAlike at one other → AreAlike at other one
   back one other alike = record { place = sym alike.place; class = sym alike.class; load_limit = sym alike.load_limit; start = sym alike.start }
 
-  alike_row : (one other : FreeWagon) (orders : List WantedOrder) (row : List (ℕ × ℕ)) (end : ℕ) → AreAlike at one other → IsLastingRow net at one orders row end → IsLastingRow net at other orders row end
+  pub alike_row : (one other : FreeWagon) (orders : List WantedOrder) (row : List (ℕ × ℕ)) (end : ℕ) → AreAlike at one other → IsLastingRow net at one orders row end → IsLastingRow net at other orders row end
   alike_row one other orders row end alike h = λ m from up. record {
     ascends = (h m from up).ascends;
     cells = λ j km wanted there.

@@ -1,6 +1,6 @@
 -- How the rows of a problem's table grow.
 use Rattle.std.proofs.Common.{◌≡◌, ◌+◌, ◌<◌, ◌≤◌, ℕ, zero, suc, Bool, true, false, Option, Some, None, cond, inl, inr, List, [], ◌∷◌, ◌++◌, length, get_or, take, drop, min, refl, sym, ap, ◌∙◌, subst, arith, append-nil, append_assoc, length-take-le}
-use Rattle.std.specs.Prelude.{◌↔◌, All, IfSome, slice_get, sum, ◌==◌}
+use Rattle.std.specs.Prelude.{◌↔◌, All, IfSome, slice_get, ◌==◌}
 use Rattle.std.specs.Option.{option_or}
 use Rattle.std.proofs.lemmas.List.{drop_at, take_more, get_or_past, get_or_push, get_or_append_left, get_or_default, take_all, length-append, length-map}
 use Rattle.std.proofs.lemmas.List.Elements.{All-push, All-weaker}
@@ -9,7 +9,7 @@ use Rattle.std.proofs.lemmas.Bool.Decides.{nat_tests}
 use Rattle.std.proofs.lemmas.Option.{slice_get_within}
 use Rattle.wagons_and_orders.specs.declared.free_wagon.FreeWagon.{FreeWagon}
 use Rattle.wagons_and_orders.specs.Wanted.{WantedOrder}
-use Rattle.cost_table.specs.TableLimits.{max_cost, max_table_lack, IsTable, IsRow}
+use Rattle.cost_table.specs.TableLimits.{max_cost, IsTable, IsRow}
 use Rattle.cost_table.specs.Table.{Table, cost_in}
 use Rattle.wagons_and_orders.specs.WantedLimits.{IsLack}
 use Rattle.cost_table.specs.Problem.{ProblemValue, penalties_of, lacks_of}

@@ -1,5 +1,5 @@
 -- What is made of rows that last: a table, unless memory was refused.
-use Rattle.std.proofs.Common.{◌≡◌, ◌≤◌, ℕ, List, Result, Ok, Err, arith}
+use Rattle.std.proofs.Common.{◌≡◌, ◌≤◌, ℕ, List, Result, Ok, Err}
 use Rattle.std.specs.Prelude.{All, IfOk}
 use Rattle.std.specs.declared.alloc.AllocError.{AllocError}
 use Rattle.line_network.specs.Network.{NetworkValue}

@@ -1,18 +1,16 @@
 -- How the rows that are made grow.
-use Rattle.std.proofs.Common.{◌≡◌, ◌+◌, ◌<◌, ◌≤◌, ◌∙◌, ℕ, Some, List, [], ◌∷◌, ◌++◌, length, get_or, take, sym, ap, subst, arith, length-take-le, Result, Ok, Err}
+use Rattle.std.proofs.Common.{◌≡◌, ◌+◌, ◌<◌, ◌≤◌, ◌∙◌, ℕ, Some, List, [], length, get_or, take, sym, ap, arith, length-take-le, Result, Ok, Err}
 use Rattle.std.specs.Prelude.{All, OnOk, slice_get}
 use Rattle.std.proofs.lemmas.Option.{get_or_from_slice_get, slice_get_within}
 use Rattle.line_network.specs.Network.{NetworkValue}
 use Rattle.cost_table.specs.Problem.{ProblemValue}
 use Rattle.cost_table.specs.SharedRows.{ArePlaced, rows_in}
-use Rattle.cost_table.specs.declared.table_rows.TableRows.{TableRows}
 use Rattle.wagons_and_orders.specs.declared.free_wagon.FreeWagon.{FreeWagon}
-use Rattle.problem_table.specs.declared.goals.ClassGoals.{ClassGoals}
 use Rattle.problem_table.specs.declared.making.Making.{Making}
 use Rattle.problem_table.specs.inner.Alike.{AreAlike}
 use Rattle.problem_table.specs.inner.AllowedRows.{AreLastingRows}
 use Rattle.problem_table.specs.inner.Goals.{AreGoalsOf}
-use Rattle.problem_table.specs.inner.Making.{AddsRowUntil, AddsWagon, AreMade, HasMore, HasWagonMore}
+use Rattle.problem_table.specs.inner.Making.{AddsRowUntil, AddsWagon, AreMade}
 use Rattle.problem_table.proofs.AlikeLemmas.{row_of_alike}
 use Rattle.problem_table.proofs.AllowedLemmas.{lasting_next, lasting_start, lasting_whole, some_at}
 

@@ -1,8 +1,8 @@
 -- Rows whose cells go along with their orders.
-use Rattle.std.proofs.Common.{◌≡◌, ◌+◌, ◌<◌, ◌≤◌, ◌∙◌, ℕ, Bool, true, false, cond, Option, Some, None, inl, inr, List, [], ◌∷◌, ◌++◌, length, get_or, take, drop, refl, sym, ap, subst, arith, length-drop, length-take-le, ◌-◌, zero, suc}
+use Rattle.std.proofs.Common.{◌≡◌, ◌+◌, ◌<◌, ◌≤◌, ◌∙◌, ℕ, Bool, true, false, cond, Option, Some, inl, inr, List, [], ◌∷◌, ◌++◌, length, get_or, take, drop, refl, sym, ap, subst, arith, append_assoc, length-drop, length-take-le, ◌-◌, zero, suc}
 use Rattle.std.specs.Prelude.{◌↔◌, ◌==◌, nat_lt, All, slice_get}
-use Rattle.std.specs.List.{filter_map}
 use Rattle.std.proofs.lemmas.List.{take-append-drop, take_all}
+use Rattle.std.proofs.lemmas.List.Elements.{All-cons, All-drop, All-head, All-nil, All-tail, filter_map-append}
 use Rattle.std.proofs.lemmas.Bool.{cases_lt}
 use Rattle.std.proofs.lemmas.Bool.Decides.{nat_tests}
 use Rattle.std.proofs.lemmas.Option.{slice_get_within}
@@ -17,7 +17,7 @@ use Rattle.problem_table.specs.declared.goals.Goal.{Goal}
 use Rattle.problem_table.specs.declared.moved.Moved.{Moved}
 use Rattle.problem_table.specs.inner.AllowedRows.{IsLastingRow, IsRowOf}
 use Rattle.problem_table.specs.inner.Goals.{goals_from}
-use Rattle.problem_table.specs.inner.Moved.{AreMoved, GoesAlong, HaveSameTexts, moved_cell, moved_cells}
+use Rattle.problem_table.specs.inner.Moved.{AreMoved, AreSteady, GoesAlong, HaveSameTexts, moved_cell, moved_cells}
 use Rattle.problem_table.specs.inner.RowsSoFar.{RowSoFar}
 use Rattle.problem_table.proofs.AllowedLemmas.{some_at}
 
@@ -88,11 +88,55 @@ module _ (places : List ℕ) (kept : ℕ) where
         by false e = refl
         by true e = let same : c ≡ i = grind (arith, nat_tests, e) in absurd (omega (arith, gone, here, ap (λ (k : ℕ). get_or places k 0) same))
 
+-- the cells of a row ascend
+from_low : (count low : ℕ) (row : List (ℕ × ℕ)) → IsRow count low row → (k : ℕ) (d : ℕ × ℕ) → k < length row → low ≤ (get_or row k d).0
+from_low count low [] h k d l = absurd (omega arith)
+from_low count low (cell ∷ row) h zero d l = h.0
+from_low count low (cell ∷ row) h (suc k) d l = let more = from_low count (cell.0 + 1) row h.3 k d (omega arith) in omega (arith, more, h.0)
+
+-- so those up to one are of orders before another where that one is
+before_up_to : (count low order : ℕ) (row : List (ℕ × ℕ)) → IsRow count low row → (k : ℕ) (d : ℕ × ℕ) → k < length row → (get_or row k d).0 < order → All (λ (cell : ℕ × ℕ). cell.0 < order) (take (suc k) row)
+before_up_to count low order [] h k d l is = absurd (omega arith)
+before_up_to count low order (cell ∷ row) h zero d l is = All-cons (λ (cell : ℕ × ℕ). cell.0 < order) cell [] is (All-nil (λ (cell : ℕ × ℕ). cell.0 < order))
+before_up_to count low order (cell ∷ row) h (suc k) d l is =
+    let more = from_low count (cell.0 + 1) row h.3 k d (omega arith) in
+    All-cons (λ (cell : ℕ × ℕ). cell.0 < order) cell (take (suc k) row) (omega (arith, more, is)) (before_up_to count (cell.0 + 1) order row h.3 k d (omega arith) is)
+
+pub first_before : (count order : ℕ) (row : List (ℕ × ℕ)) → IsRow count 0 row → (k : ℕ) → 1 ≤ k → k ≤ length row → (d : ℕ × ℕ) → (get_or row (k - 1) d).0 < order → All (λ (cell : ℕ × ℕ). cell.0 < order) (take k row)
+first_before count order row h k some within d is =
+    let next : suc (k - 1) ≡ k = omega (arith, some) in
+    subst (λ (n : ℕ). All (λ (cell : ℕ × ℕ). cell.0 < order) (take n row)) next (before_up_to count 0 order row h (k - 1) d (omega (arith, some, within)) is)
+
+-- cells of orders that stand where they stood stay as they are
+steady_same : (places : List ℕ) (kept steady : ℕ) → AreSteady places kept steady → (row : List (ℕ × ℕ)) → All (λ (cell : ℕ × ℕ). cell.0 < steady) row → moved_cells places kept row ≡ row
+steady_same places kept steady h [] all = refl
+steady_same places kept steady h (cell ∷ row) all =
+    let here = h cell.0 (All-head (λ (cell : ℕ × ℕ). cell.0 < steady) cell row all) in
+    stays places kept cell row (omega (arith, here.0, here.1))
+    ∙ (ap (λ (place : ℕ). (place, cell.1) ∷ moved_cells places kept row) here.0 ∙ ap (λ (cells : List (ℕ × ℕ)). cell ∷ cells) (steady_same places kept steady h row (All-tail (λ (cell : ℕ × ℕ). cell.0 < steady) cell row all)))
+
 -- each cell of a row is of an order
 pub cells_within : (count low : ℕ) (row : List (ℕ × ℕ)) → IsRow count low row → (k : ℕ) (d : ℕ × ℕ) → k < length row → (get_or row k d).0 < count
 cells_within count low [] h k d l = absurd (omega arith)
 cells_within count low (cell ∷ row) h zero d l = h.1
 cells_within count low (cell ∷ row) h (suc k) d l = cells_within count (cell.0 + 1) row h.3 k d (omega arith)
+
+rest_of : (first : ℕ) (row : List (ℕ × ℕ)) → take (length row - first) (drop first row) ≡ drop first row
+rest_of first row = take_all (length row - first) (drop first row) (omega (arith, length-drop first row))
+
+pub later_within : (count : ℕ) (row : List (ℕ × ℕ)) (first : ℕ) → IsRow count 0 row → All (λ (cell : ℕ × ℕ). cell.0 < count) (take (length row - first) (drop first row))
+later_within count row first h = rw (rest_of first row) (All-drop (λ (cell : ℕ × ℕ). cell.0 < count) first row (cells_within count 0 row h))
+
+-- a row whose first cells stay as they are
+pub steady_first : (places : List ℕ) (kept steady : ℕ) (row : List (ℕ × ℕ)) (first : ℕ) (old now new : List (ℕ × ℕ)) → AreSteady places kept steady → All (λ (cell : ℕ × ℕ). cell.0 < steady) (take first row)
+    → now ≡ old ++ take first row → new ≡ now ++ moved_cells places kept (take (length row - first) (drop first row)) → new ≡ old ++ moved_cells places kept row
+steady_first places kept steady row first old now new h all is more =
+    let rest = moved_cells places kept (drop first row) in
+    more ∙ (ap (λ (cells : List (ℕ × ℕ)). now ++ moved_cells places kept cells) (rest_of first row)
+    ∙ (ap (λ (cells : List (ℕ × ℕ)). cells ++ rest) is
+    ∙ (append_assoc old (take first row) rest
+    ∙ ap (λ (cells : List (ℕ × ℕ)). old ++ cells) (ap (λ (cells : List (ℕ × ℕ)). cells ++ rest) (sym (steady_same places kept steady h (take first row) all))
+    ∙ (sym (filter_map-append (moved_cell places kept) (take first row) (drop first row)) ∙ ap (moved_cells places kept) (take-append-drop first row))))))
 
 module _ (R : WantedOrder → ℕ → Type 0) (same : (one other : WantedOrder) (km : ℕ) → other.order ≡ one.order → R one km ≡ R other km) where
   -- a row goes along with its orders
@@ -138,11 +182,9 @@ by_text net m wagon one other km h = rw h refl
 pub came_part : (k : ℕ) (orders : List WantedOrder) → take (length orders - k) (drop k orders) ≡ drop k orders
 came_part k orders = take_all (length orders - k) (drop k orders) (omega (arith, length-drop k orders))
 
--- each cell of a row that goes along is of an earlier order
-pub along_within : (net : NetworkValue) (problem : ProblemValue) (wagon : FreeWagon) (moved : Moved) (row : List (ℕ × ℕ)) (last : ℕ) → GoesAlong problem net wagon moved row last → problem.at ≤ last → All (λ (cell : ℕ × ℕ). cell.0 < length moved.places.items) row
-along_within net problem wagon moved row last h within = λ k d l.
-    let earlier = cells_within (length h.earlier) 0 row (h.is problem.at (omega arith) within).ascends k d l in
-    omega (arith, earlier, h.are.count)
+-- a row that goes along is one over the earlier orders
+pub along_ascends : (net : NetworkValue) (problem : ProblemValue) (wagon : FreeWagon) (moved : Moved) (row : List (ℕ × ℕ)) (last : ℕ) → GoesAlong problem net wagon moved row last → problem.at ≤ last → IsRow (length moved.places.items) 0 row
+along_ascends net problem wagon moved row last h within = subst (λ (n : ℕ). IsRow n 0 row) (sym h.are.count) (h.is problem.at (omega arith) within).ascends
 
 -- a row that went along, before the goals of the orders that came
 pub along_so_far : (net : NetworkValue) (problem : ProblemValue) (wagon : FreeWagon) (moved : Moved) (row now : List (ℕ × ℕ)) (last : ℕ) (goals : List Goal)

@@ -57,7 +57,7 @@ pub(crate) fn is_alike_before(
 
 /// Whether two wagons have the same way to each order from a moment on: they have one class, one load limit and one place,
 /// and are ready at one moment, or by then.
-fn are_alike(one: &FreeWagon, other: &FreeWagon, at: Moment) -> bool
+pub(crate) fn are_alike(one: &FreeWagon, other: &FreeWagon, at: Moment) -> bool
     ensures { IsTrue result ↔ AreAlike at one.now other.now }
 {
     one.place == other.place

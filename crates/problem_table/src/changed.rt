@@ -4,11 +4,13 @@ ghost use Rattle.problem_table.specs.Allowed.{IsTableOf};
 ghost use Rattle.problem_table.specs.Lasting.{IsLastingTable};
 ghost use Rattle.problem_table.specs.inner.AllowedRows.{AreLastingRows, IsLastingRow};
 ghost use Rattle.problem_table.specs.inner.Making.{AddsRowUntil, AddsWagon, AreMade};
-ghost use Rattle.problem_table.specs.inner.Moved.{AreCome, AreMoved, GoesAlong, HaveSameTexts};
+ghost use Rattle.problem_table.specs.inner.Alike.{AreAlike};
+ghost use Rattle.problem_table.specs.inner.Moved.{AreCome, AreMoved, AreSteady, GoesAlong, HaveSameTexts};
 ghost use Rattle.problem_table.specs.inner.RowsSoFar.{RowSoFar};
 ghost use Rattle.cost_table.specs.SharedRows.{ArePlaced, rows_in};
+ghost use Rattle.wagons_and_orders.specs.declared.free_wagon.FreeWagon.{FreeWagon};
 
-use crate::alike::{Seen, is_alike_before};
+use crate::alike::{Seen, are_alike, is_alike_before};
 use crate::allowed::push_goals;
 use crate::goals::{ClassGoals, Goal, class_position};
 use crate::lasting::{TimedCells, timed};
@@ -20,8 +22,8 @@ use rail_codes::{Moment, WagonNumber};
 use std::alloc::{AllocError, Global};
 use wagons_and_orders::FreeWagon;
 
-/// What `timed_cells` answers, made out of the table of an earlier problem: the cells of a wagon that is as it was then, and
-/// whose last moment isn't past, are taken over for the orders that stay, and those of the others are found.
+/// What `timed_cells` answers, made out of the table of an earlier problem: the cells of a wagon that has the ways that it had
+/// then, and whose last moment isn't past, are taken over for the orders that stay, and those of the others are found.
 pub fn changed_cells(
     alloc: Global,
     problem: &Problem,
@@ -112,7 +114,7 @@ fn moved_rows(
     ensures rows { IfOk result (λ r. AreLastingRows tables.now problem.now.at problem.now.wagons problem.now.orders (rows_in r.0) r.1.items) }
 {
     let wagons = problem.wagons();
-    let none = TableRows::empty(alloc, wagons.len())?;
+    let none = TableRows::empty_like(alloc, rows, wagons.len())?;
     let mut making = Making::beginning(alloc, none, wagons.len())?;
     let mut moving = Moving::beginning(alloc, earlier, problem)?;
     let mut at = 0;
@@ -149,7 +151,8 @@ fn index_from(wagons: &[FreeWagon], from: usize, number: WagonNumber) -> usize {
     wagons.len()
 }
 
-/// Up to which moment the row at an index is the row of this wagon, where it still is at a moment.
+/// Up to which moment the row at an index is the row of this wagon, where it still is at a moment. The wagon there need not
+/// be the same one, nor ready when it was: both have the same ways from that moment on.
 fn lasting_row(
     wagons: &[FreeWagon],
     lasts: &[u64],
@@ -157,13 +160,14 @@ fn lasting_row(
     wagon: &FreeWagon,
     at: Moment,
 ) -> Option<u64>
-    ensures same { IfSome result (λ last. slice_get wagons.now k ≡ Some wagon.now) }
+    ensures there { IfSome result (λ last. k < length wagons.now) }
+    ensures alike { IfSome result (λ last. (there : FreeWagon) → slice_get wagons.now k ≡ Some there → AreAlike at there wagon.now) }
     ensures last { IfSome result (λ last. slice_get lasts.now k ≡ Some last) }
     ensures within { IfSome result (λ last. at ≤ last) }
 {
     let there = wagons.get(k)?;
     let last = last_at(lasts, k)?;
-    if is_same_wagon(there, wagon) && at.seconds() <= last {
+    if are_alike(there, wagon, at) && at.seconds() <= last {
         Some(last)
     } else {
         None
@@ -175,13 +179,6 @@ fn last_at(lasts: &[u64], k: usize) -> Option<u64>
     ensures { result ≡ slice_get lasts.now k }
 {
     lasts.get(k).copied()
-}
-
-/// Whether a wagon is free as it was.
-fn is_same_wagon(one: &FreeWagon, other: &FreeWagon) -> bool
-    ensures { IsTrue result ↔ (one.now ≡ other.now) }
-{
-    *one == *other
 }
 
 /// Takes over the row at an index of the earlier table, which lasts up to this moment.
@@ -212,6 +209,7 @@ impl Moving {
     /// No row has gone along from an earlier problem to a later one.
     fn beginning(alloc: Global, earlier: &Problem, problem: &Problem) -> Result<Moving, AllocError>
         ensures moved { IfOk result (λ moving. AreMoved earlier.now.orders problem.now.orders moving.moved.places.items moving.moved.kept) }
+        ensures steady { IfOk result (λ moving. AreSteady moving.moved.places.items moving.moved.kept moving.moved.steady) }
         ensures came { IfOk result (λ moving. moving.came.items ≡ []) }
     {
         Ok(Moving {

@@ -1,8 +1,8 @@
 //! The orders of an earlier problem in a later one, and rows whose cells go along with them.
-ghost use Rattle.std.specs.Prelude.{◌≡◌, ◌+◌, ◌<◌, ◌≤◌, ◌++◌, All, IfOk, IsTrue, OnOk, Some, drop, length, slice_get};
+ghost use Rattle.std.specs.Prelude.{◌≡◌, ◌+◌, ◌<◌, ◌≤◌, ◌++◌, All, IfOk, IsTrue, OnOk, Some, drop, length, slice_get, take};
 ghost use Rattle.wagons_and_orders.specs.Wanted.{WantedOrder};
-ghost use Rattle.cost_table.specs.TableLimits.{max_table_orders};
-ghost use Rattle.problem_table.specs.inner.Moved.{AreMoved, HaveSameTexts, moved_cells};
+ghost use Rattle.cost_table.specs.TableLimits.{IsRow, max_table_orders};
+ghost use Rattle.problem_table.specs.inner.Moved.{AreMoved, AreSteady, HaveSameTexts, moved_cells};
 
 use move_messages::is_same_order;
 use std::alloc::{AllocError, Global};
@@ -18,6 +18,8 @@ pub(crate) struct Moved {
     pub(crate) places: Vec<u32>,
     /// How many of the later orders are among the earlier ones: the first of them.
     pub(crate) kept: usize,
+    /// How many of the first orders stand where they stood.
+    pub(crate) steady: usize,
 }
 
 impl Moved {
@@ -29,7 +31,8 @@ impl Moved {
         orders: &[Wanted],
     ) -> Result<Moved, AllocError>
         requires few { length orders.now ≤ max_table_orders }
-        ensures { IfOk result (λ moved. AreMoved earlier.now orders.now moved.places.items moved.kept) }
+        ensures moved { IfOk result (λ moved. AreMoved earlier.now orders.now moved.places.items moved.kept) }
+        ensures steady { IfOk result (λ moved. AreSteady moved.places.items moved.kept moved.steady) }
     {
         let mut places = Vec::with_capacity(alloc, earlier.len())?;
         let mut kept = 0;
@@ -41,8 +44,26 @@ impl Moved {
                 places.push_reserved(GONE);
             }
         }
-        Ok(Moved { places, kept })
+        let steady = steady_count(&places, kept);
+        Ok(Moved {
+            places,
+            kept,
+            steady,
+        })
     }
+}
+
+/// How many of the first positions are those of the same numbers, among those that are kept.
+fn steady_count(places: &[u32], kept: usize) -> usize
+    ensures { AreSteady places.now kept result }
+{
+    let most = kept.min(places.len());
+    for k in 0..most {
+        if places[k] as usize != k {
+            return k;
+        }
+    }
+    most
 }
 
 /// Whether an order stands at a position, whatever it lacks.
@@ -71,8 +92,40 @@ pub(crate) fn have_same_texts(one: &[Wanted], other: &[Wanted]) -> bool
     true
 }
 
-/// Adds the cells of a row whose orders stay, at their new positions.
+/// Adds the cells of a row whose orders stay, at their new positions. Those of the first orders, which stand where they
+/// stood, are copied as they are.
 pub(crate) fn move_cells(
+    entries: &mut Vec<(u32, u32)>,
+    row: &[(u32, u32)],
+    moved: &Moved,
+) -> Result<(), AllocError>
+    requires ascends { IsRow (length moved.now.places.items) 0 row.now }
+    requires steady { AreSteady moved.now.places.items moved.now.kept moved.now.steady }
+    ensures { OnOk result (entries.new.items ≡ entries.old.items ++ moved_cells moved.now.places.items moved.now.kept row.now) }
+{
+    let first = steady_cells(row, moved);
+    entries.extend_from_slice(&row[..first])?;
+    move_later_cells(entries, &row[first..], moved)
+}
+
+/// How many of the first cells of a row are those of the first orders, which stand where they stood.
+fn steady_cells(row: &[(u32, u32)], moved: &Moved) -> usize
+    requires { IsRow (length moved.now.places.items) 0 row.now }
+    ensures within { result ≤ length row.now }
+    ensures before { All (λ cell. cell.0 < moved.now.steady) (take result row.now) }
+{
+    // Cells of later orders are mostly few, so they are passed from the end.
+    for later in 0..row.len() {
+        let count = row.len() - later;
+        if (row[count - 1].0 as usize) < moved.steady {
+            return count;
+        }
+    }
+    0
+}
+
+/// Adds the cells whose orders stay, one by one.
+fn move_later_cells(
     entries: &mut Vec<(u32, u32)>,
     row: &[(u32, u32)],
     moved: &Moved,

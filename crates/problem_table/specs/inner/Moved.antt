@@ -25,6 +25,10 @@ pub record AreMoved (earlier orders : List WantedOrder) (places : List ℕ) (kep
   pub gone : (i : ℕ) → i < length earlier → kept ≤ slice_index places i → length orders < slice_index places i
   pub ascend : (i j : ℕ) → i < j → j < length earlier → slice_index places i < kept → slice_index places j < kept → slice_index places i < slice_index places j
 
+-- the first orders stand where they stood
+abbrev pub AreSteady : (places : List ℕ) → (kept steady : ℕ) → Type 0
+AreSteady places kept steady = (i : ℕ) → i < steady → (slice_index places i ≡ i) × (i < kept)
+
 -- a cell at the new position of its order, where that stays
 abbrev pub moved_cell : (places : List ℕ) → (kept : ℕ) → ℕ × ℕ → Option (ℕ × ℕ)
 moved_cell places kept cell = if nat_lt (slice_index places cell.0) kept then Some (slice_index places cell.0, cell.1) else None
@@ -36,6 +40,7 @@ moved_cells places kept row = filter_map (moved_cell places kept) row
 pub record GoesAlong (problem : ProblemValue) (net : NetworkValue) (wagon : FreeWagon) (moved : Moved) (row : List (ℕ × ℕ)) (last : ℕ) : Type 0 where
   pub earlier : List WantedOrder
   pub are : AreMoved earlier problem.orders moved.places.items moved.kept
+  pub steady : AreSteady moved.places.items moved.kept moved.steady
   pub is : IsLastingRow net problem.at wagon earlier row last
 
 -- goals that are kept are those of the orders that came

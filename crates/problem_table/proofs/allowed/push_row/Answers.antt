@@ -1,4 +1,4 @@
-use Rattle.std.proofs.Common.{[], arith}
+use Rattle.std.proofs.Common.{[]}
 use Rattle.problem_table.proofs.GoalSteps.{row_start}
 use Rattle.problem_table.proofs.allowed.push_row.Goals as goal
 

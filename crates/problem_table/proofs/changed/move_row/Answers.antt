@@ -1,12 +1,15 @@
-use Rattle.std.proofs.Common.{◌≡◌, ◌∙◌, ◌++◌, ℕ, List, ap, drop, rules, subst, sym}
+use Rattle.std.proofs.Common.{◌∙◌, ◌++◌, ℕ, List, ap, drop, rules, subst, sym}
 use Rattle.problem_table.specs.declared.goals.ClassGoals.{ClassGoals}
 use Rattle.problem_table.specs.inner.Goals.{AreGoalsOf, goals_from}
 use Rattle.problem_table.specs.inner.Moved.{moved_cells}
-use Rattle.problem_table.proofs.MovedLemmas.{along_so_far, along_within, came_part}
+use Rattle.problem_table.proofs.MovedLemmas.{along_ascends, along_so_far, came_part}
 use Rattle.problem_table.proofs.changed.move_row.Goals as goal
 
-pub move_cells-requires : goal.move_cells-requires
-move_cells-requires c = along_within c.args.tables.now c.args.problem.now c.args.wagon.now c.args.moving.now.moved c.args.row.now c.args.last c.requires.along c.requires.within
+pub move_cells-requires-clause-ascends : goal.move_cells-requires-clause-ascends
+move_cells-requires-clause-ascends c = along_ascends c.args.tables.now c.args.problem.now c.args.wagon.now c.args.moving.now.moved c.args.row.now c.args.last c.requires.along c.requires.within
+
+pub move_cells-requires-clause-steady : goal.move_cells-requires-clause-steady
+move_cells-requires-clause-steady c = c.requires.along.steady
 
 pub go_on-requires-clause-so_far : goal.go_on-requires-clause-so_far
 go_on-requires-clause-so_far c =

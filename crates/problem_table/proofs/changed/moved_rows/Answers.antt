@@ -1,5 +1,5 @@
-use Rattle.std.proofs.Common.{◌∙◌, rules, sym, arith}
-use Rattle.problem_table.proofs.ChangedLemmas.{earlier_row}
+use Rattle.std.proofs.Common.{◌∙◌}
+use Rattle.problem_table.proofs.ChangedLemmas.{alike_earlier_row}
 use Rattle.problem_table.proofs.MakingLemmas.{stands_at}
 use Rattle.problem_table.proofs.changed.moved_rows.Goals as goal
 use Rattle.problem_table.proofs.changed.moved_rows.Goals.{in-Some+in_ok-take_along-in-Some, in-None+in_ok-make-in-None}
@@ -7,11 +7,12 @@ use Rattle.problem_table.proofs.changed.moved_rows.Goals.{in-Some+in_ok-take_alo
 pub take_along-requires-clause-along : goal.take_along-requires-clause-along
 take_along-requires-clause-along c =
     let earlier = c.args.earlier.now in
-    let there = rw c.wagons-in-loop-k.ensures.wagons at c.in-Some.ensures.same in
     record {
       earlier = earlier.orders;
       are = c.loop-k.invariant.moved;
-      is = earlier_row c.args.tables.now earlier.at c.args.problem.now.at earlier.wagons earlier.orders _ c.args.lasts.now c.index_from-at.result c.index-wagons-k.result c.in-Some.last c.requires.rows c.requires.earlier there c.in-Some.ensures.last;
+      steady = c.loop-k.invariant.steady;
+      is = alike_earlier_row c.args.tables.now earlier.at c.args.problem.now.at earlier.wagons earlier.orders _ c.args.lasts.now c.index_from-at.result c.index-wagons-k.result c.in-Some.last c.requires.rows c.requires.earlier
+          (rw c.wagons-in-loop-k.ensures.wagons at c.in-Some.ensures.there) (rw (c.wagons-in-loop-k.ensures.wagons, c.at.ensures) at c.in-Some.ensures.alike) c.in-Some.ensures.last;
     }
 
 pub make-requires-clause-wagon : goal.make-requires-clause-wagon
@@ -25,12 +26,14 @@ loop-k-preserved c =
         made = w.in_ok-take_along-in-Some.ensures.made;
         own = w.in_ok-take_along-in-Some.ensures.shared ∙ inv.own;
         moved = rw w.in_ok-take_along-in-Some.ensures.moved inv.moved;
+        steady = rw w.in_ok-take_along-in-Some.ensures.moved inv.steady;
         came = w.in_ok-take_along-in-Some.ensures.came;
       })
       | in-None+in_ok-make-in-None w ↦ rw (w.making-is, w.moving-is) (record {
         made = w.in_ok-make-in-None.ensures.made;
         own = w.in_ok-make-in-None.ensures.shared ∙ inv.own;
         moved = inv.moved;
+        steady = inv.steady;
         came = inv.came;
       })
     ]

@@ -1,4 +1,3 @@
-use Rattle.std.proofs.Common.{◌∙◌, rules, sym}
 use Rattle.problem_table.proofs.MakingLemmas.{made_again, made_next, on_ok}
 use Rattle.problem_table.proofs.changed.take_along.Goals as goal
 

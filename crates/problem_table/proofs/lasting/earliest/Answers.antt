@@ -1,4 +1,4 @@
-use Rattle.std.proofs.Common.{rules, arith}
+use Rattle.std.proofs.Common.{arith}
 use Rattle.problem_table.proofs.AllowedLemmas.{least_all, least_more}
 use Rattle.problem_table.proofs.lasting.earliest.Goals as goal
 

@@ -1,5 +1,4 @@
 use Rattle.std.proofs.Common.{arith}
-use Rattle.problem_table.proofs.AllowedLemmas.{IsTable-with}
 use Rattle.problem_table.proofs.lasting.timed.Goals as goal
 
 pub returns-clause-within : goal.returns-clause-within

@@ -1,4 +1,3 @@
-use Rattle.std.proofs.Common.{◌∙◌, rules, sym}
 use Rattle.problem_table.proofs.MakingLemmas.{made_again, made_next, moment_within, on_ok, row_within}
 use Rattle.problem_table.proofs.making.make_of_class.Goals as goal
 

@@ -1,4 +1,4 @@
-use Rattle.std.proofs.Common.{◌≡◌, ◌∙◌, ℕ, ◌++◌, ◌∷◌, [], ap, rules, sym}
+use Rattle.std.proofs.Common.{◌∙◌, ℕ, ◌++◌, ◌∷◌, [], ap, rules, sym}
 use Rattle.std.proofs.lemmas.List.{get_or_default}
 use Rattle.problem_table.proofs.making.repeat.Goals as goal
 

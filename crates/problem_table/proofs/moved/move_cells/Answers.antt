@@ -1,28 +1,14 @@
-use Rattle.std.proofs.Common.{◌∙◌, get_or, sym, arith}
-use Rattle.std.proofs.lemmas.List.{get_or_default}
-use Rattle.problem_table.proofs.MovedSteps.{cell_gone, cell_kept}
+use Rattle.std.proofs.Common.{◌≡◌, ◌++◌, length, rules, take}
+use Rattle.problem_table.proofs.MakingLemmas.{on_ok}
+use Rattle.problem_table.proofs.MovedLemmas.{later_within, steady_first}
 use Rattle.problem_table.proofs.moved.move_cells.Goals as goal
-use Rattle.problem_table.proofs.moved.move_cells.Goals.{then-place-moved, else-place-moved}
 
-pub loop-cell-preserved : goal.loop-cell-preserved
-loop-cell-preserved c =
-    let inv = c.loop-cell.invariant in
-    let places = c.args.moved.now.places.items in
-    let kept = c.args.moved.now.kept in
-    let row = c.args.row.now in
-    let k = c.loop-cell.cell-index in
-    let cell = get_or row k (0, 0) in
-    let within = c.loop-cell-test.true in
-    let is_at = get_or_default row k (0, 0) cell within in
-    let place = c.index-place.result.now in
-    let is = get_or_default places cell.0 0 place (c.requires k (0, 0) within) ∙ sym c.index-place.ensures in
-    elim c.if-place-moved.branch [
-      | then-place-moved w ↦ record {
-        cells = rw w.entries-is (cell_kept places kept row k cell within is_at c.reserve.new.self.items c.loop-cell.entries.items place _ inv.cells is w.if-place-moved.true w.push_reserved.ensures.items);
-        room = rw w.entries-is (omega (arith, w.push_reserved.ensures.len, w.push_reserved.ensures.capacity, inv.room));
-      }
-      | else-place-moved w ↦ record {
-        cells = rw w.entries-is (cell_gone places kept row k cell within is_at c.reserve.new.self.items c.loop-cell.entries.items place inv.cells is w.if-place-moved.false);
-        room = rw w.entries-is (omega (arith, inv.room));
-      }
-    ]
+pub move_later_cells-requires : goal.move_later_cells-requires
+move_later_cells-requires c = later_within (length c.args.moved.now.places.items) c.args.row.now c.steady_cells-first.result c.requires.ascends
+
+pub returns : goal.returns
+returns c =
+    let moved = c.args.moved.now in
+    let first = c.steady_cells-first.result in
+    let is : c.extend_from_slice.new.self.items ≡ c.args.entries.now.items ++ take first c.args.row.now = search rules in
+    on_ok c.move_later_cells.result (λ more. steady_first moved.places.items moved.kept moved.steady c.args.row.now first c.args.entries.now.items _ _ c.requires.steady c.steady_cells-first.ensures.before is more) c.move_later_cells.ensures

@@ -1,5 +1,5 @@
-use Rattle.std.proofs.Common.{rules, arith}
-use Rattle.problem_table.proofs.MovedSteps.{moved_gone, moved_kept, moved_start, moved_whole}
+use Rattle.std.proofs.Common.{arith}
+use Rattle.problem_table.proofs.MovedSteps.{moved_gone, moved_kept}
 use Rattle.problem_table.proofs.moved.Moved.between.Goals as goal
 use Rattle.problem_table.proofs.moved.Moved.between.Goals.{then-is_order_at, else-is_order_at}
 
@@ -16,3 +16,6 @@ loop-one-preserved c =
         room = rw w.places-is (omega (arith, w.push_reserved-else-is_order_at.ensures.len, w.push_reserved-else-is_order_at.ensures.capacity, inv.room));
       }
     ]
+
+pub returns-clause-steady : goal.returns-clause-steady
+returns-clause-steady c = rw c.deref.ensures.value at c.steady_count-steady.ensures
