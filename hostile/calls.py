@@ -33,7 +33,7 @@ PARTS = {
     "readings": ("calls that read lines and files, make tables and plans, and write texts", """WagonNumber::text
         Place::text ClassCode::text Company::text OrderId::text Moment::text read_line Event::copy solve_line read_lines
         Network::copy tables tables_by_workers Cells::from_rows plan Roster::read_rows Roster::copy Book::new OfficeState::new
-        OfficeState::apply Problem::copy work cells Snap::commit_text plan_text certificate_line
+        OfficeState::apply work cells Snap::commit_text plan_text certificate_line
         sheet_text map_text""".split()),
     "books": ("the calls of `Book`", ["message", "place", "withdraw", "revise", "begin", "commit",
         "message (a delivery that frees a wagon and lets an order wait)", "begin (the oldest problem is dropped)",
