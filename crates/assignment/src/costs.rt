@@ -2,7 +2,7 @@
 ghost use Rattle.std.specs.Prelude.{◌≡◌, ◌<◌, ◌+◌, ℕ, true, min, IfOk, length, slice_index, slice_set};
 ghost use Rattle.cost_table.specs.TableLimits.{IsTable};
 ghost use Rattle.cost_table.specs.Table.{cost_at, row_at, penalty_at, order_count};
-ghost use Rattle.assignment.specs.inner.Costs.{AreColumnsOf, AreFullRows, cost_before};
+ghost use Rattle.assignment.specs.inner.Costs.{AreColumns, AreColumnsOf, AreFullRows, cost_before};
 ghost use Rattle.assignment.specs.inner.Groups.{AreGroups, AreFirst, group_table};
 
 use crate::groups::Groups;
@@ -26,7 +26,7 @@ impl Columns {
     /// The columns of a table. An order's first price is its penalty, or its cheapest group's cost.
     pub(crate) fn new(alloc: Global, cells: &Cells, groups: &Groups) -> Result<Columns, AllocError>
         requires { AreGroups cells.now groups.now }
-        ensures { IfOk result (λ columns. AreColumnsOf (group_table cells.now groups.now.first.items) (cost_at (group_table cells.now groups.now.first.items)) columns.costs.items columns.v.items columns.nearest.items) }
+        ensures { IfOk result (AreColumns (group_table cells.now groups.now.first.items)) }
     {
         let first = &groups.first;
         let (orders, count) = (cells.orders(), first.len());

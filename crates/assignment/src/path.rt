@@ -1,8 +1,8 @@
 //! The way back along a path.
 ghost use Rattle.std.specs.Prelude.{◌≡◌, ◌≢◌, ◌<◌, ◌≤◌, ◌+◌, ◌^◌, ℕ, Some, IfSome, length, slice_index, min};
 ghost use Rattle.assignment.specs.inner.State.{IsState, kept, order_at};
-ghost use Rattle.assignment.specs.inner.Search.{IsSearch, IsShortestPath, IsReachedFrom, label_at, settled_at};
-ghost use Rattle.assignment.specs.inner.Path.{AreHandedOn, IsGiven, IsHandedOn, IsOnPath, IsOnWay, given_up, one_if, wagons_of};
+ghost use Rattle.assignment.specs.inner.Search.{IsSearch, IsShortestPath, IsReachedFrom, label_at};
+ghost use Rattle.assignment.specs.inner.Path.{AreHandedOn, HasOneToGive, IsGiven, IsHandedOn, IsOnPath, IsOnWay, given_up, wagons_of};
 
 use crate::search::Search;
 use crate::state::State;
@@ -77,7 +77,7 @@ pub(crate) fn count_unit(served: &mut [u32], search: &Search)
     requires end { search.now.end.index < length search.now.orders.items }
     requires orders { (x : ℕ) → x < length search.now.orders.items → slice_index search.now.orders.items x < length served.old }
     requires limit { (k : ℕ) → k < length served.old → slice_index served.old k + 1 < 2 ^ 32 }
-    requires held { (k : ℕ) → k < length served.old → one_if k (given_up search.now) ≤ slice_index served.old k + one_if k (Some (settled_at search.now 0)) }
+    requires held { (k : ℕ) → k < length served.old → HasOneToGive (slice_index served.old) search.now (given_up search.now) k }
     ensures { (k : ℕ) → k < length served.old → IsHandedOn (slice_index served.old) (slice_index served.new) search.now (given_up search.now) k }
 {
     served[search.orders[0] as usize] += 1;

@@ -6,31 +6,31 @@ use Rattle.cost_table.specs.declared.table_rows.TableRows.{TableRows}
 abbrev pub row_among : (shared own : List (List (ℕ × ℕ))) → ℕ → List (ℕ × ℕ)
 row_among shared own k = slice_index_or (shared ++ own) k []
 
-abbrev pub rows_among : (shared own : List (List (ℕ × ℕ))) → (places : List ℕ) → List (List (ℕ × ℕ))
-rows_among shared own places = map (row_among shared own) places
+abbrev pub rows_among : (shared own : List (List (ℕ × ℕ))) → (indices : List ℕ) → List (List (ℕ × ℕ))
+rows_among shared own indices = map (row_among shared own) indices
 
-abbrev pub ArePlaces : (shared own : List (List (ℕ × ℕ))) → List ℕ → Type 0
-ArePlaces shared own places = All (λ k. k < length shared + length own) places
+abbrev pub AreIndices : (shared own : List (List (ℕ × ℕ))) → List ℕ → Type 0
+AreIndices shared own indices = All (λ k. k < length shared + length own) indices
 
 -- the rows of a table, one for each of its wagons
 abbrev pub rows_in : TableRows → List (List (ℕ × ℕ))
-rows_in rows = rows_among rows.shared.value rows.own rows.places.items
+rows_in rows = rows_among rows.shared.value rows.own rows.indices.items
 
--- whether each place is that of a row
-abbrev pub ArePlaced : TableRows → Type 0
-ArePlaced rows = ArePlaces rows.shared.value rows.own rows.places.items
+-- whether each index is that of a row
+abbrev pub HasIndices : TableRows → Type 0
+HasIndices rows = AreIndices rows.shared.value rows.own rows.indices.items
 
 -- one row more
 pub record HasRowMore (old new : TableRows) (row : List (ℕ × ℕ)) : Type 0 where
   pub shared : new.shared.value ≡ old.shared.value
   pub rows : rows_in new ≡ rows_in old ++ row ∷ []
-  pub placed : ArePlaced new
+  pub indexed : HasIndices new
 
 -- the same rows
 pub record HasSameRows (old new : TableRows) : Type 0 where
   pub shared : new.shared.value ≡ old.shared.value
   pub rows : rows_in new ≡ rows_in old
-  pub placed : ArePlaced new
+  pub indexed : HasIndices new
 
 -- more own rows than a quarter of the shared ones
 abbrev pub are_scattered : TableRows → Bool

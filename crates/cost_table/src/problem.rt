@@ -108,6 +108,13 @@ impl Problem {
         &self.orders
     }
 
+    /// Does nothing: for the prover alone, it says between which limits a problem is.
+    pub fn for_the_prover(&self)
+        ensures { IsProblem self.now }
+    {
+        let _ = &self.at;
+    }
+
     /// Where a wagon and an order stand, `None` where one of them is not there.
     pub fn pair_of(&self, number: WagonNumber, id: OrderId) -> Option<(usize, usize)>
         ensures value { result ≡ pair_of (names_of_problem self.now) number id }

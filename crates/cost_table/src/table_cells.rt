@@ -7,7 +7,7 @@ ghost use Rattle.faults.specs.declared.faults.TableFault.TheVariants.{OutOfMemor
 ghost use Rattle.cost_table.specs.Table.{row_at, cost_in, cost_at, penalty_at, lack_at, wagon_count, order_count};
 ghost use Rattle.wagons_and_orders.specs.WantedLimits.{IsLack};
 ghost use Rattle.cost_table.specs.inner.Searched.{IsAscendingRow};
-ghost use Rattle.cost_table.specs.SharedRows.{ArePlaced, rows_in};
+ghost use Rattle.cost_table.specs.SharedRows.{HasIndices, rows_in};
 
 use crate::rows::{are_even, are_too_large, flatten};
 use crate::table_rows::TableRows;
@@ -28,19 +28,19 @@ pub struct Cells {
 impl Model for Cells {
     ghost use Rattle.cost_table.specs.Table.{Table};
     ghost use Rattle.cost_table.specs.TableLimits.{IsTable};
-    ghost use Rattle.cost_table.specs.SharedRows.{ArePlaced, rows_in};
+    ghost use Rattle.cost_table.specs.SharedRows.{HasIndices, rows_in};
 
     ghost Value = { Table };
 
     ghost view = { λ c. record { rows = rows_in c.rows; penalties = c.penalties.items; lacks = c.lacks.items } };
 
-    ghost invariant = { λ c. ArePlaced c.rows × IsTable (record { rows = rows_in c.rows; penalties = c.penalties.items; lacks = c.lacks.items }) };
+    ghost invariant = { λ c. HasIndices c.rows × IsTable (record { rows = rows_in c.rows; penalties = c.penalties.items; lacks = c.lacks.items }) };
 }
 
 impl Cells {
     /// The table of rows that are found.
     pub fn of_rows(rows: TableRows, penalties: Vec<u64>, lacks: Vec<u32>) -> Cells
-        requires placed { ArePlaced rows }
+        requires indexed { HasIndices rows }
         requires table { IsTable (record { rows = rows_in rows; penalties = penalties.items; lacks = lacks.items }) }
         ensures { result ≡ record { rows = rows_in rows; penalties = penalties.items; lacks = lacks.items } }
     {
@@ -54,7 +54,7 @@ impl Cells {
     /// The rows.
     pub fn rows(&self) -> &TableRows
         ensures rows { rows_in result.now ≡ self.now.rows }
-        ensures placed { ArePlaced result.now }
+        ensures indexed { HasIndices result.now }
         ensures table { IsTable self.now }
     {
         &self.rows
@@ -117,6 +117,13 @@ impl Cells {
         ensures table { IsTable self.now }
     {
         self.lacks.len()
+    }
+
+    /// Does nothing: for the prover alone, it says between which limits a table is.
+    pub fn for_the_prover(&self)
+        ensures { IsTable self.now }
+    {
+        let _ = &self.rows;
     }
 
     /// The penalty of each wagon that order `j` misses, in kilometres.

@@ -1,8 +1,8 @@
 //! Values that are collected from the records of a file.
-ghost use Rattle.std.specs.Prelude.{◌≡◌, ◌≤◌, ◌<◌, ◌+◌, ◌^◌, ◌++◌, ◌∷◌, [], ℕ, IfErr, IfOk, List, length};
+ghost use Rattle.std.specs.Prelude.{◌≡◌, ◌≤◌, ◌<◌, ◌+◌, ◌^◌, ◌∷◌, [], ℕ, IfErr, IfOk, List, length};
 ghost use Rattle.csv.specs.Records.{fields_of};
 ghost use Rattle.csv_records.specs.Fields.{Record};
-ghost use Rattle.csv_records.specs.Refusing.{RefusesNext, RefusesPast};
+ghost use Rattle.csv_records.specs.Refusing.{MakesNext, RefusesNext, RefusesPast};
 ghost use Rattle.faults.specs.declared.faults.RecordFault.{RecordFault};
 ghost use Rattle.faults.specs.declared.faults.RecordFault.TheVariants.{OutOfMemory, ReadFailed};
 
@@ -35,7 +35,7 @@ pub trait FromRecords: Drop {
     /// The value with one more record. `number` is the record's, the header being record 1.
     fn with_record(self, number: u32, fields: &ByteRecord) -> Result<Self, Self::Fault>
         requires { (done : List Record) × made_of self done × (length done + 1 ≡ number) × (number ≤ MOST_RECORDS + 1) }
-        ensures made { IfOk result (λ made. (done : List Record) → made_of self done → length done + 1 ≡ number → made_of made (done ++ fields_of fields.now ∷ [])) }
+        ensures made { IfOk result (MakesNext made_of self number (fields_of fields.now)) }
         ensures refused { IfErr result (RefusesNext made_of refuses self number (fields_of fields.now)) }
         ensures no_reader { IfErr result (λ fault. Self.Fault.from_gives ReadFailed fault → ⊥) };
 

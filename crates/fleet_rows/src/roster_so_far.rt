@@ -6,7 +6,7 @@ ghost use Rattle.faults.specs.declared.faults.RosterFault.TheVariants as roster_
 ghost use Rattle.fleet_rows.specs.Kept.{max_roster_wagons};
 ghost use Rattle.fleet_rows.specs.Roster.{IsRoster, IsRosterRow};
 ghost use Rattle.fleet_rows.specs.SameWagons.{has_wagon, is_same_number};
-ghost use Rattle.fleet_rows.specs.inner.Reading.{RefusesWagon, first_record};
+ghost use Rattle.fleet_rows.specs.inner.Reading.{RefusesWagon, TellsFirst, first_record};
 
 use crate::roster_refusal::RosterRefusal;
 use crate::{Roster, RosterFault};
@@ -43,7 +43,7 @@ impl RosterSoFar {
         ensures named { IfOk result (λ more. more.named.items ≡ self.named.items ++ row.number ∷ []) }
         ensures new { OnOk result (has_wagon self.roster row.number ≡ false) }
         ensures refused { IfErr result (λ refusal. RefusesWagon refusal.fault self.roster row) }
-        ensures first { IfErr result (λ refusal. refusal.fault ≡ roster_fault.DuplicateWagon row.number → refusal.first ≡ first_record self.named.items row.number) }
+        ensures first { IfErr result (λ refusal. TellsFirst refusal.fault refusal.first self.named.items row.number) }
         ensures roster { IfOk result (λ more. IsRoster more.roster) }
     {
         let number = row.number;

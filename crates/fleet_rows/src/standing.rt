@@ -2,7 +2,7 @@
 ghost use Rattle.std.specs.Prelude.{◌≡◌, false, IfOk, IfSome, IsSome, OnErr, OnOk};
 ghost use Rattle.std.specs.BTreeSet.{contains};
 ghost use Rattle.fleet_rows.specs.EmptyWagons.{stand_of};
-ghost use Rattle.fleet_rows.specs.inner.Standings.{AreStandings, IsReplaced, compare_standings, standing_by};
+ghost use Rattle.fleet_rows.specs.inner.Standings.{AreStandings, HasSameStandings, IsReplaced, compare_standings, standing_by};
 ghost use Rattle.fleet_rows.specs.declared.standing.Standing.{Standing};
 
 use rail_codes::{ClassCode, Place};
@@ -59,7 +59,7 @@ pub(crate) fn replace(
     after: Option<Standing>,
 ) -> Result<(), AllocError>
     ensures replaced { OnOk result (IsReplaced before after (contains compare_standings standings.old) (contains compare_standings standings.new)) }
-    ensures refused { OnErr result ((standing : Standing) → contains compare_standings standings.new standing ≡ contains compare_standings standings.old standing) }
+    ensures refused { OnErr result (HasSameStandings (contains compare_standings standings.old) (contains compare_standings standings.new)) }
     ensures comes { OnErr result (IsSome after) }
     ensures absent { OnErr result (IfSome after (λ standing. contains compare_standings standings.old standing ≡ false)) }
 {

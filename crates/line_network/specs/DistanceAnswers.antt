@@ -1,7 +1,7 @@
 -- What is answered of two places.
-use Rattle.std.specs.Prelude.{ℕ, List, Option, Some, None}
+use Rattle.std.specs.Prelude.{◌≡◌, ℕ, List, Option, Some, None}
 use Rattle.line_network.specs.declared.line.Line.{Line}
-use Rattle.line_network.specs.Network.{NetworkValue}
+use Rattle.line_network.specs.Network.{NetworkValue, place_index}
 use Rattle.line_network.specs.Walk.{IsWalk}
 use Rattle.line_network.specs.Distance.{IsDistance}
 
@@ -17,3 +17,8 @@ HasNoWalk net a b = (walk : List Line) → IsWalk net a walk b → ⊥
 abbrev pub IsAnswered : NetworkValue → List ℕ → List ℕ → Option (ℕ × ℕ) → Type 0
 IsAnswered net a b None = HasNoWalk net a b
 IsAnswered net a b (Some distance) = IsDistance net a b distance
+
+-- the same of the places that have these numbers
+abbrev pub AreNumbersAnswered : NetworkValue → (from to : ℕ) → Option (ℕ × ℕ) → Type 0
+AreNumbersAnswered net from to answer =
+    (a b : List ℕ) → place_index net.places a ≡ Some from → place_index net.places b ≡ Some to → IsAnswered net a b answer

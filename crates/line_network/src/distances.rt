@@ -1,8 +1,7 @@
 //! The distances of a network.
-ghost use Rattle.std.specs.Prelude.{◌≡◌, ◌<◌, ◌≤◌, ℕ, List, Some, IfSome, IfNone, length};
-ghost use Rattle.line_network.specs.Network.{place_index};
+ghost use Rattle.std.specs.Prelude.{◌≡◌, ◌<◌, ◌≤◌, IfSome, IfNone, length};
 ghost use Rattle.line_network.specs.Distance.{IsDistance};
-ghost use Rattle.line_network.specs.DistanceAnswers.{HasNoWalk, IsAnswered, max_distance};
+ghost use Rattle.line_network.specs.DistanceAnswers.{AreNumbersAnswered, HasNoWalk, max_distance};
 
 use crate::Network;
 use crate::length::Length;
@@ -55,7 +54,7 @@ impl Tables {
     pub fn between_numbers(&self, from: usize, to: usize) -> Option<(u32, u32)>
         requires from { from < length self.now.places }
         requires to { to < length self.now.places }
-        ensures meaning { (a b : List ℕ) → place_index self.now.places a ≡ Some from → place_index self.now.places b ≡ Some to → IsAnswered self.now a b result }
+        ensures meaning { AreNumbersAnswered self.now from to result }
         ensures limit { IfSome result (λ d. (d.0 ≤ max_distance) × (d.1 ≤ max_distance)) }
     {
         self.rows[from][to].pair()

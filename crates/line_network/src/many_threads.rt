@@ -2,7 +2,7 @@
 ghost use Rattle.std.specs.Prelude.{◌≡◌, ◌≢◌, ◌+◌, ◌<◌, ◌≤◌, ◌↔◌, ℕ, All, IfErr, IfOk, IsErrOf, length, slice_index_or, vec_len};
 ghost use Rattle.line_network.specs.Workers.{IsBadWorkerCount};
 ghost use Rattle.line_network.specs.inner.Rows.{AreRows};
-ghost use Rattle.line_network.specs.inner.Shares.{AreShares, IsShare, IsWork, put_rows};
+ghost use Rattle.line_network.specs.inner.Shares.{AreShares, IsShare, IsWork, put_rows, share_of};
 
 use crate::length::Length;
 use crate::lines_by_origin::LinesByOrigin;
@@ -92,7 +92,7 @@ fn started<'s, 'e: 's, G: Gate + Sync>(
     gate: &'e G,
 ) -> Result<Vec<Running<'e>>, AllocError>
     requires { IsWork work.lines.now.lines.items work.lines.now.starts.items work.places work.workers }
-    ensures own { IfOk result (λ made. (k : ℕ) (d : _) → k < vec_len made → (slice_index_or made.items k d).promise ≡ record { work = work.entry; worker = k }) }
+    ensures own { IfOk result (λ made. (k : ℕ) (d : _) → k < vec_len made → (slice_index_or made.items k d).promise ≡ share_of work.entry k) }
     ensures few { IfOk result (λ running. vec_len running ≤ work.entry.workers) }
 {
     let mut running = Vec::with_capacity(alloc, work.workers)?;

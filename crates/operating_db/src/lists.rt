@@ -37,8 +37,8 @@ fn wanted_among(
     ensures { IfOk result (λ wanted. wanted.items ≡ filter_map (wanted_at rows.now) indices.now) }
 {
     let mut wanted = Vec::with_capacity(alloc, indices.len())?;
-    for place in indices {
-        if let Some(one) = wanted_at(rows, *place) {
+    for index in indices {
+        if let Some(one) = wanted_at(rows, *index) {
             wanted.push_reserved(one);
         }
     }
@@ -57,7 +57,6 @@ fn wanted(row: &OrderRow) -> Option<Wanted>
     ensures { result ≡ wanted_in row.now }
 {
     let text = *row.text();
-    // For the prover alone: an order wants at most 20 wagons.
-    let _at_most = text.wagons();
+    text.for_the_prover();
     Wanted::new(text, row.lack())
 }

@@ -165,9 +165,8 @@ impl OfficeState {
         ensures valid { IsState self.now }
         ensures first { IsFirstOffice self.now.networks self.now.office }
     {
-        let _wagons = self.wagon_rows();
-        let _orders = self.order_rows();
-        let _network = self.network();
+        self.wagons.for_the_prover();
+        self.orders.for_the_prover();
     }
 
     /// How many networks there are, 1 to 8. Takes no memory.
@@ -183,8 +182,8 @@ impl OfficeState {
     pub fn problem(&self, alloc: Global, at: Moment) -> Result<Problem, AllocError>
         ensures { IfOk result (λ problem. problem ≡ problem_of self.now.office at) }
     {
-        // For the prover alone: no name stands twice among the orders, and the open ones want at most 500 wagons.
-        let _rows = self.orders.as_slice();
+        // No name stands twice among the orders, and the open ones want at most 500 wagons.
+        self.orders.for_the_prover();
         let free = free_wagons(alloc, self.wagons.as_slice())?;
         let waiting = waiting_orders(alloc, &self.orders)?;
         let wagons = Arc::new(alloc, free)?;
@@ -301,8 +300,8 @@ impl OfficeState {
         ensures refused { IfErr result (λ fault. after_call self.now.networks self.now.office (event.Message message.now) ≡ Err fault) }
         ensures memory { IfErr result (λ fault. ¬ (fault ≡ ApplyFault.OutOfMemory)) }
     {
-        // For the prover alone: no wagon carries over 200,000 kg.
-        let _rows = self.wagons.as_slice();
+        // No wagon carries over 200,000 kg.
+        self.wagons.for_the_prover();
         let Some((index, row)) = self.wagons.find(message.wagon) else {
             return Err(ApplyFault::UnknownWagon);
         };
@@ -423,8 +422,8 @@ impl OfficeState {
         if !row.is_open() {
             return Err(ApplyFault::OrderClosed);
         }
-        // For the prover alone: no number stands twice among the wagons.
-        let _rows = self.wagons.as_slice();
+        // No number stands twice among the wagons.
+        self.wagons.for_the_prover();
         end_promises(&mut self.wagons, row.promised());
         self.orders.withdraw(index);
         Ok(())

@@ -44,7 +44,7 @@ impl Limits {
     pub fn for_the_prover(&self)
         ensures { AreLimits self.now.entries self.now.kept }
     {
-        let _entries = self.entries();
+        let _ = &self.entries;
     }
 
     /// The most entries, 1 to 1,000,000.

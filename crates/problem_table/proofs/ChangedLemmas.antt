@@ -26,8 +26,8 @@ alike_earlier_row net earlier at wagons orders rows lasts k wagon end h later wi
     let there = some_at wagons k within in
     alike_row net at there.0 wagon orders (get_or rows k []) end (alike there.0 there.1) (earlier_row net earlier at wagons orders rows lasts k there.0 end h later there.1 moment)
 
-pub place_within : (net : NetworkValue) (at : ℕ) (wagons : List FreeWagon) (orders : List WantedOrder) (rows : List (List (ℕ × ℕ))) (lasts : List ℕ) (k : ℕ) → AreLastingRows net at wagons orders rows lasts → k < length wagons → k < length rows
-place_within net at wagons orders rows lasts k h within = omega (arith, h.count, within)
+pub index_within : (net : NetworkValue) (at : ℕ) (wagons : List FreeWagon) (orders : List WantedOrder) (rows : List (List (ℕ × ℕ))) (lasts : List ℕ) (k : ℕ) → AreLastingRows net at wagons orders rows lasts → k < length wagons → k < length rows
+index_within net at wagons orders rows lasts k h within = omega (arith, h.count, within)
 
 -- rows that last are those of the same orders, whatever they lack
 pub same_rows : (net : NetworkValue) (at : ℕ) (wagons : List FreeWagon) (earlier orders : List WantedOrder) (rows : List (List (ℕ × ℕ))) (lasts : List ℕ) → HaveSameTexts earlier orders → AreLastingRows net at wagons earlier rows lasts → AreLastingRows net at wagons orders rows lasts

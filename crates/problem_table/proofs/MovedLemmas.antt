@@ -24,54 +24,54 @@ use Rattle.problem_table.proofs.AllowedLemmas.{some_at}
 same_some : {X : Type 0} (x y : X) → Some x ≡ Some y → x ≡ y
 same_some x y h = cc
 
--- what stands at a place is one thing
+-- what stands at a position is one thing
 same_at : {X : Type 0} (xs : List X) (i : ℕ) (x y : X) → slice_get xs i ≡ Some x → slice_get xs i ≡ Some y → x ≡ y
 same_at xs i x y h g = same_some x y (sym h ∙ g)
 
 iff_of : {P Q : Type 0} (a b : Option ℕ) (km : ℕ) → a ≡ b → P ≡ Q → (b ≡ Some km) ↔ P → (a ≡ Some km) ↔ Q
 iff_of a b km e s h = (λ i. subst (λ (T : Type 0). T) s (h.0 (sym e ∙ i)), λ q. e ∙ h.1 (subst (λ (T : Type 0). T) (sym s) q))
 
-module _ (places : List ℕ) (kept : ℕ) where
+module _ (positions : List ℕ) (kept : ℕ) where
   -- a cell whose order stays, and one whose order is gone
-  stays : (cell : ℕ × ℕ) (row : List (ℕ × ℕ)) → get_or places cell.0 0 < kept → moved_cells places kept (cell ∷ row) ≡ (get_or places cell.0 0, cell.1) ∷ moved_cells places kept row
-  stays cell row l = by (nat_lt (get_or places cell.0 0) kept) refl where
-    by : (b : Bool) → nat_lt (get_or places cell.0 0) kept ≡ b → moved_cells places kept (cell ∷ row) ≡ (get_or places cell.0 0, cell.1) ∷ moved_cells places kept row
+  stays : (cell : ℕ × ℕ) (row : List (ℕ × ℕ)) → get_or positions cell.0 0 < kept → moved_cells positions kept (cell ∷ row) ≡ (get_or positions cell.0 0, cell.1) ∷ moved_cells positions kept row
+  stays cell row l = by (nat_lt (get_or positions cell.0 0) kept) refl where
+    by : (b : Bool) → nat_lt (get_or positions cell.0 0) kept ≡ b → moved_cells positions kept (cell ∷ row) ≡ (get_or positions cell.0 0, cell.1) ∷ moved_cells positions kept row
     by true e = rw e refl
     by false e = absurd (grind (arith, nat_tests, e, l))
 
-  goes : (cell : ℕ × ℕ) (row : List (ℕ × ℕ)) → kept ≤ get_or places cell.0 0 → moved_cells places kept (cell ∷ row) ≡ moved_cells places kept row
-  goes cell row l = by (nat_lt (get_or places cell.0 0) kept) refl where
-    by : (b : Bool) → nat_lt (get_or places cell.0 0) kept ≡ b → moved_cells places kept (cell ∷ row) ≡ moved_cells places kept row
+  goes : (cell : ℕ × ℕ) (row : List (ℕ × ℕ)) → kept ≤ get_or positions cell.0 0 → moved_cells positions kept (cell ∷ row) ≡ moved_cells positions kept row
+  goes cell row l = by (nat_lt (get_or positions cell.0 0) kept) refl where
+    by : (b : Bool) → nat_lt (get_or positions cell.0 0) kept ≡ b → moved_cells positions kept (cell ∷ row) ≡ moved_cells positions kept row
     by true e = absurd (grind (arith, nat_tests, e, l))
     by false e = rw e refl
 
-  module _ (count : ℕ) (ascend : (i j : ℕ) → i < j → j < count → get_or places i 0 < kept → get_or places j 0 < kept → get_or places i 0 < get_or places j 0) where
+  module _ (count : ℕ) (ascend : (i j : ℕ) → i < j → j < count → get_or positions i 0 < kept → get_or positions j 0 < kept → get_or positions i 0 < get_or positions j 0) where
     -- moved cells ascend
-    pub moved_ascend : (low low' : ℕ) (row : List (ℕ × ℕ)) → IsRow count low row → ((i : ℕ) → low ≤ i → i < count → get_or places i 0 < kept → low' ≤ get_or places i 0) → IsRow kept low' (moved_cells places kept row)
+    pub moved_ascend : (low low' : ℕ) (row : List (ℕ × ℕ)) → IsRow count low row → ((i : ℕ) → low ≤ i → i < count → get_or positions i 0 < kept → low' ≤ get_or positions i 0) → IsRow kept low' (moved_cells positions kept row)
     moved_ascend low low' [] h above = tt
-    moved_ascend low low' (cell ∷ row) h above = elim (cases_lt (get_or places cell.0 0) kept) [
+    moved_ascend low low' (cell ∷ row) h above = elim (cases_lt (get_or positions cell.0 0) kept) [
       | inl l ↦
-          let rest = moved_ascend (cell.0 + 1) (get_or places cell.0 0 + 1) row h.3 (λ i from within here. let more = ascend cell.0 i (omega (arith, from)) within l here in omega (arith, more)) in
+          let rest = moved_ascend (cell.0 + 1) (get_or positions cell.0 0 + 1) row h.3 (λ i from within here. let more = ascend cell.0 i (omega (arith, from)) within l here in omega (arith, more)) in
           subst (IsRow kept low') (sym (stays cell row l)) (above cell.0 h.0 h.1 l, l, h.2, rest)
       | inr l ↦
           subst (IsRow kept low') (sym (goes cell row l)) (moved_ascend (cell.0 + 1) low' row h.3 (λ i from within here. above i (omega (arith, from, h.0)) within here))
     ]
 
     -- a moved row has at an order's new position what the row has at the earlier one
-    pub moved_cost : (i : ℕ) → i < count → get_or places i 0 < kept → (low : ℕ) (row : List (ℕ × ℕ)) → IsRow count low row → cost_in (moved_cells places kept row) (get_or places i 0) ≡ cost_in row i
+    pub moved_cost : (i : ℕ) → i < count → get_or positions i 0 < kept → (low : ℕ) (row : List (ℕ × ℕ)) → IsRow count low row → cost_in (moved_cells positions kept row) (get_or positions i 0) ≡ cost_in row i
     moved_cost i within here low [] h = refl
-    moved_cost i within here low (cell ∷ row) h = elim (cases_lt (get_or places cell.0 0) kept) [
+    moved_cost i within here low (cell ∷ row) h = elim (cases_lt (get_or positions cell.0 0) kept) [
       | inl l ↦
           let rest = moved_cost i within here (cell.0 + 1) row h.3 in
-          ap (λ cells. cost_in cells (get_or places i 0)) (stays cell row l)
-          ∙ (ap (λ (o : Option ℕ). cond (get_or places cell.0 0 == get_or places i 0) (Some cell.1) o) rest
+          ap (λ cells. cost_in cells (get_or positions i 0)) (stays cell row l)
+          ∙ (ap (λ (o : Option ℕ). cond (get_or positions cell.0 0 == get_or positions i 0) (Some cell.1) o) rest
           ∙ ap (λ (b : Bool). cond b (Some cell.1) (cost_in row i)) (same_test cell.0 h.1 l))
       | inr l ↦
           let rest = moved_cost i within here (cell.0 + 1) row h.3 in
-          ap (λ cells. cost_in cells (get_or places i 0)) (goes cell row l)
+          ap (λ cells. cost_in cells (get_or positions i 0)) (goes cell row l)
           ∙ (rest ∙ ap (λ (b : Bool). cond b (Some cell.1) (cost_in row i)) (sym (other_test cell.0 l)))
     ] where
-      same_test : (c : ℕ) → c < count → get_or places c 0 < kept → (get_or places c 0 == get_or places i 0) ≡ (c == i)
+      same_test : (c : ℕ) → c < count → get_or positions c 0 < kept → (get_or positions c 0 == get_or positions i 0) ≡ (c == i)
       same_test c l k = elim (cases_lt c i) [
         | inl below ↦ let less = ascend c i below within k here in grind (arith, nat_tests, less, below)
         | inr not_below ↦ elim (cases_lt i c) [
@@ -79,14 +79,14 @@ module _ (places : List ℕ) (kept : ℕ) where
           | inr not_above ↦ let at : c ≡ i = omega (arith, not_below, not_above) in rw at (both i)
         ]
       ] where
-        both : (i : ℕ) → (get_or places i 0 == get_or places i 0) ≡ (i == i)
+        both : (i : ℕ) → (get_or positions i 0 == get_or positions i 0) ≡ (i == i)
         both i = grind (arith, nat_tests)
 
-      other_test : (c : ℕ) → kept ≤ get_or places c 0 → (c == i) ≡ false
+      other_test : (c : ℕ) → kept ≤ get_or positions c 0 → (c == i) ≡ false
       other_test c gone = by (c == i) refl where
         by : (b : Bool) → (c == i) ≡ b → b ≡ false
         by false e = refl
-        by true e = let same : c ≡ i = grind (arith, nat_tests, e) in absurd (omega (arith, gone, here, ap (λ (k : ℕ). get_or places k 0) same))
+        by true e = let same : c ≡ i = grind (arith, nat_tests, e) in absurd (omega (arith, gone, here, ap (λ (k : ℕ). get_or positions k 0) same))
 
 -- the cells of a row ascend
 from_low : (count low : ℕ) (row : List (ℕ × ℕ)) → IsRow count low row → (k : ℕ) (d : ℕ × ℕ) → k < length row → low ≤ (get_or row k d).0
@@ -108,12 +108,12 @@ first_before count order row h k some within d is =
     subst (λ (n : ℕ). All (λ (cell : ℕ × ℕ). cell.0 < order) (take n row)) next (before_up_to count 0 order row h (k - 1) d (omega (arith, some, within)) is)
 
 -- cells of orders that stand where they stood stay as they are
-steady_same : (places : List ℕ) (kept steady : ℕ) → AreSteady places kept steady → (row : List (ℕ × ℕ)) → All (λ (cell : ℕ × ℕ). cell.0 < steady) row → moved_cells places kept row ≡ row
-steady_same places kept steady h [] all = refl
-steady_same places kept steady h (cell ∷ row) all =
+steady_same : (positions : List ℕ) (kept steady : ℕ) → AreSteady positions kept steady → (row : List (ℕ × ℕ)) → All (λ (cell : ℕ × ℕ). cell.0 < steady) row → moved_cells positions kept row ≡ row
+steady_same positions kept steady h [] all = refl
+steady_same positions kept steady h (cell ∷ row) all =
     let here = h cell.0 (All-head (λ (cell : ℕ × ℕ). cell.0 < steady) cell row all) in
-    stays places kept cell row (omega (arith, here.0, here.1))
-    ∙ (ap (λ (place : ℕ). (place, cell.1) ∷ moved_cells places kept row) here.0 ∙ ap (λ (cells : List (ℕ × ℕ)). cell ∷ cells) (steady_same places kept steady h row (All-tail (λ (cell : ℕ × ℕ). cell.0 < steady) cell row all)))
+    stays positions kept cell row (omega (arith, here.0, here.1))
+    ∙ (ap (λ (position : ℕ). (position, cell.1) ∷ moved_cells positions kept row) here.0 ∙ ap (λ (cells : List (ℕ × ℕ)). cell ∷ cells) (steady_same positions kept steady h row (All-tail (λ (cell : ℕ × ℕ). cell.0 < steady) cell row all)))
 
 -- each cell of a row is of an order
 pub cells_within : (count low : ℕ) (row : List (ℕ × ℕ)) → IsRow count low row → (k : ℕ) (d : ℕ × ℕ) → k < length row → (get_or row k d).0 < count
@@ -128,24 +128,24 @@ pub later_within : (count : ℕ) (row : List (ℕ × ℕ)) (first : ℕ) → IsR
 later_within count row first h = rw (rest_of first row) (All-drop (λ (cell : ℕ × ℕ). cell.0 < count) first row (cells_within count 0 row h))
 
 -- a row whose first cells stay as they are
-pub steady_first : (places : List ℕ) (kept steady : ℕ) (row : List (ℕ × ℕ)) (first : ℕ) (old now new : List (ℕ × ℕ)) → AreSteady places kept steady → All (λ (cell : ℕ × ℕ). cell.0 < steady) (take first row)
-    → now ≡ old ++ take first row → new ≡ now ++ moved_cells places kept (take (length row - first) (drop first row)) → new ≡ old ++ moved_cells places kept row
-steady_first places kept steady row first old now new h all is more =
-    let rest = moved_cells places kept (drop first row) in
-    more ∙ (ap (λ (cells : List (ℕ × ℕ)). now ++ moved_cells places kept cells) (rest_of first row)
+pub steady_first : (positions : List ℕ) (kept steady : ℕ) (row : List (ℕ × ℕ)) (first : ℕ) (old now new : List (ℕ × ℕ)) → AreSteady positions kept steady → All (λ (cell : ℕ × ℕ). cell.0 < steady) (take first row)
+    → now ≡ old ++ take first row → new ≡ now ++ moved_cells positions kept (take (length row - first) (drop first row)) → new ≡ old ++ moved_cells positions kept row
+steady_first positions kept steady row first old now new h all is more =
+    let rest = moved_cells positions kept (drop first row) in
+    more ∙ (ap (λ (cells : List (ℕ × ℕ)). now ++ moved_cells positions kept cells) (rest_of first row)
     ∙ (ap (λ (cells : List (ℕ × ℕ)). cells ++ rest) is
     ∙ (append_assoc old (take first row) rest
-    ∙ ap (λ (cells : List (ℕ × ℕ)). old ++ cells) (ap (λ (cells : List (ℕ × ℕ)). cells ++ rest) (sym (steady_same places kept steady h (take first row) all))
-    ∙ (sym (filter_map-append (moved_cell places kept) (take first row) (drop first row)) ∙ ap (moved_cells places kept) (take-append-drop first row))))))
+    ∙ ap (λ (cells : List (ℕ × ℕ)). old ++ cells) (ap (λ (cells : List (ℕ × ℕ)). cells ++ rest) (sym (steady_same positions kept steady h (take first row) all))
+    ∙ (sym (filter_map-append (moved_cell positions kept) (take first row) (drop first row)) ∙ ap (moved_cells positions kept) (take-append-drop first row))))))
 
 module _ (R : WantedOrder → ℕ → Type 0) (same : (one other : WantedOrder) (km : ℕ) → other.order ≡ one.order → R one km ≡ R other km) where
   -- a row goes along with its orders
-  pub moved_row : (earlier orders : List WantedOrder) (places : List ℕ) (kept : ℕ) (row : List (ℕ × ℕ)) → AreMoved earlier orders places kept → IsRowOf R earlier row → IsRowOf R (take kept orders) (moved_cells places kept row)
-  moved_row earlier orders places kept row h is =
+  pub moved_row : (earlier orders : List WantedOrder) (positions : List ℕ) (kept : ℕ) (row : List (ℕ × ℕ)) → AreMoved earlier orders positions kept → IsRowOf R earlier row → IsRowOf R (take kept orders) (moved_cells positions kept row)
+  moved_row earlier orders positions kept row h is =
       let short : length (take kept orders) ≡ kept = length-take-le kept orders h.within in
       record {
-        ascends = subst (λ (n : ℕ). IsRow n 0 (moved_cells places kept row)) (sym short)
-            (moved_ascend places kept (length earlier) h.ascend 0 0 row is.ascends (λ i from within here. omega arith));
+        ascends = subst (λ (n : ℕ). IsRow n 0 (moved_cells positions kept row)) (sym short)
+            (moved_ascend positions kept (length earlier) h.ascend 0 0 row is.ascends (λ i from within here. omega arith));
         cells = λ k km wanted there. at k km wanted there (omega (arith, slice_get_within (take kept orders) k wanted there, short));
       } where
         of_take : (k : ℕ) (os : List WantedOrder) (i : ℕ) (o : WantedOrder) → slice_get (take k os) i ≡ Some o → slice_get os i ≡ Some o
@@ -155,14 +155,14 @@ module _ (R : WantedOrder → ℕ → Type 0) (same : (one other : WantedOrder) 
         of_take (suc k) (x ∷ os) zero o e = e
         of_take (suc k) (x ∷ os) (suc i) o e = of_take k os i o e
 
-        at : (k km : ℕ) (wanted : WantedOrder) → slice_get (take kept orders) k ≡ Some wanted → k < kept → (cost_in (moved_cells places kept row) k ≡ Some km) ↔ R wanted km
+        at : (k km : ℕ) (wanted : WantedOrder) → slice_get (take kept orders) k ≡ Some wanted → k < kept → (cost_in (moved_cells positions kept row) k ≡ Some km) ↔ R wanted km
         at k km wanted there within =
             let source = h.from k within in
             let one = some_at earlier source.0 source.1 in
-            let stays_here : get_or places source.0 0 < kept = omega (arith, source.2, within) in
-            let to : slice_get orders (get_or places source.0 0) ≡ Some wanted = ap (slice_get orders) source.2 ∙ of_take kept orders k wanted there in
+            let stays_here : get_or positions source.0 0 < kept = omega (arith, source.2, within) in
+            let to : slice_get orders (get_or positions source.0 0) ≡ Some wanted = ap (slice_get orders) source.2 ∙ of_take kept orders k wanted there in
             let order = h.each source.0 one.0 wanted one.1 stays_here to in
-            let cost = ap (cost_in (moved_cells places kept row)) (sym source.2) ∙ moved_cost places kept (length earlier) h.ascend source.0 source.1 stays_here 0 row is.ascends in
+            let cost = ap (cost_in (moved_cells positions kept row)) (sym source.2) ∙ moved_cost positions kept (length earlier) h.ascend source.0 source.1 stays_here 0 row is.ascends in
             iff_of _ (cost_in row source.0) km cost (same one.0 wanted km order) (is.cells source.0 km one.0 one.1)
 
   -- a row over the same orders, whatever they lack
@@ -183,12 +183,12 @@ pub came_part : (k : ℕ) (orders : List WantedOrder) → take (length orders - 
 came_part k orders = take_all (length orders - k) (drop k orders) (omega (arith, length-drop k orders))
 
 -- a row that goes along is one over the earlier orders
-pub along_ascends : (net : NetworkValue) (problem : ProblemValue) (wagon : FreeWagon) (moved : Moved) (row : List (ℕ × ℕ)) (last : ℕ) → GoesAlong problem net wagon moved row last → problem.at ≤ last → IsRow (length moved.places.items) 0 row
+pub along_ascends : (net : NetworkValue) (problem : ProblemValue) (wagon : FreeWagon) (moved : Moved) (row : List (ℕ × ℕ)) (last : ℕ) → GoesAlong problem net wagon moved row last → problem.at ≤ last → IsRow (length moved.positions.items) 0 row
 along_ascends net problem wagon moved row last h within = subst (λ (n : ℕ). IsRow n 0 row) (sym h.are.count) (h.is problem.at (omega arith) within).ascends
 
 -- a row that went along, before the goals of the orders that came
 pub along_so_far : (net : NetworkValue) (problem : ProblemValue) (wagon : FreeWagon) (moved : Moved) (row now : List (ℕ × ℕ)) (last : ℕ) (goals : List Goal)
-    → GoesAlong problem net wagon moved row last → now ≡ moved_cells moved.places.items moved.kept row → goals ≡ goals_from net wagon.class moved.kept (drop moved.kept problem.orders)
+    → GoesAlong problem net wagon moved row last → now ≡ moved_cells moved.positions.items moved.kept row → goals ≡ goals_from net wagon.class moved.kept (drop moved.kept problem.orders)
     → (m : ℕ) → problem.at ≤ m → m ≤ last → RowSoFar net m wagon problem.orders goals [] now
 along_so_far net problem wagon moved row now last goals h is left m from up =
     let short : length (take moved.kept problem.orders) ≡ moved.kept = length-take-le moved.kept problem.orders h.are.within in
@@ -198,9 +198,9 @@ along_so_far net problem wagon moved row now last goals h is left m from up =
       all = take-append-drop moved.kept problem.orders;
       left_is = left ∙ ap (λ (k : ℕ). goals_from net wagon.class k (drop moved.kept problem.orders)) (sym short);
       row = record {
-        row = moved_cells moved.places.items moved.kept row;
+        row = moved_cells moved.positions.items moved.kept row;
         behind = is;
-        is = moved_row (λ (wanted : WantedOrder). Reaches net m wagon wanted.order) (by_text net m wagon) h.earlier problem.orders moved.places.items moved.kept row h.are (h.is m from up);
+        is = moved_row (λ (wanted : WantedOrder). Reaches net m wagon wanted.order) (by_text net m wagon) h.earlier problem.orders moved.positions.items moved.kept row h.are (h.is m from up);
       };
     }
 

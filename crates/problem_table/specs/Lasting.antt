@@ -5,7 +5,11 @@ use Rattle.wagons_and_orders.specs.Wanted.{WantedOrder}
 use Rattle.line_network.specs.Network.{NetworkValue}
 use Rattle.cost_table.specs.Problem.{ProblemValue, penalties_of, lacks_of}
 use Rattle.cost_table.specs.Table.{Table, cost_at, wagon_count}
-use Rattle.problem_table.specs.Allowed.{Reaches}
+use Rattle.problem_table.specs.Allowed.{IsTableOf, Reaches}
+
+-- the table of a problem over a network at its moment and at each later one up to this
+abbrev pub IsTableUntil : NetworkValue → ProblemValue → (until : ℕ) → Table → Type 0
+IsTableUntil net problem until t = (m : ℕ) → problem.at ≤ m → m ≤ until → IsTableOf net (record problem { at = m }) t
 
 -- The table of a problem over a network that has a last moment for each wagon: at each moment from the problem's up to
 -- that one, the wagon's cells are those of the table of that moment.

@@ -2,11 +2,11 @@
 ghost use Rattle.std.specs.Prelude.{◌≡◌, ◌+◌, ◌*◌, ◌<◌, ◌≤◌, [], ℕ, IfNone, IfOk, IfSome, Option, Some, length, max};
 ghost use Rattle.line_network.specs.Network.{place_index};
 ghost use Rattle.problem_table.specs.Allowed.{IsTableOf};
-ghost use Rattle.problem_table.specs.Lasting.{IsLastingTable};
+ghost use Rattle.problem_table.specs.Lasting.{IsLastingTable, IsTableUntil};
 ghost use Rattle.problem_table.specs.inner.AllowedRows.{AreLastingRows, IsLastingRow};
 ghost use Rattle.problem_table.specs.inner.Goals.{IsWayTo, goals_of};
 ghost use Rattle.problem_table.specs.inner.RowsSoFar.{RowSoFar};
-ghost use Rattle.cost_table.specs.SharedRows.{ArePlaced, rows_in};
+ghost use Rattle.cost_table.specs.SharedRows.{HasIndices, rows_in};
 ghost use Rattle.cost_table.specs.TableLimits.{max_cost};
 
 use crate::goals::Goal;
@@ -36,7 +36,7 @@ pub fn timed_cells(
 ) -> Result<TimedCells, AllocError>
     ensures table { IfOk result (λ made. IsTableOf tables.now problem.now made.cells) }
     ensures within { IfOk result (λ made. problem.now.at ≤ made.until) }
-    ensures lasts { IfOk result (λ made. (m : ℕ) → problem.now.at ≤ m → m ≤ made.until → IsTableOf tables.now (record problem.now { at = m }) made.cells) }
+    ensures lasts { IfOk result (λ made. IsTableUntil tables.now problem.now made.until made.cells) }
     ensures by_wagon { IfOk result (λ made. IsLastingTable tables.now problem.now made.cells made.lasts.items) }
 {
     let (rows, lasts) = rows(alloc, problem, tables)?;
@@ -49,7 +49,7 @@ fn rows(
     problem: &Problem,
     tables: &Tables,
 ) -> Result<(TableRows, Vec<u64>), AllocError>
-    ensures placed { IfOk result (λ r. ArePlaced r.0) }
+    ensures indexed { IfOk result (λ r. HasIndices r.0) }
     ensures rows { IfOk result (λ r. AreLastingRows tables.now problem.now.at problem.now.wagons problem.now.orders (rows_in r.0) r.1.items) }
 {
     let wagons = problem.wagons();
@@ -78,8 +78,8 @@ pub(crate) fn push_row(
     ensures row { IfOk result (λ last. IsLastingRow tables.now problem.now.at wagon.now problem.now.orders entries.new.items last) }
     ensures within { IfOk result (λ last. problem.now.at ≤ last) }
 {
-    // For the prover alone: a moment is below the greatest number.
-    let _at = problem.at();
+    // A moment is below the greatest number.
+    problem.at().for_the_prover();
     push_goals(entries, problem, wagon, from, goals, tables, u64::MAX)
 }
 

@@ -1,13 +1,13 @@
 //! The table of a problem, changed from that of an earlier one.
 ghost use Rattle.std.specs.Prelude.{◌≡◌, ◌+◌, ◌<◌, ◌≤◌, ◌↔◌, [], ℕ, IfOk, IfSome, IsTrue, OnOk, Some, length, slice_get, slice_index_or};
 ghost use Rattle.problem_table.specs.Allowed.{IsTableOf};
-ghost use Rattle.problem_table.specs.Lasting.{IsLastingTable};
+ghost use Rattle.problem_table.specs.Lasting.{IsLastingTable, IsTableUntil};
 ghost use Rattle.problem_table.specs.inner.AllowedRows.{AreLastingRows, IsLastingRow};
 ghost use Rattle.problem_table.specs.inner.Making.{AddsRowUntil, AddsWagon, AreMade};
 ghost use Rattle.problem_table.specs.inner.Alike.{AreAlike};
 ghost use Rattle.problem_table.specs.inner.Moved.{AreCome, AreMoved, AreSteady, GoesAlong, HaveSameTexts};
 ghost use Rattle.problem_table.specs.inner.RowsSoFar.{RowSoFar};
-ghost use Rattle.cost_table.specs.SharedRows.{ArePlaced, rows_in};
+ghost use Rattle.cost_table.specs.SharedRows.{HasIndices, rows_in};
 ghost use Rattle.wagons_and_orders.specs.declared.free_wagon.FreeWagon.{FreeWagon};
 
 use crate::alike::{Seen, are_alike, is_alike_before};
@@ -35,7 +35,7 @@ pub fn changed_cells(
     requires made { IsLastingTable tables.now earlier.now made.now.cells made.now.lasts.items }
     ensures table { IfOk result (λ made. IsTableOf tables.now problem.now made.cells) }
     ensures within { IfOk result (λ made. problem.now.at ≤ made.until) }
-    ensures lasts { IfOk result (λ made. (m : ℕ) → problem.now.at ≤ m → m ≤ made.until → IsTableOf tables.now (record problem.now { at = m }) made.cells) }
+    ensures lasts { IfOk result (λ made. IsTableUntil tables.now problem.now made.until made.cells) }
     ensures by_wagon { IfOk result (λ made. IsLastingTable tables.now problem.now made.cells made.lasts.items) }
 {
     let (rows, lasts) = rows_after(alloc, problem, tables, earlier, made)?;
@@ -52,7 +52,7 @@ fn rows_after(
 ) -> Result<(TableRows, Vec<u64>), AllocError>
     requires earlier { earlier.now.at ≤ problem.now.at }
     requires made { IsLastingTable tables.now earlier.now made.now.cells made.now.lasts.items }
-    ensures placed { IfOk result (λ r. ArePlaced r.0) }
+    ensures indexed { IfOk result (λ r. HasIndices r.0) }
     ensures rows { IfOk result (λ r. AreLastingRows tables.now problem.now.at problem.now.wagons problem.now.orders (rows_in r.0) r.1.items) }
 {
     let rows = made.cells.rows();
@@ -79,9 +79,9 @@ fn shared_rows(
     lasts: &[u64],
 ) -> Result<(TableRows, Vec<u64>), AllocError>
     requires earlier { earlier.now.at ≤ problem.now.at }
-    requires placed { ArePlaced rows.now }
+    requires indexed { HasIndices rows.now }
     requires rows { AreLastingRows tables.now earlier.now.at earlier.now.wagons problem.now.orders (rows_in rows.now) lasts.now }
-    ensures placed { IfOk result (λ r. ArePlaced r.0) }
+    ensures indexed { IfOk result (λ r. HasIndices r.0) }
     ensures rows { IfOk result (λ r. AreLastingRows tables.now problem.now.at problem.now.wagons problem.now.orders (rows_in r.0) r.1.items) }
 {
     let wagons = problem.wagons();
@@ -108,9 +108,9 @@ fn moved_rows(
     lasts: &[u64],
 ) -> Result<(TableRows, Vec<u64>), AllocError>
     requires earlier { earlier.now.at ≤ problem.now.at }
-    requires placed { ArePlaced rows.now }
+    requires indexed { HasIndices rows.now }
     requires rows { AreLastingRows tables.now earlier.now.at earlier.now.wagons earlier.now.orders (rows_in rows.now) lasts.now }
-    ensures placed { IfOk result (λ r. ArePlaced r.0) }
+    ensures indexed { IfOk result (λ r. HasIndices r.0) }
     ensures rows { IfOk result (λ r. AreLastingRows tables.now problem.now.at problem.now.wagons problem.now.orders (rows_in r.0) r.1.items) }
 {
     let wagons = problem.wagons();
@@ -183,9 +183,9 @@ fn last_at(lasts: &[u64], k: usize) -> Option<u64>
 
 /// Takes over the row at an index of the earlier table, which lasts up to this moment.
 fn take_over(making: &mut Making, rows: &TableRows, at: usize, last: u64) -> Result<(), AllocError>
-    requires placed { ArePlaced making.old.rows }
+    requires indexed { HasIndices making.old.rows }
     requires shared { making.old.rows.shared.value ≡ rows.now.shared.value }
-    requires rows { ArePlaced rows.now }
+    requires rows { HasIndices rows.now }
     requires wagon { at < length (rows_in rows.now) }
     ensures row { OnOk result (AddsRowUntil making.old making.new (slice_index_or (rows_in rows.now) at []) last) }
     ensures classes { making.new.classes ≡ making.old.classes }
@@ -208,8 +208,8 @@ pub(crate) struct Moving {
 impl Moving {
     /// No row has gone along from an earlier problem to a later one.
     fn beginning(alloc: Global, earlier: &Problem, problem: &Problem) -> Result<Moving, AllocError>
-        ensures moved { IfOk result (λ moving. AreMoved earlier.now.orders problem.now.orders moving.moved.places.items moving.moved.kept) }
-        ensures steady { IfOk result (λ moving. AreSteady moving.moved.places.items moving.moved.kept moving.moved.steady) }
+        ensures moved { IfOk result (λ moving. AreMoved earlier.now.orders problem.now.orders moving.moved.positions.items moving.moved.kept) }
+        ensures steady { IfOk result (λ moving. AreSteady moving.moved.positions.items moving.moved.kept moving.moved.steady) }
         ensures came { IfOk result (λ moving. moving.came.items ≡ []) }
     {
         Ok(Moving {
@@ -236,7 +236,7 @@ fn take_along(
 ) -> Result<(), AllocError>
     requires wagon { slice_get problem.now.wagons k ≡ Some wagon.now }
     requires made { AreMade tables.now problem.now k making.old }
-    requires rows { ArePlaced rows.now }
+    requires rows { HasIndices rows.now }
     requires row { at < length (rows_in rows.now) }
     requires along { GoesAlong problem.now tables.now wagon.now moving.old.moved (slice_index_or (rows_in rows.now) at []) last }
     requires within { problem.now.at ≤ last }
@@ -246,12 +246,12 @@ fn take_along(
     ensures moved { moving.new.moved ≡ moving.old.moved }
     ensures came { OnOk result (AreCome tables.now problem.now.orders moving.new) }
 {
-    let place = rows.places[at];
-    let i = moving.seen.at(place);
+    let index = rows.indices[at];
+    let i = moving.seen.at(index);
     if is_alike_before(problem.wagons(), i, k, wagon, problem.at()) {
         return repeat(making, i);
     }
-    moving.seen.note(place, k);
+    moving.seen.note(index, k);
     move_row(
         alloc,
         making,
@@ -275,7 +275,7 @@ fn move_row(
     last: u64,
     wagon: &FreeWagon,
 ) -> Result<(), AllocError>
-    requires placed { ArePlaced making.old.rows }
+    requires indexed { HasIndices making.old.rows }
     requires along { GoesAlong problem.now tables.now wagon.now moving.old.moved row.now last }
     requires within { problem.now.at ≤ last }
     requires came { AreCome tables.now problem.now.orders moving.old }

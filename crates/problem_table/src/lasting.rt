@@ -2,7 +2,7 @@
 ghost use Rattle.std.specs.Prelude.{◌≡◌, ◌<◌, ◌≤◌, ◌^◌, ℕ, All, IfOk, length};
 ghost use Rattle.cost_table.specs.Problem.{penalties_of, lacks_of};
 ghost use Rattle.cost_table.specs.TableLimits.{IsRow, max_cost};
-ghost use Rattle.cost_table.specs.SharedRows.{ArePlaced, rows_in};
+ghost use Rattle.cost_table.specs.SharedRows.{HasIndices, rows_in};
 ghost use Rattle.problem_table.specs.inner.AllowedRows.{table_of_rows};
 ghost use Rattle.wagons_and_orders.specs.WantedLimits.{IsLack};
 
@@ -28,7 +28,7 @@ pub(crate) fn timed(
     rows: TableRows,
     lasts: Vec<u64>,
 ) -> Result<TimedCells, AllocError>
-    requires placed { ArePlaced rows }
+    requires indexed { HasIndices rows }
     requires count { length (rows_in rows) ≡ length problem.now.wagons }
     requires ascend { All (IsRow (length problem.now.orders) 0) (rows_in rows) }
     requires within { All (λ last. problem.now.at ≤ last) lasts.items }
@@ -41,8 +41,8 @@ pub(crate) fn timed(
     let penalties = penalties(alloc, orders)?;
     let lacks = lacks(alloc, orders)?;
     let cells = Cells::of_rows(rows, penalties, lacks);
-    // For the prover alone: a moment is below the greatest number.
-    let _at = problem.at();
+    // A moment is below the greatest number.
+    problem.at().for_the_prover();
     let until = earliest(&lasts);
     Ok(TimedCells {
         cells,

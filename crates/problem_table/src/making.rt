@@ -1,6 +1,6 @@
 //! The rows of a problem's table while they are made, wagon by wagon.
 ghost use Rattle.std.specs.Prelude.{◌≡◌, ◌+◌, ◌<◌, [], All, IfOk, OnOk, length, slice_get, slice_index, slice_index_or, Some};
-ghost use Rattle.cost_table.specs.SharedRows.{ArePlaced, rows_in};
+ghost use Rattle.cost_table.specs.SharedRows.{HasIndices, rows_in};
 ghost use Rattle.line_network.specs.Network.{place_index};
 ghost use Rattle.problem_table.specs.declared.goals.ClassGoals.{ClassGoals};
 ghost use Rattle.problem_table.specs.inner.Goals.{AreGoalsOf};
@@ -108,7 +108,7 @@ fn number_of(class: usize, place: Option<usize>) -> usize {
 
 /// Takes the row of wagon `i` once more.
 pub(crate) fn repeat(making: &mut Making, i: usize) -> Result<(), AllocError>
-    requires placed { ArePlaced making.old.rows }
+    requires indexed { HasIndices making.old.rows }
     requires row { i < length (rows_in making.old.rows) }
     requires moment { i < length making.old.lasts.items }
     ensures row { OnOk result (AddsRowUntil making.old making.new (slice_index_or (rows_in making.old.rows) i []) (slice_index making.old.lasts.items i)) }
@@ -129,7 +129,7 @@ fn find(
     from: Option<usize>,
     class: usize,
 ) -> Result<(), AllocError>
-    requires placed { ArePlaced making.old.rows }
+    requires indexed { HasIndices making.old.rows }
     requires classes { All (AreGoalsOf tables.now 0 problem.now.orders) making.old.classes.items }
     requires within { class < length making.old.classes.items }
     requires class { (d : ClassGoals) → (slice_index_or making.old.classes.items class d).class ≡ wagon.now.class }

@@ -15,7 +15,7 @@ const GONE: u32 = u32::MAX;
 #[derive(Drop)]
 pub(crate) struct Moved {
     /// The position of each, or one behind those of all orders.
-    pub(crate) places: Vec<u32>,
+    pub(crate) positions: Vec<u32>,
     /// How many of the later orders are among the earlier ones: the first of them.
     pub(crate) kept: usize,
     /// How many of the first orders stand where they stood.
@@ -31,22 +31,22 @@ impl Moved {
         orders: &[Wanted],
     ) -> Result<Moved, AllocError>
         requires few { length orders.now ≤ max_table_orders }
-        ensures moved { IfOk result (λ moved. AreMoved earlier.now orders.now moved.places.items moved.kept) }
-        ensures steady { IfOk result (λ moved. AreSteady moved.places.items moved.kept moved.steady) }
+        ensures moved { IfOk result (λ moved. AreMoved earlier.now orders.now moved.positions.items moved.kept) }
+        ensures steady { IfOk result (λ moved. AreSteady moved.positions.items moved.kept moved.steady) }
     {
-        let mut places = Vec::with_capacity(alloc, earlier.len())?;
+        let mut positions = Vec::with_capacity(alloc, earlier.len())?;
         let mut kept = 0;
         for one in earlier {
             if is_order_at(orders, kept, one) {
-                places.push_reserved(kept as u32);
+                positions.push_reserved(kept as u32);
                 kept += 1;
             } else {
-                places.push_reserved(GONE);
+                positions.push_reserved(GONE);
             }
         }
-        let steady = steady_count(&places, kept);
+        let steady = steady_count(&positions, kept);
         Ok(Moved {
-            places,
+            positions,
             kept,
             steady,
         })
@@ -54,12 +54,12 @@ impl Moved {
 }
 
 /// How many of the first positions are those of the same numbers, among those that are kept.
-fn steady_count(places: &[u32], kept: usize) -> usize
-    ensures { AreSteady places.now kept result }
+fn steady_count(positions: &[u32], kept: usize) -> usize
+    ensures { AreSteady positions.now kept result }
 {
-    let most = kept.min(places.len());
+    let most = kept.min(positions.len());
     for k in 0..most {
-        if places[k] as usize != k {
+        if positions[k] as usize != k {
             return k;
         }
     }
@@ -99,9 +99,9 @@ pub(crate) fn move_cells(
     row: &[(u32, u32)],
     moved: &Moved,
 ) -> Result<(), AllocError>
-    requires ascends { IsRow (length moved.now.places.items) 0 row.now }
-    requires steady { AreSteady moved.now.places.items moved.now.kept moved.now.steady }
-    ensures { OnOk result (entries.new.items ≡ entries.old.items ++ moved_cells moved.now.places.items moved.now.kept row.now) }
+    requires ascends { IsRow (length moved.now.positions.items) 0 row.now }
+    requires steady { AreSteady moved.now.positions.items moved.now.kept moved.now.steady }
+    ensures { OnOk result (entries.new.items ≡ entries.old.items ++ moved_cells moved.now.positions.items moved.now.kept row.now) }
 {
     let first = steady_cells(row, moved);
     entries.extend_from_slice(&row[..first])?;
@@ -110,7 +110,7 @@ pub(crate) fn move_cells(
 
 /// How many of the first cells of a row are those of the first orders, which stand where they stood.
 fn steady_cells(row: &[(u32, u32)], moved: &Moved) -> usize
-    requires { IsRow (length moved.now.places.items) 0 row.now }
+    requires { IsRow (length moved.now.positions.items) 0 row.now }
     ensures within { result ≤ length row.now }
     ensures before { All (λ cell. cell.0 < moved.now.steady) (take result row.now) }
 {
@@ -130,14 +130,14 @@ fn move_later_cells(
     row: &[(u32, u32)],
     moved: &Moved,
 ) -> Result<(), AllocError>
-    requires { All (λ cell. cell.0 < length moved.now.places.items) row.now }
-    ensures { OnOk result (entries.new.items ≡ entries.old.items ++ moved_cells moved.now.places.items moved.now.kept row.now) }
+    requires { All (λ cell. cell.0 < length moved.now.positions.items) row.now }
+    ensures { OnOk result (entries.new.items ≡ entries.old.items ++ moved_cells moved.now.positions.items moved.now.kept row.now) }
 {
     entries.reserve(row.len())?;
     for cell in row {
-        let place = moved.places[cell.0 as usize];
-        if (place as usize) < moved.kept {
-            entries.push_reserved((place, cell.1));
+        let position = moved.positions[cell.0 as usize];
+        if (position as usize) < moved.kept {
+            entries.push_reserved((position, cell.1));
         }
     }
     Ok(())

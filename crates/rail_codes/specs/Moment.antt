@@ -51,3 +51,8 @@ clock_text shown =
 abbrev pub IsMomentText : ℕ → List ℕ → Type 0
 IsMomentText seconds text =
     (shown : DateTime) × (civil_seconds shown ≡ pos seconds) × (text ≡ clock_text shown)
+
+-- a text and behind it that of a moment, which is read as that moment
+abbrev pub AddsMoment : ℕ → (before after : List ℕ) → Type 0
+AddsMoment seconds before after =
+    (added : List ℕ) × (after ≡ before ++ added) × IsMomentText seconds added × (moment_of added ≡ Ok seconds)

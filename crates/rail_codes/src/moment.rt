@@ -1,6 +1,6 @@
 //! Moments.
-ghost use Rattle.std.specs.Prelude.{◌≡◌, ◌*◌, ◌↔◌, ◌++◌, List, ℕ, pos, Ok, IsOk, IfOk, OnOk, string_bytes};
-ghost use Rattle.rail_codes.specs.Moment.{IsMoment, IsMomentText, moment_of_seconds, moment_of};
+ghost use Rattle.std.specs.Prelude.{◌≡◌, ◌*◌, ◌↔◌, ℕ, pos, Ok, IsOk, IfOk, OnOk, string_bytes};
+ghost use Rattle.rail_codes.specs.Moment.{AddsMoment, IsMoment, IsMomentText, moment_of_seconds, moment_of};
 
 use crate::CodeFault;
 use jiff::Timestamp;
@@ -74,6 +74,11 @@ impl Moment {
         self.seconds
     }
 
+    /// Does nothing: for the prover alone, it says what holds of every moment.
+    pub fn for_the_prover(self)
+        ensures { IsMoment self }
+    {}
+
     /// The moment as text: `YYYY-MM-DDThh:mm:ssZ`.
     pub fn text(self, alloc: Global) -> Result<String, AllocError>
         ensures printed { IfOk result (λ s. IsMomentText self (string_bytes s)) }
@@ -86,7 +91,7 @@ impl Moment {
 
     /// Adds the moment's text at the end of another.
     pub fn push_text(self, text: &mut String) -> Result<(), AllocError>
-        ensures { OnOk result ((added : List ℕ) × (string_bytes text.new ≡ string_bytes text.old ++ added) × IsMomentText self added × (moment_of added ≡ Ok self)) }
+        ensures { OnOk result (AddsMoment self (string_bytes text.old) (string_bytes text.new)) }
     {
         let shown = Offset::UTC.to_datetime(instant(self));
         write!(text, "{shown}Z")

@@ -58,7 +58,7 @@ fn small_cost(cells: &Cells, plan: &Plan, prices: &Prices, certified: Certified)
     requires cost { certified ≡ cost_of cells.now plan.now }
     ensures { result ≡ cost_of cells.now plan.now }
 {
-    // For the prover alone: a table's numbers are within its limits.
-    let _orders = cells.orders();
+    // A table's numbers are within its limits.
+    cells.for_the_prover();
     certified.cost() as u64
 }

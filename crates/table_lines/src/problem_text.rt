@@ -27,9 +27,9 @@ pub fn problem_line(alloc: Global, problem: &Problem, cells: &Cells) -> Result<S
     ensures reads { IfOk result (λ line. StatesTable (names_of_problem problem.now) cells.now (string_bytes line)) }
 {
     let table = table_of(alloc, problem, cells)?;
-    // For the prover alone: no name stands twice, and a table's numbers are within its limits.
-    let _wagons = problem.wagons();
-    let _orders = cells.orders();
+    // No name stands twice, and a table's numbers are within its limits.
+    problem.for_the_prover();
+    cells.for_the_prover();
     unplanned_line(alloc, &table)
 }
 

@@ -1,6 +1,7 @@
 -- The costs of a table by order, in one flat list.
 use Rattle.std.specs.Prelude.{◌≡◌, ◌+◌, ◌*◌, ◌<◌, ◌≤◌, ◌==◌, nat_lt, ℕ, if◌then◌else◌, List, length, take, Option, Some, None, slice_index}
 use Rattle.cost_table.specs.Table.{Table, cost_at, cost_in, row_at, penalty_at, wagon_count, order_count}
+use Rattle.assignment.specs.declared.costs.Columns.{Columns}
 use Rattle.assignment.specs.declared.costs.TheConstants.{NO_CELL}
 
 -- the number that stands for a cell
@@ -28,6 +29,10 @@ pub record AreColumnsOf (t : Table) (cell : ℕ → ℕ → Option ℕ) (flat v 
   pub costs : AreCostsOf t cell flat
   pub prices : ArePricesOf t cell v
   pub hints : length nearest ≡ order_count t
+
+-- the costs and first prices of a table, and a hint for each order
+abbrev pub AreColumns : Table → Columns → Type 0
+AreColumns t columns = AreColumnsOf t (cost_at t) columns.costs.items columns.v.items columns.nearest.items
 
 -- each of the wagons n and n + 1 has a cost for every order
 pub record AreFullRows (t : Table) (n : ℕ) : Type 0 where

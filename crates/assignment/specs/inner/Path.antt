@@ -42,6 +42,10 @@ one_if k (Some q) = if q == k then 1 else 0
 abbrev pub wagons_of : Kept → ℕ → ℕ
 wagons_of s k = served k s.order_of
 
+-- how many wagons each order has before a unit is handed on: the order that gives one up has one
+abbrev pub HasOneToGive : (before : ℕ → ℕ) → Search → (given_up : Option ℕ) → ℕ → Type 0
+HasOneToGive before f given_up k = one_if k given_up ≤ before k + one_if k (Some (slice_index f.orders.items 0))
+
 -- how many wagons each order has, before and after a unit is handed on: the first order of the path has one more, and the
 -- order that gives one up has one fewer
 abbrev pub IsHandedOn : (before after : ℕ → ℕ) → Search → (given_up : Option ℕ) → ℕ → Type 0

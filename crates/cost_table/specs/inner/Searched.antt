@@ -1,7 +1,7 @@
 -- Rows that are searched by order.
 use Rattle.std.specs.Prelude.{◌<◌, ℕ, List, length, slice_index_or}
 
--- the order of the cell at place k of a row
+-- the order of the cell at index k of a row
 abbrev pub order_of_cell : List (ℕ × ℕ) → ℕ → ℕ
 order_of_cell row k = (slice_index_or row k (0, 0)).0
 

@@ -33,6 +33,10 @@ pub record IsNumberedSoFar (so_far : RosterSoFar) (records : List Record) : Type
 abbrev pub first_record : (named : List (List ℕ)) → (wagon : List ℕ) → Option ℕ
 first_record named wagon = option_map (λ k. k + 2) (position (is_same_number wagon) named)
 
+-- the first record that names a wagon is told where an earlier record did
+abbrev pub TellsFirst : RosterFault → (first : Option ℕ) → (named : List (List ℕ)) → (wagon : List ℕ) → Type 0
+TellsFirst fault first named wagon = fault ≡ DuplicateWagon wagon → first ≡ first_record named wagon
+
 -- why a wagon was not added
 abbrev pub RefusesWagon : RosterFault → List WagonRow → WagonRow → Type 0
 RefusesWagon OutOfMemory rows row = Unit {0}

@@ -30,6 +30,10 @@ is_there before after was standing = is_standing after standing || (was && not (
 abbrev pub IsReplaced : (before after : Option Standing) → (was has : Standing → Bool) → Type 0
 IsReplaced before after was has = (standing : Standing) → has standing ≡ is_there before after (was standing) standing
 
+-- the same standings as before
+abbrev pub HasSameStandings : (was has : Standing → Bool) → Type 0
+HasSameStandings was has = (standing : Standing) → has standing ≡ was standing
+
 -- whether a row that there may be is that of an empty wagon that isn't held, of this class, at this place
 abbrev pub stands_in : (class place : List ℕ) → Option WagonRow → Bool
 stands_in class place None = false

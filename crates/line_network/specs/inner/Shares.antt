@@ -8,6 +8,8 @@ use Rattle.line_network.specs.NetworkLimits.{IsLine, max_places}
 use Rattle.line_network.specs.declared.line.Line.{Line}
 use Rattle.line_network.specs.declared.length.Length.{Length}
 use Rattle.line_network.specs.declared.share.OriginRow.{OriginRow}
+use Rattle.line_network.specs.declared.share.Share.{Share}
+use Rattle.line_network.specs.declared.share.Work.{Work}
 use Rattle.line_network.specs.inner.Lengths.{known}
 use Rattle.line_network.specs.inner.Rows.{IsRow}
 
@@ -21,6 +23,10 @@ pub record IsWork (lines : List Line) (starts : List ℕ) (places workers : ℕ)
 -- origin k goes to worker k mod workers
 abbrev pub origins_of : ℕ → ℕ → ℕ → List ℕ
 origins_of places workers worker = filter (λ k. k % workers == worker) (range_with_len 0 places)
+
+-- the part of a worker
+abbrev pub share_of : Work → (worker : ℕ) → Share
+share_of work worker = record { work = work; worker = worker }
 
 -- what a worker answers: a row for each of its origins, none left out, none twice and no other
 pub record IsShare (lines : List Line) (places workers worker : ℕ) (rows : List OriginRow) : Type 0 where

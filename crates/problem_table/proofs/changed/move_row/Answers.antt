@@ -20,14 +20,14 @@ go_on-requires-clause-so_far c =
     let here : AreGoalsOf net moved.kept came c.index.result.now = subst (λ (one : ClassGoals). AreGoalsOf net moved.kept came one) (sym c.index.ensures) found in
     let class = ap (λ (one : ClassGoals). one.class) c.index.ensures ∙ c.in_ok-class.ensures.class c.index.result.now in
     along_so_far net c.args.problem.now c.args.wagon.now moved c.args.row.now _ c.args.last _ c.requires.along
-    (c.in_ok-move_cells.ensures ∙ ap (λ (before : List (ℕ × ℕ)). before ++ moved_cells moved.places.items moved.kept c.args.row.now) c.clear.ensures.items)
+    (c.in_ok-move_cells.ensures ∙ ap (λ (before : List (ℕ × ℕ)). before ++ moved_cells moved.positions.items moved.kept c.args.row.now) c.clear.ensures.items)
     (c.deref.ensures.value ∙ (here ∙ ap (λ (of : List ℕ). goals_from net of moved.kept came) class))
 
 pub returns-clause-row : goal.returns-clause-row
 returns-clause-row c = record {
   row = c.go_on.new.entries.items;
   last = c.in_ok-last.last;
-  more = record { shared = search rules; placed = search rules; rows = search rules; moments = search rules };
+  more = record { shared = search rules; indexed = search rules; rows = search rules; moments = search rules };
   within = c.in_ok-last.ensures.within;
   is = c.in_ok-last.ensures.row;
 }

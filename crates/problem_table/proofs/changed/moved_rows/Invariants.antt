@@ -8,7 +8,7 @@ abbrev pub invariant-loop-k : goal.invariant-loop-k
 invariant-loop-k l = record {
   made : AreMade l.tables l.problem l.k l.making;
   own : l.making.rows.shared.value ≡ [];
-  moved : AreMoved l.earlier.orders l.problem.orders l.moving.moved.places.items l.moving.moved.kept;
-  steady : AreSteady l.moving.moved.places.items l.moving.moved.kept l.moving.moved.steady;
+  moved : AreMoved l.earlier.orders l.problem.orders l.moving.moved.positions.items l.moving.moved.kept;
+  steady : AreSteady l.moving.moved.positions.items l.moving.moved.kept l.moving.moved.steady;
   came : AreCome l.tables l.problem.orders l.moving;
 }

@@ -1,12 +1,12 @@
 use Rattle.std.proofs.Common.{◌∙◌, arith}
-use Rattle.problem_table.proofs.ChangedLemmas.{alike_earlier_row, place_within}
+use Rattle.problem_table.proofs.ChangedLemmas.{alike_earlier_row, index_within}
 use Rattle.problem_table.proofs.MakingLemmas.{made_next, stands_at}
 use Rattle.problem_table.proofs.changed.shared_rows.Goals as goal
 use Rattle.problem_table.proofs.changed.shared_rows.Goals.{in-Some+in_ok-take_over-in-Some, in-None+in_ok-make-in-None}
 
 pub take_over-requires-clause-wagon : goal.take_over-requires-clause-wagon
 take_over-requires-clause-wagon c =
-    place_within c.args.tables.now c.args.earlier.now.at c.args.earlier.now.wagons c.args.problem.now.orders _ c.args.lasts.now c.index_from-at.result c.requires.rows (rw c.wagons-in-loop-k.ensures.wagons at c.in-Some.ensures.there)
+    index_within c.args.tables.now c.args.earlier.now.at c.args.earlier.now.wagons c.args.problem.now.orders _ c.args.lasts.now c.index_from-at.result c.requires.rows (rw c.wagons-in-loop-k.ensures.wagons at c.in-Some.ensures.there)
 
 pub make-requires-clause-wagon : goal.make-requires-clause-wagon
 make-requires-clause-wagon c = rw c.wagons-wagons.ensures.wagons at (stands_at c.wagons-wagons.result.now c.loop-k.k c.index-wagons-k.result c.loop-k-test.true c.index-wagons-k.is)

@@ -6,6 +6,6 @@ use Rattle.problem_table.proofs.moved.move_later_cells.Given as goal
 -- The cells so far are moved; there is room for the rest.
 abbrev pub invariant-loop-cell : goal.invariant-loop-cell
 invariant-loop-cell l = record {
-  cells : l.entries.items ≡ l.initial.entries.items ++ moved_cells l.moved.places.items l.moved.kept (take l.cell-index l.row);
+  cells : l.entries.items ≡ l.initial.entries.items ++ moved_cells l.moved.positions.items l.moved.kept (take l.cell-index l.row);
   room : vec_len l.entries + length l.row ≤ vec_capacity l.entries + l.cell-index;
 }

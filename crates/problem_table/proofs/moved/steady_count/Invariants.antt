@@ -3,4 +3,4 @@ use Rattle.problem_table.proofs.moved.steady_count.Given as goal
 
 -- The orders so far stand where they stood.
 abbrev pub invariant-loop-k : goal.invariant-loop-k
-invariant-loop-k l = AreSteady l.places l.kept l.k
+invariant-loop-k l = AreSteady l.positions l.kept l.k

@@ -6,6 +6,6 @@ use Rattle.problem_table.proofs.moved.Moved.between.Given as goal
 -- Where the earlier orders so far stand; there is room for the rest.
 abbrev pub invariant-loop-one : goal.invariant-loop-one
 invariant-loop-one l = record {
-  moved : AreMoved (take l.one-index l.earlier) l.orders l.places.items l.kept;
-  room : vec_len l.places + length l.earlier ≤ vec_capacity l.places + l.one-index;
+  moved : AreMoved (take l.one-index l.earlier) l.orders l.positions.items l.kept;
+  room : vec_len l.positions + length l.earlier ≤ vec_capacity l.positions + l.one-index;
 }
