@@ -296,7 +296,15 @@ fn move_row(
     making.found.clear();
     move_cells(&mut making.found, row, &moving.moved)?;
     let goals = &moving.came[class].goals;
-    let last = go_on(&mut making.found, problem, wagon, goals, tables, last)?;
+    let last = go_on(
+        &mut making.found,
+        &mut making.distances,
+        problem,
+        wagon,
+        goals,
+        tables,
+        last,
+    )?;
     making.rows.push(&making.found)?;
     making.lasts.push(last)?;
     Ok(())
@@ -306,6 +314,7 @@ fn move_row(
 /// moment it is that row.
 fn go_on(
     entries: &mut Vec<(u32, u32)>,
+    distances: &mut Vec<Option<(u32, u32)>>,
     problem: &Problem,
     wagon: &FreeWagon,
     goals: &[Goal],
@@ -321,5 +330,7 @@ fn go_on(
         return Ok(last);
     }
     let from = tables.network().index_of(wagon.place);
-    push_goals(entries, problem, wagon, from, goals, tables, last)
+    push_goals(
+        entries, distances, problem, wagon, from, goals, tables, last,
+    )
 }

@@ -24,6 +24,8 @@ pub(crate) struct Making {
     pub(crate) classes: Vec<ClassGoals>,
     /// The row that was found last.
     pub(crate) found: Vec<(u32, u32)>,
+    /// The distances that were read for it.
+    pub(crate) distances: Vec<Option<(u32, u32)>>,
     /// The wagons whose rows were found, by class and place.
     seen: Seen,
 }
@@ -44,6 +46,7 @@ impl Making {
             lasts: Vec::with_capacity(alloc, count)?,
             classes: Vec::new(alloc),
             found: Vec::new(alloc),
+            distances: Vec::new(alloc),
             seen: Seen::none(alloc)?,
         })
     }
@@ -139,7 +142,15 @@ fn find(
 {
     making.found.clear();
     let goals = &making.classes[class].goals;
-    let last = push_row(&mut making.found, problem, wagon, from, goals, tables)?;
+    let last = push_row(
+        &mut making.found,
+        &mut making.distances,
+        problem,
+        wagon,
+        from,
+        goals,
+        tables,
+    )?;
     making.rows.push(&making.found)?;
     making.lasts.push(last)?;
     Ok(())

@@ -1,5 +1,5 @@
 -- The way back from the end of a path to its first order.
-use Rattle.std.specs.Prelude.{◌≡◌, ◌<◌, ◌+◌, ◌⊎◌, ◌==◌, ℕ, if◌then◌else◌, List, length, min, Option, Some, None, slice_index}
+use Rattle.std.specs.Prelude.{◌≡◌, ◌<◌, ◌≤◌, ◌+◌, ◌⊎◌, ◌==◌, ℕ, if◌then◌else◌, List, length, min, Option, Some, None, slice_index}
 use Rattle.assignment.specs.declared.search.Search.{Search}
 use Rattle.assignment.specs.inner.State.{Kept, order_at, served}
 use Rattle.assignment.specs.inner.Search.{IsReachedFrom, label_at}
