@@ -1,34 +1,34 @@
--- Wagons and orders that are found by name without a walk.
-use Rattle.std.proofs.Common.{◌≡◌, ◌∙◌, ℕ, ◌+◌, ◌<◌, Bool, false, cond, List, [], ◌∷◌, ◌++◌, length, take, get_or, Result, Ok, Err, length-take-le, refl, ap, sym, subst, inl, inr, arith}
+-- Wagons and orders that are found by name, wagons without a walk.
+use Rattle.std.proofs.Common.{◌≡◌, ◌∙◌, ℕ, ◌<◌, Bool, false, List, [], ◌∷◌, length, get_or, Result, Ok, Err, refl, ap, sym, subst, inl, inr, arith}
 use Rattle.std.specs.Prelude.{Option, Some, None, position, slice_get}
-use Rattle.std.specs.Cmp.Lexicographic.{bytes_decides, slice_cmp, texts_ties}
+use Rattle.std.specs.Cmp.Lexicographic.{bytes_decides, texts_ties}
 use Rattle.std.specs.List.{AllByRecursion, cons_option, find, list_any}
 use Rattle.std.specs.List.Sorted.{IsBinarySearchResult, IsNonDecreasingBy, IsSearchInRange, IsStrictlySortedBy}
-use Rattle.std.specs.Ordering.{is_eq, nat_cmp, ordering_index}
+use Rattle.std.specs.Ordering.{is_eq, ordering_index}
 use Rattle.std.specs.Result.{result_ok}
 use Rattle.std.specs.declared.cmp.Ordering.TheVariants.{Less}
 use Rattle.std.proofs.lemmas.Bool.{cases_Bool, cases_lt}
 use Rattle.std.proofs.lemmas.Cmp.{nat_list_cmp_total}
-use Rattle.std.proofs.lemmas.List.{length-map, get_or-map, take_more}
+use Rattle.std.proofs.lemmas.List.{length-map, get_or-map}
 use Rattle.std.proofs.lemmas.List.Folds.{list_any_none}
 use Rattle.std.proofs.lemmas.Map.Keys.{Less-from_sorted}
 use Rattle.std.proofs.lemmas.Option.{slice_get-get_or}
 use Rattle.wagons_and_orders.specs.declared.free_wagon.FreeWagon.{FreeWagon}
 use Rattle.wagons_and_orders.specs.declared.wagon_row.WagonRow.{WagonRow}
 use Rattle.wagons_and_orders.specs.Free.{free_of}
-use Rattle.fleet_rows.proofs.RosterLemmas.{other_from_greater, other_from_less, rises}
-use Rattle.fleet_rows.proofs.Named.{is_same, no_place, position-new, position-push, same_name}
-use Rattle.cost_table.specs.DistinctNames.{first_repeated}
-use Rattle.cost_table.specs.Names.{is_name}
 use Rattle.wagons_and_orders.specs.Wanted.{WantedOrder}
-use Rattle.cost_table.specs.Problem.{ProblemValue, order_names, wagon_names}
-use Rattle.cost_table.proofs.NameLemmas.{held_at, not_before}
+use Rattle.fleet_rows.proofs.RosterLemmas.{other_from_greater, other_from_less, rises}
+use Rattle.fleet_rows.proofs.Named.{is_same, no_place, same_name}
+use Rattle.cost_table.specs.DistinctNames.{first_repeated}
+use Rattle.cost_table.specs.Names.{both, is_name, pair_of}
+use Rattle.cost_table.specs.Problem.{ProblemValue, names_of_problem, order_names, wagon_names}
+use Rattle.cost_table.proofs.NameLemmas.{held_at}
 use Rattle.cost_table.proofs.ProblemLemmas.{position-map}
 use Rattle.fleet_rows.specs.Kept.{IsWagonRows, by_number, compare_numbers}
 use Rattle.operating_db.specs.Office.{Office}
 use Rattle.operating_db.specs.Problem.{free_wagons, problem_of}
 use Rattle.operating_db.proofs.Problems.{free_keeps}
-use Rattle.commit_book.specs.inner.Indexed.{Ascend, IsOrderIndex, by_name}
+use Rattle.commit_book.specs.inner.Ascending.{Ascend, by_name}
 
 -- ---- the free wagons of ascending rows ascend
 
@@ -95,36 +95,21 @@ searched wagons number (Err at) ascend once within parted =
     ]) in
     sym (no_place (is_name number) (wagon_names wagons) (none_found (is_name number) (wagon_names wagons) (any-names number wagons none)))
 
--- ---- an index of names, one more at a time
-
-indexed_more : (names : List (List ℕ)) (k : ℕ) (name : List ℕ) (index index' : List ℕ → Option ℕ) → first_repeated names ≡ None → k < length names → name ≡ get_or names k []
-    → ((id : List ℕ) → index id ≡ position (is_name id) (take k names)) → ((id : List ℕ) → index' id ≡ cond (is_eq (slice_cmp nat_cmp name id)) (Some k) (index id))
-    → (id : List ℕ) → index' id ≡ position (is_name id) (take (k + 1) names)
-indexed_more names k name index index' once within is so_far more id =
-    let front : take (k + 1) names ≡ take k names ++ name ∷ [] = take_more names k [] within ∙ ap (λ y. take k names ++ y ∷ []) (sym is) in
-    let absent : list_any (is_name name) (take k names) ≡ false = ap (λ y. list_any (is_name y) (take k names)) is ∙ not_before [] names k once within in
-    let short : length (take k names) ≡ k = length-take-le k names (omega (arith, within)) in
-    let test : is_eq (slice_cmp nat_cmp name id) ≡ is_name id name = sym (texts_ties name id) in
-    more id ∙ ap (λ b. cond b (Some k) (index id)) test ∙ elim (cases_Bool (is_name id name)) [
-      | inl here ↦
-          let same : name ≡ id = (bytes_decides name id).0 here in
-          let none : position (is_name id) (take k names) ≡ None = no_place (is_name id) (take k names) (none_found (is_name id) (take k names) (ap (λ y. list_any (is_name y) (take k names)) (sym same) ∙ absent)) in
-          rw (here, front) (sym (position-new (is_name id) (take k names) name here none ∙ ap Some short))
-      | inr other ↦ rw (other, front) (so_far id ∙ sym (position-push (is_name id) (take k names) name other))
-    ]
-
-pub orders_more : (orders : List WantedOrder) (k : ℕ) (wanted : WantedOrder) (name : List ℕ) (index index' : List ℕ → Option ℕ) → first_repeated (order_names orders) ≡ None → k < length orders → wanted ≡ get_or orders k wanted → name ≡ wanted.order.id
-    → IsOrderIndex (take k (order_names orders)) index → ((id : List ℕ) → index' id ≡ cond (is_eq (slice_cmp nat_cmp name id)) (Some k) (index id)) → IsOrderIndex (take (k + 1) (order_names orders)) index'
-orders_more orders k wanted name index index' once within is named so_far more =
-    let at : get_or (order_names orders) k [] ≡ (get_or orders k wanted).order.id = get_or-map (λ (o : WantedOrder). o.order.id) orders k wanted [] within in
-    indexed_more (order_names orders) k name index index' once (omega (arith, within, length-map orders (λ (o : WantedOrder). o.order.id)))
-    (named ∙ ap (λ (o : WantedOrder). o.order.id) is ∙ sym at) so_far more
-
 -- ---- the wagon of a number
 
 pub place_in : (wagons : List FreeWagon) (number : List ℕ) (o : Option ℕ) → o ≡ position (is_name number) (wagon_names wagons) → o ≡ position (λ (w : FreeWagon). is_name number w.number) wagons
 place_in wagons number o h = h ∙ position-map (is_name number) (λ (w : FreeWagon). w.number) wagons
 
--- the wagons of an office's problem ascend
+-- ---- a pair, by where its wagon and its order stand
+
+pub pair_placed : (problem : ProblemValue) (wagons : List FreeWagon) (orders : List WantedOrder) (number id : List ℕ) (i : ℕ) (j : Option ℕ) → wagons ≡ problem.wagons → orders ≡ problem.orders
+    → Some i ≡ position (is_name number) (wagon_names wagons) → j ≡ position (λ (o : WantedOrder). is_name id o.order.id) orders → both (Some i) j ≡ pair_of (names_of_problem problem) number id
+pair_placed problem wagons orders number id i j are_wagons are_orders wagon order =
+    let named : j ≡ position (is_name id) (order_names orders) = order ∙ sym (position-map (is_name id) (λ (o : WantedOrder). o.order.id) orders) in
+    ap (λ (o : Option ℕ). both o j) (wagon ∙ ap (λ (ws : List FreeWagon). position (is_name number) (wagon_names ws)) are_wagons)
+    ∙ ap (both (position (is_name number) (wagon_names problem.wagons))) (named ∙ ap (λ (os : List WantedOrder). position (is_name id) (order_names os)) are_orders)
+
+-- ---- the wagons of an office's problem ascend
+
 pub problem_ascends : (problem : ProblemValue) (office : Office) (at : ℕ) → problem ≡ problem_of office at → IsWagonRows office.wagons → Ascend problem.wagons
 problem_ascends problem office at is rows = subst (λ (p : ProblemValue). Ascend p.wagons) (sym is) (free_ascend office.wagons rows.ascending)

@@ -1,7 +1,7 @@
 -- What only the proofs and the private functions of this crate need.
+pub mod Ascending
 pub mod CommitTests
 pub mod Entered
-pub mod Indexed
 pub mod Kept
 pub mod Ledger
 pub mod KeptEvent

@@ -9,7 +9,7 @@ ghost use Rattle.operating_db.specs.Commits.{lack_in, times_of_order as times_in
 ghost use Rattle.fleet_rows.specs.Rows.{order_in};
 
 use crate::Refusal;
-use crate::indexed_problem::IndexedProblem;
+use crate::ascending_problem::AscendingProblem;
 use crate::made_problem::MadeProblem;
 use move_messages::CommitText;
 use operating_db::{OfficeState, times_of_order};
@@ -50,7 +50,7 @@ fn prices_of(alloc: Global, commit: &CommitText) -> Result<Prices, AllocError>
 
 /// Each wagon of the pairs is free now as it is in the problem.
 fn wagons_unchanged(
-    problem: &IndexedProblem,
+    problem: &AscendingProblem,
     now: &OfficeState,
     pairs: &[(WagonNumber, OrderId)],
 ) -> Result<(), Refusal>
@@ -65,14 +65,14 @@ fn wagons_unchanged(
 }
 
 /// Whether a wagon is free now as it is in the problem.
-fn is_free_as_planned(problem: &IndexedProblem, now: &OfficeState, number: WagonNumber) -> bool
+fn is_free_as_planned(problem: &AscendingProblem, now: &OfficeState, number: WagonNumber) -> bool
     ensures { result ≡ is_same_free (wagon_in_problem problem.now number) (free_in now.now.office number) }
 {
     is_unchanged(wagon_of(problem, number), free_now(now, number))
 }
 
 /// The wagon of a number, where the problem has it.
-fn wagon_of(problem: &IndexedProblem, number: WagonNumber) -> Option<FreeWagon>
+fn wagon_of(problem: &AscendingProblem, number: WagonNumber) -> Option<FreeWagon>
     ensures { result ≡ wagon_in_problem problem.now number }
 {
     problem.wagon(number).copied()

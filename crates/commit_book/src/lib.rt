@@ -3,18 +3,17 @@
 #![tactic(auto)]
 
 mod answer;
+mod ascending_problem;
 mod book;
 mod call;
 mod call_runs;
 mod commits;
 mod entry;
-mod indexed_problem;
 mod kept_problems;
 mod laws;
 mod ledger;
 mod made_problem;
 mod reply;
-mod same_names;
 
 pub use answer::Answer;
 pub use book::Book;

@@ -1,10 +1,10 @@
 //! Problems with their tables, as they are kept.
 ghost use Rattle.std.specs.Prelude.{◌≡◌, ◌≤◌, ◌↔◌, IfOk, IsTrue};
 ghost use Rattle.problem_table.specs.Lasting.{IsLastingTable};
-ghost use Rattle.commit_book.specs.inner.Indexed.{Ascend};
+ghost use Rattle.commit_book.specs.inner.Ascending.{Ascend};
 ghost use Rattle.commit_book.specs.inner.Kept.{IsMadeOf, IsChangeable, covers};
 
-use crate::indexed_problem::IndexedProblem;
+use crate::ascending_problem::AscendingProblem;
 use cost_table::Problem;
 use line_network::Tables;
 use problem_table::{TimedCells, changed_cells, timed_cells};
@@ -15,7 +15,7 @@ use std::alloc::{AllocError, Global};
 /// that version, with the moments up to which it is the table of the same wagons and orders.
 #[derive(Debug, Drop)]
 pub(crate) struct MadeProblem {
-    pub problem: IndexedProblem,
+    pub problem: AscendingProblem,
     /// The network's number, counted from 1.
     pub network: u32,
     pub timed: TimedCells,
@@ -33,7 +33,7 @@ impl MadeProblem {
         ensures { IfOk result (IsMadeOf tables.now network problem.now) }
     {
         let timed = timed_cells(alloc, problem, tables)?;
-        let problem = IndexedProblem::of(alloc, problem.copy()?)?;
+        let problem = AscendingProblem::of(problem.copy()?);
         Ok(MadeProblem {
             problem,
             network,
@@ -54,7 +54,7 @@ impl MadeProblem {
         ensures { IfOk result (IsMadeOf tables.now self.now.network problem.now) }
     {
         let timed = changed_cells(alloc, problem, tables, self.problem.problem(), &self.timed)?;
-        let problem = self.problem.changed(alloc, problem.copy()?)?;
+        let problem = AscendingProblem::of(problem.copy()?);
         Ok(MadeProblem {
             problem,
             network: self.network,

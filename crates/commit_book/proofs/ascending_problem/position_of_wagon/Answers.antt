@@ -1,7 +1,7 @@
 use Rattle.std.proofs.Common.{rules}
 use Rattle.std.proofs.lemmas.List.Sorted.{answers_always}
 use Rattle.commit_book.proofs.Searches.{searched}
-use Rattle.commit_book.proofs.indexed_problem.position_of.Goals as goal
+use Rattle.commit_book.proofs.ascending_problem.position_of_wagon.Goals as goal
 
 -- the closure gives a wagon's number
 pub returns : goal.returns

@@ -3,7 +3,7 @@ use Rattle.wagons_and_orders.specs.declared.free_wagon.FreeWagon.{FreeWagon}
 use Rattle.cost_table.specs.Names.{is_name}
 use Rattle.fleet_rows.proofs.Named.{found_at_place, not_found, read_at}
 use Rattle.commit_book.proofs.Searches.{place_in}
-use Rattle.commit_book.proofs.indexed_problem.IndexedProblem.wagon.Goals as goal
+use Rattle.commit_book.proofs.ascending_problem.AscendingProblem.wagon.Goals as goal
 
 pub returns-in_err-index : goal.returns-in_err-index
 returns-in_err-index c =
