@@ -4,7 +4,7 @@ ghost use Rattle.line_fields.specs.Commands.{command_of};
 ghost use Rattle.line_fields.specs.declared.command.Command.TheVariants.{Event};
 ghost use Rattle.move_messages.specs.declared.event.Event.TheVariants.{Commit};
 ghost use Rattle.price_checker.specs.Snap.{IsInRange};
-ghost use Rattle.dispatch_sheet.specs.Certificate.{commit_of, IsCertificateLine};
+ghost use Rattle.dispatch_sheet.specs.Certificate.{commit_with, IsCertificateLine};
 
 use crate::commit_tokens::write_commit;
 use cost_table::Plan;
@@ -22,8 +22,8 @@ pub fn certificate_line(
     prices: &Prices,
 ) -> Result<String, AllocError>
     requires { All (IsInRange snap.now.problem) plan.now }
-    ensures text { IfOk result (λ line. IsCertificateLine (commit_of snap.now plan.now prices.now.u.items prices.now.v.items) (string_bytes line)) }
-    ensures reads { IfOk result (λ line. command_of (string_bytes line) ≡ Ok (Event (Commit (commit_of snap.now plan.now prices.now.u.items prices.now.v.items)))) }
+    ensures text { IfOk result (λ line. IsCertificateLine (commit_with snap.now plan.now prices.now) (string_bytes line)) }
+    ensures reads { IfOk result (λ line. command_of (string_bytes line) ≡ Ok (Event (Commit (commit_with snap.now plan.now prices.now)))) }
 {
     let at = snap.at().text(alloc)?;
     let mut out = Writer::new(Vec::new(alloc));

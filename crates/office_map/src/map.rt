@@ -3,8 +3,9 @@ ghost use Rattle.std.specs.Prelude.{◌≡◌, ◌+◌, ◌++◌, nat_le, IfOk, 
 ghost use Rattle.reply_texts.specs.Lines.{Adds};
 ghost use Rattle.office_map.specs.Frame.{first_text, head_text, layout_words, legend_text, lines_text, outside_text, promises_text, room_words};
 ghost use Rattle.office_map.specs.Lines.{line_parts};
-ghost use Rattle.office_map.specs.Map.{edges_of, has_named, head_of, room_of, IsChosen, IsDrawn, IsMapText};
+ghost use Rattle.office_map.specs.Map.{has_named, head_of, room_of, IsChosen, IsMapText};
 ghost use Rattle.office_map.specs.Promises.{promise_lines};
+ghost use Rattle.office_map.specs.inner.Drawn.{edges_of_parts, IsDrawnOf};
 ghost use Rattle.office_map.specs.inner.Noted.{with_place_at};
 
 use crate::choice::Choice;
@@ -103,7 +104,7 @@ fn push_map(
     network: &Network,
     parts: &Parts<'_>,
 ) -> Result<(), AllocError>
-    ensures { OnOk result (Adds (IsDrawn state.now.office network.now parts.now.named.now parts.now.wagons.now parts.now.orders.now parts.now.shown.now parts.now.places.now parts.now.outside.now) (string_bytes text.old) (string_bytes text.new)) }
+    ensures { OnOk result (Adds (IsDrawnOf state.now.office network.now parts.now) (string_bytes text.old) (string_bytes text.new)) }
 {
     let few = has_few(
         parts.places.len(),
@@ -202,7 +203,7 @@ fn push_edges(
     network: &Network,
     parts: &Parts<'_>,
 ) -> Result<(), AllocError>
-    ensures { OnOk result (string_bytes text.new ≡ string_bytes text.old ++ edges_of parts.now.named.now network.now parts.now.shown.now state.now.office.orders parts.now.wagons.now) }
+    ensures { OnOk result (string_bytes text.new ≡ string_bytes text.old ++ edges_of_parts state.now.office network.now parts.now) }
 {
     text.push_str(LINES)?;
     push_lines(text, parts.named, network, parts.shown)?;

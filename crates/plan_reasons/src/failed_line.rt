@@ -7,7 +7,6 @@ ghost use Rattle.plan_reasons.specs.Fields.{field, quoted};
 ghost use Rattle.plan_reasons.specs.Pairs.{
   IsCostlyLine,
   IsLateLine,
-  IsTestLine,
   class_line,
   costly_line,
   list_end,
@@ -19,7 +18,7 @@ ghost use Rattle.plan_reasons.specs.Pairs.{
 };
 ghost use Rattle.plan_reasons.specs.PlaceFields.{names_of};
 ghost use Rattle.plan_reasons.specs.Reasons.{FailsFirst, HasWay, IsInTime};
-ghost use Rattle.plan_reasons.specs.inner.AddedPairs.{IsArrivalField, comma};
+ghost use Rattle.plan_reasons.specs.inner.AddedPairs.{AddsTestLine, IsArrivalField, comma};
 
 use crate::line_form::LineForm;
 use crate::place_fields::place_field;
@@ -45,7 +44,7 @@ pub(crate) fn push_test_line(
     test: Test,
 ) -> Result<(), AllocError>
     requires { FailsFirst tables.now at wagon.now order.now test }
-    ensures { OnOk result (Adds (IsTestLine form.now.style (names_of form.now) tables.now at wagon.now order.now test) (string_bytes text.old) (string_bytes text.new)) }
+    ensures { OnOk result (AddsTestLine form.now tables.now at wagon.now order.now test (string_bytes text.old) (string_bytes text.new)) }
 {
     match test {
         Test::Class => push_class(text, form.style, wagon, order),

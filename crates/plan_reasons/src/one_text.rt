@@ -1,9 +1,8 @@
 //! The texts about one order and about one wagon.
 ghost use Rattle.std.specs.Prelude.{◌≡◌, ◌==◌, ◌<◌, ◌++◌, IfOk, OnOk, length, string_bytes};
 ghost use Rattle.std.specs.List.{find};
-ghost use Rattle.plan_reasons.specs.PairLists.{IsOrderText, IsWagonText, pairs_of_order, pairs_of_wagon, stays_line};
-ghost use Rattle.plan_reasons.specs.PlaceFields.{names_of};
-ghost use Rattle.plan_reasons.specs.Planned.{IsPlannedProblem, priced_plan};
+ghost use Rattle.plan_reasons.specs.PairLists.{IsOrderTextOf, IsWagonTextOf, pairs_of_order, pairs_of_wagon, stays_line};
+ghost use Rattle.plan_reasons.specs.Planned.{IsPlannedProblem};
 ghost use Rattle.plan_reasons.specs.inner.AddedPairs.{AddsOwnLine};
 
 use crate::line_form::LineForm;
@@ -38,7 +37,7 @@ pub fn order_text(
 ) -> Result<String, AllocError>
     requires planned { IsPlannedProblem planned.now }
     requires order { j < length planned.now.problem.now.orders }
-    ensures { IfOk result (λ text. IsOrderText form.now.style (names_of form.now) planned.now.tables.now planned.now.problem.now (priced_plan planned.now) j (string_bytes text)) }
+    ensures { IfOk result (λ text. IsOrderTextOf form.now planned.now j (string_bytes text)) }
 {
     let pairs = pairs_of_order(alloc, planned.problem, j)?;
     let tallies = Tallies::new(alloc, planned)?;
@@ -58,7 +57,7 @@ pub fn wagon_text(
 ) -> Result<String, AllocError>
     requires planned { IsPlannedProblem planned.now }
     requires wagon { i < length planned.now.problem.now.wagons }
-    ensures { IfOk result (λ text. IsWagonText form.now.style (names_of form.now) planned.now.tables.now planned.now.problem.now (priced_plan planned.now) i (string_bytes text)) }
+    ensures { IfOk result (λ text. IsWagonTextOf form.now planned.now i (string_bytes text)) }
 {
     let pairs = pairs_of_wagon(alloc, planned.problem, i)?;
     let mut text = String::new(alloc);

@@ -2,14 +2,18 @@
 use Rattle.std.specs.Prelude.{◌≡◌, ◌<◌, ◌==◌, if◌then◌else◌, ℕ, IsTrue, false, List, [], ◌∷◌, length, codes}
 use Rattle.std.specs.List.{find}
 use Rattle.cost_table.specs.Problem.{ProblemValue}
+use Rattle.line_network.specs.Network.{NetworkValue}
+use Rattle.move_messages.specs.Order.{Order}
 use Rattle.reply_texts.specs.Lines.{Adds, AreLines}
+use Rattle.wagons_and_orders.specs.declared.free_wagon.FreeWagon.{FreeWagon}
 use Rattle.plan_reasons.specs.declared.line_form.LineForm.{LineForm}
+use Rattle.plan_reasons.specs.declared.reasons.Test.{Test}
 use Rattle.plan_reasons.specs.declared.style.Style.{Style}
 use Rattle.plan_reasons.specs.declared.planned_problem.PlannedProblem.{PlannedProblem}
 use Rattle.plan_reasons.specs.Fields.{field}
 use Rattle.plan_reasons.specs.PlaceFields.{names_of}
 use Rattle.plan_reasons.specs.Planned.{priced_plan}
-use Rattle.plan_reasons.specs.Pairs.{IsArrivalValue, IsFailedLine, IsFitsLine}
+use Rattle.plan_reasons.specs.Pairs.{IsArrivalValue, IsFailedLine, IsFitsLine, IsTestLine}
 use Rattle.plan_reasons.specs.PairLists.{ArePairLines, IsOwnLine, passes_all}
 
 -- the pair is of a wagon and an order of the problem
@@ -32,6 +36,10 @@ pub record IsArrivalField (style : Style) (seconds : ℕ) (written : List ℕ) :
   pub value : List ℕ
   pub arrives : IsArrivalValue style seconds value
   pub whole : written ≡ field style (codes "arrival") value
+
+-- the line of a wagon by the test that it fails for an order was added to a text
+abbrev pub AddsTestLine : LineForm → NetworkValue → (at : ℕ) → FreeWagon → Order → Test → (old new : List ℕ) → Type 0
+AddsTestLine form net at wagon order test = Adds (IsTestLine form.style (names_of form) net at wagon order test)
 
 -- the line of a pair was added to a text
 abbrev pub AddsFitsLine : Style → PlannedProblem → (pair : ℕ × ℕ) → (old new : List ℕ) → Type 0
