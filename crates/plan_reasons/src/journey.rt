@@ -36,8 +36,8 @@ pub fn journey_of(planned: &PlannedProblem, pair: (usize, usize)) -> Journey
 {
     let wagon = &planned.problem.wagons()[pair.0];
     let order = planned.problem.orders()[pair.1].order();
-    // For the prover alone: the latest moment is one of the years that a moment may be of.
-    let _latest = order.latest().seconds();
+    // The latest moment is one of the years that a moment may be of.
+    order.latest().for_the_prover();
     let (km, minutes) = way_of(planned.tables, wagon, order);
     let at = Moment::from_seconds(arrival(planned.problem.at(), wagon, minutes)).unwrap();
     Journey {

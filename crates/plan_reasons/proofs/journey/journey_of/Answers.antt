@@ -24,7 +24,7 @@ unwrap-at-requires c =
     let distance = subst (λ (o : Order). IsDistance net wagon.place o.place way) c.order-order.ensures c.way_of-km.ensures in
     let in_time = in_time_by net c.args.planned.now.problem.now.at wagon wanted.order way there.km distance there.reaches in
     let latest = ap (λ (order : Order). order.latest) c.order-order.ensures in
-    c.from_seconds.ensures.accepts.1 (c.arrival.ensures.from, omega (arith, in_time, c.arrival.ensures.value, c.at.ensures, c.seconds-latest.ensures.value, c.seconds-latest.ensures.valid.1, c.latest.ensures, latest))
+    c.from_seconds.ensures.accepts.1 (c.arrival.ensures.from, omega (arith, in_time, c.arrival.ensures.value, c.at.ensures, c.latest.ensures, c.for_the_prover.ensures.1, c.latest.ensures, latest))
 
 pub returns : goal.returns
 returns c =

@@ -11,6 +11,6 @@ returns-clause-text c = IfOk-weaker c.unplanned_line.result _ _ (λ line h. h �
 pub returns-clause-reads : goal.returns-clause-reads
 returns-clause-reads c =
     IfOk-weaker c.unplanned_line.result _ _
-    (λ line h. states_problem c.args.problem.now c.args.cells.now (string_bytes line) c.wagons-wagons.ensures.problem c.orders-orders.ensures.table c.requires.wagons c.requires.orders
+    (λ line h. states_problem c.args.problem.now c.args.cells.now (string_bytes line) c.for_the_prover.ensures c.for_the_prover-2.ensures c.requires.wagons c.requires.orders
     (h ∙ ap (λ (t : TableText). Ok (with_plan t [] [] [])) c.in_ok-table.ensures.table))
     c.unplanned_line.ensures.reads

@@ -10,7 +10,7 @@ use Rattle.operating_db.proofs.office_state.OfficeState.withdraw.Goals as goal
 wagons_are : (c : goal.After-withdraw) → c.end_promises.new.wagons ≡ map (unpromised c.args.id) c.self.inside.wagons
 wagons_are c =
     let office : Office = record { wagons = c.self.inside.wagons; orders = c.self.inside.orders; network = c.self.inside.network } in
-    withdrawn_is office c.args.id c.in-Some.row.now c.promised.result.now c.end_promises.new.wagons c.self.invariant.promises c.as_slice-rows.ensures.valid c.in-Some.ensures.row c.promised.ensures.value c.end_promises.ensures
+    withdrawn_is office c.args.id c.in-Some.row.now c.promised.result.now c.end_promises.new.wagons c.self.invariant.promises c.for_the_prover.ensures c.in-Some.ensures.row c.promised.ensures.value c.end_promises.ensures
 
 orders_are : (c : goal.After-withdraw) → c.withdraw.new.self ≡ at_order c.args.id taken_back c.self.inside.orders
 orders_are c =
