@@ -13,7 +13,7 @@ use Rattle.line_engine.specs.Replies.{out_of_memory_body}
 use Rattle.office.specs.CommandReplies.{LineRunsOutOfMemory, RepliesToLine}
 use Rattle.office.specs.CommandNotes.{AreLineNotes}
 use Rattle.office.specs.Fullness.{entries_note, lines_note}
-use Rattle.office.specs.Reviews.{IsReviewed, IsReviewedInPart, ReviewValue, heard_by, wagons_of}
+use Rattle.office.specs.Reviews.{IsReviewed, IsReviewedInPart, ReviewValue, heard_by, known_before}
 use Rattle.office.specs.declared.heard.Heard.{Heard}
 use Rattle.office.proofs.ReadNotes.{read_is}
 
@@ -58,7 +58,7 @@ fullness_along line text entries count after most limit lines number e m l =
 pub reviewed : {U : Type 0} (line : ℕ) (old new : ReviewValue) (bytes notes : List ℕ) (read : Result Command LineFault) (entries lines : ℕ)
     (said : Result (String Global) AllocError) (result : Result U AllocError)
     → Gives (λ (command : Command). command) read (command_of bytes)
-    → IfOk said (λ text. AreLineNotes line old.book.setting.networks old.named (wagons_of old.book) old.heard bytes (string_bytes text)) → OnOk said (read ≢ Err OutOfMemory)
+    → IfOk said (λ text. AreLineNotes line (known_before old) bytes (string_bytes text)) → OnOk said (read ≢ Err OutOfMemory)
     → (reply : List ℕ) × (refused : Bool) × RepliesToLine old.book bytes reply refused new.book
     → new.book.setting ≡ old.book.setting → new.named ≡ old.named → new.line ≡ line → new.heard ≡ heard_by line old.heard read → entries ≡ length old.book.state.history → lines ≡ old.line
     → OnOk result (IsOk said)

@@ -102,7 +102,11 @@ shown_name name = 34 ∷ map shown_byte (take max_shown name) ++ 34 ∷ []
 abbrev pub member_note : (line : ℕ) → List Field → (name : List ℕ) → List ℕ
 member_note line fields name = noted (not (is_known fields name)) (note line (codes "member") (next_word (shown_name name)))
 
+-- the notes of members of these names
+abbrev pub notes_of_members : (line : ℕ) → List Field → (names : List (List ℕ)) → List ℕ
+notes_of_members line fields names = flat_map (member_note line fields) names
+
 -- the notes of the members of a line's object
 abbrev pub member_notes : (line : ℕ) → List Field → Result Data LineFault → List ℕ
-member_notes line fields (Ok d) = flat_map (member_note line fields) (names_of d)
+member_notes line fields (Ok d) = notes_of_members line fields (names_of d)
 member_notes line fields (Err fault) = []

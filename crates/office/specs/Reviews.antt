@@ -14,7 +14,7 @@ use Rattle.line_engine.specs.Replies.{Responds}
 use Rattle.office.specs.CommandReplies.{RepliesToLine, LineRunsOutOfMemory}
 use Rattle.office.specs.NoteText.{note}
 use Rattle.office.specs.AheadNotes.{heard_after, heard_at}
-use Rattle.office.specs.CommandNotes.{AreLineNotes}
+use Rattle.office.specs.CommandNotes.{AreLineNotes, KnownBefore}
 use Rattle.office.specs.Fullness.{entries_note, lines_note}
 use Rattle.office.specs.declared.heard.Heard.{Heard}
 
@@ -51,6 +51,11 @@ heard_by line heard (Err fault) = heard
 abbrev pub wagons_of : BookValue → List WagonRow
 wagons_of book = (replay book.setting book.state.history).wagons
 
+-- what a review knows before its next line
+abbrev pub known_before : ReviewValue → KnownBefore
+known_before review =
+    record { networks = review.book.setting.networks; named = review.named; wagons = wagons_of review.book; heard = review.heard }
+
 -- A line that isn't blank: it is brought to the book as a run does, and the text is its notes.
 pub record IsReviewed (line : ℕ) (old : ReviewValue) (bytes : List ℕ) (text : List ℕ) (new : ReviewValue) : Type 0 where
   pub reply : List ℕ
@@ -60,7 +65,7 @@ pub record IsReviewed (line : ℕ) (old : ReviewValue) (bytes : List ℕ) (text 
   pub number : new.line ≡ line
   pub heard : new.heard ≡ heard_by line old.heard (command_of bytes)
   pub said : List ℕ
-  pub said_notes : AreLineNotes line old.book.setting.networks old.named (wagons_of old.book) old.heard bytes said
+  pub said_notes : AreLineNotes line (known_before old) bytes said
   pub whole : text ≡ said
       ++ entries_note line (length old.book.state.history) (length new.book.state.history) old.book.setting.entries
       ++ lines_note line old.line

@@ -1,7 +1,7 @@
 //! Whether an object or a list is still open at the end of a line.
 ghost use Rattle.std.specs.Prelude.{◌≡◌, ◌+◌, ◌^◌, ◌<◌, ◌≤◌, ℕ, List, ◌∷◌};
-ghost use Rattle.std.specs.List.{count_by};
 ghost use Rattle.office.specs.LineNotes.{is_closing, is_left_open, is_opening, outside_texts};
+ghost use Rattle.office.specs.inner.Counted.{CountsClosing, CountsOpening};
 ghost use Rattle.office.specs.declared.brackets.Reading.TheVariants as at;
 
 /// Where a byte of a line stands.
@@ -43,8 +43,8 @@ impl Brackets {
     fn with(self, byte: u8) -> Brackets
         requires few_opened { self.opened < 2 ^ 63 }
         requires few_closed { self.closed < 2 ^ 63 }
-        ensures opened { (rest : List ℕ) → result.opened + count_by is_opening (outside_texts result.reading rest) ≡ self.opened + count_by is_opening (outside_texts self.reading (byte ∷ rest)) }
-        ensures closed { (rest : List ℕ) → result.closed + count_by is_closing (outside_texts result.reading rest) ≡ self.closed + count_by is_closing (outside_texts self.reading (byte ∷ rest)) }
+        ensures opened { CountsOpening self byte result }
+        ensures closed { CountsClosing self byte result }
         ensures few_opened { result.opened ≤ self.opened + 1 }
         ensures few_closed { result.closed ≤ self.closed + 1 }
     {
@@ -65,8 +65,8 @@ impl Brackets {
     fn with_outside(self, byte: u8) -> Brackets
         requires few_opened { self.opened < 2 ^ 63 }
         requires few_closed { self.closed < 2 ^ 63 }
-        ensures opened { (rest : List ℕ) → result.opened + count_by is_opening (outside_texts result.reading rest) ≡ self.opened + count_by is_opening (outside_texts at.Outside (byte ∷ rest)) }
-        ensures closed { (rest : List ℕ) → result.closed + count_by is_closing (outside_texts result.reading rest) ≡ self.closed + count_by is_closing (outside_texts at.Outside (byte ∷ rest)) }
+        ensures opened { CountsOpening (record self { reading = at.Outside }) byte result }
+        ensures closed { CountsClosing (record self { reading = at.Outside }) byte result }
         ensures few_opened { result.opened ≤ self.opened + 1 }
         ensures few_closed { result.closed ≤ self.closed + 1 }
     {

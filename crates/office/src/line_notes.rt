@@ -8,6 +8,7 @@ ghost use Rattle.reply_texts.specs.Lines.{Adds};
 ghost use Rattle.office.specs.LineNotes.{is_marked, mark_note, open_note};
 ghost use Rattle.office.specs.MemberNotes.{fields_of, member_notes};
 ghost use Rattle.office.specs.CommandNotes.{AheadNotesOf, AreCommandNotes, AreLineNotes, OrderNotesOf, ReadNotes};
+ghost use Rattle.office.specs.inner.KnownValues.{known_values};
 
 use crate::brackets::is_left_open;
 use crate::heard::{Heard, push_ahead_note};
@@ -42,7 +43,7 @@ pub(crate) fn line_notes(
     read: &Result<Command, LineFault>,
 ) -> Result<String, AllocError>
     requires { Gives (λ command. command) read.now (command_of bytes.now) }
-    ensures notes { IfOk result (λ text. AreLineNotes line known.now.networks.now known.now.named.now known.now.wagons.now known.now.heard.now bytes.now (string_bytes text)) }
+    ensures notes { IfOk result (λ text. AreLineNotes line (known_values known.now) bytes.now (string_bytes text)) }
     ensures is_read { OnOk result (read.now ≢ Err OutOfMemory) }
 {
     let mut text = String::new(alloc);
@@ -61,7 +62,7 @@ fn push_read_notes(
     bytes: &[u8],
     read: &Result<Command, LineFault>,
 ) -> Result<(), AllocError>
-    ensures notes { OnOk result (Adds (ReadNotes line known.now.networks.now known.now.named.now known.now.wagons.now known.now.heard.now read.now (object_of bytes.now)) (string_bytes text.old) (string_bytes text.new)) }
+    ensures notes { OnOk result (Adds (ReadNotes line (known_values known.now) read.now (object_of bytes.now)) (string_bytes text.old) (string_bytes text.new)) }
     ensures is_read { OnOk result (read.now ≢ Err OutOfMemory) }
 {
     match read {
@@ -80,7 +81,7 @@ fn push_command_notes(
     command: &Command,
     bytes: &[u8],
 ) -> Result<(), AllocError>
-    ensures { OnOk result (Adds (AreCommandNotes line known.now.networks.now known.now.named.now known.now.wagons.now known.now.heard.now command.now (object_of bytes.now)) (string_bytes text.old) (string_bytes text.new)) }
+    ensures { OnOk result (Adds (AreCommandNotes line (known_values known.now) command.now (object_of bytes.now)) (string_bytes text.old) (string_bytes text.new)) }
 {
     push_notes_of_order(text, line, known, command)?;
     push_notes_of_members(alloc, text, line, command, bytes)?;
@@ -94,7 +95,7 @@ fn push_notes_of_order(
     known: &Known<'_>,
     command: &Command,
 ) -> Result<(), AllocError>
-    ensures { OnOk result (Adds (OrderNotesOf line known.now.networks.now known.now.named.now known.now.wagons.now command.now) (string_bytes text.old) (string_bytes text.new)) }
+    ensures { OnOk result (Adds (OrderNotesOf line (known_values known.now) command.now) (string_bytes text.old) (string_bytes text.new)) }
 {
     match command {
         Command::Event(Event::Place(order)) => {

@@ -1,10 +1,9 @@
 //! The notes of members that a command doesn't have. `Err` only when out of memory; part of the text may be there then.
 ghost use Rattle.std.specs.Prelude.{◌≡◌, [], ◌∷◌, ◌++◌, OnOk, map, take, string_bytes};
-ghost use Rattle.std.specs.List.{flat_map};
 ghost use Rattle.std.specs.Str.{IsAscii};
 ghost use Rattle.reply_texts.specs.Words.{next_word};
 ghost use Rattle.serde_json.specs.View.{members_view, view};
-ghost use Rattle.office.specs.MemberNotes.{commit_fields, exception_fields, fields_of, fields_of_event, fields_of_kind, is_known, max_shown, member_names, member_note, message_fields, moment_fields, names_of, network_fields, order_fields, sheet_fields, shown_byte, shown_name, withdraw_fields};
+ghost use Rattle.office.specs.MemberNotes.{commit_fields, exception_fields, fields_of, fields_of_event, fields_of_kind, is_known, max_shown, member_names, member_note, message_fields, moment_fields, names_of, network_fields, notes_of_members, order_fields, sheet_fields, shown_byte, shown_name, withdraw_fields};
 
 use crate::note_text::{end_note, push_head};
 use line_fields::{Command, Field};
@@ -108,7 +107,7 @@ pub(crate) fn push_member_notes(
     fields: &[Field],
     object: &Value,
 ) -> Result<(), AllocError>
-    ensures { OnOk result (string_bytes text.new ≡ string_bytes text.old ++ flat_map (member_note line fields.now) (names_of (view object.now))) }
+    ensures { OnOk result (string_bytes text.new ≡ string_bytes text.old ++ notes_of_members line fields.now (names_of (view object.now))) }
 {
     match object.as_object() {
         Some(members) => push_notes_of(text, line, fields, members),
@@ -123,7 +122,7 @@ fn push_notes_of(
     fields: &[Field],
     members: &Map<String, Value>,
 ) -> Result<(), AllocError>
-    ensures { OnOk result (string_bytes text.new ≡ string_bytes text.old ++ flat_map (member_note line fields.now) (member_names (members_view members.now.entries))) }
+    ensures { OnOk result (string_bytes text.new ≡ string_bytes text.old ++ notes_of_members line fields.now (member_names (members_view members.now.entries))) }
 {
     for (name, _) in members.iter() {
         push_member_note(text, line, fields, name)?;

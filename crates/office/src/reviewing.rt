@@ -9,7 +9,7 @@ ghost use Rattle.line_fields.specs.declared.fault.LineFault.TheVariants.{OutOfMe
 ghost use Rattle.office.specs.CommandReplies.{LineRunsOutOfMemory, RepliesToLine};
 ghost use Rattle.office.specs.CommandNotes.{AreLineNotes};
 ghost use Rattle.office.specs.Fullness.{entries_note, lines_note};
-ghost use Rattle.office.specs.Reviews.{IsReviewed, IsReviewedInPart, Reviews, first_review, heard_by, memory_note, wagons_of};
+ghost use Rattle.office.specs.Reviews.{IsReviewed, IsReviewedInPart, Reviews, first_review, heard_by, known_before, memory_note};
 
 use crate::command_lines::CommandLines;
 use crate::fullness::push_fullness_note;
@@ -148,7 +148,7 @@ impl Review {
         read: &Result<Command, LineFault>,
     ) -> Result<String, AllocError>
         requires { Gives (λ command. command) read.now (command_of bytes.now) }
-        ensures notes { IfOk result (λ text. AreLineNotes line self.now.book.setting.networks self.now.named (wagons_of self.now.book) self.now.heard bytes.now (string_bytes text)) }
+        ensures notes { IfOk result (λ text. AreLineNotes line (known_before self.now) bytes.now (string_bytes text)) }
         ensures is_read { OnOk result (read.now ≢ Err OutOfMemory) }
     {
         let known = Known {
