@@ -1,6 +1,7 @@
 -- What is said of a record that isn't as it must be.
 use Rattle.std.specs.Prelude.{ℕ, ◌==◌, if◌then◌else◌, List, ◌++◌, length, Option, Some, None, codes, decimal}
-use Rattle.csv_records.specs.Fields.{Record}
+use Rattle.csv.specs.Records.{fields_of}
+use Rattle.csv_records.specs.declared.fault_at.RecordAt.{RecordAt}
 use Rattle.fault_texts.specs.HeaderText.{header_text}
 use Rattle.fault_texts.specs.Shown.{quoted}
 use Rattle.fault_texts.specs.Where.{at_field, at_record}
@@ -12,6 +13,6 @@ unfit_text path number (Some unfit) must has = at_field path number unfit.0 ++ q
 unfit_text path number None must has = at_record path number ++ codes ": it must have " ++ decimal must ++ codes " fields, and has " ++ decimal has
 
 -- the first record must be the header
-abbrev pub bad_record_text : (path header : List ℕ) → (must number : ℕ) → Record → Option (List ℕ × List ℕ × List ℕ) → List ℕ
-bad_record_text path header must number fields unfit =
-    if number == 1 then header_text path header fields else unfit_text path number unfit must (length fields)
+abbrev pub bad_record_text : (path header : List ℕ) → (must : ℕ) → RecordAt → Option (List ℕ × List ℕ × List ℕ) → List ℕ
+bad_record_text path header must at unfit =
+    if at.number == 1 then header_text path header (fields_of at.fields) else unfit_text path at.number unfit must (length (fields_of at.fields))

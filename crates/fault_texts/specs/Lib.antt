@@ -7,3 +7,4 @@ pub mod NetworkText
 pub mod LineText
 pub mod CheckpointText
 pub mod UnreadText
+pub mod inner

@@ -1,6 +1,9 @@
 -- What is said of a file that is no network.
 use Rattle.std.specs.Prelude.{ℕ, List, ◌++◌, Option, option_map, codes}
+use Rattle.csv.specs.Records.{fields_of}
 use Rattle.csv_records.specs.Fields.{Record}
+use Rattle.csv_records.specs.declared.fault_at.FaultAt.{FaultAt}
+use Rattle.csv_records.specs.declared.fault_at.RecordAt.{RecordAt}
 use Rattle.faults.specs.declared.faults.NetworkFault.{NetworkFault}
 use Rattle.faults.specs.declared.faults.NetworkFault.TheVariants.{OutOfMemory, BadRow, TooManyPlaces, TooManyLines, ReadFailed}
 use Rattle.line_network.specs.Unfit.{field_name, first_unfit}
@@ -26,9 +29,13 @@ abbrev pub unfit_in : Record → Option (List ℕ × List ℕ × List ℕ)
 unfit_in fields = option_map (λ (unfit : LineField × List ℕ). (field_name unfit.0, unfit.1, complaint unfit.0)) (first_unfit fields)
 
 -- by the record at which reading stopped
-abbrev pub network_text : (path : List ℕ) → NetworkFault → (number : ℕ) → Record → List ℕ
-network_text path OutOfMemory number fields = codes "out of memory"
-network_text path (BadRow n) number fields = bad_record_text path network_header 5 number fields (unfit_in fields)
-network_text path TooManyPlaces number fields = at_record path number ++ codes ": with it there are over 2,000 places, the most that a network may have"
-network_text path TooManyLines number fields = at_record path number ++ codes ": a network has at most 20,000 records below its header"
-network_text path ReadFailed number fields = shown path ++ codes ": it couldn't be read"
+abbrev pub network_fault_text : (path : List ℕ) → NetworkFault → RecordAt → List ℕ
+network_fault_text path OutOfMemory at = codes "out of memory"
+network_fault_text path (BadRow n) at = bad_record_text path network_header 5 at (unfit_in (fields_of at.fields))
+network_fault_text path TooManyPlaces at = at_record path at.number ++ codes ": with it there are over 2,000 places, the most that a network may have"
+network_fault_text path TooManyLines at = at_record path at.number ++ codes ": a network has at most 20,000 records below its header"
+network_fault_text path ReadFailed at = shown path ++ codes ": it couldn't be read"
+
+-- the same by the refusal
+abbrev pub network_text : (path : List ℕ) → FaultAt NetworkFault → List ℕ
+network_text path refusal = network_fault_text path refusal.fault refusal.at

@@ -1,11 +1,15 @@
 -- What is said of a file that is no roster.
 use Rattle.std.specs.Prelude.{ℕ, List, ◌++◌, Option, Some, None, option_map, codes, decimal}
+use Rattle.csv.specs.Records.{fields_of}
 use Rattle.csv_records.specs.Fields.{Record}
+use Rattle.csv_records.specs.declared.fault_at.FaultAt.{FaultAt}
+use Rattle.csv_records.specs.declared.fault_at.RecordAt.{RecordAt}
 use Rattle.faults.specs.declared.faults.RosterFault.{RosterFault}
 use Rattle.faults.specs.declared.faults.RosterFault.TheVariants.{OutOfMemory, DuplicateWagon, TooLarge, BadRosterRow, ReadFailed}
 use Rattle.fleet_rows.specs.Unfit.{field_name, first_unfit}
 use Rattle.fleet_rows.specs.declared.roster_field.RosterField.{RosterField}
 use Rattle.fleet_rows.specs.declared.roster_field.RosterField.TheVariants.{Wagon, Class, Load, Status, Place, Moment}
+use Rattle.fleet_rows.specs.declared.roster_refusal.RosterRefusal.{RosterRefusal}
 use Rattle.fault_texts.specs.BadRecord.{bad_record_text}
 use Rattle.fault_texts.specs.Shown.{shown}
 use Rattle.fault_texts.specs.Where.{at_record}
@@ -32,9 +36,13 @@ twice_text path (Some first) number wagon = shown path ++ codes ", records " ++ 
 twice_text path None number wagon = at_record path number ++ codes ": an earlier record is of this wagon too: " ++ wagon
 
 -- by the record at which reading stopped
-abbrev pub roster_text : (path : List ℕ) → RosterFault → (first : Option ℕ) → (number : ℕ) → Record → List ℕ
-roster_text path OutOfMemory first number fields = codes "out of memory"
-roster_text path (DuplicateWagon wagon) first number fields = twice_text path first number wagon
-roster_text path TooLarge first number fields = at_record path number ++ codes ": a roster has at most 1,000 wagons"
-roster_text path (BadRosterRow n) first number fields = bad_record_text path roster_header 6 number fields (unfit_in fields)
-roster_text path ReadFailed first number fields = shown path ++ codes ": it couldn't be read"
+abbrev pub roster_fault_text : (path : List ℕ) → RosterFault → (first : Option ℕ) → RecordAt → List ℕ
+roster_fault_text path OutOfMemory first at = codes "out of memory"
+roster_fault_text path (DuplicateWagon wagon) first at = twice_text path first at.number wagon
+roster_fault_text path TooLarge first at = at_record path at.number ++ codes ": a roster has at most 1,000 wagons"
+roster_fault_text path (BadRosterRow n) first at = bad_record_text path roster_header 6 at (unfit_in (fields_of at.fields))
+roster_fault_text path ReadFailed first at = shown path ++ codes ": it couldn't be read"
+
+-- the same by the refusal
+abbrev pub roster_text : (path : List ℕ) → FaultAt RosterRefusal → List ℕ
+roster_text path refusal = roster_fault_text path refusal.fault.fault refusal.fault.first refusal.at

@@ -1,7 +1,7 @@
 //! What is said of a record that isn't as it must be.
-ghost use Rattle.std.specs.Prelude.{◌≡◌, IfOk, Some, None, option_map, string_bytes};
-ghost use Rattle.csv.specs.Records.{fields_of};
+ghost use Rattle.std.specs.Prelude.{◌≡◌, IfOk, Some, None, string_bytes};
 ghost use Rattle.fault_texts.specs.BadRecord.{bad_record_text, unfit_text};
+ghost use Rattle.fault_texts.specs.inner.UnfitTexts.{unfit_texts};
 
 use crate::headers::header_text;
 use crate::shown::push_quoted;
@@ -21,7 +21,7 @@ pub(crate) fn bad_record_text(
     at: &RecordAt,
     unfit: Option<Unfit<'_>>,
 ) -> Result<String, AllocError>
-    ensures { IfOk result (λ text. string_bytes text ≡ bad_record_text path.now header.now must at.now.number (fields_of at.now.fields) (option_map (λ unfit. (unfit.0.now, unfit.1.now, unfit.2.now)) unfit.entry)) }
+    ensures { IfOk result (λ text. string_bytes text ≡ bad_record_text path.now header.now must at.now (unfit_texts unfit.entry)) }
 {
     if at.number == 1 {
         return header_text(alloc, path, header, &at.fields);

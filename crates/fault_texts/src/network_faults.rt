@@ -1,7 +1,8 @@
 //! What is said of a file that is no network.
-ghost use Rattle.std.specs.Prelude.{◌≡◌, IfOk, option_map, string_bytes};
+ghost use Rattle.std.specs.Prelude.{◌≡◌, IfOk, string_bytes};
 ghost use Rattle.csv.specs.Records.{fields_of};
 ghost use Rattle.fault_texts.specs.NetworkText.{complaint, network_text, unfit_in};
+ghost use Rattle.fault_texts.specs.inner.UnfitTexts.{unfit_texts};
 
 use crate::bad_record::{Unfit, bad_record_text};
 use crate::words::{failed_text, record_text};
@@ -23,7 +24,7 @@ pub fn network_text(
     path: &str,
     stop: &FaultAt<NetworkFault>,
 ) -> Result<String, AllocError>
-    ensures { IfOk result (λ text. string_bytes text ≡ network_text path.now stop.now.fault stop.now.at.number (fields_of stop.now.at.fields)) }
+    ensures { IfOk result (λ text. string_bytes text ≡ network_text path.now stop.now) }
 {
     match stop.fault {
         NetworkFault::OutOfMemory => String::from_str(alloc, "out of memory"),
@@ -55,7 +56,7 @@ pub fn network_text(
 
 /// The first field that isn't as its rule asks.
 fn unfit_in(fields: &ByteRecord) -> Option<Unfit<'_>>
-    ensures { option_map (λ unfit. (unfit.0.now, unfit.1.now, unfit.2.now)) result ≡ unfit_in (fields_of fields.now) }
+    ensures { unfit_texts result ≡ unfit_in (fields_of fields.now) }
 {
     let (field, said) = unfit_field(fields)?;
     Some((field.name(), said, complaint(field)))

@@ -1,8 +1,9 @@
 //! What is said of a file that is no roster.
-ghost use Rattle.std.specs.Prelude.{◌≡◌, ◌++◌, IfOk, codes, decimal, option_map, string_bytes};
+ghost use Rattle.std.specs.Prelude.{◌≡◌, ◌++◌, IfOk, codes, decimal, string_bytes};
 ghost use Rattle.csv.specs.Records.{fields_of};
 ghost use Rattle.fault_texts.specs.RosterText.{complaint, roster_text, twice_text, unfit_in};
 ghost use Rattle.fault_texts.specs.Shown.{shown};
+ghost use Rattle.fault_texts.specs.inner.UnfitTexts.{unfit_texts};
 
 use crate::bad_record::{Unfit, bad_record_text};
 use crate::shown::push_shown;
@@ -27,7 +28,7 @@ pub fn roster_text(
     path: &str,
     stop: &FaultAt<RosterRefusal>,
 ) -> Result<String, AllocError>
-    ensures { IfOk result (λ text. string_bytes text ≡ roster_text path.now stop.now.fault.fault stop.now.fault.first stop.now.at.number (fields_of stop.now.at.fields)) }
+    ensures { IfOk result (λ text. string_bytes text ≡ roster_text path.now stop.now) }
 {
     match stop.fault.fault {
         RosterFault::OutOfMemory => String::from_str(alloc, "out of memory"),
@@ -95,7 +96,7 @@ fn two_records(alloc: Global, path: &str, first: u32, second: u32) -> Result<Str
 
 /// The first field that isn't as its rule asks.
 fn unfit_in(fields: &ByteRecord) -> Option<Unfit<'_>>
-    ensures { option_map (λ unfit. (unfit.0.now, unfit.1.now, unfit.2.now)) result ≡ unfit_in (fields_of fields.now) }
+    ensures { unfit_texts result ≡ unfit_in (fields_of fields.now) }
 {
     let (field, said) = unfit_field(fields)?;
     Some((field.name(), said, complaint(field)))

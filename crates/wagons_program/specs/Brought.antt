@@ -1,11 +1,15 @@
 -- What a run over the lines of an input does, up to the status of the program.
 use Rattle.std.specs.Prelude.{◌≡◌, ℕ, List, Option}
+use Rattle.command_line.specs.declared.office_options.OfficeOptions.{OfficeOptions}
 use Rattle.commit_book.specs.Books.{BookValue}
+use Rattle.line_engine.specs.Lines.{max_line_bytes}
 use Rattle.line_engine.specs.Replies.{Numbered, Replying}
 use Rattle.line_engine.specs.Runs.{Failures, Run, RunEnds, RunStops}
 use Rattle.line_engine.specs.declared.run.RunCount.{RunCount}
 use Rattle.line_engine.specs.declared.run.RunFault.{RunFault}
+use Rattle.line_network.specs.Network.{NetworkValue}
 use Rattle.office.specs.CommandReplies.{RepliesToLine, LineRunsOutOfMemory}
+use Rattle.wagons_program.specs.FirstBook.{IsFirstBookFor}
 use Rattle.wagons_program.specs.Status.{status_of_count}
 use Rattle.wagons_program.specs.declared.stop.Stop.{Stop}
 use Rattle.wagons_program.specs.declared.stop.Stop.TheVariants as stop
@@ -35,6 +39,11 @@ pub record AreAnswered {H : Type 0} (replying : Replying H) (lines : Lines H) (s
   pub ends : RunEnds replying (run_of lines left holds) count
   pub status_is : status ≡ status_of_count count
 
+-- the lines of an input, each of at most so many bytes, were replied to so, and this is the status
+abbrev pub IsInputAnswered : {H : Type 0} → Replying H → (most : ℕ) → (input : Option (List ℕ)) → (status : ℕ) → Type 0
+IsInputAnswered {H = H} replying most input status =
+    (lines : Lines H) × (lines.most ≡ most) × (lines.input ≡ input) × AreAnswered replying lines status
+
 -- The run stopped, and this is why.
 pub record AreStopped {H : Type 0} (replying : Replying H) (lines : Lines H) (why : Stop) : Type 0 where
   pub left : Option (List ℕ)
@@ -47,3 +56,9 @@ pub record AreStopped {H : Type 0} (replying : Replying H) (lines : Lines H) (wh
 -- the replies to command lines
 abbrev pub ToCommands : Replying BookValue
 ToCommands = Numbered RepliesToLine LineRunsOutOfMemory
+
+-- the command lines of an input were brought to the first book for these options, and this is the status
+abbrev pub IsInputBrought : OfficeOptions → (input : Option (List ℕ)) → (status : ℕ) → Type 0
+IsInputBrought options input status =
+    (networks : List NetworkValue) × (lines : Lines BookValue) × (lines.input ≡ input) × (lines.most ≡ max_line_bytes)
+    × IsFirstBookFor options networks lines.old × AreAnswered ToCommands lines status

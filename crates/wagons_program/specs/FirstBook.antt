@@ -1,5 +1,6 @@
 -- The office that the program begins with, and the book of it.
 use Rattle.std.specs.Prelude.{◌≡◌, List, []}
+use Rattle.command_line.specs.declared.office_options.OfficeOptions.{OfficeOptions}
 use Rattle.command_line.specs.declared.office_options.Start.{Start}
 use Rattle.command_line.specs.declared.office_options.Start.TheVariants as start
 use Rattle.commit_book.specs.Books.{BookValue}
@@ -20,3 +21,7 @@ pub record IsFirstBook (first : Office) (networks : List NetworkValue) (limits :
   pub setting : book.setting ≡ record { first = first; networks = networks; entries = limits.entries; kept = limits.kept }
   pub history : book.state.history ≡ []
   pub kept : book.state.kept ≡ []
+
+-- the first book for these options over these networks, with an office that the options begin with
+abbrev pub IsFirstBookFor : OfficeOptions → (networks : List NetworkValue) → BookValue → Type 0
+IsFirstBookFor options networks book = (office : Office) × BeginsWith options.start office × IsFirstBook office networks options.limits book

@@ -1,5 +1,6 @@
 -- The plan of a history's last version at a moment, for people.
-use Rattle.std.specs.Prelude.{◌≡◌, ℕ, Bool, true, false, List, length, Option, Some}
+use Rattle.std.specs.Prelude.{◌≡◌, ℕ, Bool, true, false, List, length, Option, Some, option_copied}
+use Rattle.command_line.specs.declared.plan_options.PlanOptions.{PlanOptions}
 use Rattle.commit_book.specs.History.{problem_at, version}
 use Rattle.commit_book.specs.Setting.{Setting}
 use Rattle.line_network.specs.Network.{NetworkValue}
@@ -36,8 +37,8 @@ pub record IsPrintedIn (csv : Bool) (places : List NamedPlace) (zone : Option (L
   pub for_zone : IsClockFor zone clock
   pub printed : IsPrinted csv places clock plan text
 
--- the text of that plan
-pub record IsPlanTextOfLast (setting : Setting) (history : List Event) (at : ℕ) (csv : Bool) (places : List NamedPlace) (zone : Option (List ℕ)) (text : List ℕ) : Type 0 where
+-- the text of that plan, by the options of `plan`
+pub record IsPlanTextOfLast (setting : Setting) (history : List Event) (options : PlanOptions) (places : List NamedPlace) (text : List ℕ) : Type 0 where
   pub plan : PlanList
-  pub of_last : IsPlanOfLast setting history at plan
-  pub printed : IsPrintedIn csv places zone plan text
+  pub of_last : IsPlanOfLast setting history options.problem.at plan
+  pub printed : IsPrintedIn options.csv places (option_copied options.zone) plan text

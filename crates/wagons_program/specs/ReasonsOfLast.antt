@@ -2,6 +2,7 @@
 use Rattle.std.specs.Prelude.{◌≡◌, ℕ, Bool, true, false, List, length, Option, Some, slice_get}
 use Rattle.command_line.specs.declared.why_options.Asked.{Asked}
 use Rattle.command_line.specs.declared.why_options.Asked.TheVariants.{Plan, Order, Wagon}
+use Rattle.command_line.specs.declared.why_options.WhyOptions.{WhyOptions}
 use Rattle.commit_book.specs.History.{problem_at, version}
 use Rattle.commit_book.specs.Setting.{Setting}
 use Rattle.cost_table.specs.Problem.{ProblemValue, order_names, wagon_names}
@@ -11,7 +12,9 @@ use Rattle.move_messages.specs.declared.event.Event.{Event}
 use Rattle.place_names.specs.declared.named_place.NamedPlace.{NamedPlace}
 use Rattle.plan_bounds.specs.PricedPlan.{IsCertified, PricedPlan}
 use Rattle.plan_reasons.specs.PairLists.{IsOrderText, IsWagonText}
+use Rattle.plan_reasons.specs.Planned.{priced_plan}
 use Rattle.plan_reasons.specs.WhyText.{IsWhyText}
+use Rattle.plan_reasons.specs.declared.planned_problem.PlannedProblem.{PlannedProblem}
 use Rattle.plan_reasons.specs.declared.style.Style.{Style}
 use Rattle.plan_reasons.specs.declared.style.Style.TheVariants.{Text, Json}
 use Rattle.problem_table.specs.Allowed.{IsTableOf}
@@ -30,12 +33,17 @@ IsAnswer style names (Order id) last network problem plan text =
 IsAnswer style names (Wagon number) last network problem plan text =
     (i : ℕ) × (slice_get (wagon_names problem.wagons) i ≡ Some number) × IsWagonText style names network problem plan i text
 
+-- the same of a planned problem, by the options of `why`
+abbrev pub IsAnswerFor : WhyOptions → (names : Option (List NamedPlace)) → (last : ℕ) → PlannedProblem → (text : List ℕ) → Type 0
+IsAnswerFor options names last planned text =
+    IsAnswer (style_of options.json) names options.asked last planned.tables.now planned.problem.now (priced_plan planned) text
+
 -- The problem of the last version at a moment, over the network in force, has a plan whose prices show that none costs less;
 -- and the text answers what is asked about that plan.
-pub record AreReasonsOfLast (setting : Setting) (history : List Event) (at : ℕ) (style : Style) (names : Option (List NamedPlace)) (asked : Asked) (text : List ℕ) : Type 0 where
+pub record AreReasonsOfLast (setting : Setting) (history : List Event) (options : WhyOptions) (names : Option (List NamedPlace)) (text : List ℕ) : Type 0 where
   pub network : NetworkValue
   pub in_force : network_at setting.networks (version setting history (length history)).network ≡ Some network
   pub plan : PricedPlan
-  pub table : IsTableOf network (problem_at setting history (length history) at) plan.table
+  pub table : IsTableOf network (problem_at setting history (length history) options.problem.at) plan.table
   pub certified : IsCertified plan
-  pub answers : IsAnswer style names asked (length history) network (problem_at setting history (length history) at) plan text
+  pub answers : IsAnswer (style_of options.json) names options.asked (length history) network (problem_at setting history (length history) options.problem.at) plan text

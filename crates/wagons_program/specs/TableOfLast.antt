@@ -1,5 +1,5 @@
 -- The table line of the problem of a history's last version at a moment.
-use Rattle.std.specs.Prelude.{◌≡◌, ℕ, List, length}
+use Rattle.std.specs.Prelude.{◌≡◌, ℕ, List, [], ◌∷◌, ◌++◌, length}
 use Rattle.commit_book.specs.History.{IsTableAt, problem_at}
 use Rattle.commit_book.specs.Setting.{Setting}
 use Rattle.cost_table.specs.Names.{NameLists}
@@ -19,3 +19,7 @@ pub record IsTableOfLast (setting : Setting) (history : List Event) (at : ℕ) (
   pub is_table : IsTableAt setting history (length history) at table
   pub text : line ≡ unplanned_text (text_of_table (last_names setting history at) table)
   pub states : StatesTable (last_names setting history at) table line
+
+-- that line with its line feed
+abbrev pub IsTableTextOfLast : Setting → List Event → (at : ℕ) → (text : List ℕ) → Type 0
+IsTableTextOfLast setting history at text = (line : List ℕ) × IsTableOfLast setting history at line × (text ≡ line ++ 10 ∷ [])

@@ -1,5 +1,7 @@
--- What people are told of a reason why the program could not run or stopped, of which nothing more is known.
-use Rattle.std.specs.Prelude.{ℕ, ◌==◌, if◌then◌else◌, List, codes}
+-- What people are told of a reason why the program could not run or stopped: words, where nothing more is known, or a text that
+-- was made.
+use Rattle.std.specs.Prelude.{◌≡◌, ℕ, ◌==◌, if◌then◌else◌, IfSome, List, Option, String, codes, string_bytes}
+use Rattle.std.specs.declared.alloc.Global.{Global}
 use Rattle.faults.specs.declared.faults.FeedFault.TheVariants as feed
 use Rattle.faults.specs.declared.faults.FleetFault.TheVariants as fleet
 use Rattle.wagons_program.specs.Stop.{stop_number}
@@ -31,3 +33,7 @@ reason_of (Feed (feed.ReceiptLost seat entry)) = codes "an entry isn't what its 
 
 abbrev pub words_of : Stop → List ℕ
 words_of stop = if stop_number stop == 1 then codes "out of memory" else reason_of stop
+
+-- the text that was made, where memory for it was there, is this one
+abbrev pub IsToldAs : (text : List ℕ) → (told : Option (String Global)) → Type 0
+IsToldAs text told = IfSome told (λ made. string_bytes made ≡ text)

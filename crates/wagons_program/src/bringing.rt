@@ -2,9 +2,8 @@
 ghost use Rattle.std.specs.Prelude.{◌≡◌, IfErr, IfOk};
 ghost use Rattle.commit_book.specs.Books.{BookValue};
 ghost use Rattle.line_engine.specs.Lines.{max_line_bytes};
-ghost use Rattle.operating_db.specs.Office.{Office};
 ghost use Rattle.wagons_program.specs.Brought.{AreAnswered, AreStopped, ToCommands, lines_over};
-ghost use Rattle.wagons_program.specs.FirstBook.{BeginsWith, IsFirstBook};
+ghost use Rattle.wagons_program.specs.FirstBook.{IsFirstBookFor};
 
 use crate::new_book::{NewBook, OfficeFiles, new_book, read_files};
 use crate::status::status_of_run;
@@ -41,8 +40,7 @@ pub(crate) fn bring<R: Files + Threads + Wait + AllocGlobal, I: Read + Drop, O: 
 ) -> Result<Brought, Stopped>
     ensures distances { IfOk result (λ brought. brought.distances.value ≡ brought.book.setting.networks) }
     ensures networks { IfOk result (λ brought. brought.networks.items ≡ brought.book.setting.networks) }
-    ensures brought { IfOk result (λ brought. (office : Office) × (first : BookValue) × BeginsWith options.now.start office
-        × IsFirstBook office brought.networks.items options.now.limits first
+    ensures brought { IfOk result (λ brought. (first : BookValue) × IsFirstBookFor options.now brought.networks.items first
         × AreAnswered ToCommands (lines_over max_line_bytes (I.remaining input) (O.contents output) first brought.book) brought.status) }
 {
     let OfficeFiles { first, networks } = read_files(rt, options)?;

@@ -1,5 +1,5 @@
 //! The word `plan`.
-ghost use Rattle.std.specs.Prelude.{◌≡◌, IfOk, option_map};
+ghost use Rattle.std.specs.Prelude.{◌≡◌, IfOk, option_copied};
 ghost use Rattle.plan_reasons.specs.Planned.{IsPlannedProblem, priced_plan};
 ghost use Rattle.plan_table.specs.ListOf.{IsListOf};
 ghost use Rattle.wagons_program.specs.PlanOfLast.{IsPlanOfLast, IsPlanTextOfLast, IsPrinted, IsPrintedIn};
@@ -58,8 +58,8 @@ fn last_text(
     zone: &ZoneFile<'_>,
 ) -> Result<Vec<u8>, Stop>
     requires distances { distances.now ≡ book.old.setting.networks }
-    requires zone { IsReadFor (option_map (λ text. text.now) options.now.zone) zone.now }
-    ensures { IfOk result (λ text. IsPlanTextOfLast book.old.setting book.old.state.history options.now.problem.at options.now.csv places.now (option_map (λ text. text.now) options.now.zone) text.items) }
+    requires zone { IsReadFor (option_copied options.now.zone) zone.now }
+    ensures { IfOk result (λ text. IsPlanTextOfLast book.old.setting book.old.state.history options.now places.now text.items) }
 {
     let list = last_plan(alloc, book, distances, options.problem.at)?;
     printed_in(alloc, options.csv, places, zone, &list)

@@ -1,17 +1,14 @@
 //! The word `review`.
-ghost use Rattle.std.specs.Prelude.{◌≡◌, ◌⊎◌, IfErr, IfOk, List, OnOk, option_map};
+ghost use Rattle.std.specs.Prelude.{◌≡◌, ◌⊎◌, IfErr, IfOk, List, OnOk};
 ghost use Rattle.std.specs.Io.KnownBytes.{Appends};
 ghost use Rattle.commit_book.specs.Books.{BookValue};
 ghost use Rattle.office.specs.JournalEnd.{end_note};
-ghost use Rattle.office.specs.Reviews.{ReviewValue, first_review};
+ghost use Rattle.office.specs.Reviews.{first_review};
 ghost use Rattle.line_engine.specs.Lines.{max_line_bytes};
 ghost use Rattle.line_network.specs.Network.{NetworkValue};
-ghost use Rattle.operating_db.specs.Office.{Office};
-ghost use Rattle.place_names.specs.declared.named_place.NamedPlace.{NamedPlace};
-ghost use Rattle.wagons_program.specs.Brought.{Lines, lines_over};
-ghost use Rattle.wagons_program.specs.FirstBook.{BeginsWith, IsFirstBook};
-ghost use Rattle.wagons_program.specs.PlacesFor.{ArePlacesFor};
-ghost use Rattle.wagons_program.specs.Reviewed.{AreReviewed, IsReviewStopped, status_of_notes};
+ghost use Rattle.wagons_program.specs.Brought.{lines_over};
+ghost use Rattle.wagons_program.specs.FirstBook.{IsFirstBookFor};
+ghost use Rattle.wagons_program.specs.Reviewed.{AreReviewed, IsInputReviewed, IsReviewStopped, status_of_notes};
 ghost use Rattle.wagons_program.specs.declared.stop.Stop.TheVariants as stop;
 
 use crate::bringing::leave;
@@ -39,10 +36,7 @@ pub(crate) fn review<R: Print + Files + Threads + Wait + AllocGlobal, I: Read + 
     options: &ReviewOptions<'_>,
     input: I,
 ) -> Result<u8, Stopped>
-    ensures { IfOk result (λ status. (office : Office) × (networks : List NetworkValue) × (book : BookValue) × (named : List NamedPlace) × (lines : Lines ReviewValue)
-        × (lines.input ≡ I.remaining input) × (lines.most ≡ max_line_bytes) × BeginsWith options.now.office.start office
-        × IsFirstBook office networks options.now.office.limits book × ArePlacesFor (option_map (λ text. text.now) options.now.places) named
-        × (lines.old ≡ first_review book named) × AreReviewed lines status) }
+    ensures { IfOk result (IsInputReviewed options.now (I.remaining input)) }
 {
     let places = read_places(rt, options.places)?;
     let mut review = begin_review(rt, &options.office, places)?;
@@ -57,8 +51,8 @@ fn begin_review<R: Files + Threads + Wait + AllocGlobal>(
     options: &OfficeOptions<'_>,
     named: Places,
 ) -> Result<Review, Stopped>
-    ensures { IfOk result (λ review. (office : Office) × (networks : List NetworkValue) × (book : BookValue) × BeginsWith options.now.start office
-        × IsFirstBook office networks options.now.limits book × (review ≡ first_review book named)) }
+    ensures { IfOk result (λ review. (networks : List NetworkValue) × (book : BookValue) × IsFirstBookFor options.now networks book
+        × (review ≡ first_review book named)) }
 {
     let OfficeFiles { first, networks } = read_files(rt, options)?;
     let NewBook { book, networks: _ } = new_book(rt, options, first, &networks)?;

@@ -1,11 +1,6 @@
 //! The word `run`.
-ghost use Rattle.std.specs.Prelude.{◌≡◌, IfOk, List};
-ghost use Rattle.operating_db.specs.Office.{Office};
-ghost use Rattle.commit_book.specs.Books.{BookValue};
-ghost use Rattle.line_engine.specs.Lines.{max_line_bytes};
-ghost use Rattle.line_network.specs.Network.{NetworkValue};
-ghost use Rattle.wagons_program.specs.Brought.{AreAnswered, Lines, ToCommands};
-ghost use Rattle.wagons_program.specs.FirstBook.{BeginsWith, IsFirstBook};
+ghost use Rattle.std.specs.Prelude.{IfOk};
+ghost use Rattle.wagons_program.specs.Brought.{IsInputBrought};
 
 use crate::bringing::{Brought, bring, leave};
 use crate::stopped::Stopped;
@@ -22,8 +17,7 @@ pub(crate) fn run<R: Print + Files + Threads + Wait + AllocGlobal, I: Read + Dro
     options: &OfficeOptions<'_>,
     input: I,
 ) -> Result<u8, Stopped>
-    ensures { IfOk result (λ status. (office : Office) × (networks : List NetworkValue) × (lines : Lines BookValue) × (lines.input ≡ I.remaining input) × (lines.most ≡ max_line_bytes)
-        × BeginsWith options.now.start office × IsFirstBook office networks options.now.limits lines.old × AreAnswered ToCommands lines status) }
+    ensures { IfOk result (IsInputBrought options.now (I.remaining input)) }
 {
     let Brought {
         book,

@@ -1,7 +1,7 @@
 //! The word `solve`.
-ghost use Rattle.std.specs.Prelude.{◌≡◌, ℕ, IfOk};
+ghost use Rattle.std.specs.Prelude.{IfOk};
 ghost use Rattle.table_lines.specs.Solving.{ToTables};
-ghost use Rattle.wagons_program.specs.Brought.{AreAnswered, Lines};
+ghost use Rattle.wagons_program.specs.Brought.{IsInputAnswered};
 
 use crate::status::status_of_run;
 use crate::stop::Stop;
@@ -16,7 +16,7 @@ pub(crate) fn solve<R: Print + AllocGlobal, I: Read + Drop>(
     limit: LineLimit,
     input: I,
 ) -> Result<u8, Stop>
-    ensures { IfOk result (λ status. (lines : Lines ℕ) × (lines.most ≡ limit) × (lines.input ≡ I.remaining input) × AreAnswered ToTables lines status) }
+    ensures { IfOk result (IsInputAnswered ToTables limit (I.remaining input)) }
 {
     let mut reader = StdDevice::new(input);
     let mut writer = StdDevice::new(io::writer(rt));

@@ -1,7 +1,7 @@
 //! The word `table`.
-ghost use Rattle.std.specs.Prelude.{◌≡◌, ◌++◌, ◌∷◌, [], ℕ, IfOk, List, Some, length, slice_get, string_bytes};
+ghost use Rattle.std.specs.Prelude.{◌≡◌, ◌++◌, ◌∷◌, [], IfOk, Some, length, slice_get, string_bytes};
 ghost use Rattle.commit_book.specs.Snap.{snap_of};
-ghost use Rattle.wagons_program.specs.TableOfLast.{IsTableOfLast};
+ghost use Rattle.wagons_program.specs.TableOfLast.{IsTableOfLast, IsTableTextOfLast};
 
 use crate::bringing::{Brought, bring};
 use crate::printing::print_last;
@@ -37,7 +37,7 @@ pub(crate) fn table<R: Print + Files + Threads + Wait + AllocGlobal, I: Read + D
 
 /// The table line of the problem of a book's last version at a moment, and its line feed. `Err` only when out of memory.
 fn last_table(alloc: Global, book: &mut Book, at: Moment) -> Result<String, Stop>
-    ensures { IfOk result (λ text. (line : List ℕ) × IsTableOfLast book.old.setting book.old.state.history at line × (string_bytes text ≡ line ++ 10 ∷ [])) }
+    ensures { IfOk result (λ text. IsTableTextOfLast book.old.setting book.old.state.history at (string_bytes text)) }
 {
     let (snap, index) = book.begin_indexed(alloc, at)?;
     let line = kept_line(alloc, book, &snap, index)?;

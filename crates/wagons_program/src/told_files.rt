@@ -1,13 +1,13 @@
 //! What people are told of a file that isn't what it must be.
-ghost use Rattle.std.specs.Prelude.{◌≡◌, ◌≢◌, ℕ, IfSome, string_bytes};
+ghost use Rattle.std.specs.Prelude.{◌≡◌, ◌≢◌, ℕ};
 ghost use Rattle.checkpoint.specs.declared.read_fault.ReadFault.TheVariants as read_fault;
-ghost use Rattle.csv.specs.Records.{fields_of};
 ghost use Rattle.fault_texts.specs.CheckpointText.{checkpoint_text};
 ghost use Rattle.fault_texts.specs.NetworkText.{network_text};
 ghost use Rattle.fault_texts.specs.RosterText.{roster_text};
 ghost use Rattle.fault_texts.specs.UnreadText.{unread_text};
 ghost use Rattle.faults.specs.declared.faults.CheckpointFault.{CheckpointFault};
 ghost use Rattle.line_fields.specs.declared.fault.LineFault.{LineFault};
+ghost use Rattle.wagons_program.specs.Told.{IsToldAs};
 ghost use Rattle.wagons_program.specs.declared.stop.Stop.TheVariants as stop;
 
 use crate::stop::Stop;
@@ -30,7 +30,7 @@ pub(crate) fn told_of_roster<F>(
     file: &ToldFile<F>,
 ) -> Stopped
     ensures stop { result.stop ≡ stop.Roster refusal.now.fault.fault }
-    ensures told { refusal.now.fault.fault ≢ RosterFault.ReadFailed → IfSome result.told (λ told. string_bytes told ≡ roster_text path.now refusal.now.fault.fault refusal.now.fault.first refusal.now.at.number (fields_of refusal.now.at.fields)) }
+    ensures told { refusal.now.fault.fault ≢ RosterFault.ReadFailed → IsToldAs (roster_text path.now refusal.now) result.told }
 {
     let text = match refusal.fault.fault {
         RosterFault::ReadFailed => file.failure_text(alloc, path),
@@ -47,7 +47,7 @@ pub(crate) fn told_of_network<F>(
     file: &ToldFile<F>,
 ) -> Stopped
     ensures stop { result.stop ≡ stop.Network refusal.now.fault }
-    ensures told { refusal.now.fault ≢ NetworkFault.ReadFailed → IfSome result.told (λ told. string_bytes told ≡ network_text path.now refusal.now.fault refusal.now.at.number (fields_of refusal.now.at.fields)) }
+    ensures told { refusal.now.fault ≢ NetworkFault.ReadFailed → IsToldAs (network_text path.now refusal.now) result.told }
 {
     let text = match refusal.fault {
         NetworkFault::ReadFailed => file.failure_text(alloc, path),
@@ -64,8 +64,8 @@ pub(crate) fn told_of_checkpoint<F>(
     file: &ToldFile<F>,
 ) -> Stopped
     ensures stop { result.stop ≡ stop.Checkpoint fault }
-    ensures told { (line : CheckpointFault) → fault ≡ read_fault.Line line → IfSome result.told (λ told. string_bytes told ≡ checkpoint_text path.now line) }
-    ensures unread { (n : ℕ) (why : LineFault) → fault ≡ read_fault.Unread n why → IfSome result.told (λ told. string_bytes told ≡ unread_text path.now n why) }
+    ensures told { (line : CheckpointFault) → fault ≡ read_fault.Line line → IsToldAs (checkpoint_text path.now line) result.told }
+    ensures unread { (n : ℕ) (why : LineFault) → fault ≡ read_fault.Unread n why → IsToldAs (unread_text path.now n why) result.told }
 {
     let text = match fault {
         ReadFault::Run(RunFault::ReadFailed(_)) => file.failure_text(alloc, path),

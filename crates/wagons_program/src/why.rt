@@ -1,7 +1,7 @@
 //! The word `why`.
-ghost use Rattle.std.specs.Prelude.{◌≡◌, IfOk, length, option_map, string_bytes};
-ghost use Rattle.plan_reasons.specs.Planned.{IsPlannedProblem, priced_plan};
-ghost use Rattle.wagons_program.specs.ReasonsOfLast.{AreReasonsOfLast, IsAnswer, style_of};
+ghost use Rattle.std.specs.Prelude.{◌≡◌, IfOk, option_copied, string_bytes};
+ghost use Rattle.plan_reasons.specs.Planned.{IsPlannedProblem};
+ghost use Rattle.wagons_program.specs.ReasonsOfLast.{AreReasonsOfLast, IsAnswerFor, style_of};
 
 use crate::bringing::{Brought, bring};
 use crate::places::read_names;
@@ -51,7 +51,7 @@ fn last_reasons(
     names: Option<&Places>,
 ) -> Result<String, Stop>
     requires { distances.now ≡ book.old.setting.networks }
-    ensures { IfOk result (λ text. AreReasonsOfLast book.old.setting book.old.state.history options.now.problem.at (style_of options.now.json) (option_map (λ places. places.now) names.entry) options.now.asked (string_bytes text)) }
+    ensures { IfOk result (λ text. AreReasonsOfLast book.old.setting book.old.state.history options.now (option_copied names.entry) (string_bytes text)) }
 {
     let (snap, index) = book.begin_indexed(alloc, options.problem.at)?;
     // A book's network in force is one of its networks.
@@ -79,7 +79,7 @@ fn answer(
     planned: &PlannedProblem<'_>,
 ) -> Result<String, Stop>
     requires { IsPlannedProblem planned.now }
-    ensures { IfOk result (λ text. IsAnswer (style_of options.now.json) (option_map (λ places. places.now) names.entry) options.now.asked version planned.now.tables.now planned.now.problem.now (priced_plan planned.now) (string_bytes text)) }
+    ensures { IfOk result (λ text. IsAnswerFor options.now (option_copied names.entry) version planned.now (string_bytes text)) }
 {
     let style = style_of(options.json);
     let form = LineForm { style, names };
