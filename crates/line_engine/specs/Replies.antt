@@ -2,8 +2,11 @@
 -- state, the reply's text behind the number, and the mark of a refusal may be, and `runs_out old line new` what its
 -- state may become where the reply is refused for memory. A responder's are whole texts: `replies n old line text
 -- refused new`.
-use Rattle.std.specs.Prelude.{◌≡◌, ℕ, ◌+◌, Bool, true, false, ◌⊎◌, List, [], ◌∷◌, ◌++◌, codes, decimal, if◌then◌else◌, MatchBool}
+use Rattle.std.specs.Prelude.{◌≡◌, ℕ, ◌+◌, Bool, true, false, ◌⊎◌, List, [], ◌∷◌, ◌++◌, codes, decimal, if◌then◌else◌, MatchBool, MatchResult, Result}
+use Rattle.std.specs.declared.alloc.AllocError.{AllocError}
 use Rattle.line_engine.specs.Lines.{is_blank}
+use Rattle.line_engine.specs.Outcome.{is_refusal}
+use Rattle.line_engine.specs.declared.handler.Outcome.{Outcome}
 
 abbrev pub Answering : Type 0 → Type 1
 Answering H = H → List ℕ → List ℕ → Bool → H → Type 0
@@ -22,6 +25,13 @@ least_room = 256
 -- what is replied behind the line's number where memory was refused
 abbrev pub out_of_memory_body : List ℕ
 out_of_memory_body = codes "refused 1\n"
+
+-- What answering a line, or what it was read as, has done to a reply and a state: a body was added, which is a refusal or
+-- not; or memory was refused.
+abbrev pub IsAnswered : {H L : Type 0} → (answers : H → L → List ℕ → Bool → H → Type 0) → (runs_out : H → L → H → Type 0) → L → (before after : List ℕ × H) → Result Outcome AllocError → Type 0
+IsAnswered answers runs_out line before after result = MatchResult result
+    (λ outcome. (body : List ℕ) × (after.0 ≡ before.0 ++ body) × answers before.1 line body (is_refusal outcome) after.1)
+    (λ _. runs_out before.1 line after.1)
 
 -- the reply to a line that isn't blank, behind the line's number
 abbrev pub Responds : {H : Type 0} → Answering H → RunningOut H → H → List ℕ → List ℕ → Bool → H → Type 0

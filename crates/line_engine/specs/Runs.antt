@@ -4,6 +4,8 @@ use Rattle.std.specs.Io.KnownBytes.{Consumes, Appends, Keeps, IsAtEnd}
 use Rattle.std.specs.List.{AllByRecursion}
 use Rattle.line_engine.specs.Lines.{lines_of, first_line, has_feed, max_input_lines, BeginsWith, IsWithin}
 use Rattle.line_engine.specs.Replies.{Answering, RunningOut, Replying, Numbered, ServesLine, ServesLines}
+use Rattle.line_engine.specs.declared.device.Sink as sink
+use Rattle.line_engine.specs.declared.device.Source as source
 use Rattle.line_engine.specs.declared.run.RunCount.{RunCount}
 use Rattle.line_engine.specs.declared.run.RunFault.{RunFault}
 use Rattle.line_engine.specs.declared.run.RunFault.TheVariants.{OutOfMemory, TooManyLines, LineTooLong, ReadFailed, WriteFailed}
@@ -95,6 +97,13 @@ pub record Runs {H : Type 0} (replying : Replying H) (run : Run H) (failed : Fai
   pub ok : IfOk result (λ count. RunEnds replying run count)
   pub err : IfErr result (λ fault. RunStops replying run failed fault)
   pub healthy : OnOk result ((failed.reader ≡ false) × (failed.writer ≡ false))
+
+-- the same by the most bytes of a line, by what is known of a reader and of a writer, and by the reader, the writer and the
+-- state before the run and after it
+abbrev pub RunsOver : {H R W : Type 0} → Replying H → (most : ℕ) → source.Ghosts R → sink.Ghosts W → (before after : R × W × H) → Result RunCount RunFault → Type 0
+RunsOver replying most reading writing before after result =
+    Runs replying (run_over most reading.remaining writing.contents before after)
+    (record { reader = reading.has_failed after.0; writer = writing.has_failed after.1 }) result
 
 -- ---- the same where replies stand behind their lines' numbers
 

@@ -1,7 +1,7 @@
 //! What answers the lines of a run.
-ghost use Rattle.std.specs.Prelude.{◌≡◌, ℕ, ◌≤◌, Bool, List, ◌++◌, length, MatchResult};
+ghost use Rattle.std.specs.Prelude.{ℕ, ◌≤◌, Bool, List, length};
 ghost use Rattle.line_engine.specs.Outcome.{is_refusal};
-ghost use Rattle.line_engine.specs.Replies.{max_head_bytes, Numbered};
+ghost use Rattle.line_engine.specs.Replies.{IsAnswered, max_head_bytes, Numbered};
 
 use crate::reply_text::ReplyText;
 use std::alloc::{AllocError, Global};
@@ -45,9 +45,7 @@ pub trait Handler {
         reply: &mut ReplyText,
     ) -> Result<Outcome, AllocError>
         requires short { length reply.old ≤ max_head_bytes }
-        ensures { MatchResult result
-            (λ outcome. (body : List ℕ) × (reply.new ≡ reply.old ++ body) × answers state.old line.now body (is_refusal outcome) state.new)
-            (λ _. runs_out state.old line.now state.new) };
+        ensures { IsAnswered answers runs_out line.now (reply.old, state.old) (reply.new, state.new) result };
 }
 
 /// What replies to lines, one after the other, each reply a whole text.

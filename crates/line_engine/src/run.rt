@@ -1,9 +1,10 @@
 //! The loop over the lines of an input, and why it may stop early.
-ghost use Rattle.std.specs.Prelude.{◌≡◌, ℕ, ◌+◌, ◌++◌, List, Bool, false, true, IfOk, OnOk, OnErr};
+ghost use Rattle.std.specs.Prelude.{◌≡◌, false, IfOk, OnOk, OnErr};
 ghost use Rattle.std.specs.Io.KnownBytes.{Appends};
 ghost use Rattle.line_engine.specs.Lines.{is_blank as is_blank_line};
-ghost use Rattle.line_engine.specs.Replies.{Numbered, ServesLine};
-ghost use Rattle.line_engine.specs.Runs.{Runs, run_over};
+ghost use Rattle.line_engine.specs.Replies.{Numbered};
+ghost use Rattle.line_engine.specs.Runs.{RunsOver};
+ghost use Rattle.line_engine.specs.inner.Serving.{IsServed, IsServedInPart, WritesPart};
 
 use crate::device::{DeviceFailed, Sink, Source};
 use crate::handler::{Handler, NumberedReplies, Responder};
@@ -109,8 +110,7 @@ fn is_blank(line: &[u8]) -> bool
 /// Writes all the bytes.
 fn write_all<W: Sink>(writer: &mut W, bytes: &[u8]) -> Result<(), DeviceFailed>
     ensures ok { OnOk result (Appends (W.contents writer.old) (W.contents writer.new) bytes.now) }
-    ensures err { OnErr result ((part : List ℕ) × (rest : List ℕ) × (bytes.now ≡ part ++ rest)
-        × Appends (W.contents writer.old) (W.contents writer.new) part × (W.has_failed writer.new ≡ true)) }
+    ensures err { OnErr result (WritesPart W.Sink writer.old writer.new bytes.now) }
     ensures failure { OnOk result (W.has_failed writer.new ≡ W.has_failed writer.old) }
 {
     let mut rest = bytes;
@@ -132,11 +132,8 @@ fn serve<W: Sink, H: Responder>(
     line: &[u8],
     reply: &mut ReplyText,
 ) -> Result<bool, DeviceFailed>
-    ensures ok { IfOk result (λ refused. (text : List ℕ) × ServesLine H.replies number state.old line.now text refused state.new
-        × Appends (W.contents writer.old) (W.contents writer.new) text) }
-    ensures err { OnErr result ((text : List ℕ) × (refused : Bool) × ServesLine H.replies number state.old line.now text refused state.new
-        × (part : List ℕ) × (unwritten : List ℕ) × (text ≡ part ++ unwritten)
-        × Appends (W.contents writer.old) (W.contents writer.new) part × (W.has_failed writer.new ≡ true)) }
+    ensures ok { IfOk result (IsServed H.replies W.Sink number line.now (writer.old, state.old) (writer.new, state.new)) }
+    ensures err { OnErr result (IsServedInPart H.replies W.Sink number line.now (writer.old, state.old) (writer.new, state.new)) }
     ensures failure { OnOk result (W.has_failed writer.new ≡ W.has_failed writer.old) }
 {
     if is_blank(line) {
@@ -163,8 +160,7 @@ pub fn run_replies<R: Source, W: Sink, H: Responder>(
 ) -> Result<RunCount, RunFault>
     requires reader { R.has_failed reader.old ≡ false }
     requires writer { W.has_failed writer.old ≡ false }
-    ensures { Runs H.replies (run_over limit R.remaining W.contents (reader.old, writer.old, state.old) (reader.new, writer.new, state.new))
-        (record { reader = R.has_failed reader.new; writer = W.has_failed writer.new }) result }
+    ensures { RunsOver H.replies limit R.Source W.Sink (reader.old, writer.old, state.old) (reader.new, writer.new, state.new) result }
 {
     let mut window = Window::new(alloc)?;
     let mut line = LineBuffer::new(alloc, limit)?;
@@ -213,8 +209,7 @@ pub fn run_lines<R: Source, W: Sink, H: Handler>(
 ) -> Result<RunCount, RunFault>
     requires reader { R.has_failed reader.old ≡ false }
     requires writer { W.has_failed writer.old ≡ false }
-    ensures { Runs (Numbered H.answers H.runs_out) (run_over limit R.remaining W.contents (reader.old, writer.old, state.old) (reader.new, writer.new, state.new))
-        (record { reader = R.has_failed reader.new; writer = W.has_failed writer.new }) result }
+    ensures { RunsOver (Numbered H.answers H.runs_out) limit R.Source W.Sink (reader.old, writer.old, state.old) (reader.new, writer.new, state.new) result }
 {
     run_replies(
         alloc,

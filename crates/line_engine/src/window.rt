@@ -1,8 +1,8 @@
 //! What was read and not yet cut into lines.
-ghost use Rattle.std.specs.Prelude.{◌≡◌, ℕ, ◌+◌, ◌<◌, ◌≤◌, ◌++◌, ◌||◌, List, [], ◌∷◌, length, true, false, IsOk, IfOk, IfErr, OnOk, MatchResult, Ok, is_err};
+ghost use Rattle.std.specs.Prelude.{◌≡◌, ℕ, ◌<◌, ◌≤◌, ◌++◌, ◌||◌, List, [], ◌∷◌, length, true, false, IsOk, IfOk, IfErr, OnOk, Ok, is_err};
 ghost use Rattle.std.specs.Io.KnownBytes.{Consumes, IsAtEnd};
 ghost use Rattle.line_engine.specs.Lines.{line_feed, has_feed};
-ghost use Rattle.line_engine.specs.inner.Cutting.{Moves, CutsLine, StopsLine};
+ghost use Rattle.line_engine.specs.inner.Cutting.{GrowsTooLong, Moves, ReadsLine};
 
 use crate::device::Source;
 use crate::line_buffer::LineBuffer;
@@ -91,8 +91,7 @@ impl Window {
     pub fn cut(&mut self, line: &mut LineBuffer) -> Result<bool, LineStop>
         ensures within { OnOk result (length line.new.bytes ≤ line.new.most) }
         ensures ok { IfOk result (λ ended. Moves self.old self.new line.old.bytes line.new.bytes ended) }
-        ensures err { IfErr result (λ stop. (stop ≡ LineStop.TooLong) × (front : List ℕ) × (rest : List ℕ) × (self.old ≡ front ++ rest)
-            × (has_feed front ≡ false) × (line.old.most < length line.old.bytes + length front)) }
+        ensures err { IfErr result (GrowsTooLong line.old self.old) }
         ensures most { line.new.most ≡ line.old.most }
     {
         let (front, is_ended) = before_feed(&self.piece[self.start..self.end]);
@@ -114,9 +113,7 @@ impl Window {
         line: &mut LineBuffer,
     ) -> Result<LineEnd, LineStop>
         requires { 0 < length self.old }
-        ensures cut { (taken : List ℕ) × Consumes (R.remaining reader.old) (R.remaining reader.new) taken
-            × MatchResult result (λ end. CutsLine self.old taken line.new.bytes self.new end × (end ≡ LineEnd.Input → IsAtEnd (R.remaining reader.new)))
-            (λ stop. StopsLine line.old.most (self.old ++ taken) (R.has_failed reader.new) stop) }
+        ensures cut { ReadsLine R.Source line.old.most (reader.old, self.old) (reader.new, self.new) line.new.bytes result }
         ensures most { line.new.most ≡ line.old.most }
         ensures failure { R.has_failed reader.old ≡ false → IsOk result → R.has_failed reader.new ≡ false }
     {

@@ -1,6 +1,7 @@
 -- The lists of a table line, member by member, and the table that they are.
 use Rattle.std.proofs.Common.{◌≡◌, ℕ, suc, ◌-◌, ◌<◌, ◌≤◌, Bool, true, false, List, [], ◌∷◌, length, map, Option, Some, None, Result, Ok, refl, ap, ◌∙◌, codes, bytes_eq, option_map, arith}
 use Rattle.std.specs.Prelude.{◌^◌, ⊤}
+use Rattle.std.specs.Bool.{OnFalse}
 use Rattle.std.specs.Global.{Vec}
 use Rattle.std.specs.Str.{IsUtf8}
 use Rattle.std.proofs.lemmas.Slice.Eq.{bytes_eq-Decides}
@@ -27,7 +28,7 @@ use Rattle.table_lines.specs.declared.table_line.TableLine.{TableLine}
 use Rattle.table_lines.specs.TableLine.{IsWithinLimits, row_of, cells_of, lacks_field, table_of, table_text, table_text_of, table_line_of, with_plan_of}
 use Rattle.table_lines.specs.TablePart.{table_of_line}
 use Rattle.table_lines.specs.inner.Tokens.{Spells}
-use Rattle.table_lines.specs.inner.FoundLists.{IsMember, Unless, HoldBut, Hold, IsFilled, TakesMember}
+use Rattle.table_lines.specs.inner.FoundLists.{IsMember, HoldBut, Hold, IsFilled, TakesMember}
 use Rattle.table_lines.proofs.Bounds.{cells_are, lacks_are}
 use Rattle.table_lines.proofs.Spelled.{list_read, rows_read}
 use Rattle.table_lines.proofs.Turns.{converted-object, member_read, members_over, whole_read}
@@ -38,14 +39,14 @@ stays : {A : Type 0} (reads : Data → A → Type 0) (name k : List ℕ) (d : Da
 stays reads name k d None ms other h = get_member-put_other name k d ms other ∙ h
 stays reads name k d (Some list) ms other h = (h.0, get_member-put_other name k d ms other ∙ h.1, h.2)
 
-unless_by : {P Q : Type 0} (b : Bool) → (b ≡ false → P → Q) → P → Unless b Q
+unless_by : {P Q : Type 0} (b : Bool) → (b ≡ false → P → Q) → P → OnFalse b Q
 unless_by true f p = tt
 unless_by false f p = f refl p
 
 differ : (name k : List ℕ) → bytes_eq name k ≡ false → name ≡ k → ⊥
 differ name k e same = let t = (bytes_eq-Decides name k).1 same in absurd cc
 
-other_stays : {A : Type 0} (reads : Data → A → Type 0) (name k : List ℕ) (d : Data) (slot : Option (Vec A)) (ms : Members) → IsMember reads name slot ms → Unless (bytes_eq name k) (IsMember reads name slot (put k d ms))
+other_stays : {A : Type 0} (reads : Data → A → Type 0) (name k : List ℕ) (d : Data) (slot : Option (Vec A)) (ms : Members) → IsMember reads name slot ms → OnFalse (bytes_eq name k) (IsMember reads name slot (put k d ms))
 other_stays reads name k d slot ms h = unless_by (bytes_eq name k) (λ e m. stays reads name k d slot ms (differ name k e) m) h
 
 -- a member leaves the lists of the others as they are

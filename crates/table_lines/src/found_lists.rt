@@ -1,12 +1,11 @@
 //! The lists of a table line, read in one pass over its tokens. Its members may stand in any order.
 
 ghost use Rattle.std.specs.Prelude.{◌≡◌, ◌<◌, ⊤, IfSome, OnSome, Ok, Some, length, option_map};
-ghost use Rattle.json.specs.Json.{members, read_key, value};
-ghost use Rattle.serde_json.specs.Data.{Members, object, no_members};
-ghost use Rattle.serde_json.specs.Read.{of_members, converted};
+ghost use Rattle.json.specs.Json.{read_key};
+ghost use Rattle.serde_json.specs.Data.{Members, object};
 ghost use Rattle.line_fields.specs.Line.{object_of};
 ghost use Rattle.table_lines.specs.inner.Tokens.{Spells};
-ghost use Rattle.table_lines.specs.inner.FoundLists.{Hold, IsFilled, TakesMember};
+ghost use Rattle.table_lines.specs.inner.FoundLists.{Hold, IsFilled, TakesMember, TakesMembers};
 
 use crate::tokens::{
     LackToken, NumberToken, ORDER, PairToken, RowToken, TokenKind, WAGON, take_list, take_number,
@@ -67,8 +66,7 @@ fn lists_of_text(alloc: Global, text: &str) -> Option<FoundLists>
 
 /// The lists of the object whose members come next, and the brace behind them.
 fn take_lists(alloc: Global, reader: &mut Reader<'_>) -> Option<FoundLists>
-    ensures { IfSome result (λ lists. (ms : Members) × Hold lists ms
-        × (converted (λ read. of_members read no_members) (members (value 126) (length reader.old) reader.old) ≡ Some (ms, reader.new))) }
+    ensures { IfSome result (TakesMembers reader.old reader.new) }
 {
     let mut lists = FoundLists {
         wagons: None,

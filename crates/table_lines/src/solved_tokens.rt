@@ -1,13 +1,13 @@
 //! The line of a table with its plan, written token by token. `Err` only when out of memory.
 ghost use Rattle.std.specs.Prelude.{◌≡◌, ◌++◌, ◌∷◌, [], All, IfOk, Ok, OnOk, codes, option_map, string_bytes};
-ghost use Rattle.json.specs.Token.{begin_object, end_object};
+ghost use Rattle.json.specs.Token.{end_object};
 ghost use Rattle.serde_json.specs.Data.{string};
 ghost use Rattle.line_fields.specs.Values.{order_id_from, wagon_number_from};
-ghost use Rattle.line_fields.specs.Written.{list_data, number_or_null};
+ghost use Rattle.line_fields.specs.Written.{list_data};
 ghost use Rattle.line_fields.specs.WrittenTokens.{data_tokens, member_tokens};
 ghost use Rattle.table_lines.specs.TableLine.{IsWithinLimits, table_line_of, table_text};
 ghost use Rattle.table_lines.specs.SolvedText.{planned_table, solved_data, solved_text};
-ghost use Rattle.table_lines.specs.inner.Members.{AreWritable, lacks_tokens};
+ghost use Rattle.table_lines.specs.inner.Members.{AreWritable, lacks_tokens, opening_tokens};
 
 use crate::table_line::TableLine;
 use crate::written_lists::{write_list, write_number};
@@ -60,8 +60,7 @@ fn write_solved(
 
 /// Begins an object with a table's rows of costs, one for each wagon.
 pub(crate) fn begin_with_cells(out: &mut Writer, table: &TableLine) -> Result<(), AllocError>
-    ensures tokens { let t = table_text table.now in
-        OnOk result (out.new.tokens ≡ out.old.tokens ++ begin_object ∷ member_tokens (codes "cells") (list_data (list_data number_or_null) t.cells)) }
+    ensures tokens { OnOk result (out.new.tokens ≡ out.old.tokens ++ opening_tokens (table_text table.now).cells) }
     ensures before { out.new.before ≡ out.old.before }
 {
     out.begin_object()?;

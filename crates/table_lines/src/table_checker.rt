@@ -1,6 +1,6 @@
 //! The run that checks table lines.
 ghost use Rattle.std.specs.Prelude.{◌≡◌, ◌++◌, false, OnOk};
-ghost use Rattle.line_engine.specs.Runs.{Runs, run_over};
+ghost use Rattle.line_engine.specs.Runs.{RunsOver};
 ghost use Rattle.table_lines.specs.Checking.{ChecksLine, ToPlans, reply_body};
 
 use crate::table_answer::table_cost;
@@ -64,8 +64,7 @@ pub fn check_run<R: Source, W: Sink>(
 ) -> Result<RunCount, RunFault>
     requires reader { R.has_failed reader.old ≡ false }
     requires writer { W.has_failed writer.old ≡ false }
-    ensures { Runs ToPlans (run_over limit R.remaining W.contents (reader.old, writer.old, tt) (reader.new, writer.new, tt))
-        (record { reader = R.has_failed reader.new; writer = W.has_failed writer.new }) result }
+    ensures { RunsOver ToPlans limit R.Source W.Sink (reader.old, writer.old, tt) (reader.new, writer.new, tt) result }
 {
     run_lines(alloc, limit, reader, writer, &TableChecker, &mut ())
 }

@@ -1,7 +1,7 @@
 //! The run that solves table lines.
 ghost use Rattle.std.specs.Prelude.{◌≡◌, [], false, IfOk};
 ghost use Rattle.line_engine.specs.Outcome.{is_refusal};
-ghost use Rattle.line_engine.specs.Runs.{Runs, run_over};
+ghost use Rattle.line_engine.specs.Runs.{RunsOver};
 ghost use Rattle.table_lines.specs.JsonReplies.{json_refused_text};
 ghost use Rattle.table_lines.specs.StatedTable.{stated_line};
 ghost use Rattle.table_lines.specs.declared.table_refusal.TableRefusal.TheVariants.{OutOfMemory};
@@ -104,8 +104,7 @@ pub fn solve_run<R: Source, W: Sink>(
 ) -> Result<RunCount, RunFault>
     requires reader { R.has_failed reader.old ≡ false }
     requires writer { W.has_failed writer.old ≡ false }
-    ensures { Runs ToTables (run_over limit R.remaining W.contents (reader.old, writer.old, limit) (reader.new, writer.new, limit))
-        (record { reader = R.has_failed reader.new; writer = W.has_failed writer.new }) result }
+    ensures { RunsOver ToTables limit R.Source W.Sink (reader.old, writer.old, limit) (reader.new, writer.new, limit) result }
 {
     let mut state = limit;
     run_replies(alloc, limit, reader, writer, &TableSolver, &mut state)

@@ -54,8 +54,9 @@ returns-in-Err-served g c =
     let front = front_line c.fill.new.self cut.0 c.read_line.new.line.bytes c.read_line.new.self c.in-Ok.end cut.2.0 in
     let whole = whole_line c.fill.new.self cut.0 c.read_line.new.line.bytes c.read_line.new.self c.in-Ok.end (g.R.Source.remaining c.read_line.new.reader) cut.2.0 cut.2.1 in
     let served = c.in-Err-served.ensures.err in
+    let part = served.3 in
     let reply = subst (λ (line : List ℕ). ServesLine g.H.Responder.replies (c.lines.count.lines + 1) c.lines.state line served.0 served.1 c.serve-served.new.state) c.as_slice-text.ensures.value served.2 in
-    has_stopped g.H.Responder.replies _ _ _ (stops_writing g.H.Responder.replies _ _ _ _ _ _ _ (g.R.Source.has_failed c.read_line.new.reader) (g.W.Sink.has_failed c.serve-served.new.writer) _ _ _ _ _ _ c.read_line.new.line.bytes served.0 served.3 served.4 c.lines.count.refused served.1 more cut.1 front.0 front.1 whole within reply served.5 served.6 served.7 (omega arith))
+    has_stopped g.H.Responder.replies _ _ _ (stops_writing g.H.Responder.replies _ _ _ _ _ _ _ (g.R.Source.has_failed c.read_line.new.reader) (g.W.Sink.has_failed c.serve-served.new.writer) _ _ _ _ _ _ c.read_line.new.line.bytes served.0 part.0 part.1 c.lines.count.refused served.1 more cut.1 front.0 front.1 whole within reply part.2 part.3 part.4 (omega arith))
 
 pub returns-in-Input : goal.returns-in-Input
 returns-in-Input g c =

@@ -12,9 +12,5 @@ returns-in_err-write_all-clause-err g c =
       c.respond-outcome.new.reply,
       is_refusal c.respond-outcome.result,
       serves_filled g.H.Responder.replies c.args.number c.args.state.now c.args.line.now c.respond-outcome.new.reply (is_refusal c.respond-outcome.result) c.respond-outcome.new.state (sym c.is_blank.ensures ∙ c.if-is_blank.false) c.respond-outcome.ensures,
-      part.0,
-      part.1,
-      sym c.as_slice.ensures ∙ part.2,
-      part.3,
-      part.4,
+      (part.0, part.1, sym c.as_slice.ensures ∙ part.2, part.3, part.4),
     )
