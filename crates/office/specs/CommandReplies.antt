@@ -20,6 +20,7 @@ use Rattle.commit_book.specs.declared.answer.Answer.TheVariants.{Done, Begun, Re
 use Rattle.commit_book.specs.declared.call.Call.{Call}
 use Rattle.commit_book.specs.declared.call.Call.TheVariants as call
 use Rattle.commit_book.specs.declared.reply.Reply.TheVariants.{Accepted, Repeated}
+use Rattle.line_engine.specs.Replies.{Numbered, Replying}
 use Rattle.reply_texts.specs.ReplyTexts.{accepted_text, begun_text, book_refused_text, line_refused_text, planned_text, repeated_text}
 use Rattle.dispatch_sheet.specs.Certificate.{IsCertificateLine, commit_of}
 use Rattle.dispatch_sheet.specs.PlanText.{plan_text_of}
@@ -116,6 +117,10 @@ abbrev pub LineRunsOutOfMemory : BookValue → List ℕ → BookValue → Type 0
 LineRunsOutOfMemory old line new = ReadLeaves old (command_of line) new
 
 -- ---- runs
+
+-- the replies to command lines, each behind its line's number
+abbrev pub ToCommands : Replying BookValue
+ToCommands = Numbered RepliesToLine LineRunsOutOfMemory
 
 -- calls, one after the other, led from a book to another
 pub record IsLedTo (old new : BookValue) : Type 0 where

@@ -2,3 +2,4 @@
 pub mod Counted
 pub mod KnownValues
 pub mod OutOfMemory
+pub mod Reviewing

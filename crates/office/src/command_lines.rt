@@ -1,17 +1,17 @@
 //! The run that brings command lines to a book.
-ghost use Rattle.std.specs.Prelude.{◌≡◌, ◌≢◌, ◌≤◌, ◌++◌, false, true, List, ℕ, Err, IfOk, MatchResult, Ok, IsOk, OnErr, OnOk, length, Some, slice_get};
+ghost use Rattle.std.specs.Prelude.{◌≡◌, ◌≢◌, ◌≤◌, ◌++◌, false, true, List, ℕ, IfOk, IsOk, OnErr, OnOk, length, Some, slice_get};
 ghost use Rattle.commit_book.specs.Books.{answer_of};
 ghost use Rattle.commit_book.specs.Headline.{IsProved};
 ghost use Rattle.commit_book.specs.declared.answer.Answer.TheVariants.{Refused};
 ghost use Rattle.faults.specs.declared.faults.Refusal.TheVariants.{OutOfMemory};
 ghost use Rattle.line_engine.specs.Lines.{max_line_bytes};
 ghost use Rattle.line_engine.specs.Outcome.{is_refusal};
-ghost use Rattle.line_engine.specs.Replies.{Numbered, max_head_bytes};
-ghost use Rattle.line_engine.specs.Runs.{Runs, run_over};
+ghost use Rattle.line_engine.specs.Replies.{IsAnswered, max_head_bytes};
+ghost use Rattle.line_engine.specs.Runs.{RunsOver};
 ghost use Rattle.cost_table.specs.Plan.{IsOptimal};
 ghost use Rattle.price_checker.specs.Certificate.{IsCertificate};
 ghost use Rattle.dispatch_sheet.specs.PlanText.{FitsProblem};
-ghost use Rattle.office.specs.CommandReplies.{IsLedTo, IsPlanOf, IsPlanned, LeavesOutOfMemory, LineRunsOutOfMemory, RepliesToCommand, RepliesToLine, answer_text, begun_reply, is_refused, present};
+ghost use Rattle.office.specs.CommandReplies.{IsLedTo, IsPlanOf, IsPlanned, LeavesOutOfMemory, LineRunsOutOfMemory, RepliesToCommand, RepliesToLine, ToCommands, answer_text, begun_reply, is_refused, present};
 ghost use Rattle.office.specs.inner.OutOfMemory.{MayAnswerOutOfMemory};
 
 use assignment::plan;
@@ -66,9 +66,7 @@ fn answer_command(
     reply: &mut ReplyText,
 ) -> Result<Outcome, AllocError>
     requires short { length reply.old ≤ max_head_bytes }
-    ensures reply { MatchResult result
-        (λ outcome. (body : List ℕ) × (reply.new ≡ reply.old ++ body) × RepliesToCommand book.old command body (is_refusal outcome) book.new)
-        (λ _. LeavesOutOfMemory book.old command book.new) }
+    ensures reply { IsAnswered RepliesToCommand LeavesOutOfMemory command (reply.old, book.old) (reply.new, book.new) result }
     ensures memory { OnErr result (MayAnswerOutOfMemory book.old command) }
 {
     match command {
@@ -185,9 +183,7 @@ pub fn run<R: Source, W: Sink>(
 ) -> Result<RunCount, RunFault>
     requires reader { R.has_failed reader.old ≡ false }
     requires writer { W.has_failed writer.old ≡ false }
-    ensures replies { Runs (Numbered RepliesToLine LineRunsOutOfMemory)
-        (run_over max_line_bytes R.remaining W.contents (reader.old, writer.old, book.old) (reader.new, writer.new, book.new))
-        (record { reader = R.has_failed reader.new; writer = W.has_failed writer.new }) result }
+    ensures replies { RunsOver ToCommands max_line_bytes R.Source W.Sink (reader.old, writer.old, book.old) (reader.new, writer.new, book.new) result }
     ensures calls { IsLedTo book.old book.new }
     ensures proved { IsProved book.new.setting book.new.state.history }
 {

@@ -1,15 +1,14 @@
 //! The review of a journal.
-ghost use Rattle.std.specs.Prelude.{◌≡◌, ◌≢◌, ◌++◌, Bool, Err, false, IfOk, IsOk, List, MatchResult, OnOk, length, nat_lt, string_bytes, ℕ};
+ghost use Rattle.std.specs.Prelude.{◌≡◌, ◌≢◌, Err, false, IfOk, IsOk, MatchResult, OnOk, length, nat_lt, string_bytes};
 ghost use Rattle.line_engine.specs.Lines.{max_line_bytes};
 ghost use Rattle.line_engine.specs.Outcome.{is_refusal};
-ghost use Rattle.line_engine.specs.Runs.{Runs, run_over};
+ghost use Rattle.line_engine.specs.Runs.{RunsOver};
 ghost use Rattle.line_fields.specs.Commands.{command_of};
 ghost use Rattle.line_fields.specs.Fields.{Gives};
 ghost use Rattle.line_fields.specs.declared.fault.LineFault.TheVariants.{OutOfMemory};
-ghost use Rattle.office.specs.CommandReplies.{LineRunsOutOfMemory, RepliesToLine};
 ghost use Rattle.office.specs.CommandNotes.{AreLineNotes};
-ghost use Rattle.office.specs.Fullness.{entries_note, lines_note};
 ghost use Rattle.office.specs.Reviews.{IsReviewed, IsReviewedInPart, Reviews, first_review, heard_by, known_before, memory_note};
+ghost use Rattle.office.specs.inner.Reviewing.{IsBrought, with_fullness_notes};
 
 use crate::command_lines::CommandLines;
 use crate::fullness::push_fullness_note;
@@ -130,8 +129,7 @@ impl Review {
         notes: &mut ReplyText,
     ) -> Result<(), AllocError>
         ensures said { OnOk result (IsOk said) }
-        ensures notes { OnOk result (IfOk said (λ text. notes.new ≡ string_bytes text
-            ++ entries_note line before.entries (length self.now.book.state.history) self.now.book.setting.entries ++ lines_note line before.lines)) }
+        ensures notes { OnOk result (IfOk said (λ text. notes.new ≡ with_fullness_notes (string_bytes text) line before self.now.book)) }
     {
         let mut text = said?;
         self.push_fullness_notes(&mut text, line, before)?;
@@ -169,9 +167,7 @@ impl Review {
         read: &Result<Command, LineFault>,
         scratch: &mut ReplyText,
     ) -> Result<(), AllocError>
-        ensures brought { MatchResult result
-            (λ _. (reply : List ℕ) × (refused : Bool) × RepliesToLine self.old.book bytes.now reply refused self.new.book)
-            (λ _. LineRunsOutOfMemory self.old.book bytes.now self.new.book) }
+        ensures brought { IsBrought bytes.now self.old.book self.new.book result }
         ensures setting { self.new.book.setting ≡ self.old.book.setting }
         ensures named { self.new.named ≡ self.old.named }
         ensures line { self.new.line ≡ line }
@@ -189,8 +185,7 @@ impl Review {
         line: u64,
         before: Counts,
     ) -> Result<(), AllocError>
-        ensures { OnOk result (string_bytes text.new ≡ string_bytes text.old
-            ++ entries_note line before.entries (length self.now.book.state.history) self.now.book.setting.entries ++ lines_note line before.lines) }
+        ensures { OnOk result (string_bytes text.new ≡ with_fullness_notes (string_bytes text.old) line before self.now.book) }
     {
         let entries = self.book.len();
         let most = self.limits.entries();
@@ -206,9 +201,7 @@ fn bring_line(
     bytes: &[u8],
     scratch: &mut ReplyText,
 ) -> Result<(), AllocError>
-    ensures brought { MatchResult result
-        (λ _. (reply : List ℕ) × (refused : Bool) × RepliesToLine book.old bytes.now reply refused book.new)
-        (λ _. LineRunsOutOfMemory book.old bytes.now book.new) }
+    ensures brought { IsBrought bytes.now book.old book.new result }
     ensures setting { book.new.setting ≡ book.old.setting }
 {
     scratch.clear();
@@ -289,8 +282,7 @@ pub fn review_journal<R: Source, W: Sink>(
 ) -> Result<RunCount, RunFault>
     requires reader { R.has_failed reader.old ≡ false }
     requires writer { W.has_failed writer.old ≡ false }
-    ensures { Runs Reviews (run_over max_line_bytes R.remaining W.contents (reader.old, writer.old, review.old) (reader.new, writer.new, review.new))
-        (record { reader = R.has_failed reader.new; writer = W.has_failed writer.new }) result }
+    ensures { RunsOver Reviews max_line_bytes R.Source W.Sink (reader.old, writer.old, review.old) (reader.new, writer.new, review.new) result }
 {
     let limit = LineLimit::standard();
     run_replies(alloc, limit, reader, writer, &JournalNotes, review)
