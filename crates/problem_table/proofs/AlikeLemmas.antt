@@ -1,5 +1,5 @@
 -- Wagons that are alike have the same rows.
-use Rattle.std.proofs.Common.{◌≡◌, ◌<◌, ◌≤◌, ℕ, zero, suc, Some, List, [], ◌∷◌, length, get_or, take, sym, subst, arith, length-take-le}
+use Rattle.std.proofs.Common.{◌≡◌, ◌<◌, ◌≤◌, ℕ, Some, List, [], length, get_or, take, sym, subst, arith, length-take-le}
 use Rattle.std.specs.Prelude.{slice_get}
 use Rattle.std.specs.List.{Contains}
 use Rattle.std.proofs.lemmas.Option.{slice_get_within}
@@ -11,7 +11,7 @@ use Rattle.line_network.specs.Distance.{IsDistance}
 use Rattle.problem_table.specs.Allowed.{Reaches}
 use Rattle.problem_table.specs.inner.Alike.{AreAlike}
 use Rattle.problem_table.specs.inner.AllowedRows.{AreLastingRows, IsLastingRow}
-use Rattle.problem_table.proofs.AllowedLemmas.{some_at}
+use Rattle.problem_table.proofs.AllowedLemmas.{slice_get-take, some_at}
 
 module _ (net : NetworkValue) (at : ℕ) where
   reaches : (one other : FreeWagon) → AreAlike at one other → (m : ℕ) → at ≤ m → (order : Order) (km : ℕ) → Reaches net m one order km → Reaches net m other order km
@@ -42,11 +42,4 @@ module _ (net : NetworkValue) (at : ℕ) where
       let within : k < length wagons = slice_get_within wagons k wagon here in
       let short : length (take k wagons) ≡ k = length-take-le k wagons (omega (arith, within)) in
       let there = some_at (take k wagons) i (omega (arith, before, short)) in
-      alike_row there.0 wagon orders (get_or rows i []) (get_or lasts i 0) (alike there.0 (of_take k wagons i there.0 there.1)) (h.each i there.0 there.1)
-    where
-      of_take : (k : ℕ) (ws : List FreeWagon) (i : ℕ) (w : FreeWagon) → slice_get (take k ws) i ≡ Some w → slice_get ws i ≡ Some w
-      of_take zero [] i w e = cc e
-      of_take zero (x ∷ ws) i w e = cc e
-      of_take (suc k) [] i w e = cc e
-      of_take (suc k) (x ∷ ws) zero w e = e
-      of_take (suc k) (x ∷ ws) (suc i) w e = of_take k ws i w e
+      alike_row there.0 wagon orders (get_or rows i []) (get_or lasts i 0) (alike there.0 (slice_get-take k wagons i there.0 there.1)) (h.each i there.0 there.1)

@@ -29,7 +29,7 @@ stands_after : {X : Type 0} (w : X) (xs : List X) (y : X) (i : ℕ) (x : X) → 
 stands_after w xs y i x (before l e) = before (omega arith) e
 stands_after w xs y i x (last l e) = last (omega arith) e
 
-same_some : {X : Type 0} (x y : X) → Some x ≡ Some y → x ≡ y
+pub same_some : {X : Type 0} (x y : X) → Some x ≡ Some y → x ≡ y
 same_some x y h = cc
 
 pub stands : {X : Type 0} (xs : List X) (y : X) (i : ℕ) (x : X) → slice_get (xs ++ y ∷ []) i ≡ Some x → Stands xs y i x
@@ -38,11 +38,19 @@ stands [] y (suc i) x h = cc
 stands (w ∷ xs) y zero x h = before (omega arith) h
 stands (w ∷ xs) y (suc i) x h = stands_after w xs y i x (stands xs y i x h)
 
--- something stands at each place of a list
+-- something stands at each index of a list
 pub some_at : {X : Type 0} (xs : List X) (i : ℕ) → i < length xs → (x : X) × (slice_get xs i ≡ Some x)
 some_at [] i h = absurd (omega arith)
 some_at (x ∷ xs) zero h = (x, refl)
 some_at (x ∷ xs) (suc i) h = some_at xs i (omega arith)
+
+-- what stands at an index of the first items stands there in the list
+pub slice_get-take : {X : Type 0} (k : ℕ) (xs : List X) (i : ℕ) (x : X) → slice_get (take k xs) i ≡ Some x → slice_get xs i ≡ Some x
+slice_get-take zero [] i x h = cc h
+slice_get-take zero (y ∷ xs) i x h = cc h
+slice_get-take (suc k) [] i x h = cc h
+slice_get-take (suc k) (y ∷ xs) zero x h = h
+slice_get-take (suc k) (y ∷ xs) (suc i) x h = slice_get-take k xs i x h
 
 -- the cell of order j at a cost, if there is one
 abbrev pub cell_of : ℕ → Option ℕ → List (ℕ × ℕ)

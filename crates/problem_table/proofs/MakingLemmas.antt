@@ -41,6 +41,11 @@ module _ (net : NetworkValue) (problem : ProblemValue) (k : ℕ) (wagon : FreeWa
         is = row_of_alike net problem.at problem.wagons problem.orders k i wagon (rows_in old.rows) old.lasts.items here before alike made.rows;
       }
 
+  -- as the row of the next wagon
+  pub made_repeated : (i : ℕ) (new : Making) → i < k → ((one : FreeWagon) → slice_get problem.wagons i ≡ Some one → AreAlike problem.at one wagon) → AddsRowUntil old new (get_or (rows_in old.rows) i []) (get_or old.lasts.items i 0)
+      → new.classes ≡ old.classes → AreMade net problem (k + 1) new
+  made_repeated i new before alike more classes = made_next new (made_again i new before alike more) (rw classes made.classes)
+
   -- there are as many rows and moments as wagons
   pub row_within : (i : ℕ) → i < k → i < length (rows_in old.rows)
   row_within i before =
@@ -67,6 +72,6 @@ module _ (net : NetworkValue) (problem : ProblemValue) where
   pub made_whole : (k : ℕ) (making : Making) → length problem.wagons ≤ k → AreMade net problem k making → AreLastingRows net problem.at problem.wagons problem.orders (rows_in making.rows) making.lasts.items
   made_whole k making l h = lasting_whole net problem.at problem.wagons problem.orders k (rows_in making.rows) making.lasts.items l h.rows
 
--- what is read at a place stands there
+-- what is read at an index stands there
 pub stands_at : (wagons : List FreeWagon) (k : ℕ) (wagon : FreeWagon) → k < length wagons → wagon ≡ get_or wagons k wagon → slice_get wagons k ≡ Some wagon
 stands_at wagons k wagon l is = let there = some_at wagons k l in there.1 ∙ ap Some (sym (get_or_from_slice_get wagons k there.0 wagon there.1) ∙ sym is)

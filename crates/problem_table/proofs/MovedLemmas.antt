@@ -19,10 +19,7 @@ use Rattle.problem_table.specs.inner.AllowedRows.{IsLastingRow, IsRowOf}
 use Rattle.problem_table.specs.inner.Goals.{goals_from}
 use Rattle.problem_table.specs.inner.Moved.{AreMoved, AreSteady, GoesAlong, HaveSameTexts, moved_cell, moved_cells}
 use Rattle.problem_table.specs.inner.RowsSoFar.{RowSoFar}
-use Rattle.problem_table.proofs.AllowedLemmas.{some_at}
-
-same_some : {X : Type 0} (x y : X) → Some x ≡ Some y → x ≡ y
-same_some x y h = cc
+use Rattle.problem_table.proofs.AllowedLemmas.{same_some, slice_get-take, some_at}
 
 -- what stands at a position is one thing
 same_at : {X : Type 0} (xs : List X) (i : ℕ) (x y : X) → slice_get xs i ≡ Some x → slice_get xs i ≡ Some y → x ≡ y
@@ -148,19 +145,12 @@ module _ (R : WantedOrder → ℕ → Type 0) (same : (one other : WantedOrder) 
             (moved_ascend positions kept (length earlier) h.ascend 0 0 row is.ascends (λ i from within here. omega arith));
         cells = λ k km wanted there. at k km wanted there (omega (arith, slice_get_within (take kept orders) k wanted there, short));
       } where
-        of_take : (k : ℕ) (os : List WantedOrder) (i : ℕ) (o : WantedOrder) → slice_get (take k os) i ≡ Some o → slice_get os i ≡ Some o
-        of_take zero [] i o e = cc e
-        of_take zero (x ∷ os) i o e = cc e
-        of_take (suc k) [] i o e = cc e
-        of_take (suc k) (x ∷ os) zero o e = e
-        of_take (suc k) (x ∷ os) (suc i) o e = of_take k os i o e
-
         at : (k km : ℕ) (wanted : WantedOrder) → slice_get (take kept orders) k ≡ Some wanted → k < kept → (cost_in (moved_cells positions kept row) k ≡ Some km) ↔ R wanted km
         at k km wanted there within =
             let source = h.from k within in
             let one = some_at earlier source.0 source.1 in
             let stays_here : get_or positions source.0 0 < kept = omega (arith, source.2, within) in
-            let to : slice_get orders (get_or positions source.0 0) ≡ Some wanted = ap (slice_get orders) source.2 ∙ of_take kept orders k wanted there in
+            let to : slice_get orders (get_or positions source.0 0) ≡ Some wanted = ap (slice_get orders) source.2 ∙ slice_get-take kept orders k wanted there in
             let order = h.each source.0 one.0 wanted one.1 stays_here to in
             let cost = ap (cost_in (moved_cells positions kept row)) (sym source.2) ∙ moved_cost positions kept (length earlier) h.ascend source.0 source.1 stays_here 0 row is.ascends in
             iff_of _ (cost_in row source.0) km cost (same one.0 wanted km order) (is.cells source.0 km one.0 one.1)

@@ -10,7 +10,7 @@ ghost use Rattle.cost_table.specs.SharedRows.{HasIndices, rows_in};
 ghost use Rattle.cost_table.specs.TableLimits.{max_cost};
 
 use crate::goals::Goal;
-use crate::lasting::{TimedCells, timed};
+use crate::lasting::{TimedCells, timed_table};
 use crate::making::{Making, make};
 use cost_table::{Cells, Problem, TableRows};
 use line_network::Tables;
@@ -40,7 +40,7 @@ pub fn timed_cells(
     ensures by_wagon { IfOk result (λ made. IsLastingTable tables.now problem.now made.cells made.lasts.items) }
 {
     let (rows, lasts) = rows(alloc, problem, tables)?;
-    timed(alloc, problem, rows, lasts)
+    timed_table(alloc, problem, tables, rows, lasts)
 }
 
 /// The rows of all wagons, and up to which moment each is that row.

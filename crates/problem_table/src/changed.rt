@@ -13,7 +13,7 @@ ghost use Rattle.wagons_and_orders.specs.declared.free_wagon.FreeWagon.{FreeWago
 use crate::alike::{Seen, are_alike, is_alike_before};
 use crate::allowed::push_goals;
 use crate::goals::{ClassGoals, Goal, class_position};
-use crate::lasting::{TimedCells, timed};
+use crate::lasting::{TimedCells, timed_table};
 use crate::making::{Making, make, repeat};
 use crate::moved::{Moved, have_same_texts, move_cells};
 use cost_table::{Problem, TableRows};
@@ -39,7 +39,7 @@ pub fn changed_cells(
     ensures by_wagon { IfOk result (λ made. IsLastingTable tables.now problem.now made.cells made.lasts.items) }
 {
     let (rows, lasts) = rows_after(alloc, problem, tables, earlier, made)?;
-    timed(alloc, problem, rows, lasts)
+    timed_table(alloc, problem, tables, rows, lasts)
 }
 
 /// The rows of all wagons, and up to which moment each is that row.

@@ -3,10 +3,13 @@ ghost use Rattle.std.specs.Prelude.{◌≡◌, ◌<◌, ◌≤◌, ◌^◌, ℕ,
 ghost use Rattle.cost_table.specs.Problem.{penalties_of, lacks_of};
 ghost use Rattle.cost_table.specs.TableLimits.{IsRow, max_cost};
 ghost use Rattle.cost_table.specs.SharedRows.{HasIndices, rows_in};
-ghost use Rattle.problem_table.specs.inner.AllowedRows.{table_of_rows};
+ghost use Rattle.problem_table.specs.Allowed.{IsTableOf};
+ghost use Rattle.problem_table.specs.Lasting.{IsLastingTable, IsTableUntil};
+ghost use Rattle.problem_table.specs.inner.AllowedRows.{AreLastingRows, table_of_rows};
 ghost use Rattle.wagons_and_orders.specs.WantedLimits.{IsLack};
 
 use cost_table::{Cells, Problem, TableRows};
+use line_network::Tables;
 use std::alloc::{AllocError, Global};
 use wagons_and_orders::Wanted;
 
@@ -22,7 +25,7 @@ pub struct TimedCells {
 }
 
 /// The table of a problem whose rows are found, each with its last moment.
-pub(crate) fn timed(
+fn timed(
     alloc: Global,
     problem: &Problem,
     rows: TableRows,
@@ -49,6 +52,25 @@ pub(crate) fn timed(
         lasts,
         until,
     })
+}
+
+/// The table of a problem over the network of these tables, whose rows are found, each with the moment up to which it is its
+/// wagon's. The tables are for the prover alone.
+pub(crate) fn timed_table(
+    alloc: Global,
+    problem: &Problem,
+    tables: &Tables,
+    rows: TableRows,
+    lasts: Vec<u64>,
+) -> Result<TimedCells, AllocError>
+    requires indexed { HasIndices rows }
+    requires rows { AreLastingRows tables.now problem.now.at problem.now.wagons problem.now.orders (rows_in rows) lasts.items }
+    ensures table { IfOk result (λ made. IsTableOf tables.now problem.now made.cells) }
+    ensures within { IfOk result (λ made. problem.now.at ≤ made.until) }
+    ensures lasts { IfOk result (λ made. IsTableUntil tables.now problem.now made.until made.cells) }
+    ensures by_wagon { IfOk result (λ made. IsLastingTable tables.now problem.now made.cells made.lasts.items) }
+{
+    timed(alloc, problem, rows, lasts)
 }
 
 /// The penalty of each order.

@@ -1,4 +1,4 @@
-use Rattle.problem_table.proofs.MakingLemmas.{made_again, made_next, moment_within, on_ok, row_within}
+use Rattle.problem_table.proofs.MakingLemmas.{made_next, made_repeated, moment_within, on_ok, row_within}
 use Rattle.problem_table.proofs.making.make_of_class.Goals as goal
 
 pub repeat-requires-clause-row : goal.repeat-requires-clause-row
@@ -11,13 +11,9 @@ repeat-requires-clause-moment c =
 
 pub returns-then-is_alike_before-clause-made : goal.returns-then-is_alike_before-clause-made
 returns-then-is_alike_before-clause-made c =
-    let net = c.args.tables.now in
-    let problem = c.args.problem.now in
     on_ok c.repeat.result (λ more.
-    made_next net problem c.args.k c.args.wagon.now c.requires.wagon c.args.making.now c.requires.made c.repeat.new.making
-    (made_again net problem c.args.k c.args.wagon.now c.requires.wagon c.args.making.now c.requires.made _ c.repeat.new.making (c.is_alike_before.ensures.before c.if-is_alike_before.true)
-    (rw (c.wagons.ensures.wagons, c.at.ensures) at (c.is_alike_before.ensures.alike c.if-is_alike_before.true)) more)
-    (rw c.repeat.ensures.classes c.requires.made.classes)) c.repeat.ensures.row
+    made_repeated c.args.tables.now c.args.problem.now c.args.k c.args.wagon.now c.requires.wagon c.args.making.now c.requires.made _ c.repeat.new.making (c.is_alike_before.ensures.before c.if-is_alike_before.true)
+    (rw (c.wagons.ensures.wagons, c.at.ensures) at (c.is_alike_before.ensures.alike c.if-is_alike_before.true)) more c.repeat.ensures.classes) c.repeat.ensures.row
 
 pub returns-then-is_alike_before-clause-shared : goal.returns-then-is_alike_before-clause-shared
 returns-then-is_alike_before-clause-shared c = on_ok c.repeat.result (λ more. more.shared) c.repeat.ensures.row
