@@ -69,13 +69,13 @@ memory_or P (OrderChanged order) h = inl (h (λ e. absurd cc))
 
 -- ---- messages
 
-pub repeated_call : (setting : Setting) (book : BookState) (message : movement.Message) (other : movement.Message) (place : ℕ) → slice_get book.history place ≡ Some (event.Message other) → other ≡ message → IsCall setting book (call.Event (event.Message message)) (Done (Repeated (place + 1))) book
-repeated_call setting book message other place there same =
-    inl (record { answered = inl (record { before = place; same = there ∙ ap (λ (m : movement.Message). Some (event.Message m)) same; answered = refl }); changed = refl })
+pub repeated_call : (setting : Setting) (book : BookState) (message : movement.Message) (other : movement.Message) (index : ℕ) → slice_get book.history index ≡ Some (event.Message other) → other ≡ message → IsCall setting book (call.Event (event.Message message)) (Done (Repeated (index + 1))) book
+repeated_call setting book message other index there same =
+    inl (record { answered = inl (record { before = index; same = there ∙ ap (λ (m : movement.Message). Some (event.Message m)) same; answered = refl }); changed = refl })
 
-pub reused_call : (setting : Setting) (book : BookState) (message : movement.Message) (other : movement.Message) (place : ℕ) → slice_get book.history place ≡ Some (event.Message other) → other.id ≡ message.id → other ≢ message → IsCall setting book (call.Event (event.Message message)) (Refused IdReused) book
-reused_call setting book message other place there same_id differs =
-    inl (record { answered = inr (inl (record { before = place; other = other; there = there; same_id = same_id; differs = differs; answered = refl })); changed = refl })
+pub reused_call : (setting : Setting) (book : BookState) (message : movement.Message) (other : movement.Message) (index : ℕ) → slice_get book.history index ≡ Some (event.Message other) → other.id ≡ message.id → other ≢ message → IsCall setting book (call.Event (event.Message message)) (Refused IdReused) book
+reused_call setting book message other index there same_id differs =
+    inl (record { answered = inr (inl (record { before = index; other = other; there = there; same_id = same_id; differs = differs; answered = refl })); changed = refl })
 
 -- ---- runs
 

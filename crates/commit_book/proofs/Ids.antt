@@ -58,33 +58,33 @@ nat_ties a b = grind (arith, nat_tests)
 pub id_ties : (a b : MessageId) → is_eq (compare_ids a b) ≡ is_id a b
 id_ties a b = equal_first (slice_cmp nat_cmp a.company b.company) (nat_cmp a.number b.number) ∙ (ap (λ t. t && is_eq (nat_cmp a.number b.number)) (sym (texts_ties a.company b.company)) ∙ ap (λ t. pointwise nat_eq a.company b.company && t) (nat_ties a.number b.number))
 
--- ---- the place of a message
+-- ---- the index of a message
 
--- a message at a place, which has this id
-pub record IsAt (id : MessageId) (events : List Event) (first place : ℕ) : Type 0 where
+-- a message at an index, which has this id
+pub record IsAt (id : MessageId) (events : List Event) (first index : ℕ) : Type 0 where
   pub n : ℕ
-  pub from_first : place ≡ first + n
+  pub from_first : index ≡ first + n
   pub its_message : movement.Message
   pub there : slice_get events n ≡ Some (Message its_message)
   pub passes : is_id id its_message.id ≡ true
 
-later : (id : MessageId) (event : Event) (events : List Event) (first place : ℕ) → IsAt id events (first + 1) place → IsAt id (event ∷ events) first place
-later id event events first place h = record { n = suc h.n; from_first = omega (arith, h.from_first); its_message = h.its_message; there = h.there; passes = h.passes }
+later : (id : MessageId) (event : Event) (events : List Event) (first index : ℕ) → IsAt id events (first + 1) index → IsAt id (event ∷ events) first index
+later id event events first index h = record { n = suc h.n; from_first = omega (arith, h.from_first); its_message = h.its_message; there = h.there; passes = h.passes }
 
-found_here : (id : MessageId) (m : movement.Message) (events : List Event) (first place : ℕ) (b : Bool) → is_id id m.id ≡ b → cond b (Some first) (position_from (is_message_of id) (first + 1) events) ≡ Some place
-    → (position_from (is_message_of id) (first + 1) events ≡ Some place → IsAt id events (first + 1) place) → IsAt id (Message m ∷ events) first place
-found_here id m events first place true is h rest =
-    let same : first ≡ place = cc in
+found_here : (id : MessageId) (m : movement.Message) (events : List Event) (first index : ℕ) (b : Bool) → is_id id m.id ≡ b → cond b (Some first) (position_from (is_message_of id) (first + 1) events) ≡ Some index
+    → (position_from (is_message_of id) (first + 1) events ≡ Some index → IsAt id events (first + 1) index) → IsAt id (Message m ∷ events) first index
+found_here id m events first index true is h rest =
+    let same : first ≡ index = cc in
     record { n = 0; from_first = omega (arith, same); its_message = m; there = refl; passes = is }
-found_here id m events first place false is h rest = later id (Message m) events first place (rest h)
+found_here id m events first index false is h rest = later id (Message m) events first index (rest h)
 
-found_from : (id : MessageId) (events : List Event) (first place : ℕ) → position_from (is_message_of id) first events ≡ Some place → IsAt id events first place
-found_from id [] first place h = absurd cc
-found_from id (Message m ∷ events) first place h = found_here id m events first place (is_id id m.id) refl h (λ e. found_from id events (first + 1) place e)
-found_from id (Place text ∷ events) first place h = later id (Place text) events first place (found_from id events (first + 1) place h)
-found_from id (Withdraw other ∷ events) first place h = later id (Withdraw other) events first place (found_from id events (first + 1) place h)
-found_from id (Commit commit ∷ events) first place h = later id (Commit commit) events first place (found_from id events (first + 1) place h)
-found_from id (Revise network ∷ events) first place h = later id (Revise network) events first place (found_from id events (first + 1) place h)
+found_from : (id : MessageId) (events : List Event) (first index : ℕ) → position_from (is_message_of id) first events ≡ Some index → IsAt id events first index
+found_from id [] first index h = absurd cc
+found_from id (Message m ∷ events) first index h = found_here id m events first index (is_id id m.id) refl h (λ e. found_from id events (first + 1) index e)
+found_from id (Place text ∷ events) first index h = later id (Place text) events first index (found_from id events (first + 1) index h)
+found_from id (Withdraw other ∷ events) first index h = later id (Withdraw other) events first index (found_from id events (first + 1) index h)
+found_from id (Commit commit ∷ events) first index h = later id (Commit commit) events first index (found_from id events (first + 1) index h)
+found_from id (Revise network ∷ events) first index h = later id (Revise network) events first index (found_from id events (first + 1) index h)
 
 none_here : (b : Bool) (first : ℕ) (rest : Option ℕ) → cond b (Some first) rest ≡ None → (b ≡ false) × (rest ≡ None)
 none_here true first rest h = absurd cc
@@ -173,11 +173,11 @@ index_back events m old new without fresh h q =
 
 -- ---- a message of a noted id
 
--- the place that an index has for an id is that of a message of it
-pub message_found : (id : MessageId) (events : List Event) (place : ℕ) → position (is_message_of id) events ≡ Some place → IsMessageAt events id place
-message_found id events place h =
-    let at = found_from id events 0 place (sym (position_from-zero (is_message_of id) events) ∙ h) in
-    let same : at.n ≡ place = let from = at.from_first in omega (arith, from) in
+-- the first index of an id is that of a message of it
+pub message_found : (id : MessageId) (events : List Event) (index : ℕ) → position (is_message_of id) events ≡ Some index → IsMessageAt events id index
+message_found id events index h =
+    let at = found_from id events 0 index (sym (position_from-zero (is_message_of id) events) ∙ h) in
+    let same : at.n ≡ index = let from = at.from_first in omega (arith, from) in
     record {
       message = at.its_message;
       there = ap (λ (k : ℕ). slice_get events k) (sym same) ∙ at.there;
@@ -208,14 +208,14 @@ index_unnoted events m old new noted without = index_back events m old new witho
 pub index_kept : (events : List Event) (old new : BTreeMap MessageId ℕ) → new.entries ≡ old.entries → IsIndexOf events (get compare_ids old) → IsIndexOf events (get compare_ids new)
 index_kept events old new same h q = rw same (h q)
 
-pub none_by : (o : Option ℕ) → ((place : ℕ) → o ≡ Some place → ⊥) → o ≡ None
+pub none_by : (o : Option ℕ) → ((index : ℕ) → o ≡ Some index → ⊥) → o ≡ None
 none_by None h = refl
-none_by (Some place) h = absurd (h place refl)
+none_by (Some index) h = absurd (h index refl)
 
-pub is_found : (id : MessageId) (events : List Event) (o : Option ℕ) → o ≡ position (is_message_of id) events → IfSome o (λ place. IsMessageAt events id place)
-is_found id events (Some place) h = message_found id events place (sym h)
+pub is_found : (id : MessageId) (events : List Event) (o : Option ℕ) → o ≡ position (is_message_of id) events → IfSome o (λ index. IsMessageAt events id index)
+is_found id events (Some index) h = message_found id events index (sym h)
 is_found id events None h = tt
 
 pub is_new : (id : MessageId) (events : List Event) (o : Option ℕ) → o ≡ position (is_message_of id) events → IfNone o (IsFresh id events)
 is_new id events None h = fresh_by id events (sym h)
-is_new id events (Some place) h = tt
+is_new id events (Some index) h = tt

@@ -1,4 +1,4 @@
--- The positions of a commit's pairs: which wagon and order each names, and that a name stands as often as its position.
+-- The indexes of a commit's pairs: which wagon and order each names, and that a name stands as often as its index.
 use Rattle.std.proofs.Common.{◌≡◌, ◌≤◌, ℕ, zero, suc, Bool, true, false, cond, List, [], ◌∷◌, length, map, refl, sym, ◌∙◌, ap, arith, subst}
 use Rattle.std.specs.Prelude.{◌==◌, Option, Some, None, Ok, count_by, position, slice_get}
 use Rattle.std.proofs.lemmas.Bool.Decides.{nat_tests}
@@ -21,30 +21,30 @@ use Rattle.price_checker.specs.NamedPairs.{positions_of}
 use Rattle.price_checker.proofs.Checked.{first_position}
 
 -- where a wagon stands in a problem; an order
-abbrev pub wagon_place : ProblemValue → List ℕ → Option ℕ
-wagon_place problem number = position (is_name number) (wagon_names problem.wagons)
+abbrev pub wagon_index : ProblemValue → List ℕ → Option ℕ
+wagon_index problem number = position (is_name number) (wagon_names problem.wagons)
 
-abbrev pub order_place : ProblemValue → List ℕ → Option ℕ
-order_place problem id = position (is_name id) (order_names problem.orders)
+abbrev pub order_index : ProblemValue → List ℕ → Option ℕ
+order_index problem id = position (is_name id) (order_names problem.orders)
 
-pub record IsPlaced (problem : ProblemValue) (pair : Pair) (place : ℕ × ℕ) : Type 0 where
-  pub wagon : wagon_place problem pair.0 ≡ Some place.0
-  pub order : order_place problem pair.1 ≡ Some place.1
+pub record IsPlaced (problem : ProblemValue) (pair : Pair) (index : ℕ × ℕ) : Type 0 where
+  pub wagon : wagon_index problem pair.0 ≡ Some index.0
+  pub order : order_index problem pair.1 ≡ Some index.1
 
 abbrev pub ArePlaced : ProblemValue → List Pair → List (ℕ × ℕ) → Type 0
 ArePlaced problem [] [] = Unit {0}
-ArePlaced problem (pair ∷ pairs) (place ∷ places) = IsPlaced problem pair place × ArePlaced problem pairs places
-ArePlaced problem [] (place ∷ places) = ⊥
+ArePlaced problem (pair ∷ pairs) (index ∷ indexes) = IsPlaced problem pair index × ArePlaced problem pairs indexes
+ArePlaced problem [] (index ∷ indexes) = ⊥
 ArePlaced problem (pair ∷ pairs) [] = ⊥
 
--- ---- positions are such places
+-- ---- positions are such indexes
 
-placed_by : (problem : ProblemValue) (pair : Pair) (place : ℕ × ℕ) (i j : Option ℕ) → wagon_place problem pair.0 ≡ i → order_place problem pair.1 ≡ j → both i j ≡ Some place → IsPlaced problem pair place
-placed_by problem pair place None j wagon order h = absurd cc
-placed_by problem pair place (Some i) None wagon order h = absurd cc
-placed_by problem pair place (Some i) (Some j) wagon order h =
-    let same_place : (i, j) ≡ place = cc in
-    subst (IsPlaced problem pair) same_place (record { wagon = wagon; order = order })
+placed_by : (problem : ProblemValue) (pair : Pair) (index : ℕ × ℕ) (i j : Option ℕ) → wagon_index problem pair.0 ≡ i → order_index problem pair.1 ≡ j → both i j ≡ Some index → IsPlaced problem pair index
+placed_by problem pair index None j wagon order h = absurd cc
+placed_by problem pair index (Some i) None wagon order h = absurd cc
+placed_by problem pair index (Some i) (Some j) wagon order h =
+    let same_index : (i, j) ≡ index = cc in
+    subst (IsPlaced problem pair) same_index (record { wagon = wagon; order = order })
 
 pub positions_placed : (problem : ProblemValue) (pairs : List Pair) (positions : List (ℕ × ℕ)) → positions_of (names_of_problem problem) pairs ≡ Ok positions → ArePlaced problem pairs positions
 unfolding positions_of
@@ -52,14 +52,14 @@ positions_placed problem [] positions h = let none : [] ≡ positions = cc in su
 positions_placed problem (pair ∷ pairs) positions h =
     let first = first_position (names_of_problem problem) pair pairs positions h in
     subst (ArePlaced problem (pair ∷ pairs)) first.same
-    (placed_by problem pair first.position (wagon_place problem pair.0) (order_place problem pair.1) refl refl first.found, positions_placed problem pairs first.rest first.others)
+    (placed_by problem pair first.position (wagon_index problem pair.0) (order_index problem pair.1) refl refl first.found, positions_placed problem pairs first.rest first.others)
 
--- ---- what stands at a place
+-- ---- what stands at an index
 
 pub some_same : {A : Type 0} (x y : A) → let o : Option A = Some x in o ≡ Some y → x ≡ y
 some_same x y h = cc
 
--- the item at a place has that name
+-- the item at an index has that name
 abbrev pub HasName : {A : Type 0} → (A → List ℕ) → List A → List ℕ → ℕ → Type 0
 HasName {A} name_of xs name i = (x : A) × (slice_get xs i ≡ Some x) × (name_of x ≡ name)
 
@@ -68,52 +68,52 @@ named_at name_of [] name i h = absurd cc
 named_at name_of (x ∷ xs) name zero h = (x, refl, some_same (name_of x) name h)
 named_at name_of (x ∷ xs) name (suc i) h = named_at name_of xs name i h
 
-pub wagon_there : (problem : ProblemValue) (number : List ℕ) (i : ℕ) → wagon_place problem number ≡ Some i → HasName (λ (w : FreeWagon). w.number) problem.wagons number i
+pub wagon_there : (problem : ProblemValue) (number : List ℕ) (i : ℕ) → wagon_index problem number ≡ Some i → HasName (λ (w : FreeWagon). w.number) problem.wagons number i
 wagon_there problem number i h = named_at (λ (w : FreeWagon). w.number) problem.wagons number i (found_at (wagon_names problem.wagons) number i h)
 
-pub order_there : (problem : ProblemValue) (id : List ℕ) (j : ℕ) → order_place problem id ≡ Some j → HasName (λ (o : WantedOrder). o.order.id) problem.orders id j
+pub order_there : (problem : ProblemValue) (id : List ℕ) (j : ℕ) → order_index problem id ≡ Some j → HasName (λ (o : WantedOrder). o.order.id) problem.orders id j
 order_there problem id j h = named_at (λ (o : WantedOrder). o.order.id) problem.orders id j (found_at (order_names problem.orders) id j h)
 
--- each position is one of the table's
-pub placed_in_range : (net : NetworkValue) (problem : ProblemValue) (t : Table) → IsTableOf net problem t → (pairs : List Pair) (places : List (ℕ × ℕ)) → ArePlaced problem pairs places → AllInRange t places
+-- each index is one of the table's
+pub placed_in_range : (net : NetworkValue) (problem : ProblemValue) (t : Table) → IsTableOf net problem t → (pairs : List Pair) (indexes : List (ℕ × ℕ)) → ArePlaced problem pairs indexes → AllInRange t indexes
 placed_in_range net problem t table [] [] h = tt
-placed_in_range net problem t table (pair ∷ pairs) (place ∷ places) h =
-    let wagon = wagon_there problem pair.0 place.0 h.0.wagon in
-    let order = order_there problem pair.1 place.1 h.0.order in
-    let i = slice_get_within problem.wagons place.0 wagon.0 wagon.1 in
-    let j = slice_get_within problem.orders place.1 order.0 order.1 in
+placed_in_range net problem t table (pair ∷ pairs) (index ∷ indexes) h =
+    let wagon = wagon_there problem pair.0 index.0 h.0.wagon in
+    let order = order_there problem pair.1 index.1 h.0.order in
+    let i = slice_get_within problem.wagons index.0 wagon.0 wagon.1 in
+    let j = slice_get_within problem.orders index.1 order.0 order.1 in
     let rows : wagon_count t ≡ length problem.wagons = table.wagons in
     let columns : order_count t ≡ length problem.orders = ap (λ (ls : List ℕ). length ls) table.lacks ∙ length-map problem.orders (λ (o : WantedOrder). o.lack) in
-    (omega (arith, i, rows), omega (arith, j, columns), placed_in_range net problem t table pairs places h.1)
-placed_in_range net problem t table [] (place ∷ places) h = absurd h
+    (omega (arith, i, rows), omega (arith, j, columns), placed_in_range net problem t table pairs indexes h.1)
+placed_in_range net problem t table [] (index ∷ indexes) h = absurd h
 placed_in_range net problem t table (pair ∷ pairs) [] h = absurd h
 
 -- ---- how often a name stands
 
--- the names on one side of the pairs, and their places
-abbrev AreIndexed : (index : List ℕ → Option ℕ) → (name : Pair → List ℕ) → (side : ℕ × ℕ → ℕ) → List Pair → List (ℕ × ℕ) → Type 0
-AreIndexed index name side [] [] = Unit {0}
-AreIndexed index name side (pair ∷ pairs) (place ∷ places) = (index (name pair) ≡ Some (side place)) × AreIndexed index name side pairs places
-AreIndexed index name side [] (place ∷ places) = ⊥
-AreIndexed index name side (pair ∷ pairs) [] = ⊥
+-- the names on one side of the pairs, and their indexes
+abbrev AreIndexed : (index_of : List ℕ → Option ℕ) → (name : Pair → List ℕ) → (side : ℕ × ℕ → ℕ) → List Pair → List (ℕ × ℕ) → Type 0
+AreIndexed index_of name side [] [] = Unit {0}
+AreIndexed index_of name side (pair ∷ pairs) (index ∷ indexes) = (index_of (name pair) ≡ Some (side index)) × AreIndexed index_of name side pairs indexes
+AreIndexed index_of name side [] (index ∷ indexes) = ⊥
+AreIndexed index_of name side (pair ∷ pairs) [] = ⊥
 
-wagons_indexed : (problem : ProblemValue) (pairs : List Pair) (places : List (ℕ × ℕ)) → ArePlaced problem pairs places → AreIndexed (wagon_place problem) (λ (p : Pair). p.0) (λ (p : ℕ × ℕ). p.0) pairs places
+wagons_indexed : (problem : ProblemValue) (pairs : List Pair) (indexes : List (ℕ × ℕ)) → ArePlaced problem pairs indexes → AreIndexed (wagon_index problem) (λ (p : Pair). p.0) (λ (p : ℕ × ℕ). p.0) pairs indexes
 wagons_indexed problem [] [] h = tt
-wagons_indexed problem (pair ∷ pairs) (place ∷ places) h = (h.0.wagon, wagons_indexed problem pairs places h.1)
-wagons_indexed problem [] (place ∷ places) h = h
+wagons_indexed problem (pair ∷ pairs) (index ∷ indexes) h = (h.0.wagon, wagons_indexed problem pairs indexes h.1)
+wagons_indexed problem [] (index ∷ indexes) h = h
 wagons_indexed problem (pair ∷ pairs) [] h = h
 
-orders_indexed : (problem : ProblemValue) (pairs : List Pair) (places : List (ℕ × ℕ)) → ArePlaced problem pairs places → AreIndexed (order_place problem) (λ (p : Pair). p.1) (λ (p : ℕ × ℕ). p.1) pairs places
+orders_indexed : (problem : ProblemValue) (pairs : List Pair) (indexes : List (ℕ × ℕ)) → ArePlaced problem pairs indexes → AreIndexed (order_index problem) (λ (p : Pair). p.1) (λ (p : ℕ × ℕ). p.1) pairs indexes
 orders_indexed problem [] [] h = tt
-orders_indexed problem (pair ∷ pairs) (place ∷ places) h = (h.0.order, orders_indexed problem pairs places h.1)
-orders_indexed problem [] (place ∷ places) h = h
+orders_indexed problem (pair ∷ pairs) (index ∷ indexes) h = (h.0.order, orders_indexed problem pairs indexes h.1)
+orders_indexed problem [] (index ∷ indexes) h = h
 orders_indexed problem (pair ∷ pairs) [] h = h
 
--- two names at one place are one
-wagons_one_to_one : (problem : ProblemValue) (a b : List ℕ) (i : ℕ) → wagon_place problem a ≡ Some i → wagon_place problem b ≡ Some i → a ≡ b
+-- two names at one index are one
+wagons_one_to_one : (problem : ProblemValue) (a b : List ℕ) (i : ℕ) → wagon_index problem a ≡ Some i → wagon_index problem b ≡ Some i → a ≡ b
 wagons_one_to_one problem a b i h g = some_same a b (sym (found_at (wagon_names problem.wagons) a i h) ∙ found_at (wagon_names problem.wagons) b i g)
 
-orders_one_to_one : (problem : ProblemValue) (a b : List ℕ) (i : ℕ) → order_place problem a ≡ Some i → order_place problem b ≡ Some i → a ≡ b
+orders_one_to_one : (problem : ProblemValue) (a b : List ℕ) (i : ℕ) → order_index problem a ≡ Some i → order_index problem b ≡ Some i → a ≡ b
 orders_one_to_one problem a b i h g = some_same a b (sym (found_at (order_names problem.orders) a i h) ∙ found_at (order_names problem.orders) b i g)
 
 same_tests : (x y : List ℕ) (i j : ℕ) (b : Bool) → same x y ≡ b → (x ≡ y → j ≡ i) → (j ≡ i → x ≡ y) → b ≡ (j == i)
@@ -125,22 +125,22 @@ same_tests x y i j false is f g =
     differ : false ≡ true → ⊥
     differ h = cc
 
--- a name stands as often as its place
-count_same : (index : List ℕ → Option ℕ) (name : Pair → List ℕ) (side : ℕ × ℕ → ℕ) → ((a b : List ℕ) (i : ℕ) → index a ≡ Some i → index b ≡ Some i → a ≡ b)
-    → (pairs : List Pair) (places : List (ℕ × ℕ)) → AreIndexed index name side pairs places → (q : List ℕ) (i : ℕ) → index q ≡ Some i
-    → count_by (λ (p : Pair). same q (name p)) pairs ≡ count_by (λ (p : ℕ × ℕ). side p == i) places
-count_same index name side one [] [] h q i is = refl
-count_same index name side one (pair ∷ pairs) (place ∷ places) h q i is =
-    let rest = count_same index name side one pairs places h.1 q i is in
-    let tests = same_tests q (name pair) i (side place) (same q (name pair)) refl
-    (λ e. some_same (side place) i (sym h.0 ∙ (ap index (sym e) ∙ is)))
+-- a name stands as often as its index
+count_same : (index_of : List ℕ → Option ℕ) (name : Pair → List ℕ) (side : ℕ × ℕ → ℕ) → ((a b : List ℕ) (i : ℕ) → index_of a ≡ Some i → index_of b ≡ Some i → a ≡ b)
+    → (pairs : List Pair) (indexes : List (ℕ × ℕ)) → AreIndexed index_of name side pairs indexes → (q : List ℕ) (i : ℕ) → index_of q ≡ Some i
+    → count_by (λ (p : Pair). same q (name p)) pairs ≡ count_by (λ (p : ℕ × ℕ). side p == i) indexes
+count_same index_of name side one [] [] h q i is = refl
+count_same index_of name side one (pair ∷ pairs) (index ∷ indexes) h q i is =
+    let rest = count_same index_of name side one pairs indexes h.1 q i is in
+    let tests = same_tests q (name pair) i (side index) (same q (name pair)) refl
+    (λ e. some_same (side index) i (sym h.0 ∙ (ap index_of (sym e) ∙ is)))
     (λ e. one q (name pair) i is (h.0 ∙ ap (λ (k : ℕ). Some k) e)) in
     let left = sum_by-cons (λ (p : Pair). cond (same q (name p)) 1 0) pair pairs in
-    let right = sum_by-cons (λ (p : ℕ × ℕ). cond (side p == i) 1 0) place places in
-    let here : ◌≡◌ {A = ℕ} (cond (same q (name pair)) 1 0) (cond (side place == i) 1 0) = ap (λ b. cond b 1 0) tests in
+    let right = sum_by-cons (λ (p : ℕ × ℕ). cond (side p == i) 1 0) index indexes in
+    let here : ◌≡◌ {A = ℕ} (cond (same q (name pair)) 1 0) (cond (side index == i) 1 0) = ap (λ b. cond b 1 0) tests in
     omega (arith, rest, left, right, here)
-count_same index name side one [] (place ∷ places) h q i is = absurd h
-count_same index name side one (pair ∷ pairs) [] h q i is = absurd h
+count_same index_of name side one [] (index ∷ indexes) h q i is = absurd h
+count_same index_of name side one (pair ∷ pairs) [] h q i is = absurd h
 
 none_some : (i : ℕ) → let o : Option ℕ = Some i in None ≡ o → ⊥
 none_some i h = cc
@@ -149,32 +149,32 @@ differs : (x y : List ℕ) (b : Bool) → same x y ≡ b → (x ≡ y → ⊥) �
 differs x y true is apart = absurd (apart (same_is x y is))
 differs x y false is apart = refl
 
--- a name with no place stands nowhere
-count_none : (index : List ℕ → Option ℕ) (name : Pair → List ℕ) (side : ℕ × ℕ → ℕ) (pairs : List Pair) (places : List (ℕ × ℕ)) → AreIndexed index name side pairs places → (q : List ℕ) → index q ≡ None
+-- a name with no index stands nowhere
+count_none : (index_of : List ℕ → Option ℕ) (name : Pair → List ℕ) (side : ℕ × ℕ → ℕ) (pairs : List Pair) (indexes : List (ℕ × ℕ)) → AreIndexed index_of name side pairs indexes → (q : List ℕ) → index_of q ≡ None
     → ◌≡◌ {A = ℕ} (count_by (λ (p : Pair). same q (name p)) pairs) 0
-count_none index name side [] [] h q is = refl
-count_none index name side (pair ∷ pairs) (place ∷ places) h q is =
-    let rest = count_none index name side pairs places h.1 q is in
+count_none index_of name side [] [] h q is = refl
+count_none index_of name side (pair ∷ pairs) (index ∷ indexes) h q is =
+    let rest = count_none index_of name side pairs indexes h.1 q is in
     let left = sum_by-cons (λ (p : Pair). cond (same q (name p)) 1 0) pair pairs in
-    let other = differs q (name pair) (same q (name pair)) refl (λ e. none_some (side place) (sym is ∙ (ap index e ∙ h.0))) in
+    let other = differs q (name pair) (same q (name pair)) refl (λ e. none_some (side index) (sym is ∙ (ap index_of e ∙ h.0))) in
     let here : ◌≡◌ {A = ℕ} (cond (same q (name pair)) 1 0) 0 = ap (λ b. cond b 1 0) other in
     omega (arith, rest, left, here)
-count_none index name side [] (place ∷ places) h q is = absurd h
-count_none index name side (pair ∷ pairs) [] h q is = absurd h
+count_none index_of name side [] (index ∷ indexes) h q is = absurd h
+count_none index_of name side (pair ∷ pairs) [] h q is = absurd h
 
-pub order_times : (problem : ProblemValue) (pairs : List Pair) (places : List (ℕ × ℕ)) → ArePlaced problem pairs places → (id : List ℕ) (j : ℕ) → order_place problem id ≡ Some j → times_of_order id pairs ≡ serves j places
-order_times problem pairs places placed id j is =
-    count_same (order_place problem) (λ (p : Pair). p.1) (λ (p : ℕ × ℕ). p.1) (orders_one_to_one problem) pairs places (orders_indexed problem pairs places placed) id j is
+pub order_times : (problem : ProblemValue) (pairs : List Pair) (indexes : List (ℕ × ℕ)) → ArePlaced problem pairs indexes → (id : List ℕ) (j : ℕ) → order_index problem id ≡ Some j → times_of_order id pairs ≡ serves j indexes
+order_times problem pairs indexes placed id j is =
+    count_same (order_index problem) (λ (p : Pair). p.1) (λ (p : ℕ × ℕ). p.1) (orders_one_to_one problem) pairs indexes (orders_indexed problem pairs indexes placed) id j is
 
-once_by : (problem : ProblemValue) (pairs : List Pair) (places : List (ℕ × ℕ)) → ArePlaced problem pairs places → ((i : ℕ) → uses i places ≤ 1) → (number : List ℕ) (o : Option ℕ) → wagon_place problem number ≡ o → times_of_wagon number pairs ≤ 1
-once_by problem pairs places placed once number None is =
-    let c = count_none (wagon_place problem) (λ (p : Pair). p.0) (λ (p : ℕ × ℕ). p.0) pairs places (wagons_indexed problem pairs places placed) number is in
+once_by : (problem : ProblemValue) (pairs : List Pair) (indexes : List (ℕ × ℕ)) → ArePlaced problem pairs indexes → ((i : ℕ) → uses i indexes ≤ 1) → (number : List ℕ) (o : Option ℕ) → wagon_index problem number ≡ o → times_of_wagon number pairs ≤ 1
+once_by problem pairs indexes placed once number None is =
+    let c = count_none (wagon_index problem) (λ (p : Pair). p.0) (λ (p : ℕ × ℕ). p.0) pairs indexes (wagons_indexed problem pairs indexes placed) number is in
     omega (arith, c)
-once_by problem pairs places placed once number (Some i) is =
-    let c = count_same (wagon_place problem) (λ (p : Pair). p.0) (λ (p : ℕ × ℕ). p.0) (wagons_one_to_one problem) pairs places (wagons_indexed problem pairs places placed) number i is in
+once_by problem pairs indexes placed once number (Some i) is =
+    let c = count_same (wagon_index problem) (λ (p : Pair). p.0) (λ (p : ℕ × ℕ). p.0) (wagons_one_to_one problem) pairs indexes (wagons_indexed problem pairs indexes placed) number i is in
     let k = once i in
     omega (arith, c, k)
 
--- where no position is used twice, no wagon is named twice
-pub named_once : (problem : ProblemValue) (pairs : List Pair) (places : List (ℕ × ℕ)) → ArePlaced problem pairs places → ((i : ℕ) → uses i places ≤ 1) → (number : List ℕ) → times_of_wagon number pairs ≤ 1
-named_once problem pairs places placed once number = once_by problem pairs places placed once number (wagon_place problem number) refl
+-- where no index is used twice, no wagon is named twice
+pub named_once : (problem : ProblemValue) (pairs : List Pair) (indexes : List (ℕ × ℕ)) → ArePlaced problem pairs indexes → ((i : ℕ) → uses i indexes ≤ 1) → (number : List ℕ) → times_of_wagon number pairs ≤ 1
+named_once problem pairs indexes placed once number = once_by problem pairs indexes placed once number (wagon_index problem number) refl

@@ -97,8 +97,8 @@ searched wagons number (Err at) ascend once within parted =
 
 -- ---- the wagon of a number
 
-pub place_in : (wagons : List FreeWagon) (number : List ℕ) (o : Option ℕ) → o ≡ position (is_name number) (wagon_names wagons) → o ≡ position (λ (w : FreeWagon). is_name number w.number) wagons
-place_in wagons number o h = h ∙ position-map (is_name number) (λ (w : FreeWagon). w.number) wagons
+pub index_in : (wagons : List FreeWagon) (number : List ℕ) (o : Option ℕ) → o ≡ position (is_name number) (wagon_names wagons) → o ≡ position (λ (w : FreeWagon). is_name number w.number) wagons
+index_in wagons number o h = h ∙ position-map (is_name number) (λ (w : FreeWagon). w.number) wagons
 
 -- ---- a pair, by where its wagon and its order stand
 

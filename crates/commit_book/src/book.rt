@@ -332,8 +332,7 @@ impl Book {
         ensures call { IsCall self.now.setting self.now.state (call.Event (event.Message message.now)) (answer_of result) self.now.state }
         ensures no_entry { IsNoEntry result }
     {
-        // For the prover alone: the number of an entry fits.
-        let _most = self.len();
+        self.limits.for_the_prover();
         match self.ledger.get(index) {
             Some(entry) if entry.is_event(&Event::Message(*message)) => {
                 Ok(Reply::Repeated(index as u64 + 1))
