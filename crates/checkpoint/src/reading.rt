@@ -1,5 +1,5 @@
 //! Reading a whole checkpoint.
-ghost use Rattle.std.specs.Prelude.{◌≡◌, ◌≤◌, ◌+◌, None, Some, IfErr, IfOk, Ok, false};
+ghost use Rattle.std.specs.Prelude.{◌≡◌, ◌≤◌, ◌+◌, Some, IfErr, IfOk, Ok, false};
 ghost use Rattle.line_network.specs.NetworkCount.{max_networks};
 ghost use Rattle.checkpoint.specs.OfficeOf.{closed};
 ghost use Rattle.checkpoint.specs.Reads.{IsReadAs, IsRefused, bytes_read};
@@ -11,9 +11,7 @@ use crate::parts::Parts;
 use crate::read_fault::ReadFault;
 use faults::CheckpointFault;
 use fleet_rows::WagonRows;
-use line_engine::{
-    DeviceFailed, LineLimit, Outcome, ReplyText, Responder, Sink, Source, run_replies,
-};
+use line_engine::{LineLimit, NoReplies, Outcome, ReplyText, Responder, Source, run_replies};
 use operating_db::OfficeState;
 use std::alloc::Global;
 
@@ -62,24 +60,6 @@ impl LinesSoFar {
         if let Err(fault) = taken {
             self.parts = Err(fault);
         }
-    }
-}
-
-/// Where replies go that nobody reads.
-#[derive(Drop)]
-struct NoReplies;
-
-impl Sink for NoReplies {
-    ghost contents = { λ _. None };
-
-    ghost has_failed = { λ _. false };
-
-    fn write(&mut self, piece: &[u8]) -> Result<usize, DeviceFailed> {
-        Ok(piece.len())
-    }
-
-    fn failed(&self) -> bool {
-        false
     }
 }
 
