@@ -3,9 +3,10 @@
 use Rattle.std.proofs.Common.{◌≡◌, ◌∙◌, ℕ, ◌+◌, ◌≤◌, Bool, true, false, nat_lt, List, [], ◌∷◌, ◌++◌, length, map, Option, Some, None, Result, Ok, Err, refl, inl, inr, arith, le-ltb, ltb-false, length-append}
 use Rattle.std.proofs.lemmas.Bool.{cases_Bool}
 use Rattle.std.proofs.lemmas.List.{append-nil, append_assoc}
+use Rattle.std.specs.Bool.{OnFalse}
 use Rattle.csv_records.specs.Fields.{Record}
 use Rattle.csv_records.specs.Files.{AreBelowHeader}
-use Rattle.csv_records.specs.Reading.{◌>>=◌, ReadingRule, SaysSoFar, Stops, Unless, value_of, with_record, with_records, with_said}
+use Rattle.csv_records.specs.Reading.{◌>>=◌, ReadingRule, SaysSoFar, Stops, value_of, with_record, with_records, with_said}
 
 module _ {A V F : Type 0} (rule : ReadingRule A V F) where
   -- a value and these entries, one after the other
@@ -123,12 +124,12 @@ module _ {A V F : Type 0} (rule : ReadingRule A V F) where
   SaysSoFar-end value records h = let all : value_of rule (records ++ []) ≡ Ok value = h [] in rw append-nil at all
 
   -- a fault of a record is the first
-  stops_at : (failure : Bool) (n : ℕ) (value : V) (fields : Record) (rest : List Record) (fault : F) → Unless failure (with_record rule n value fields ≡ Err fault)
-      → Unless failure (with_records rule n value (fields ∷ rest) ≡ Err fault)
+  stops_at : (failure : Bool) (n : ℕ) (value : V) (fields : Record) (rest : List Record) (fault : F) → OnFalse failure (with_record rule n value fields ≡ Err fault)
+      → OnFalse failure (with_records rule n value (fields ∷ rest) ≡ Err fault)
   stops_at true n value fields rest fault h = tt
   stops_at false n value fields rest fault h = rw h refl
 
-  stops_along : (failure : Bool) (said more : Result V F) (fault : F) → said ≡ more → Unless failure (more ≡ Err fault) → Unless failure (said ≡ Err fault)
+  stops_along : (failure : Bool) (said more : Result V F) (fault : F) → said ≡ more → OnFalse failure (more ≡ Err fault) → OnFalse failure (said ≡ Err fault)
   stops_along true said more fault e h = tt
   stops_along false said more fault e h = e ∙ h
 

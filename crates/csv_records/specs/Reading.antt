@@ -1,5 +1,6 @@
 -- What the records of a file say, a header and those below it, one after the other; or the first fault.
-use Rattle.std.specs.Prelude.{◌≡◌, ℕ, ◌+◌, Bool, true, false, if◌then◌else◌, nat_lt, List, [], ◌∷◌, ◌++◌, length, Option, Some, None, Result, Ok, Err}
+use Rattle.std.specs.Prelude.{◌≡◌, ℕ, ◌+◌, Bool, if◌then◌else◌, nat_lt, List, [], ◌∷◌, ◌++◌, length, Option, Some, None, Result, Ok, Err}
+use Rattle.std.specs.Bool.{OnFalse}
 use Rattle.csv_records.specs.Fields.{Record}
 
 infixl 10 ◌>>=◌
@@ -44,13 +45,9 @@ value_of rule (header ∷ records) = if rule.is_header header then with_records 
 abbrev pub SaysSoFar : {A V F : Type 0} → ReadingRule A V F → V → List Record → Type 0
 SaysSoFar rule value records = (rest : List Record) → value_of rule (records ++ rest) ≡ with_records rule (length records + 1) value rest
 
-abbrev pub Unless : Bool → Type 0 → Type 0
-Unless true P = Unit {0}
-Unless false P = P
-
 -- what is said is this fault, unless it is one of memory or of the reader, which may come at any record
 abbrev pub Stops : {X F : Type 0} → (F → Bool) → F → Result X F → Type 0
-Stops is_failure fault said = Unless (is_failure fault) (said ≡ Err fault)
+Stops is_failure fault said = OnFalse (is_failure fault) (said ≡ Err fault)
 
 -- what was answered is what is said, unless memory or the reader failed
 abbrev pub Gives : {X F : Type 0} → (F → Bool) → Result X F → Result X F → Type 0

@@ -1,11 +1,10 @@
 //! Reading a header and the records below it.
-ghost use Rattle.std.specs.Prelude.{◌≡◌, ◌+◌, IfErr, IfOk, IsErrOf, IsTrue, true, List, OnOk, if◌then◌else◌, option_map};
+ghost use Rattle.std.specs.Prelude.{◌≡◌, ◌+◌, IfErr, IfOk, IsErrOf, IsTrue, true, OnOk, if◌then◌else◌, option_map};
 ghost use Rattle.csv.specs.Reading.{ReadRecord, error_kind, has_failed, is_io, reader_state, source_of, stops_reader, strip_bom};
 ghost use Rattle.csv.specs.Records.{fields_of};
 ghost use Rattle.csv.specs.declared.parser.State.TheVariants as st;
-ghost use Rattle.csv_records.specs.Fields.{Record};
-ghost use Rattle.csv_records.specs.Requests.{AreLeft, AsksAtMost, IsOutcome, IsRequest, IsSetUp};
-ghost use Rattle.csv_records.specs.Stopping.{StopsAt};
+ghost use Rattle.csv_records.specs.Requests.{AreLeft, AsksAtMost, IsRequest, IsSetUp};
+ghost use Rattle.csv_records.specs.Stopping.{IsReadOff};
 
 use crate::fault_at::{FaultAt, RecordAt};
 use crate::{FromRecords, RecordFault};
@@ -34,8 +33,7 @@ pub fn read_records<R: Read, T: FromRecords>(
     reader: &mut Reader<R>,
 ) -> Result<T, FaultAt<T::Fault>>
     requires { IsSetUp reader.old }
-    ensures meaning { (all : List Record) × AreLeft R.remaining reader.old all × IsOutcome T.made_of (λ stop. T.refuses stop.fault) result all
-        × IfErr result (λ stop. StopsAt T.Fault.from_gives T.made_of T.refuses all stop.fault stop.at) }
+    ensures meaning { IsReadOff T.Fault.from_gives T.made_of T.refuses (AreLeft R.remaining reader.old) (λ stop. stop.fault) (λ stop. stop.at) result }
     ensures stopped { IfErr result (λ stop. T.Fault.from_gives RecordFault.ReadFailed stop.fault → has_failed reader.new ≡ true) }
     ensures asked { AsksAtMost R.remaining reader.old (T.MOST_RECORDS + 2) reader.new }
 {
@@ -54,8 +52,7 @@ fn collect<R: Read, T: FromRecords>(
 ) -> Result<T, T::Fault>
     requires reader { IsSetUp reader.old }
     requires first { at.old.number ≡ 1 }
-    ensures meaning { (all : List Record) × AreLeft R.remaining reader.old all × IsOutcome T.made_of T.refuses result all
-        × IfErr result (λ fault. StopsAt T.Fault.from_gives T.made_of T.refuses all fault at.new) }
+    ensures meaning { IsReadOff T.Fault.from_gives T.made_of T.refuses (AreLeft R.remaining reader.old) (λ fault. fault) (λ _. at.new) result }
     ensures stopped { IfErr result (λ fault. T.Fault.from_gives RecordFault.ReadFailed fault → has_failed reader.new ≡ true) }
     ensures asked { AsksAtMost R.remaining reader.old (T.MOST_RECORDS + 2) reader.new }
 {

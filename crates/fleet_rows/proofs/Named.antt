@@ -20,18 +20,18 @@ same_name = lists_equiv nat_eq_equiv
 flip : (a b : List ℕ) → is_same a b ≡ false → is_same b a ≡ false
 flip a b h = sym (same_name.symm a b) ∙ h
 
--- where all names have a property, the name at a place has it
-at_place : {X : Type 0} (P : List ℕ → Type 0) (name : X → List ℕ) (xs : List X) (k : ℕ) (x : X) → AllByRecursion P (map name xs) → slice_get xs k ≡ Some x → P (name x)
-at_place P name [] k x all e = cc e
-at_place P name (y ∷ ys) zero x all e = let same : y ≡ x = cc e in subst (λ z. P (name z)) same all.0
-at_place P name (y ∷ ys) (suc k) x all e = at_place P name ys k x all.1 e
+-- where all names have a property, the name at an index has it
+at_index : {X : Type 0} (P : List ℕ → Type 0) (name : X → List ℕ) (xs : List X) (k : ℕ) (x : X) → AllByRecursion P (map name xs) → slice_get xs k ≡ Some x → P (name x)
+at_index P name [] k x all e = cc e
+at_index P name (y ∷ ys) zero x all e = let same : y ≡ x = cc e in subst (λ z. P (name z)) same all.0
+at_index P name (y ∷ ys) (suc k) x all e = at_index P name ys k x all.1 e
 
 -- what stands in a list is found by its name
 pub found_by_name : {X : Type 0} (name : X → List ℕ) (xs : List X) (k : ℕ) (x : X) → IsDistinct is_same (map name xs) → slice_get xs k ≡ Some x → find (λ y. is_same (name x) (name y)) xs ≡ Some x
 found_by_name name [] k x h e = cc e
 found_by_name name (y ∷ ys) zero x h e = let same : y ≡ x = cc e in rw (same, same_name.refl (name x)) refl
 found_by_name name (y ∷ ys) (suc k) x h e =
-    let other : is_same (name y) (name x) ≡ false = at_place (λ z. is_same (name y) z ≡ false) name ys k x (IsDistinct-head is_same (name y) (map name ys) h) e in
+    let other : is_same (name y) (name x) ≡ false = at_index (λ z. is_same (name y) z ≡ false) name ys k x (IsDistinct-head is_same (name y) (map name ys) h) e in
     let found = found_by_name name ys k x (IsDistinct-tail is_same (name y) (map name ys) h) e in
     rw (flip (name y) (name x) other) found
 
@@ -41,7 +41,7 @@ unchanged : {X : Type 0} (name : X → List ℕ) (change : X → X) (q : List �
 unchanged name change q [] all = refl
 unchanged name change q (y ∷ ys) all = rw (all.0, unchanged name change q ys all.1) refl
 
--- a write at the place of a name is a change at that name
+-- a write at the index of a name is a change at that name
 pub changed_at : {X : Type 0} (name : X → List ℕ) (change : X → X) (xs : List X) (k : ℕ) (x : X) → IsDistinct is_same (map name xs) → slice_get xs k ≡ Some x
     → slice_set xs k (change x) ≡ map (λ y. if is_same (name x) (name y) then change y else y) xs
 changed_at name change [] k x h e = cc e
@@ -51,7 +51,7 @@ changed_at name change (y ∷ ys) zero x h e =
     let first : change y ∷ ys ≡ map (λ z. if is_same (name y) (name z) then change z else z) (y ∷ ys) = rw (same_name.refl (name y), others) refl in
     subst (λ w. change w ∷ ys ≡ map (λ z. if is_same (name w) (name z) then change z else z) (y ∷ ys)) same first
 changed_at name change (y ∷ ys) (suc k) x h e =
-    let other : is_same (name y) (name x) ≡ false = at_place (λ z. is_same (name y) z ≡ false) name ys k x (IsDistinct-head is_same (name y) (map name ys) h) e in
+    let other : is_same (name y) (name x) ≡ false = at_index (λ z. is_same (name y) z ≡ false) name ys k x (IsDistinct-head is_same (name y) (map name ys) h) e in
     let later = changed_at name change ys k x (IsDistinct-tail is_same (name y) (map name ys) h) e in
     rw (flip (name y) (name x) other, later) refl
 
@@ -59,9 +59,9 @@ pub length_map : {X Y : Type 0} (f : X → Y) (xs : List X) → length (map f xs
 length_map f [] = refl
 length_map f (x ∷ xs) = ap suc (length_map f xs)
 
--- ---- the place of what passes a test
+-- ---- the index of what passes a test
 
--- what stands at the place that a search finds
+-- what stands at the index that a search finds
 pub found_at_place : {X : Type 0} (p : X → Bool) (xs : List X) (k : ℕ) → position p xs ≡ Some k → (find p xs ≡ slice_get xs k) × (k < length xs)
 found_at_place p xs k e = elim (cases_lt (position_or_len p xs) (length xs)) [
   | inl lt ↦ let same : position_or_len p xs ≡ k = cc (rw (lt-ltb _ _ lt) at e) in (find_at p xs ∙ ap (slice_get xs) same, omega arith)
@@ -92,7 +92,7 @@ from_new p i (x ∷ xs) y passes none = elim (cases_Bool (p x)) [
   | inr fails ↦ let same : i + 1 + length xs ≡ i + suc (length xs) = omega arith in rw fails (from_new p (i + 1) xs y passes (rw fails at none) ∙ ap Some same)
 ]
 
--- nothing has a place where nothing is found
+-- nothing has an index where nothing is found
 pub no_place : {X : Type 0} (p : X → Bool) (xs : List X) → find p xs ≡ None → position p xs ≡ None
 no_place p xs e = position_from-zero p xs ∙ from_none p 0 xs e
 
@@ -160,7 +160,7 @@ names-changed name change n keeps (x ∷ xs) = elim (cases_Bool (is_same n (name
   | inr other ↦ rw (other, names-changed name change n keeps xs) refl
 ]
 
--- what is read at a place within a list
+-- what is read at an index within a list
 pub read_at : {X : Type 0} (r : Option (Bor X)) (xs : List X) (k : ℕ) → is_some r ≡ nat_lt k (length xs) → IfSome r (λ x. x.now ≡ get_or xs k x.now) → k < length xs
     → option_map (λ x. x.now) r ≡ slice_get xs k
 read_at None xs k some read lt = cc (some, lt-ltb k (length xs) lt)

@@ -67,8 +67,8 @@ pub record IsRowAt (rows : List OrderRowValue) (id : List ℕ) (k : ℕ) (row : 
 
 pub row_at : (rows : List OrderRowValue) (id : List ℕ) (r : Option ℕ) (k : ℕ) (row : OrderRowValue)
     → IsOrderRows rows → r ≡ position (is_order id) rows → r ≡ Some k → row ≡ get_or rows k row → IsRowAt rows id k row
-row_at rows id r k row h place is read =
-    let (found, within) = found_at_place (is_order id) rows k (sym place ∙ is) in
+row_at rows id r k row h indexed is read =
+    let (found, within) = found_at_place (is_order id) rows k (sym indexed ∙ is) in
     let there : slice_get rows k ≡ Some row = slice_get-get_or rows k row within ∙ ap Some (sym read) in
     record {
       within = within;
@@ -78,7 +78,7 @@ row_at rows id r k row h place is read =
       valid = subst IsOrderRow (sym read) (h.each k row within);
     }
 
--- the row that stands at a place is that of its order
+-- the row that stands at an index is that of its order
 pub row_there : (rows : List OrderRowValue) (k : ℕ) (row : OrderRowValue) → IsOrderRows rows → k < length rows → row ≡ get_or rows k row → IsRowAt rows row.text.id k row
 row_there rows k row h within read =
     let there : slice_get rows k ≡ Some row = slice_get-get_or rows k row within ∙ ap Some (sym read) in
@@ -91,9 +91,9 @@ row_there rows k row h within read =
     }
 
 pub known_at : (rows : List OrderRowValue) (id : List ℕ) (r : Option ℕ) → r ≡ position (is_order id) rows → IsSome (order_in rows id) → IsSome r
-known_at rows id (Some k) place known = refl
-known_at rows id None place known =
-    let none : order_in rows id ≡ None = not_found (is_order id) rows (sym place) in
+known_at rows id (Some k) indexed known = refl
+known_at rows id None indexed known =
+    let none : order_in rows id ≡ None = not_found (is_order id) rows (sym indexed) in
     rw none at known
 
 -- ---- a row in the place of another of its order
@@ -103,7 +103,7 @@ pub changed_is : (rows : List OrderRowValue) (id : List ℕ) (k : ℕ) (row : Or
 changed_is rows id k row change h at =
     changed_at (λ (row : OrderRowValue). row.text.id) change rows k row h.distinct at.there ∙ ap (λ name. at_order name change rows) at.named
 
--- the same by the row that stands at the place
+-- the same by the row that stands at the index
 pub set_at : (rows : List OrderRowValue) (k : ℕ) (row : OrderRowValue) (change : OrderRowValue → OrderRowValue)
     → IsOrderRows rows → IsRowAt rows row.text.id k row → IfSome (slice_get rows k) (λ old. slice_set rows k (change row) ≡ at_order old.text.id change rows)
 set_at rows k row change h at = rw at.there (changed_is rows row.text.id k row change h at)
@@ -170,9 +170,9 @@ open_wagons-cons row rows = sum_by-cons wanted_open row rows
 pub open_wagons-push : (rows : List OrderRowValue) (row : OrderRowValue) → open_wagons (rows ++ row ∷ []) ≡ open_wagons rows + wanted_open row
 open_wagons-push rows row = sum_by-append wanted_open rows (row ∷ []) ∙ ap (λ n. open_wagons rows + n) (zero-add (wanted_open row))
 
-pub indexed_new : (rows : List OrderRowValue) (places : BTreeMap (List ℕ) ℕ) → rows ≡ [] → places.entries ≡ [] → IsIndexed rows (get (slice_cmp nat_cmp) places) 0
+pub indexed_new : (rows : List OrderRowValue) (indexes : BTreeMap (List ℕ) ℕ) → rows ≡ [] → indexes.entries ≡ [] → IsIndexed rows (get (slice_cmp nat_cmp) indexes) 0
 unfolding IsDistinct
-indexed_new rows places none empty = record {
+indexed_new rows indexes none empty = record {
   kept = rw none (record { distinct = tt; each = All-nil IsOrderRow; few_open = omega arith });
   indexed = λ q. rw (none, empty) refl;
   counted = rw none refl;
@@ -191,7 +191,7 @@ indexed_push rows index index' n row h new valid few with_row =
         each = All-append IsOrderRow rows (row ∷ []) h.kept.each (All-cons IsOrderRow row [] valid (All-nil IsOrderRow));
         few_open = subst (λ m. m ≤ max_open_wagons) total few;
       };
-      indexed = λ q. with_row q ∙ place_in q (is_same q row.text.id) refl;
+      indexed = λ q. with_row q ∙ index_in q (is_same q row.text.id) refl;
       counted = total;
     }
   where
@@ -199,13 +199,13 @@ indexed_push rows index index' n row h new valid few with_row =
     counted_all n b v a p r = omega arith
 
     -- the name is the new one, or it is not
-    place_in : (q : List ℕ) (b : Bool) → is_same q row.text.id ≡ b → cond (is_eq (slice_cmp nat_cmp row.text.id q)) (Some (length rows)) (index q) ≡ position (is_order q) (rows ++ row ∷ [])
-    place_in q true is =
+    index_in : (q : List ℕ) (b : Bool) → is_same q row.text.id ≡ b → cond (is_eq (slice_cmp nat_cmp row.text.id q)) (Some (length rows)) (index q) ≡ position (is_order q) (rows ++ row ∷ [])
+    index_in q true is =
         let equal : q ≡ row.text.id = (bytes_decides q row.text.id).0 is in
         let here : is_eq (slice_cmp nat_cmp row.text.id q) ≡ true = sym (texts_ties row.text.id q) ∙ (same_name.symm row.text.id q ∙ is) in
         let none : position (is_order q) rows ≡ None = no_place (is_order q) rows (ap (order_in rows) equal ∙ new) in
         rw here (sym (position-new (is_order q) rows row is none))
-    place_in q false is =
+    index_in q false is =
         let other : is_eq (slice_cmp nat_cmp row.text.id q) ≡ false = sym (texts_ties row.text.id q) ∙ (same_name.symm row.text.id q ∙ is) in
         rw other (h.indexed q ∙ sym (position-push (is_order q) rows row is))
 

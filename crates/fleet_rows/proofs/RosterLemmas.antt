@@ -1,4 +1,4 @@
--- On ascending rows: what a search finds, one more row at its place, and that rows ascend in one way only.
+-- On ascending rows: what a search finds, one more row at its index, and that rows ascend in one way only.
 use Rattle.std.proofs.Common.{◌≡◌, ◌∙◌, ℕ, zero, suc, ◌<◌, ◌≤◌, true, false, List, [], ◌∷◌, length, get_or, Result, Ok, Err, IfErr, OnOk, All, refl, ap, sym, subst, inl, inr, ◌⊎◌, arith}
 use Rattle.std.proofs.lemmas.Bool.{cases_lt}
 use Rattle.std.proofs.lemmas.Cmp.{alike_right, nat_list_cmp_total, on_total, tied_back, tied_itself}
@@ -18,7 +18,7 @@ use Rattle.wagons_and_orders.specs.declared.wagon_row.WagonRow.{WagonRow}
 use Rattle.fleet_rows.specs.Roster.{IsRoster, IsRosterRow}
 use Rattle.fleet_rows.specs.Kept.{by_number, compare_numbers, max_roster_wagons}
 use Rattle.fleet_rows.specs.SameWagons.{has_wagon, is_same_number}
-use Rattle.fleet_rows.specs.inner.Places.{IsGapFor}
+use Rattle.fleet_rows.specs.inner.Gaps.{IsGapFor}
 
 pub by_number_total : IsTotalOrder by_number
 by_number_total = on_total (λ (row : WagonRow). row.number) nat_list_cmp_total

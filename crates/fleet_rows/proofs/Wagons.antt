@@ -93,7 +93,7 @@ ascending-at_wagon number change keeps rows h =
 -- ---- what a search finds
 
 pub record Placed (rows : List WagonRow) (number : List ℕ) (r : Option ℕ) : Type 0 where
-  pub found : IfSome r (λ place. (row : WagonRow) × (slice_get rows place ≡ Some row) × (row.number ≡ number))
+  pub found : IfSome r (λ index. (row : WagonRow) × (slice_get rows index ≡ Some row) × (row.number ≡ number))
   pub absent : IfNone r (wagon_in rows number ≡ None)
 
 find_none : (number : List ℕ) (rows : List WagonRow) → has_wagon rows number ≡ false → wagon_in rows number ≡ None
@@ -145,10 +145,10 @@ light_at rows k row h there =
 pub IsWagonRows-roster : (roster : List WagonRow) → IsRoster roster → IsWagonRows roster
 IsWagonRows-roster roster h = record { few = h.few; ascending = h.ascending; few_kg = λ k d within. (h.each k d within).few_kg }
 
--- what is read at the place of a row
-pub found_in : (rows : List WagonRow) (place : ℕ) (row : WagonRow) (number : List ℕ) (r : Option WagonRow) → IsStrictlySortedBy by_number rows → slice_get rows place ≡ Some row → row.number ≡ number
-    → r ≡ slice_get rows place → r ≡ wagon_in rows number
-found_in rows place row number r h there named e = e ∙ there ∙ sym (wagon_in-there rows place row h there) ∙ ap (wagon_in rows) named
+-- what is read at the index of a row
+pub found_in : (rows : List WagonRow) (index : ℕ) (row : WagonRow) (number : List ℕ) (r : Option WagonRow) → IsStrictlySortedBy by_number rows → slice_get rows index ≡ Some row → row.number ≡ number
+    → r ≡ slice_get rows index → r ≡ wagon_in rows number
+found_in rows index row number r h there named e = e ∙ there ∙ sym (wagon_in-there rows index row h there) ∙ ap (wagon_in rows) named
 
 -- where no row is that of the wagon, nothing changes
 missing_step : (number : List ℕ) (change : WagonRow → WagonRow) (row : WagonRow) (rows : List WagonRow) (b : Bool) → cond b (Some row) (wagon_in rows number) ≡ None → (wagon_in rows number ≡ None → at_wagon number change rows ≡ rows)
@@ -160,13 +160,13 @@ pub missing_stays : (number : List ℕ) (change : WagonRow → WagonRow) (rows :
 missing_stays number change [] h = refl
 missing_stays number change (row ∷ rows) h = missing_step number change row rows (is_wagon number row) h (missing_stays number change rows)
 
--- a row changed at its place
+-- a row changed at its index
 pub change_is : (rows : List WagonRow) (k : ℕ) (row : WagonRow) (number : List ℕ) (change : WagonRow → WagonRow) → IsStrictlySortedBy by_number rows → slice_get rows k ≡ Some row → row.number ≡ number
     → slice_set rows k (change row) ≡ at_wagon number change rows
 change_is rows k row number change h there named =
     changed_at (λ (row : WagonRow). row.number) change rows k row (numbers_distinct rows h) there ∙ ap (λ n. at_wagon n change rows) named
 
--- what is read at the place of a wagon's row is that row
+-- what is read at the index of a wagon's row is that row
 pub read_row : (rows : List WagonRow) (k : ℕ) (number : List ℕ) (read : WagonRow) → ((row : WagonRow) × (slice_get rows k ≡ Some row) × (row.number ≡ number)) → read ≡ get_or rows k read → (slice_get rows k ≡ Some read) × (read.number ≡ number)
 read_row rows k number read found value =
     let (row, there, named) = found in

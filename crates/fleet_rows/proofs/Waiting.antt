@@ -1,4 +1,4 @@
--- The places of the rows that wait.
+-- The indexes of the rows that wait.
 use Rattle.std.proofs.Common.{◌≡◌, ◌∙◌, ℕ, zero, suc, ◌+◌, ◌-◌, ◌<◌, ◌≤◌, Bool, true, false, cond, not, ◌&&◌, nat_eq, nat_lt, List, [], ◌∷◌, ◌++◌, length, get_or, count_by, refl, ap, sym, subst, arith}
 use Rattle.std.specs.Prelude.{Option, Some, position}
 use Rattle.std.specs.BTreeMap.{BTreeMap, get}
@@ -16,7 +16,7 @@ use Rattle.fleet_rows.specs.inner.Indexed.{IsIndexed, IsStored, IsWaitingList, n
 use Rattle.fleet_rows.proofs.Orders.{IsRowAt, changed_is, indexed_new, indexed_with, row_at, wanted_within}
 
 abbrev AllFrom : ℕ → List ℕ → Type 0
-AllFrom least places = AllByRecursion (λ place. least ≤ place) places
+AllFrom least indexes = AllByRecursion (λ index. least ≤ index) indexes
 
 from_step : (least first : ℕ) (b : Bool) (rest : List ℕ) → least ≤ first → AllFrom least rest → AllFrom least (cond b (first ∷ rest) rest)
 from_step least first true rest h later = (h, later)
@@ -26,7 +26,7 @@ all_from : (least first : ℕ) (rows : List OrderRowValue) → least ≤ first �
 all_from least first [] h = tt
 all_from least first (row ∷ rows) h = from_step least first (is_waiting row) (waiting_from (first + 1) rows) h (all_from least (first + 1) rows (omega (arith, h)))
 
--- ---- where a place is noted
+-- ---- where an index is noted
 
 differs : (n m : ℕ) → n + 1 ≤ m → nat_eq m n ≡ false
 differs n m h = grind (arith, nat_tests, h)
@@ -37,69 +37,69 @@ is_below n m h = grind (arith, nat_tests, h)
 not_below : (n m : ℕ) → n + 1 ≤ m → nat_lt m n ≡ false
 not_below n m h = grind (arith, nat_tests, h)
 
-same_place : (n : ℕ) → nat_eq n n ≡ true
-same_place n = grind (arith, nat_tests)
+same_index : (n : ℕ) → nat_eq n n ≡ true
+same_index n = grind (arith, nat_tests)
 
-kept_all : (place : ℕ) (places : List ℕ) → AllFrom (place + 1) places → without_index place places ≡ places
-kept_all place [] h = refl
-kept_all place (other ∷ places) h = rw (differs place other h.0, kept_all place places h.1) refl
+kept_all : (index : ℕ) (indexes : List ℕ) → AllFrom (index + 1) indexes → without_index index indexes ≡ indexes
+kept_all index [] h = refl
+kept_all index (other ∷ indexes) h = rw (differs index other h.0, kept_all index indexes h.1) refl
 
-none_below : (place : ℕ) (places : List ℕ) → AllFrom (place + 1) places → count_by (λ other. nat_lt other place) places ≡ 0
-none_below place [] h = refl
-none_below place (other ∷ places) h =
-    sum_by-cons (λ (p : ℕ). cond (nat_lt p place) 1 0) other places ∙ rw (not_below place other h.0, none_below place places h.1) refl
+none_below : (index : ℕ) (indexes : List ℕ) → AllFrom (index + 1) indexes → count_by (λ other. nat_lt other index) indexes ≡ 0
+none_below index [] h = refl
+none_below index (other ∷ indexes) h =
+    sum_by-cons (λ (p : ℕ). cond (nat_lt p index) 1 0) other indexes ∙ rw (not_below index other h.0, none_below index indexes h.1) refl
 
-noted_all : (place : ℕ) (waits : Bool) (places kept : List ℕ) → kept ≡ places → AllFrom (place + 1) places
-    → cond waits (insert kept (count_by (λ other. nat_lt other place) kept) place) kept ≡ cond waits (place ∷ places) places
-noted_all place true places kept same h = rw (same, none_below place places h) refl
-noted_all place false places kept same h = same
+noted_all : (index : ℕ) (waits : Bool) (indexes kept : List ℕ) → kept ≡ indexes → AllFrom (index + 1) indexes
+    → cond waits (insert kept (count_by (λ other. nat_lt other index) kept) index) kept ≡ cond waits (index ∷ indexes) indexes
+noted_all index true indexes kept same h = rw (same, none_below index indexes h) refl
+noted_all index false indexes kept same h = same
 
-gone_first : (place : ℕ) (b : Bool) (places : List ℕ) → AllFrom (place + 1) places → without_index place (cond b (place ∷ places) places) ≡ places
-gone_first place true places h = rw (same_place place) (kept_all place places h)
-gone_first place false places h = kept_all place places h
+gone_first : (index : ℕ) (b : Bool) (indexes : List ℕ) → AllFrom (index + 1) indexes → without_index index (cond b (index ∷ indexes) indexes) ≡ indexes
+gone_first index true indexes h = rw (same_index index) (kept_all index indexes h)
+gone_first index false indexes h = kept_all index indexes h
 
--- at the first place
-noted_here : (place : ℕ) (waits b : Bool) (places : List ℕ) → AllFrom (place + 1) places → noted place waits (cond b (place ∷ places) places) ≡ cond waits (place ∷ places) places
-noted_here place waits b places h = noted_all place waits places (without_index place (cond b (place ∷ places) places)) (gone_first place b places h) h
+-- at the first index
+noted_here : (index : ℕ) (waits b : Bool) (indexes : List ℕ) → AllFrom (index + 1) indexes → noted index waits (cond b (index ∷ indexes) indexes) ≡ cond waits (index ∷ indexes) indexes
+noted_here index waits b indexes h = noted_all index waits indexes (without_index index (cond b (index ∷ indexes) indexes)) (gone_first index b indexes h) h
 
 -- behind it
-kept_first : (first place : ℕ) (places : List ℕ) → first < place → without_index place (first ∷ places) ≡ first ∷ without_index place places
-kept_first first place places h = let apart : nat_eq first place ≡ false = grind (arith, nat_tests, h) in rw apart refl
+kept_first : (first index : ℕ) (indexes : List ℕ) → first < index → without_index index (first ∷ indexes) ≡ first ∷ without_index index indexes
+kept_first first index indexes h = let apart : nat_eq first index ≡ false = grind (arith, nat_tests, h) in rw apart refl
 
-one_more : (first place : ℕ) (places : List ℕ) → first < place → count_by (λ other. nat_lt other place) (first ∷ places) ≡ suc (count_by (λ other. nat_lt other place) places)
-one_more first place places h = sum_by-cons (λ (p : ℕ). cond (nat_lt p place) 1 0) first places ∙ rw (is_below first place h) (omega arith)
+one_more : (first index : ℕ) (indexes : List ℕ) → first < index → count_by (λ other. nat_lt other index) (first ∷ indexes) ≡ suc (count_by (λ other. nat_lt other index) indexes)
+one_more first index indexes h = sum_by-cons (λ (p : ℕ). cond (nat_lt p index) 1 0) first indexes ∙ rw (is_below first index h) (omega arith)
 
-insert_later : (first place : ℕ) (places all : List ℕ) (n : ℕ) → all ≡ first ∷ places → n ≡ suc (count_by (λ other. nat_lt other place) places) → insert all n place ≡ first ∷ insert places (count_by (λ other. nat_lt other place) places) place
-insert_later first place places all n e f = rw (e, f) refl
+insert_later : (first index : ℕ) (indexes all : List ℕ) (n : ℕ) → all ≡ first ∷ indexes → n ≡ suc (count_by (λ other. nat_lt other index) indexes) → insert all n index ≡ first ∷ insert indexes (count_by (λ other. nat_lt other index) indexes) index
+insert_later first index indexes all n e f = rw (e, f) refl
 
-noted_later : (first place : ℕ) (waits : Bool) (places : List ℕ) → first < place → noted place waits (first ∷ places) ≡ first ∷ noted place waits places
-noted_later first place true places h =
-    let front = kept_first first place places h in
-    insert_later first place (without_index place places) (without_index place (first ∷ places)) _ front (ap (λ ps. count_by (λ other. nat_lt other place) ps) front ∙ one_more first place (without_index place places) h)
-noted_later first place false places h = kept_first first place places h
+noted_later : (first index : ℕ) (waits : Bool) (indexes : List ℕ) → first < index → noted index waits (first ∷ indexes) ≡ first ∷ noted index waits indexes
+noted_later first index true indexes h =
+    let front = kept_first first index indexes h in
+    insert_later first index (without_index index indexes) (without_index index (first ∷ indexes)) _ front (ap (λ ps. count_by (λ other. nat_lt other index) ps) front ∙ one_more first index (without_index index indexes) h)
+noted_later first index false indexes h = kept_first first index indexes h
 
-noted_behind : (first place : ℕ) (waits b : Bool) (places : List ℕ) → first < place → noted place waits (cond b (first ∷ places) places) ≡ cond b (first ∷ noted place waits places) (noted place waits places)
-noted_behind first place waits true places h = noted_later first place waits places h
-noted_behind first place waits false places h = refl
+noted_behind : (first index : ℕ) (waits b : Bool) (indexes : List ℕ) → first < index → noted index waits (cond b (first ∷ indexes) indexes) ≡ cond b (first ∷ noted index waits indexes) (noted index waits indexes)
+noted_behind first index waits true indexes h = noted_later first index waits indexes h
+noted_behind first index waits false indexes h = refl
 
--- ---- the rows after a change at a place, and one more row
+-- ---- the rows after a change at an index, and one more row
 
-waiting-set : (first place k : ℕ) (rows : List OrderRowValue) (new : OrderRowValue) → k < length rows → place ≡ first + k → waiting_from first (slice_set rows k new) ≡ noted place (is_waiting new) (waiting_from first rows)
-waiting-set first place k [] new h e = absurd (omega (arith, h))
-waiting-set first place zero (row ∷ rows) new h e =
-    let same : place ≡ first = omega (arith, e) in
+waiting-set : (first index k : ℕ) (rows : List OrderRowValue) (new : OrderRowValue) → k < length rows → index ≡ first + k → waiting_from first (slice_set rows k new) ≡ noted index (is_waiting new) (waiting_from first rows)
+waiting-set first index k [] new h e = absurd (omega (arith, h))
+waiting-set first index zero (row ∷ rows) new h e =
+    let same : index ≡ first = omega (arith, e) in
     rw same (sym (noted_here first (is_waiting new) (is_waiting row) (waiting_from (first + 1) rows) (all_from (first + 1) (first + 1) rows (omega arith))))
-waiting-set first place (suc k) (row ∷ rows) new h e =
-    let later = waiting-set (first + 1) place k rows new (omega (arith, h)) (omega (arith, e)) in
-    rw later (sym (noted_behind first place (is_waiting new) (is_waiting row) (waiting_from (first + 1) rows) (omega (arith, e))))
+waiting-set first index (suc k) (row ∷ rows) new h e =
+    let later = waiting-set (first + 1) index k rows new (omega (arith, h)) (omega (arith, e)) in
+    rw later (sym (noted_behind first index (is_waiting new) (is_waiting row) (waiting_from (first + 1) rows) (omega (arith, e))))
 
-waiting-push : (first place : ℕ) (rows : List OrderRowValue) (new : OrderRowValue) → place ≡ first + length rows → waiting_from first (rows ++ new ∷ []) ≡ noted place (is_waiting new) (waiting_from first rows)
-waiting-push first place [] new e =
-    let same : place ≡ first = omega (arith, e) in
+waiting-push : (first index : ℕ) (rows : List OrderRowValue) (new : OrderRowValue) → index ≡ first + length rows → waiting_from first (rows ++ new ∷ []) ≡ noted index (is_waiting new) (waiting_from first rows)
+waiting-push first index [] new e =
+    let same : index ≡ first = omega (arith, e) in
     rw same (sym (noted_here first (is_waiting new) false [] tt))
-waiting-push first place (row ∷ rows) new e =
-    let later = waiting-push (first + 1) place rows new (omega (arith, e)) in
-    rw later (sym (noted_behind first place (is_waiting new) (is_waiting row) (waiting_from (first + 1) rows) (omega (arith, e))))
+waiting-push first index (row ∷ rows) new e =
+    let later = waiting-push (first + 1) index rows new (omega (arith, e)) in
+    rw later (sym (noted_behind first index (is_waiting new) (is_waiting row) (waiting_from (first + 1) rows) (omega (arith, e))))
 
 -- ---- no more rows wait than open orders want wagons
 
@@ -118,7 +118,7 @@ few_wait first (row ∷ rows) =
     let here = few_step first (is_waiting row) (waiting_from (first + 1) rows) (wanted_open row) (open_wagons rows) (wants_one row.withdrawn row.text.wagons (length row.promised) (length row.filled)) (few_wait (first + 1) rows) in
     subst (λ (n : ℕ). length (waiting_from first (row ∷ rows)) ≤ n) (sym all) here
 
--- there is room for one more place
+-- there is room for one more index
 room_left : (rows : List OrderRowValue) (waiting : List ℕ) (room : ℕ) → IsOrderRows rows → IsWaitingList rows waiting room → 0 < length rows → length waiting < room
 room_left rows waiting room kept waits some =
     let few : length waiting ≤ open_wagons rows = subst (λ (ps : List ℕ). length ps ≤ open_wagons rows) (sym waits.indexes) (few_wait 0 rows) in
@@ -131,9 +131,9 @@ room_at rows index n waiting room k h within = room_left rows waiting room h.row
 
 -- ---- what is stored after a change
 
-pub stored_new : (rows : List OrderRowValue) (places : BTreeMap (List ℕ) ℕ) (waiting : List ℕ) (room : ℕ) → rows ≡ [] → places.entries ≡ [] → waiting ≡ [] → IsStored rows (get (slice_cmp nat_cmp) places) 0 waiting room
-stored_new rows places waiting room none empty nothing = record {
-  rows_kept = indexed_new rows places none empty;
+pub stored_new : (rows : List OrderRowValue) (indexes : BTreeMap (List ℕ) ℕ) (waiting : List ℕ) (room : ℕ) → rows ≡ [] → indexes.entries ≡ [] → waiting ≡ [] → IsStored rows (get (slice_cmp nat_cmp) indexes) 0 waiting room
+stored_new rows indexes waiting room none empty nothing = record {
+  rows_kept = indexed_new rows indexes none empty;
   waits = record {
     indexes = nothing ∙ ap (waiting_from 0) (sym none);
     room_for_all = λ some. let no_row : length rows ≡ 0 = ap length none in absurd (omega (arith, some, no_row));
@@ -163,11 +163,11 @@ stored_with {rows = rows} {index = index} {n = n} {m = m} {waiting = waiting} {r
   };
 }
 
--- the row of an order that was found by its name among the rows as a contract sees them, and read at its place
+-- the row of an order that was found by its name among the rows as a contract sees them, and read at its index
 module _ {rows view : List OrderRowValue} {index : List ℕ → Option ℕ} {n : ℕ} {waiting : List ℕ} {room : ℕ} (id : List ℕ) {r : Option ℕ} {k : ℕ} {row : OrderRowValue}
-    (h : IsStored rows index n waiting room) (same : rows ≡ view) (place : r ≡ position (is_order id) view) (is : r ≡ Some k) (read : row ≡ get_or rows k row) where
+    (h : IsStored rows index n waiting room) (same : rows ≡ view) (position_is : r ≡ position (is_order id) view) (is : r ≡ Some k) (read : row ≡ get_or rows k row) where
   found_row : IsRowAt rows id k row
-  found_row = row_at rows id r k row h.rows_kept.kept (place ∙ ap (position (is_order id)) (sym same)) is read
+  found_row = row_at rows id r k row h.rows_kept.kept (position_is ∙ ap (position (is_order id)) (sym same)) is read
 
   pub seen_row : order_in view id ≡ Some row
   seen_row = ap (λ rows. order_in rows id) (sym same) ∙ found_row.found
@@ -186,13 +186,13 @@ module _ {rows view : List OrderRowValue} {index : List ℕ → Option ℕ} {n :
   changed_there change = changed_is rows id k row change h.rows_kept.kept found_row ∙ ap (at_order id change) same
 
 -- one more row
-pub stored_push : (rows : List OrderRowValue) (index : List ℕ → Option ℕ) (n m : ℕ) (waiting waiting' : List ℕ) (room room' place : ℕ) (new : OrderRowValue) (waits : Bool)
-    → IsStored rows index n waiting room → (index' : List ℕ → Option ℕ) → IsIndexed (rows ++ new ∷ []) index' m → waits ≡ is_waiting new → place ≡ length rows → waiting' ≡ noted place waits waiting → max_open_wagons < room'
+pub stored_push : (rows : List OrderRowValue) (index : List ℕ → Option ℕ) (n m : ℕ) (waiting waiting' : List ℕ) (room room' k : ℕ) (new : OrderRowValue) (waits : Bool)
+    → IsStored rows index n waiting room → (index' : List ℕ → Option ℕ) → IsIndexed (rows ++ new ∷ []) index' m → waits ≡ is_waiting new → k ≡ length rows → waiting' ≡ noted k waits waiting → max_open_wagons < room'
     → IsStored (rows ++ new ∷ []) index' m waiting' room'
-stored_push rows index n m waiting waiting' room room' place new waits h index' indexed is last changed enough = record {
+stored_push rows index n m waiting waiting' room room' k new waits h index' indexed is last changed enough = record {
   rows_kept = indexed;
   waits = record {
-    indexes = changed ∙ ap (λ (b : Bool). noted place b waiting) is ∙ ap (noted place (is_waiting new)) h.waits.indexes ∙ sym (waiting-push 0 place rows new (omega (arith, last)));
+    indexes = changed ∙ ap (λ (b : Bool). noted k b waiting) is ∙ ap (noted k (is_waiting new)) h.waits.indexes ∙ sym (waiting-push 0 k rows new (omega (arith, last)));
     room_for_all = λ some. enough;
   };
 }

@@ -41,9 +41,9 @@ impl Model for OrderRows {
 
     ghost Value = { List OrderRowValue };
 
-    ghost view = { λ orders. orders.rows.items };
+    ghost view = { λ o. o.rows.items };
 
-    ghost invariant = { λ orders. IsStored orders.rows.items (get (slice_cmp nat_cmp) orders.indexes) orders.open_wagons orders.waiting.items (vec_capacity orders.waiting) };
+    ghost invariant = { λ o. IsStored o.rows.items (get (slice_cmp nat_cmp) o.indexes) o.open_wagons o.waiting.items (vec_capacity o.waiting) };
 }
 
 impl OrderRows {

@@ -1,14 +1,12 @@
 //! Reading a roster from CSV.
-ghost use Rattle.std.specs.Prelude.{◌≡◌, ◌+◌, IfErr, IfOk, None, true, List};
+ghost use Rattle.std.specs.Prelude.{◌≡◌, ◌+◌, IfErr, IfOk, None, true};
 ghost use Rattle.csv.specs.Reading.{has_failed};
-ghost use Rattle.csv_records.specs.Fields.{Record};
 ghost use Rattle.csv_records.specs.Requests.{AreLeft, AsksAtMost, IsSetUp};
-ghost use Rattle.csv_records.specs.Stopping.{StopsAt};
-ghost use Rattle.fleet_rows.specs.Reading.{Gives, rows_of};
 ghost use Rattle.fleet_rows.specs.Roster.{IsRoster};
 ghost use Rattle.fleet_rows.specs.Kept.{max_roster_wagons};
 ghost use Rattle.fleet_rows.specs.RosterOf.{IsReadFrom};
-ghost use Rattle.fleet_rows.specs.Stops.{AreRowsOf, IsFailureOf, IsReadTo, Refuses, plain};
+ghost use Rattle.fleet_rows.specs.Stops.{IsReadTo};
+ghost use Rattle.fleet_rows.specs.inner.Reading.{IsReadOff};
 
 use crate::limits::MAX_ROSTER_WAGONS;
 use crate::roster_refusal::RosterRefusal;
@@ -63,8 +61,7 @@ fn read_all<R: Read>(
     records: &mut Reader<R>,
 ) -> Result<Roster, FaultAt<RosterRefusal>>
     requires { IsSetUp records.old }
-    ensures meaning { (all : List Record) × AreLeft R.remaining records.old all × Gives (plain result) (rows_of all)
-        × IfErr result (λ stop. StopsAt IsFailureOf AreRowsOf Refuses all stop.fault stop.at) }
+    ensures meaning { IsReadOff (AreLeft R.remaining records.old) result }
     ensures roster { IfOk result IsRoster }
     ensures stopped { IfErr result (λ stop. stop.fault.fault ≡ RosterFault.ReadFailed → has_failed records.new ≡ true) }
     ensures asked { AsksAtMost R.remaining records.old (max_roster_wagons + 2) records.new }

@@ -5,7 +5,7 @@ ghost use Rattle.fleet_rows.specs.Roster.{IsRoster, IsRosterRow};
 ghost use Rattle.fleet_rows.specs.Kept.{by_number, max_roster_wagons};
 ghost use Rattle.fleet_rows.specs.SameWagons.{has_wagon};
 ghost use Rattle.fleet_rows.specs.inner.Reading.{RefusesWagon};
-ghost use Rattle.fleet_rows.specs.inner.Places.{IsGapFor};
+ghost use Rattle.fleet_rows.specs.inner.Gaps.{IsGapFor};
 
 use crate::RosterFault;
 use rail_codes::WagonNumber;
@@ -53,10 +53,10 @@ impl Roster {
         ensures roster { IfOk result IsRoster }
     {
         let Roster { mut rows } = self;
-        match place_of(&rows, row.number) {
+        match index_of(&rows, row.number) {
             Ok(_) => Err(RosterFault::DuplicateWagon(row.number)),
-            Err(place) => {
-                rows.insert(place, row)?;
+            Err(index) => {
+                rows.insert(index, row)?;
                 Ok(Roster { rows })
             }
         }
@@ -80,7 +80,7 @@ impl Roster {
 }
 
 /// Where the row of a wagon stands among ascending rows, or else where it would.
-fn place_of(rows: &[WagonRow], number: WagonNumber) -> Result<usize, usize>
+fn index_of(rows: &[WagonRow], number: WagonNumber) -> Result<usize, usize>
     requires { IsStrictlySortedBy by_number rows.now }
     ensures found { OnOk result (has_wagon rows.now number ≡ true) }
     ensures absent { IfErr result (IsGapFor rows.now number) }

@@ -22,7 +22,7 @@ pub(crate) struct Standing {
     pub row: usize,
 }
 
-/// Where the wagon of a row stands that is at a place among the rows, if it is empty and not held.
+/// Where the wagon of a row stands that is at an index among the rows, if it is empty and not held.
 #[tactic(auto, unfolding(crate::specs::EmptyWagons::stand_of))]
 pub(crate) fn standing_of(row: &WagonRow, at: usize) -> Option<Standing>
     ensures { result ≡ standing_by at (stand_of row.now) }

@@ -1,13 +1,11 @@
 //! Reading a network from CSV.
-ghost use Rattle.std.specs.Prelude.{◌≡◌, ◌+◌, IfErr, true, List};
+ghost use Rattle.std.specs.Prelude.{◌≡◌, ◌+◌, IfErr, true};
 ghost use Rattle.csv.specs.Reading.{has_failed};
-ghost use Rattle.csv_records.specs.Fields.{Record};
-ghost use Rattle.csv_records.specs.Reading.{Gives};
 ghost use Rattle.csv_records.specs.Requests.{AreLeft, AsksAtMost, IsSetUp};
-ghost use Rattle.csv_records.specs.Stopping.{StopsAt};
 ghost use Rattle.line_network.specs.NetworkOf.{IsReadFrom};
 ghost use Rattle.line_network.specs.Reading.{is_failure, max_line_records, network_of};
-ghost use Rattle.line_network.specs.Stops.{IsFailureOf, IsReadTo, IsSaidBy, Refuses, plain};
+ghost use Rattle.line_network.specs.Stops.{IsReadTo};
+ghost use Rattle.line_network.specs.inner.Reading.{IsReadOff};
 
 use crate::limits::MAX_LINE_RECORDS;
 use crate::line_record::{LineRecord, is_header};
@@ -51,8 +49,7 @@ pub fn read_network<R: Read + Drop>(
 /// Reads the header and the records below it.
 fn read_rows<R: Read>(alloc: Global, rows: &mut Reader<R>) -> Result<Network, FaultAt<NetworkFault>>
     requires { IsSetUp rows.old }
-    ensures meaning { (all : List Record) × AreLeft R.remaining rows.old all × Gives is_failure (plain result) (network_of all)
-        × IfErr result (λ stop. StopsAt IsFailureOf IsSaidBy Refuses all stop.fault stop.at) }
+    ensures meaning { IsReadOff (AreLeft R.remaining rows.old) result }
     ensures stopped { IfErr result (λ stop. stop.fault ≡ NetworkFault.ReadFailed → has_failed rows.new ≡ true) }
     ensures asked { AsksAtMost R.remaining rows.old (max_line_records + 2) rows.new }
 {

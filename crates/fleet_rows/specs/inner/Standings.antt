@@ -8,11 +8,11 @@ use Rattle.fleet_rows.specs.EmptyWagons.{is_empty_at}
 use Rattle.fleet_rows.specs.Kept.{IsWagonRows}
 use Rattle.fleet_rows.specs.declared.standing.Standing.{Standing}
 
--- by place, then by class, then by the place of the row, so by number
+-- by place, then by class, then by the index of the row, so by number
 abbrev pub compare_standings : Standing → Standing → Ordering
 compare_standings a b = ordering_then (slice_cmp nat_cmp a.place b.place) (ordering_then (slice_cmp nat_cmp a.class b.class) (nat_cmp a.row b.row))
 
--- where a wagon stands whose row has this place among the rows
+-- where a wagon stands whose row has this index among the rows
 abbrev pub standing_by : (row : ℕ) → Option (List ℕ × List ℕ) → Option Standing
 standing_by row None = None
 standing_by row (Some at) = Some (record { class = at.0; place = at.1; row = row })
@@ -43,7 +43,7 @@ stands_in class place (Some row) = is_empty_at class place row
 abbrev pub stands_at : List WagonRow → Standing → Bool
 stands_at rows standing = stands_in standing.class standing.place (slice_get rows standing.row)
 
--- whether there is a row at a place, and its wagon isn't promised
+-- whether there is a row at an index, and its wagon isn't promised
 abbrev pub is_unpromised : Option WagonRow → Bool
 is_unpromised None = false
 is_unpromised (Some row) = not (is_some row.promise)

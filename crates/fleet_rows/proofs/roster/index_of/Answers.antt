@@ -1,7 +1,7 @@
 use Rattle.std.proofs.Common.{rules}
 use Rattle.std.proofs.lemmas.List.Sorted.{answers_always}
 use Rattle.fleet_rows.proofs.RosterLemmas.{searched}
-use Rattle.fleet_rows.proofs.roster.place_of.Goals as goal
+use Rattle.fleet_rows.proofs.roster.index_of.Goals as goal
 
 -- the closure gives a row's number
 pub returns-clause-found : goal.returns-clause-found
