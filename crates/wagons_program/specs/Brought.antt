@@ -9,10 +9,10 @@ use Rattle.line_engine.specs.declared.run.RunCount.{RunCount}
 use Rattle.line_engine.specs.declared.run.RunFault.{RunFault}
 use Rattle.line_network.specs.Network.{NetworkValue}
 use Rattle.office.specs.CommandReplies.{RepliesToLine, LineRunsOutOfMemory}
-use Rattle.wagons_program.specs.FirstBook.{IsFirstBookFor}
+use Rattle.office_files.specs.FirstBook.{IsFirstBookFor}
+use Rattle.office_files.specs.declared.stop.Stop.{Stop}
+use Rattle.office_files.specs.declared.stop.Stop.TheVariants as stop
 use Rattle.wagons_program.specs.Status.{status_of_count}
-use Rattle.wagons_program.specs.declared.stop.Stop.{Stop}
-use Rattle.wagons_program.specs.declared.stop.Stop.TheVariants as stop
 
 -- A run over lines: the most bytes of a line; the bytes of the input, where they are known, and what the output held before
 -- them; what the lines were brought to, before and after them.

@@ -10,12 +10,12 @@ use Rattle.line_engine.specs.Runs.{RunEnds}
 use Rattle.line_engine.specs.declared.run.RunCount.{RunCount}
 use Rattle.line_network.specs.Network.{NetworkValue}
 use Rattle.place_names.specs.declared.named_place.NamedPlace.{NamedPlace}
+use Rattle.office_files.specs.FirstBook.{IsFirstBookFor}
+use Rattle.office_files.specs.PlacesFor.{ArePlacesFor}
+use Rattle.office_files.specs.declared.stop.Stop.{Stop}
+use Rattle.office_files.specs.declared.stop.Stop.TheVariants as stop
 use Rattle.wagons_program.specs.Brought.{AreStopped, Lines, run_of}
-use Rattle.wagons_program.specs.FirstBook.{IsFirstBookFor}
-use Rattle.wagons_program.specs.PlacesFor.{ArePlacesFor}
 use Rattle.wagons_program.specs.Status.{status_of_count}
-use Rattle.wagons_program.specs.declared.stop.Stop.{Stop}
-use Rattle.wagons_program.specs.declared.stop.Stop.TheVariants as stop
 
 -- 1 where there is a note, of a line or at the end, else 0
 abbrev pub status_of_notes : RunCount → (ending : List ℕ) → ℕ

@@ -2,17 +2,15 @@
 ghost use Rattle.std.specs.Prelude.{◌≡◌, IfErr, IfOk};
 ghost use Rattle.commit_book.specs.Books.{BookValue};
 ghost use Rattle.line_engine.specs.Lines.{max_line_bytes};
+ghost use Rattle.office_files.specs.FirstBook.{IsFirstBookFor};
 ghost use Rattle.wagons_program.specs.Brought.{AreAnswered, AreStopped, ToCommands, lines_over};
-ghost use Rattle.wagons_program.specs.FirstBook.{IsFirstBookFor};
 
-use crate::new_book::{NewBook, OfficeFiles, new_book, read_files};
 use crate::status::status_of_run;
-use crate::stop::Stop;
-use crate::stopped::{Stopped, told_of_lines};
 use command_line::OfficeOptions;
 use commit_book::Book;
 use line_engine::{LineLimit, StdDevice};
 use line_network::{Network, Networks};
+use office_files::{NewBook, OfficeFiles, Stop, Stopped, new_book, read_files, told_of_lines};
 use std::alloc::Global;
 use std::io::{Read, Write};
 use std::mem;

@@ -4,14 +4,11 @@ ghost use Rattle.std.specs.List.{list_any};
 ghost use Rattle.wagons_program.specs.Status.{status_of_files};
 
 use crate::bringing::leave;
-use crate::new_book::{NewBook, OfficeFiles, new_book, read_files};
 use crate::printing::print_whole;
 use crate::status::{DONE, REFUSED, STOPPED};
-use crate::stop::Stop;
-use crate::stopped::Stopped;
-use crate::told_file::open_plain;
 use command_line::FeedOptions;
 use line_engine::{MAX_FILES, Source, StdDevice};
+use office_files::{NewBook, OfficeFiles, Stop, Stopped, new_book, open_plain, read_files};
 use sessions::{FeedReport, report_text};
 use std::rt::Files;
 use std::sync::Wait;

@@ -6,14 +6,12 @@ ghost use Rattle.wagons_program.specs.PlanOfLast.{IsPlanOfLast, IsPlanTextOfLast
 ghost use Rattle.wagons_program.specs.ZoneClock.{HasZoneFor, IsReadFor, name_of};
 
 use crate::bringing::{Brought, bring, leave};
-use crate::places::read_places;
 use crate::printing::print_bytes;
-use crate::stop::Stop;
-use crate::stopped::Stopped;
 use crate::zone::{ZoneFile, clock_of, read_zone};
 use command_line::PlanOptions;
 use commit_book::Book;
 use line_network::Networks;
+use office_files::{Stop, Stopped, read_places};
 use place_names::Places;
 use plan_reasons::PlannedProblem;
 use plan_table::{Clock, PlanList, csv_text, list_of_plan, table_text};

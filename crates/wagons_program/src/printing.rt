@@ -1,12 +1,11 @@
 //! Texts on standard output.
 ghost use Rattle.std.specs.Prelude.{◌≡◌, IfErr, IfOk, OnOk};
 ghost use Rattle.std.specs.Io.KnownBytes.{Appends};
-ghost use Rattle.wagons_program.specs.declared.stop.Stop.TheVariants.{WriteFailed};
+ghost use Rattle.office_files.specs.declared.stop.Stop.TheVariants.{WriteFailed};
 
 use crate::bringing::leave;
-use crate::stop::Stop;
-use crate::stopped::Stopped;
 use commit_book::Book;
+use office_files::{Stop, Stopped};
 use std::io;
 use std::io::Write;
 

@@ -6,21 +6,20 @@ ghost use Rattle.office.specs.JournalEnd.{end_note};
 ghost use Rattle.office.specs.Reviews.{first_review};
 ghost use Rattle.line_engine.specs.Lines.{max_line_bytes};
 ghost use Rattle.line_network.specs.Network.{NetworkValue};
+ghost use Rattle.office_files.specs.FirstBook.{IsFirstBookFor};
+ghost use Rattle.office_files.specs.declared.stop.Stop.TheVariants as stop;
 ghost use Rattle.wagons_program.specs.Brought.{lines_over};
-ghost use Rattle.wagons_program.specs.FirstBook.{IsFirstBookFor};
 ghost use Rattle.wagons_program.specs.Reviewed.{AreReviewed, IsInputReviewed, IsReviewStopped, status_of_notes};
-ghost use Rattle.wagons_program.specs.declared.stop.Stop.TheVariants as stop;
 
 use crate::bringing::leave;
-use crate::new_book::{NewBook, OfficeFiles, new_book, read_files};
-use crate::places::read_places;
 use crate::printing::write_whole;
 use crate::status::{REFUSED, status_of_run};
-use crate::stop::Stop;
-use crate::stopped::{Stopped, told_of_lines};
 use command_line::{OfficeOptions, ReviewOptions};
 use line_engine::{LineLimit, StdDevice};
 use office::{EndingSource, Review, RunCount, end_note, review_journal};
+use office_files::{
+    NewBook, OfficeFiles, Stop, Stopped, new_book, read_files, read_places, told_of_lines,
+};
 use place_names::Places;
 use std::alloc::Global;
 use std::io;
