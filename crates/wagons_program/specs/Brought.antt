@@ -62,3 +62,9 @@ abbrev pub IsInputBrought : OfficeOptions → (input : Option (List ℕ)) → (s
 IsInputBrought options input status =
     (networks : List NetworkValue) × (lines : Lines BookValue) × (lines.input ≡ input) × (lines.most ≡ max_line_bytes)
     × IsFirstBookFor options networks lines.old × AreAnswered ToCommands lines status
+
+-- The command lines of an input led from the first book for these options to this one, the output held these bytes before their
+-- replies, and this is the status.
+abbrev pub IsBroughtTo : OfficeOptions → (networks : List NetworkValue) → (input held : Option (List ℕ)) → (book : BookValue) → (status : ℕ) → Type 0
+IsBroughtTo options networks input held book status =
+    (first : BookValue) × IsFirstBookFor options networks first × AreAnswered ToCommands (lines_over max_line_bytes input held first book) status

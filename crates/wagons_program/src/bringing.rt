@@ -1,9 +1,7 @@
 //! An office that is opened, and the command lines of an input brought to it.
 ghost use Rattle.std.specs.Prelude.{◌≡◌, IfErr, IfOk};
-ghost use Rattle.commit_book.specs.Books.{BookValue};
 ghost use Rattle.line_engine.specs.Lines.{max_line_bytes};
-ghost use Rattle.office_files.specs.FirstBook.{IsFirstBookFor};
-ghost use Rattle.wagons_program.specs.Brought.{AreAnswered, AreStopped, ToCommands, lines_over};
+ghost use Rattle.wagons_program.specs.Brought.{AreAnswered, AreStopped, IsBroughtTo, ToCommands, lines_over};
 
 use crate::status::status_of_run;
 use command_line::OfficeOptions;
@@ -38,8 +36,7 @@ pub(crate) fn bring<R: Files + Threads + Wait + AllocGlobal, I: Read + Drop, O: 
 ) -> Result<Brought, Stopped>
     ensures distances { IfOk result (λ brought. brought.distances.value ≡ brought.book.setting.networks) }
     ensures networks { IfOk result (λ brought. brought.networks.items ≡ brought.book.setting.networks) }
-    ensures brought { IfOk result (λ brought. (first : BookValue) × IsFirstBookFor options.now brought.networks.items first
-        × AreAnswered ToCommands (lines_over max_line_bytes (I.remaining input) (O.contents output) first brought.book) brought.status) }
+    ensures brought { IfOk result (λ brought. IsBroughtTo options.now brought.networks.items (I.remaining input) (O.contents output) brought.book brought.status) }
 {
     let OfficeFiles { first, networks } = read_files(rt, options)?;
     let NewBook {

@@ -1,15 +1,11 @@
 //! The word `review`.
-ghost use Rattle.std.specs.Prelude.{◌≡◌, ◌⊎◌, IfErr, IfOk, List, OnOk};
+ghost use Rattle.std.specs.Prelude.{◌≡◌, ◌⊎◌, IfErr, IfOk, OnOk};
 ghost use Rattle.std.specs.Io.KnownBytes.{Appends};
-ghost use Rattle.commit_book.specs.Books.{BookValue};
 ghost use Rattle.office.specs.JournalEnd.{end_note};
-ghost use Rattle.office.specs.Reviews.{first_review};
 ghost use Rattle.line_engine.specs.Lines.{max_line_bytes};
-ghost use Rattle.line_network.specs.Network.{NetworkValue};
-ghost use Rattle.office_files.specs.FirstBook.{IsFirstBookFor};
 ghost use Rattle.office_files.specs.declared.stop.Stop.TheVariants as stop;
 ghost use Rattle.wagons_program.specs.Brought.{lines_over};
-ghost use Rattle.wagons_program.specs.Reviewed.{AreReviewed, IsInputReviewed, IsReviewStopped, status_of_notes};
+ghost use Rattle.wagons_program.specs.Reviewed.{AreReviewed, IsFirstReviewFor, IsInputReviewed, IsReviewStopped, status_of_notes};
 
 use crate::bringing::leave;
 use crate::printing::write_whole;
@@ -50,8 +46,7 @@ fn begin_review<R: Files + Threads + Wait + AllocGlobal>(
     options: &OfficeOptions<'_>,
     named: Places,
 ) -> Result<Review, Stopped>
-    ensures { IfOk result (λ review. (networks : List NetworkValue) × (book : BookValue) × IsFirstBookFor options.now networks book
-        × (review ≡ first_review book named)) }
+    ensures { IfOk result (IsFirstReviewFor options.now named) }
 {
     let OfficeFiles { first, networks } = read_files(rt, options)?;
     let NewBook { book, networks: _ } = new_book(rt, options, first, &networks)?;
