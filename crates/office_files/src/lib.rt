@@ -3,6 +3,7 @@
 #![tactic(auto)]
 
 mod first_book;
+mod leaving;
 mod places;
 mod stop;
 mod stopped;
@@ -10,6 +11,7 @@ mod told_file;
 mod told_files;
 
 pub use first_book::{NewBook, OfficeFiles, new_book, read_files, read_roster};
+pub use leaving::{leave_book, leave_office};
 pub use places::{read_names, read_places};
 pub use stop::Stop;
 pub use stopped::{Stopped, told_of_lines};

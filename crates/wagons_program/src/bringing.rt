@@ -8,10 +8,11 @@ use command_line::OfficeOptions;
 use commit_book::Book;
 use line_engine::{LineLimit, StdDevice};
 use line_network::{Network, Networks};
-use office_files::{NewBook, OfficeFiles, Stop, Stopped, new_book, read_files, told_of_lines};
+use office_files::{
+    NewBook, OfficeFiles, Stop, Stopped, leave_book, new_book, read_files, told_of_lines,
+};
 use std::alloc::Global;
 use std::io::{Read, Write};
-use std::mem;
 use std::rt::Files;
 use std::sync::{Arc, Wait};
 use std::thread::Threads;
@@ -43,13 +44,18 @@ pub(crate) fn bring<R: Files + Threads + Wait + AllocGlobal, I: Read + Drop, O: 
         mut book,
         networks: distances,
     } = new_book(rt, options, first, &networks)?;
-    let status = bring_told_lines(rt.alloc(), input, output, &mut book)?;
-    Ok(Brought {
-        book,
-        networks,
-        distances,
-        status,
-    })
+    match bring_told_lines(rt.alloc(), input, output, &mut book) {
+        Ok(status) => Ok(Brought {
+            book,
+            networks,
+            distances,
+            status,
+        }),
+        Err(stopped) => {
+            leave_book(book);
+            Err(stopped)
+        }
+    }
 }
 
 /// The same as `bring_lines`; where the run stops, with what people are told.
@@ -80,10 +86,4 @@ fn bring_lines<I: Read + Drop, O: Write + Drop>(
     let mut reader = StdDevice::new(input);
     let mut writer = StdDevice::new(output);
     status_of_run(office::run(alloc, &mut reader, &mut writer, book))
-}
-
-/// Leaves a book to the end of the program, which follows at once and gives all memory back as a whole. To take a long
-/// history and its index apart first would only take time.
-pub(crate) fn leave(book: Book) {
-    mem::forget(book);
 }

@@ -57,7 +57,7 @@ where
     R::File: Send,
 {
     let status = match read_words(rt.alloc(), words) {
-        Ok(word) => do_word(rt, &word, input),
+        Ok(word) => do_word(rt, word, input),
         Err(error) => print_text(rt, &error),
     };
     told(rt, status)
@@ -66,7 +66,7 @@ where
 /// Does what a word asks for.
 fn do_word<R: Runtime + Threads + Wait + AllocGlobal + Sync, I: Read + Drop>(
     rt: &R,
-    word: &Word<'_>,
+    word: Word<'_>,
     input: I,
 ) -> Result<u8, Stopped>
 where
@@ -79,15 +79,15 @@ where
         Word::Solve(options) => {
             told_of_lines(rt.alloc(), options.limit, solve(rt, options.limit, input))
         }
-        Word::Run(options) => run(rt, options, input),
-        Word::Feed(options) => feed(rt, options),
-        Word::Map(options) => map(rt, options, input),
-        Word::Plan(options) => plan(rt, options, input),
-        Word::Table(options) => table(rt, options, input),
-        Word::Why(options) => why(rt, options, input),
-        Word::Review(options) => review(rt, options, input),
-        Word::Save(options) => save(rt, options, input),
-        Word::Explain(explained) => explain(rt, explained),
+        Word::Run(options) => run(rt, &options, input),
+        Word::Feed(options) => feed(rt, &options),
+        Word::Map(options) => map(rt, &options, input),
+        Word::Plan(options) => plan(rt, &options, input),
+        Word::Table(options) => table(rt, &options, input),
+        Word::Why(options) => why(rt, &options, input),
+        Word::Review(options) => review(rt, &options, input),
+        Word::Save(options) => save(rt, &options, input),
+        Word::Explain(explained) => explain(rt, &explained),
     }
 }
 

@@ -7,14 +7,14 @@ ghost use Rattle.office_files.specs.declared.stop.Stop.TheVariants as stop;
 ghost use Rattle.wagons_program.specs.Brought.{lines_over};
 ghost use Rattle.wagons_program.specs.Reviewed.{AreReviewed, IsFirstReviewFor, IsInputReviewed, IsReviewStopped, status_of_notes};
 
-use crate::bringing::leave;
 use crate::printing::write_whole;
 use crate::status::{REFUSED, status_of_run};
 use command_line::{OfficeOptions, ReviewOptions};
 use line_engine::{LineLimit, StdDevice};
 use office::{EndingSource, Review, RunCount, end_note, review_journal};
 use office_files::{
-    NewBook, OfficeFiles, Stop, Stopped, new_book, read_files, read_places, told_of_lines,
+    NewBook, OfficeFiles, Stop, Stopped, leave_book, new_book, read_files, read_places,
+    told_of_lines,
 };
 use place_names::Places;
 use std::alloc::Global;
@@ -36,7 +36,7 @@ pub(crate) fn review<R: Print + Files + Threads + Wait + AllocGlobal, I: Read + 
     let places = read_places(rt, options.places)?;
     let mut review = begin_review(rt, &options.office, places)?;
     let outcome = review_lines(rt.alloc(), input, io::writer(rt), &mut review);
-    leave(review.into_book());
+    leave_book(review.into_book());
     told_of_lines(rt.alloc(), LineLimit::standard(), outcome)
 }
 
