@@ -57,38 +57,24 @@ where
     R::File: Send,
 {
     let status = match read_words(rt.alloc(), words) {
-        Ok(word) => do_word(rt, word, input),
+        Ok(Word::Check(options)) => {
+            told_of_lines(rt.alloc(), options.limit, check(rt, options.limit, input))
+        }
+        Ok(Word::Run(options)) => run(rt, &options, input),
+        Ok(Word::Feed(options)) => feed(rt, &options),
+        Ok(Word::Solve(options)) => {
+            told_of_lines(rt.alloc(), options.limit, solve(rt, options.limit, input))
+        }
+        Ok(Word::Map(options)) => map(rt, &options, input),
+        Ok(Word::Plan(options)) => plan(rt, &options, input),
+        Ok(Word::Table(options)) => table(rt, &options, input),
+        Ok(Word::Why(options)) => why(rt, &options, input),
+        Ok(Word::Review(options)) => review(rt, &options, input),
+        Ok(Word::Save(options)) => save(rt, &options, input),
+        Ok(Word::Explain(explained)) => explain(rt, &explained),
         Err(error) => print_text(rt, &error),
     };
     told(rt, status)
-}
-
-/// Does what a word asks for.
-fn do_word<R: Runtime + Threads + Wait + AllocGlobal + Sync, I: Read + Drop>(
-    rt: &R,
-    word: Word<'_>,
-    input: I,
-) -> Result<u8, Stopped>
-where
-    R::File: Send,
-{
-    match word {
-        Word::Check(options) => {
-            told_of_lines(rt.alloc(), options.limit, check(rt, options.limit, input))
-        }
-        Word::Solve(options) => {
-            told_of_lines(rt.alloc(), options.limit, solve(rt, options.limit, input))
-        }
-        Word::Run(options) => run(rt, &options, input),
-        Word::Feed(options) => feed(rt, &options),
-        Word::Map(options) => map(rt, &options, input),
-        Word::Plan(options) => plan(rt, &options, input),
-        Word::Table(options) => table(rt, &options, input),
-        Word::Why(options) => why(rt, &options, input),
-        Word::Review(options) => review(rt, &options, input),
-        Word::Save(options) => save(rt, &options, input),
-        Word::Explain(explained) => explain(rt, &explained),
-    }
 }
 
 /// The status; where the program could not run or stopped, standard error says why.
