@@ -4,10 +4,10 @@ use Rattle.line_engine.specs.Replies.{Replying}
 use Rattle.line_engine.specs.Runs.{Failures, Run, RunEnds, RunStops}
 use Rattle.line_engine.specs.declared.run.RunCount.{RunCount}
 use Rattle.line_engine.specs.declared.run.RunFault.{RunFault}
+use Rattle.office_files.specs.declared.stop.Stop.{Stop}
+use Rattle.office_files.specs.declared.stop.Stop.TheVariants as stop
 use Rattle.wagons_program.specs.Brought.{AreAnswered, AreStopped, Lines, run_of}
 use Rattle.wagons_program.specs.Status.{outcome_of_run, status_of_count}
-use Rattle.wagons_program.specs.declared.stop.Stop.{Stop}
-use Rattle.wagons_program.specs.declared.stop.Stop.TheVariants as stop
 
 -- what holds of a status holds of the same one with what people are told of a stop
 pub ok_kept : {E G : Type 0} (outcome : Result ℕ E) (result : Result ℕ G) (P : ℕ → Type 0) → IfOk outcome P → IfOk result (λ status. outcome ≡ Ok status) → IfOk result P

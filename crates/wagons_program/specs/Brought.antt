@@ -9,10 +9,10 @@ use Rattle.line_engine.specs.declared.run.RunCount.{RunCount}
 use Rattle.line_engine.specs.declared.run.RunFault.{RunFault}
 use Rattle.line_network.specs.Network.{NetworkValue}
 use Rattle.office.specs.CommandReplies.{RepliesToLine, LineRunsOutOfMemory}
-use Rattle.wagons_program.specs.FirstBook.{IsFirstBookFor}
+use Rattle.office_files.specs.FirstBook.{IsFirstBookFor}
+use Rattle.office_files.specs.declared.stop.Stop.{Stop}
+use Rattle.office_files.specs.declared.stop.Stop.TheVariants as stop
 use Rattle.wagons_program.specs.Status.{status_of_count}
-use Rattle.wagons_program.specs.declared.stop.Stop.{Stop}
-use Rattle.wagons_program.specs.declared.stop.Stop.TheVariants as stop
 
 -- A run over lines: the most bytes of a line; the bytes of the input, where they are known, and what the output held before
 -- them; what the lines were brought to, before and after them.
@@ -62,3 +62,9 @@ abbrev pub IsInputBrought : OfficeOptions → (input : Option (List ℕ)) → (s
 IsInputBrought options input status =
     (networks : List NetworkValue) × (lines : Lines BookValue) × (lines.input ≡ input) × (lines.most ≡ max_line_bytes)
     × IsFirstBookFor options networks lines.old × AreAnswered ToCommands lines status
+
+-- The command lines of an input led from the first book for these options to this one, the output held these bytes before their
+-- replies, and this is the status.
+abbrev pub IsBroughtTo : OfficeOptions → (networks : List NetworkValue) → (input held : Option (List ℕ)) → (book : BookValue) → (status : ℕ) → Type 0
+IsBroughtTo options networks input held book status =
+    (first : BookValue) × IsFirstBookFor options networks first × AreAnswered ToCommands (lines_over max_line_bytes input held first book) status

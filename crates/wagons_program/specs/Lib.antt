@@ -1,12 +1,8 @@
-pub mod Stop
-pub mod Told
 pub mod Status
-pub mod FirstBook
 pub mod Brought
 pub mod Laws
 pub mod TableOfLast
 pub mod ReasonsOfLast
-pub mod PlacesFor
 pub mod PlanOfLast
 pub mod ZoneClock
 pub mod MapOfLast

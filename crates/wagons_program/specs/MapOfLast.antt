@@ -12,8 +12,8 @@ use Rattle.office_map.specs.declared.choice.Choice.{Choice}
 use Rattle.operating_db.specs.Office.{Office}
 use Rattle.place_names.specs.declared.named_place.NamedPlace.{NamedPlace}
 use Rattle.wagons_and_orders.specs.OrderRow.{OrderRowValue}
-use Rattle.wagons_program.specs.declared.stop.Stop.{Stop}
-use Rattle.wagons_program.specs.declared.stop.Stop.TheVariants as stop
+use Rattle.office_files.specs.declared.stop.Stop.{Stop}
+use Rattle.office_files.specs.declared.stop.Stop.TheVariants as stop
 
 -- whether a map without a choice shows an order
 abbrev pub is_on_map : Option OrderRowValue → Bool

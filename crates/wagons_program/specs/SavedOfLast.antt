@@ -11,8 +11,8 @@ use Rattle.operating_db.specs.Compact.{compact}
 use Rattle.operating_db.specs.FleetChange.{IsFleetRefusal, IsWithFleet}
 use Rattle.operating_db.specs.State.{StateValue}
 use Rattle.wagons_and_orders.specs.declared.wagon_row.WagonRow.{WagonRow}
-use Rattle.wagons_program.specs.declared.stop.Stop.{Stop}
-use Rattle.wagons_program.specs.declared.stop.Stop.TheVariants as stop
+use Rattle.office_files.specs.declared.stop.Stop.{Stop}
+use Rattle.office_files.specs.declared.stop.Stop.TheVariants as stop
 
 -- the rows that are added: none where no roster is given
 abbrev pub added_rows : Option (List WagonRow) → List WagonRow

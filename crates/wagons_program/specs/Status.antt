@@ -4,9 +4,9 @@ use Rattle.std.specs.List.{list_any}
 use Rattle.line_engine.specs.declared.run.RunCount.{RunCount}
 use Rattle.line_engine.specs.declared.run.RunFault.{RunFault}
 use Rattle.sessions.specs.declared.feed_report.FileCount.{FileCount}
-use Rattle.wagons_program.specs.declared.stop.Stop.{Stop}
-use Rattle.wagons_program.specs.declared.stop.Stop.TheVariants.{Run}
-use Rattle.wagons_program.specs.declared.stopped.Stopped.{Stopped}
+use Rattle.office_files.specs.declared.stop.Stop.{Stop}
+use Rattle.office_files.specs.declared.stop.Stop.TheVariants.{Run}
+use Rattle.office_files.specs.declared.stopped.Stopped.{Stopped}
 
 -- of a run over lines that came to its end: 0 where no line was refused, else 1
 abbrev pub status_of_count : RunCount → ℕ

@@ -1,21 +1,18 @@
 //! An office that is opened, and the command lines of an input brought to it.
 ghost use Rattle.std.specs.Prelude.{◌≡◌, IfErr, IfOk};
-ghost use Rattle.commit_book.specs.Books.{BookValue};
 ghost use Rattle.line_engine.specs.Lines.{max_line_bytes};
-ghost use Rattle.wagons_program.specs.Brought.{AreAnswered, AreStopped, ToCommands, lines_over};
-ghost use Rattle.wagons_program.specs.FirstBook.{IsFirstBookFor};
+ghost use Rattle.wagons_program.specs.Brought.{AreAnswered, AreStopped, IsBroughtTo, ToCommands, lines_over};
 
-use crate::new_book::{NewBook, OfficeFiles, new_book, read_files};
 use crate::status::status_of_run;
-use crate::stop::Stop;
-use crate::stopped::{Stopped, told_of_lines};
 use command_line::OfficeOptions;
 use commit_book::Book;
 use line_engine::{LineLimit, StdDevice};
 use line_network::{Network, Networks};
+use office_files::{
+    NewBook, OfficeFiles, Stop, Stopped, leave_book, new_book, read_files, told_of_lines,
+};
 use std::alloc::Global;
 use std::io::{Read, Write};
-use std::mem;
 use std::rt::Files;
 use std::sync::{Arc, Wait};
 use std::thread::Threads;
@@ -40,21 +37,25 @@ pub(crate) fn bring<R: Files + Threads + Wait + AllocGlobal, I: Read + Drop, O: 
 ) -> Result<Brought, Stopped>
     ensures distances { IfOk result (λ brought. brought.distances.value ≡ brought.book.setting.networks) }
     ensures networks { IfOk result (λ brought. brought.networks.items ≡ brought.book.setting.networks) }
-    ensures brought { IfOk result (λ brought. (first : BookValue) × IsFirstBookFor options.now brought.networks.items first
-        × AreAnswered ToCommands (lines_over max_line_bytes (I.remaining input) (O.contents output) first brought.book) brought.status) }
+    ensures brought { IfOk result (λ brought. IsBroughtTo options.now brought.networks.items (I.remaining input) (O.contents output) brought.book brought.status) }
 {
     let OfficeFiles { first, networks } = read_files(rt, options)?;
     let NewBook {
         mut book,
         networks: distances,
     } = new_book(rt, options, first, &networks)?;
-    let status = bring_told_lines(rt.alloc(), input, output, &mut book)?;
-    Ok(Brought {
-        book,
-        networks,
-        distances,
-        status,
-    })
+    match bring_told_lines(rt.alloc(), input, output, &mut book) {
+        Ok(status) => Ok(Brought {
+            book,
+            networks,
+            distances,
+            status,
+        }),
+        Err(stopped) => {
+            leave_book(book);
+            Err(stopped)
+        }
+    }
 }
 
 /// The same as `bring_lines`; where the run stops, with what people are told.
@@ -85,10 +86,4 @@ fn bring_lines<I: Read + Drop, O: Write + Drop>(
     let mut reader = StdDevice::new(input);
     let mut writer = StdDevice::new(output);
     status_of_run(office::run(alloc, &mut reader, &mut writer, book))
-}
-
-/// Leaves a book to the end of the program, which follows at once and gives all memory back as a whole. To take a long
-/// history and its index apart first would only take time.
-pub(crate) fn leave(book: Book) {
-    mem::forget(book);
 }

@@ -4,8 +4,8 @@ ghost use Rattle.table_lines.specs.Checking.{ToPlans};
 ghost use Rattle.wagons_program.specs.Brought.{IsInputAnswered};
 
 use crate::status::status_of_run;
-use crate::stop::Stop;
 use line_engine::{LineLimit, StdDevice};
+use office_files::Stop;
 use std::io;
 use std::io::Read;
 use table_lines::check_run;

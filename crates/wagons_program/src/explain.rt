@@ -2,10 +2,9 @@
 
 use crate::printing::print_whole;
 use crate::status::DONE;
-use crate::stop::Stop;
-use crate::stopped::Stopped;
 use command_line::Explained;
 use faults::manual_text;
+use office_files::{Stop, Stopped};
 
 /// Prints entries of the manual of refusals, with an empty line between two, or the whole manual: status 0.
 pub(crate) fn explain<R: Print + AllocGlobal>(

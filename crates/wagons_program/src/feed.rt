@@ -3,15 +3,13 @@ ghost use Rattle.std.specs.Prelude.{◌≡◌, nat_lt, is_some, All, IfOk, false
 ghost use Rattle.std.specs.List.{list_any};
 ghost use Rattle.wagons_program.specs.Status.{status_of_files};
 
-use crate::bringing::leave;
-use crate::new_book::{NewBook, OfficeFiles, new_book, read_files};
 use crate::printing::print_whole;
 use crate::status::{DONE, REFUSED, STOPPED};
-use crate::stop::Stop;
-use crate::stopped::Stopped;
-use crate::told_file::open_plain;
 use command_line::FeedOptions;
 use line_engine::{MAX_FILES, Source, StdDevice};
+use office_files::{
+    NewBook, OfficeFiles, Stop, Stopped, leave_book, leave_office, new_book, open_plain, read_files,
+};
 use sessions::{FeedReport, report_text};
 use std::rt::Files;
 use std::sync::Wait;
@@ -28,16 +26,23 @@ where
     R::File: Send,
 {
     let OfficeFiles { first, networks } = read_files(rt, &options.office)?;
-    let readers = open_files(rt, &options.files)?;
+    let readers = match open_files(rt, &options.files) {
+        Ok(readers) => readers,
+        Err(stopped) => {
+            leave_office(first);
+            return Err(stopped);
+        }
+    };
     let NewBook { book, networks } = new_book(rt, &options.office, first, &networks)?;
     // The command line lets 1 to 16 files through.
     if readers.is_empty() || readers.len() > MAX_FILES {
+        leave_book(book);
         return Err(Stopped::from(Stop::OpenFailed));
     }
     match sessions::feed(rt, rt.alloc(), readers, book, &networks) {
         Ok(report) => {
             let status = print_report(rt, &report);
-            leave(report.book);
+            leave_book(report.book);
             Ok(status?)
         }
         Err(fault) => Err(Stopped::from(Stop::Feed(fault))),

@@ -5,13 +5,11 @@ ghost use Rattle.line_network.specs.Networks.{network_at};
 ghost use Rattle.wagons_program.specs.MapOfLast.{IsMapOfLast, IsNoMapOfLast, is_on_map, order_fault};
 
 use crate::bringing::{Brought, bring};
-use crate::places::read_places;
 use crate::printing::print_last;
-use crate::stop::Stop;
-use crate::stopped::Stopped;
 use command_line::MapOptions;
 use commit_book::Book;
 use line_network::Network;
+use office_files::{Stop, Stopped, read_places};
 use office_map::{Choice, is_drawn, map_text};
 use operating_db::OfficeState;
 use place_names::Places;

@@ -5,15 +5,13 @@ ghost use Rattle.plan_table.specs.ListOf.{IsListOf};
 ghost use Rattle.wagons_program.specs.PlanOfLast.{IsPlanOfLast, IsPlanTextOfLast, IsPrinted, IsPrintedIn};
 ghost use Rattle.wagons_program.specs.ZoneClock.{HasZoneFor, IsReadFor, name_of};
 
-use crate::bringing::{Brought, bring, leave};
-use crate::places::read_places;
+use crate::bringing::{Brought, bring};
 use crate::printing::print_bytes;
-use crate::stop::Stop;
-use crate::stopped::Stopped;
 use crate::zone::{ZoneFile, clock_of, read_zone};
 use command_line::PlanOptions;
 use commit_book::Book;
 use line_network::Networks;
+use office_files::{Stop, Stopped, leave_book, read_places};
 use place_names::Places;
 use plan_reasons::PlannedProblem;
 use plan_table::{Clock, PlanList, csv_text, list_of_plan, table_text};
@@ -42,7 +40,7 @@ pub(crate) fn plan<R: Print + Files + Threads + Wait + AllocGlobal, I: Read + Dr
         status,
     } = bring(rt, &options.problem.office, input, io::sink())?;
     let text = last_text(rt.alloc(), &mut book, &distances, options, &places, &zone);
-    leave(book);
+    leave_book(book);
     print_bytes(rt, &text?)?;
     Ok(status)
 }

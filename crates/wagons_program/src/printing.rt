@@ -1,12 +1,10 @@
 //! Texts on standard output.
 ghost use Rattle.std.specs.Prelude.{◌≡◌, IfErr, IfOk, OnOk};
 ghost use Rattle.std.specs.Io.KnownBytes.{Appends};
-ghost use Rattle.wagons_program.specs.declared.stop.Stop.TheVariants.{WriteFailed};
+ghost use Rattle.office_files.specs.declared.stop.Stop.TheVariants.{WriteFailed};
 
-use crate::bringing::leave;
-use crate::stop::Stop;
-use crate::stopped::Stopped;
 use commit_book::Book;
+use office_files::{Stop, Stopped, leave_book};
 use std::io;
 use std::io::Write;
 
@@ -29,7 +27,7 @@ pub(crate) fn print_last<R: Print>(
 ) -> Result<u8, Stopped>
     ensures { IfOk result (λ printed. printed ≡ status) }
 {
-    leave(book);
+    leave_book(book);
     print_whole(rt, &text?)?;
     Ok(status)
 }

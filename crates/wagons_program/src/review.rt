@@ -1,26 +1,21 @@
 //! The word `review`.
-ghost use Rattle.std.specs.Prelude.{◌≡◌, ◌⊎◌, IfErr, IfOk, List, OnOk};
+ghost use Rattle.std.specs.Prelude.{◌≡◌, ◌⊎◌, IfErr, IfOk, OnOk};
 ghost use Rattle.std.specs.Io.KnownBytes.{Appends};
-ghost use Rattle.commit_book.specs.Books.{BookValue};
 ghost use Rattle.office.specs.JournalEnd.{end_note};
-ghost use Rattle.office.specs.Reviews.{first_review};
 ghost use Rattle.line_engine.specs.Lines.{max_line_bytes};
-ghost use Rattle.line_network.specs.Network.{NetworkValue};
+ghost use Rattle.office_files.specs.declared.stop.Stop.TheVariants as stop;
 ghost use Rattle.wagons_program.specs.Brought.{lines_over};
-ghost use Rattle.wagons_program.specs.FirstBook.{IsFirstBookFor};
-ghost use Rattle.wagons_program.specs.Reviewed.{AreReviewed, IsInputReviewed, IsReviewStopped, status_of_notes};
-ghost use Rattle.wagons_program.specs.declared.stop.Stop.TheVariants as stop;
+ghost use Rattle.wagons_program.specs.Reviewed.{AreReviewed, IsFirstReviewFor, IsInputReviewed, IsReviewStopped, status_of_notes};
 
-use crate::bringing::leave;
-use crate::new_book::{NewBook, OfficeFiles, new_book, read_files};
-use crate::places::read_places;
 use crate::printing::write_whole;
 use crate::status::{REFUSED, status_of_run};
-use crate::stop::Stop;
-use crate::stopped::{Stopped, told_of_lines};
 use command_line::{OfficeOptions, ReviewOptions};
 use line_engine::{LineLimit, StdDevice};
 use office::{EndingSource, Review, RunCount, end_note, review_journal};
+use office_files::{
+    NewBook, OfficeFiles, Stop, Stopped, leave_book, new_book, read_files, read_places,
+    told_of_lines,
+};
 use place_names::Places;
 use std::alloc::Global;
 use std::io;
@@ -41,7 +36,7 @@ pub(crate) fn review<R: Print + Files + Threads + Wait + AllocGlobal, I: Read + 
     let places = read_places(rt, options.places)?;
     let mut review = begin_review(rt, &options.office, places)?;
     let outcome = review_lines(rt.alloc(), input, io::writer(rt), &mut review);
-    leave(review.into_book());
+    leave_book(review.into_book());
     told_of_lines(rt.alloc(), LineLimit::standard(), outcome)
 }
 
@@ -51,8 +46,7 @@ fn begin_review<R: Files + Threads + Wait + AllocGlobal>(
     options: &OfficeOptions<'_>,
     named: Places,
 ) -> Result<Review, Stopped>
-    ensures { IfOk result (λ review. (networks : List NetworkValue) × (book : BookValue) × IsFirstBookFor options.now networks book
-        × (review ≡ first_review book named)) }
+    ensures { IfOk result (IsFirstReviewFor options.now named) }
 {
     let OfficeFiles { first, networks } = read_files(rt, options)?;
     let NewBook { book, networks: _ } = new_book(rt, options, first, &networks)?;

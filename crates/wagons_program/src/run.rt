@@ -2,9 +2,9 @@
 ghost use Rattle.std.specs.Prelude.{IfOk};
 ghost use Rattle.wagons_program.specs.Brought.{IsInputBrought};
 
-use crate::bringing::{Brought, bring, leave};
-use crate::stopped::Stopped;
+use crate::bringing::{Brought, bring};
 use command_line::OfficeOptions;
+use office_files::{Stopped, leave_book};
 use std::io;
 use std::io::Read;
 use std::rt::Files;
@@ -25,6 +25,6 @@ pub(crate) fn run<R: Print + Files + Threads + Wait + AllocGlobal, I: Read + Dro
         distances: _,
         status,
     } = bring(rt, options, input, io::writer(rt))?;
-    leave(book);
+    leave_book(book);
     Ok(status)
 }

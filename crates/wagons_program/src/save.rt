@@ -1,19 +1,17 @@
 //! The word `save`.
 ghost use Rattle.std.specs.Prelude.{◌≡◌, [], IfErr, IfOk, string_bytes};
 ghost use Rattle.fleet_rows.specs.Roster.{IsRoster};
+ghost use Rattle.office_files.specs.declared.stop.Stop.TheVariants.{OutOfMemory};
 ghost use Rattle.wagons_program.specs.SavedOfLast.{IsNotSaved, IsSaved, added_rows, last_state};
-ghost use Rattle.wagons_program.specs.declared.stop.Stop.TheVariants.{OutOfMemory};
 
 use crate::bringing::{Brought, bring};
 use crate::first_lines::FirstLines;
-use crate::new_book::read_roster;
 use crate::printing::print_last;
-use crate::stop::Stop;
-use crate::stopped::Stopped;
 use checkpoint::checkpoint_text;
 use command_line::SaveOptions;
 use commit_book::Book;
 use fleet_rows::Roster;
+use office_files::{Stop, Stopped, read_roster};
 use operating_db::OfficeState;
 use rail_codes::WagonNumber;
 use std::alloc::Global;

@@ -2,8 +2,8 @@
 ghost use Rattle.std.specs.Prelude.{◌≡◌};
 ghost use Rattle.wagons_program.specs.Status.{outcome_of_run};
 
-use crate::stop::Stop;
 use office::{RunCount, RunFault};
+use office_files::Stop;
 
 /// The status of a run that came to its end without a refusal.
 pub(crate) const DONE: u8 = 0;

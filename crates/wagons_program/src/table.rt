@@ -5,10 +5,9 @@ ghost use Rattle.wagons_program.specs.TableOfLast.{IsTableOfLast, IsTableTextOfL
 
 use crate::bringing::{Brought, bring};
 use crate::printing::print_last;
-use crate::stop::Stop;
-use crate::stopped::Stopped;
 use command_line::ProblemOptions;
 use commit_book::{Book, Snap};
+use office_files::{Stop, Stopped};
 use rail_codes::Moment;
 use std::alloc::{AllocError, Global};
 use std::io;

@@ -4,13 +4,11 @@ ghost use Rattle.plan_reasons.specs.Planned.{IsPlannedProblem};
 ghost use Rattle.wagons_program.specs.ReasonsOfLast.{AreReasonsOfLast, IsAnswerFor, style_of};
 
 use crate::bringing::{Brought, bring};
-use crate::places::read_names;
 use crate::printing::print_last;
-use crate::stop::Stop;
-use crate::stopped::Stopped;
 use command_line::{Asked, WhyOptions};
 use commit_book::Book;
 use line_network::Networks;
+use office_files::{Stop, Stopped, read_names};
 use place_names::Places;
 use plan_reasons::{
     LineForm, PlannedProblem, Style, find_order, find_wagon, order_text, wagon_text, why_text,

@@ -2,12 +2,10 @@
 ghost use Rattle.std.specs.Prelude.{IfOk, Some, option_map};
 ghost use Rattle.wagons_program.specs.ZoneClock.{HasZone, HasZoneFor, IsClockFor, IsReadFor, name_of};
 
-use crate::stop::Stop;
-use crate::stopped::Stopped;
-use crate::told_file::open;
 use fault_texts::file_text;
 use jiff::Error;
 use jiff::tz::TimeZoneDatabase;
+use office_files::{Stop, Stopped, open};
 use plan_table::Clock;
 use std::alloc::{AllocError, Global};
 use std::io::{ErrorKind, Read};

@@ -7,10 +7,10 @@ use fleet_rows::RosterFault;
 use line_fields::LineFault;
 use line_network::{NetworkFault, WorkFault};
 use office::RunFault;
+use office_files::Stop;
 use sessions::FeedFault;
 use std::test::Fail;
 use test_samples::misnamed;
-use wagons_program::Stop;
 
 #[test]
 fn stops_before_the_lines(rt: HostRuntime) -> Result<(), Fail> {

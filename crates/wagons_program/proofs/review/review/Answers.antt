@@ -7,9 +7,8 @@ use Rattle.wagons_program.proofs.review.review.Goals as goal
 
 pub returns : goal.returns
 returns g c =
-    let begun = c.in_ok-review.ensures in
     ok_kept c.review_lines-outcome.result c.told_of_lines.result _
     (IfOk-weaker c.review_lines-outcome.result _ _
-    (λ status reviewed. (begun.0, begun.1, c.in_ok-places.places, lines_over max_line_bytes (g.I.Read.remaining c.args.input) _ c.in_ok-review.review c.review_lines-outcome.new.review, refl, refl, begun.2, c.in_ok-places.ensures, begun.3, reviewed))
+    (λ status reviewed. (c.in_ok-places.places, lines_over max_line_bytes (g.I.Read.remaining c.args.input) _ c.in_ok-review.review c.review_lines-outcome.new.review, refl, refl, c.in_ok-places.ensures, c.in_ok-review.ensures, reviewed))
     c.review_lines-outcome.ensures.ok)
     c.told_of_lines.ensures.ok

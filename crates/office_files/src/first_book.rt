@@ -1,7 +1,7 @@
 //! A new book from the files that the options name.
 ghost use Rattle.std.specs.Prelude.{◌≡◌, ◌≤◌, IfOk, length};
 ghost use Rattle.line_network.specs.NetworkCount.{max_networks};
-ghost use Rattle.wagons_program.specs.FirstBook.{BeginsWith, IsFirstBook};
+ghost use Rattle.office_files.specs.FirstBook.{BeginsWith, IsFirstBook};
 
 use crate::stop::Stop;
 use crate::stopped::Stopped;
@@ -22,21 +22,21 @@ use std::thread::Threads;
 
 /// The office to begin with and the networks, as files say them.
 #[derive(Drop)]
-pub(crate) struct OfficeFiles {
-    pub(crate) first: OfficeState,
-    pub(crate) networks: Vec<Network>,
+pub struct OfficeFiles {
+    pub first: OfficeState,
+    pub networks: Vec<Network>,
 }
 
 /// A book, and its networks.
 #[derive(Drop)]
-pub(crate) struct NewBook {
-    pub(crate) book: Book,
-    pub(crate) networks: Arc<Networks>,
+pub struct NewBook {
+    pub book: Book,
+    pub networks: Arc<Networks>,
 }
 
 /// The office to begin with and the networks that the options name. What is wrong is found in this order: too many
 /// networks, the roster or the checkpoint, the networks in their order.
-pub(crate) fn read_files<R: Files + AllocGlobal>(
+pub fn read_files<R: Files + AllocGlobal>(
     rt: &R,
     options: &OfficeOptions<'_>,
 ) -> Result<OfficeFiles, Stopped>
@@ -90,7 +90,7 @@ fn read_office<R: Files + AllocGlobal>(
 }
 
 /// A book without entries over this office and these networks, whose distances are worked out here.
-pub(crate) fn new_book<R: Threads + Wait + AllocGlobal>(
+pub fn new_book<R: Threads + Wait + AllocGlobal>(
     rt: &R,
     options: &OfficeOptions<'_>,
     first: OfficeState,
@@ -110,7 +110,7 @@ pub(crate) fn new_book<R: Threads + Wait + AllocGlobal>(
 }
 
 /// The roster that a file says.
-pub(crate) fn read_roster<R: Files + AllocGlobal>(rt: &R, path: &str) -> Result<Roster, Stopped> {
+pub fn read_roster<R: Files + AllocGlobal>(rt: &R, path: &str) -> Result<Roster, Stopped> {
     let mut file = open(rt, path)?;
     match fleet_rows::read_roster(rt.alloc(), &mut file) {
         Ok(roster) => Ok(roster),

@@ -1,6 +1,6 @@
 //! The option `--places`.
 ghost use Rattle.std.specs.Prelude.{IfOk, option_map};
-ghost use Rattle.wagons_program.specs.PlacesFor.{AreNamesFor, AreOfFile, ArePlacesFor};
+ghost use Rattle.office_files.specs.PlacesFor.{AreNamesFor, AreOfFile, ArePlacesFor};
 
 use crate::stopped::Stopped;
 use crate::told_file::open;
@@ -9,7 +9,7 @@ use place_names::Places;
 use std::rt::Files;
 
 /// The names of places that a file says, where one is given.
-pub(crate) fn read_names<R: Files + AllocGlobal>(
+pub fn read_names<R: Files + AllocGlobal>(
     rt: &R,
     path: Option<&str>,
 ) -> Result<Option<Places>, Stopped>
@@ -22,10 +22,7 @@ pub(crate) fn read_names<R: Files + AllocGlobal>(
 }
 
 /// The same; none where no file is given.
-pub(crate) fn read_places<R: Files + AllocGlobal>(
-    rt: &R,
-    path: Option<&str>,
-) -> Result<Places, Stopped>
+pub fn read_places<R: Files + AllocGlobal>(rt: &R, path: Option<&str>) -> Result<Places, Stopped>
     ensures { IfOk result (ArePlacesFor (option_map (λ text. text.now) path.entry)) }
 {
     match path {

@@ -4,8 +4,8 @@ use Rattle.faults.specs.Numbers.{feed_fault_number, fleet_fault_number, network_
 use Rattle.line_engine.specs.RunFault.{number_of}
 use Rattle.place_names.specs.Faults.{places_fault_number}
 use Rattle.checkpoint.specs.ReadFault.{read_fault_number}
-use Rattle.wagons_program.specs.declared.stop.Stop.{Stop}
-use Rattle.wagons_program.specs.declared.stop.Stop.TheVariants.{OutOfMemory, Networks, OpenFailed, Roster, Checkpoint, Fleet, Network, Places, Tables, OrderNotInProblem, WagonNotInProblem, OrderNotOnMap, WriteFailed, Run, Feed}
+use Rattle.office_files.specs.declared.stop.Stop.{Stop}
+use Rattle.office_files.specs.declared.stop.Stop.TheVariants.{OutOfMemory, Networks, OpenFailed, Roster, Checkpoint, Fleet, Network, Places, Tables, OrderNotInProblem, WagonNotInProblem, OrderNotOnMap, WriteFailed, Run, Feed}
 
 abbrev pub stop_number : Stop → ℕ
 stop_number OutOfMemory = 1

@@ -7,8 +7,8 @@ ghost use Rattle.fault_texts.specs.RosterText.{roster_text};
 ghost use Rattle.fault_texts.specs.UnreadText.{unread_text};
 ghost use Rattle.faults.specs.declared.faults.CheckpointFault.{CheckpointFault};
 ghost use Rattle.line_fields.specs.declared.fault.LineFault.{LineFault};
-ghost use Rattle.wagons_program.specs.Told.{IsToldAs};
-ghost use Rattle.wagons_program.specs.declared.stop.Stop.TheVariants as stop;
+ghost use Rattle.office_files.specs.Told.{IsToldAs};
+ghost use Rattle.office_files.specs.declared.stop.Stop.TheVariants as stop;
 
 use crate::stop::Stop;
 use crate::stopped::Stopped;

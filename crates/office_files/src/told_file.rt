@@ -1,4 +1,6 @@
 //! A file that keeps why its reading failed, and what people are told then.
+ghost use Rattle.std.specs.Prelude.{◌≡◌, IfErr};
+ghost use Rattle.office_files.specs.declared.stop.Stop.TheVariants.{OpenFailed};
 
 use crate::stop::Stop;
 use crate::stopped::Stopped;
@@ -10,7 +12,7 @@ use std::{fs, io};
 
 /// A file that keeps why its reading failed.
 #[derive(Drop)]
-pub(crate) struct ToldFile<F> {
+pub struct ToldFile<F> {
     file: F,
     /// The last failure of a read, where there was one.
     failure: Option<io::Error>,
@@ -38,11 +40,10 @@ impl<F: Read> Read for ToldFile<F> {
     }
 }
 
-/// A file that is open for reading, and keeps why its reading failed.
-pub(crate) fn open<R: Files + AllocGlobal>(
-    rt: &R,
-    path: &str,
-) -> Result<ToldFile<R::File>, Stopped> {
+/// A file that is open for reading, and keeps why its reading failed. `OpenFailed` (93) where it couldn't be opened.
+pub fn open<R: Files + AllocGlobal>(rt: &R, path: &str) -> Result<ToldFile<R::File>, Stopped>
+    ensures { IfErr result (λ stopped. stopped.stop ≡ OpenFailed) }
+{
     Ok(ToldFile {
         file: open_plain(rt, path)?,
         failure: None,
@@ -50,7 +51,9 @@ pub(crate) fn open<R: Files + AllocGlobal>(
 }
 
 /// A file that is open for reading. `OpenFailed` (93) where it couldn't be opened.
-pub(crate) fn open_plain<R: Files + AllocGlobal>(rt: &R, path: &str) -> Result<R::File, Stopped> {
+pub fn open_plain<R: Files + AllocGlobal>(rt: &R, path: &str) -> Result<R::File, Stopped>
+    ensures { IfErr result (λ stopped. stopped.stop ≡ OpenFailed) }
+{
     match fs::open(rt, path) {
         Ok(file) => Ok(file),
         Err(error) => Err(Stopped::told(Stop::OpenFailed, system_text(rt.alloc(), path, &error))),

@@ -1,16 +1,15 @@
 //! Why the program could not run or stopped, as it says it on standard error.
 ghost use Rattle.std.specs.Prelude.{◌≡◌};
 ghost use Rattle.std.specs.Str.{IsAscii};
-ghost use Rattle.wagons_program.specs.Stop.{stop_number};
+ghost use Rattle.office_files.specs.Stop.{stop_number};
 
 use checkpoint::ReadFault;
-use faults::FleetFault;
+use faults::{FeedFault, FleetFault};
 use fleet_rows::RosterFault;
+use line_engine::RunFault;
 use line_network::{NetworkFault, NetworksFault, WorkFault};
-use office::RunFault;
 use place_names::PlacesFault;
 use rail_codes::{OrderId, WagonNumber};
-use sessions::FeedFault;
 use std::alloc::{AllocError, AllocFailed};
 use std::fmt;
 use std::fmt::{Display, Formatter};
@@ -126,7 +125,7 @@ fn write_ascii<W: fmt::Write>(f: &mut Formatter<W>, characters: &[u8]) -> fmt::R
 
 impl From<AllocError> for Stop {
     ghost use Rattle.std.specs.Prelude.{◌≡◌};
-    ghost use Rattle.wagons_program.specs.declared.stop.Stop.TheVariants.{OutOfMemory};
+    ghost use Rattle.office_files.specs.declared.stop.Stop.TheVariants.{OutOfMemory};
 
     ghost from_gives = { λ _ stop. stop ≡ OutOfMemory };
 
@@ -137,7 +136,7 @@ impl From<AllocError> for Stop {
 
 impl<T: Drop> From<AllocFailed<T>> for Stop {
     ghost use Rattle.std.specs.Prelude.{◌≡◌};
-    ghost use Rattle.wagons_program.specs.declared.stop.Stop.TheVariants.{OutOfMemory};
+    ghost use Rattle.office_files.specs.declared.stop.Stop.TheVariants.{OutOfMemory};
 
     ghost from_gives = { λ _ stop. stop ≡ OutOfMemory };
 

@@ -1,13 +1,12 @@
 //! Why the program could not run or stopped, with what people are told of it.
 ghost use Rattle.std.specs.Prelude.{◌≡◌, IfErr, IfOk, IfSome, Ok, Err};
-ghost use Rattle.wagons_program.specs.Told.{reason_of, words_of};
-ghost use Rattle.wagons_program.specs.declared.stop.Stop.TheVariants as stop;
+ghost use Rattle.office_files.specs.Told.{reason_of, words_of};
+ghost use Rattle.office_files.specs.declared.stop.Stop.TheVariants as stop;
 
 use crate::stop::Stop;
 use fault_texts::line_text;
-use faults::FleetFault;
+use faults::{FeedFault, FleetFault};
 use line_engine::LineLimit;
-use sessions::FeedFault;
 use std::alloc::{AllocError, AllocFailed, Global};
 use std::fmt;
 use std::fmt::{Display, Formatter};
@@ -31,7 +30,7 @@ pub struct Stopped {
 
 impl Stopped {
     /// A reason with the text that was made of it, or without where memory was refused.
-    pub(crate) fn told(stop: Stop, text: Result<String, AllocError>) -> Stopped
+    pub fn told(stop: Stop, text: Result<String, AllocError>) -> Stopped
         ensures stop { result.stop ≡ stop }
         ensures told { IfSome result.told (λ told. text ≡ Ok told) }
     {
@@ -43,7 +42,7 @@ impl Stopped {
 }
 
 /// What became of the lines of standard input, with what people are told where a run stopped.
-pub(crate) fn told_of_lines(
+pub fn told_of_lines(
     alloc: Global,
     limit: LineLimit,
     outcome: Result<u8, Stop>,

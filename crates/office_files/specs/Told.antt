@@ -4,9 +4,9 @@ use Rattle.std.specs.Prelude.{◌≡◌, ℕ, ◌==◌, if◌then◌else◌, IfS
 use Rattle.std.specs.declared.alloc.Global.{Global}
 use Rattle.faults.specs.declared.faults.FeedFault.TheVariants as feed
 use Rattle.faults.specs.declared.faults.FleetFault.TheVariants as fleet
-use Rattle.wagons_program.specs.Stop.{stop_number}
-use Rattle.wagons_program.specs.declared.stop.Stop.{Stop}
-use Rattle.wagons_program.specs.declared.stop.Stop.TheVariants.{OutOfMemory, Networks, OpenFailed, Roster, Checkpoint, Fleet, Network, Places, Tables, OrderNotInProblem, WagonNotInProblem, OrderNotOnMap, WriteFailed, Run, Feed}
+use Rattle.office_files.specs.Stop.{stop_number}
+use Rattle.office_files.specs.declared.stop.Stop.{Stop}
+use Rattle.office_files.specs.declared.stop.Stop.TheVariants.{OutOfMemory, Networks, OpenFailed, Roster, Checkpoint, Fleet, Network, Places, Tables, OrderNotInProblem, WagonNotInProblem, OrderNotOnMap, WriteFailed, Run, Feed}
 
 -- where memory isn't out
 abbrev pub reason_of : Stop → List ℕ

@@ -1,0 +1,4 @@
+pub mod Stop
+pub mod Told
+pub mod FirstBook
+pub mod PlacesFor
