@@ -7,7 +7,7 @@ ghost use Rattle.commit_book.specs.Snap.{snap_of};
 ghost use Rattle.commit_book.specs.declared.call.Call.TheVariants as call;
 ghost use Rattle.move_messages.specs.declared.event.Event.TheVariants as event;
 ghost use Rattle.sessions.specs.AnyBook.{IsBooksAnswer};
-ghost use Rattle.sessions.specs.inner.Counted.{IsCounted, accepted_in};
+ghost use Rattle.sessions.specs.inner.Counted.{IsEnteredBy, accepted_in};
 
 use commit_book::{Book, Refusal, Reply, Snap};
 use move_messages::{Event, Message};
@@ -37,12 +37,7 @@ impl<L: Ledger> CountedBook<L> {
         event: Event,
     ) -> Result<Reply, Refusal>
         requires { 0 < share.old.parts }
-        ensures call { IsCall self.old.book.setting self.old.book.state (call.Event event) (answer_of result) self.new.book.state }
-        ensures given { IsSetting self.old.book.setting }
-        ensures proved { IsProved self.old.book.setting self.old.book.state.history }
-        ensures proved_after { IsProved self.old.book.setting self.new.book.state.history }
-        ensures within { share.old.amount ≤ length self.old.book.state.history }
-        ensures counted { IsCounted share.old.amount share.new.amount result }
+        ensures entered { IsEnteredBy self.old.book self.new.book share.old.amount share.new.amount event result }
         ensures parts { share.new.parts ≡ share.old.parts }
     {
         self.audit(share);
@@ -69,12 +64,7 @@ impl<L: Ledger> CountedBook<L> {
         index: Option<usize>,
     ) -> Result<Reply, Refusal>
         requires { 0 < share.old.parts }
-        ensures call { IsCall self.old.book.setting self.old.book.state (call.Event (event.Message message.now)) (answer_of result) self.new.book.state }
-        ensures given { IsSetting self.old.book.setting }
-        ensures proved { IsProved self.old.book.setting self.old.book.state.history }
-        ensures proved_after { IsProved self.old.book.setting self.new.book.state.history }
-        ensures within { share.old.amount ≤ length self.old.book.state.history }
-        ensures counted { IsCounted share.old.amount share.new.amount result }
+        ensures entered { IsEnteredBy self.old.book self.new.book share.old.amount share.new.amount (event.Message message.now) result }
         ensures parts { share.new.parts ≡ share.old.parts }
     {
         self.audit(share);
