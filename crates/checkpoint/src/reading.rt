@@ -38,6 +38,7 @@ impl Responder for CheckpointLines {
         state: &mut LinesSoFar,
         number: u64,
         line: &[u8],
+        _more: bool,
         reply: &mut ReplyText,
     ) -> Outcome {
         reply.clear();

@@ -2,7 +2,7 @@
 ghost use Rattle.std.specs.Prelude.{◌≡◌, ◌↔◌, IfOk, IsTrue};
 ghost use Rattle.move_messages.specs.declared.event.Event.TheVariants as event;
 
-use move_messages::{Event, Message, is_same_event};
+use move_messages::{Event, Message, is_same_event, is_same_message};
 use std::alloc::{AllocError, Global};
 use std::marker::Model;
 
@@ -31,7 +31,7 @@ impl Model for Entry {
 
 impl Entry {
     /// The entry of a message.
-    pub(crate) fn of_message(message: &Message) -> Entry
+    pub fn of_message(message: &Message) -> Entry
         ensures { result ≡ event.Message message.now }
     {
         Entry {
@@ -48,6 +48,16 @@ impl Entry {
         }
     }
 
+    /// The entry of an event. Any but a message takes memory.
+    pub fn of(alloc: Global, event: Event) -> Result<Entry, AllocError>
+        ensures { IfOk result (λ entry. entry ≡ event) }
+    {
+        match event {
+            Event::Message(message) => Ok(Entry::of_message(&message)),
+            other => Ok(Entry::of_event(boxed(alloc, other)?)),
+        }
+    }
+
     /// The event. Only a commit's copy takes memory.
     pub fn event(&self, alloc: Global) -> Result<Event, AllocError>
         ensures { IfOk result (λ event. event ≡ self.now) }
@@ -55,6 +65,19 @@ impl Entry {
         match &self.kept {
             KeptEvent::Message(message) => Ok(Event::Message(*message)),
             KeptEvent::Other(other) => other.copy(alloc),
+        }
+    }
+
+    /// Whether two entries are of one event. Takes no memory.
+    pub fn is_same(&self, other: &Entry) -> bool
+        ensures { IsTrue result ↔ (self.now ≡ other.now) }
+    {
+        match &self.kept {
+            KeptEvent::Message(message) => match &other.kept {
+                KeptEvent::Message(its_message) => is_same_message(message, its_message),
+                KeptEvent::Other(event) => is_same_event(&Event::Message(*message), event),
+            },
+            KeptEvent::Other(event) => other.is_event(event),
         }
     }
 

@@ -110,10 +110,14 @@ impl Ledger {
 
     /// Lets a message happen, as the last event, unless an event has its id. Refused as the office refuses it, or
     /// because memory is out where nothing else is wrong; nothing has changed then.
-    pub fn enter_message(&mut self, message: &Message) -> Result<MessageEntry, ApplyFault>
+    pub fn enter_message(
+        &mut self,
+        message: &Message,
+        index: Option<usize>,
+    ) -> Result<MessageEntry, ApplyFault>
         ensures { IsMessageEntry self.old message.now result self.new }
     {
-        let found = match admit(&self.state, &mut self.ids, &mut self.events, message) {
+        let found = match admit(&self.state, &mut self.ids, &mut self.events, message, index) {
             Ok(Admission::Noted(found)) => found,
             Ok(Admission::Known(index)) => return Ok(MessageEntry::Known(index)),
             Err(fault) => return Err(fault),
@@ -181,6 +185,7 @@ fn admit(
     ids: &mut BTreeMap<MessageId, usize>,
     events: &mut Vec<Entry>,
     message: &Message,
+    index: Option<usize>,
 ) -> Result<Admission, ApplyFault>
     requires { IsIndexOf events.old.items (get compare_ids ids.old) }
     ensures admitted { IsAdmitted state.now events.old.items message.now result (get compare_ids ids.new) }
@@ -188,7 +193,7 @@ fn admit(
     ensures room { IfOk result (OnNoted (vec_len events.new < vec_capacity events.new)) }
     ensures unasked { OnErr (message_after state.now message.now) ((ids.new ≡ ids.old) × (events.new ≡ events.old)) }
 {
-    let found = match state.change_by(message) {
+    let found = match state.change_by(message, index) {
         Ok(found) => found,
         Err(fault) => {
             return match index_of(ids, message.id) {

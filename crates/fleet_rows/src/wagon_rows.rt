@@ -1,5 +1,5 @@
 //! The rows of the wagons.
-ghost use Rattle.std.specs.Prelude.{◌≡◌, ◌≤◌, IfNone, IfOk, IfSome, None, OnErr, OnOk, Some, count_by, option_copied, option_map, slice_get};
+ghost use Rattle.std.specs.Prelude.{◌≡◌, ◌≤◌, ◌↔◌, IfNone, IfOk, IfSome, IsTrue, None, OnErr, OnOk, Some, count_by, option_copied, option_map, slice_get};
 ghost use Rattle.std.specs.List.Sorted.{IsStrictlySortedBy};
 ghost use Rattle.fleet_rows.specs.EmptyWagons.{IsNewStand, is_free_at, stand_in, stand_of};
 ghost use Rattle.fleet_rows.specs.Rows.{at_wagon, wagon_in, with_promise};
@@ -81,7 +81,15 @@ impl WagonRows {
         ensures row { option_map (λ found. found.1.now) result ≡ wagon_in self.now number }
         ensures index { IfSome result (λ found. slice_get self.now found.0 ≡ Some found.1.now) }
     {
-        let index = index_of(&self.rows, number)?;
+        self.find_near(number, None)
+    }
+
+    /// The same. Where an index is given, the row is looked for there first.
+    pub fn find_near(&self, number: WagonNumber, near: Option<usize>) -> Option<(usize, &WagonRow)>
+        ensures row { option_map (λ found. found.1.now) result ≡ wagon_in self.now number }
+        ensures index { IfSome result (λ found. slice_get self.now found.0 ≡ Some found.1.now) }
+    {
+        let index = index_near(&self.rows, number, near)?;
         let row = self.rows.get(index)?;
         Some((index, row))
     }
@@ -139,6 +147,34 @@ fn is_unpromised(rows: &[WagonRow], at: usize) -> bool
         Some(row) => row.promise.is_none(),
         None => false,
     }
+}
+
+/// Where the row of a wagon stands among ascending rows. Where an index is given, it is looked for there first.
+fn index_near(rows: &[WagonRow], number: WagonNumber, near: Option<usize>) -> Option<usize>
+    requires { IsStrictlySortedBy by_number rows.now }
+    ensures found { IfSome result (λ index. (row : WagonRow) × (slice_get rows.now index ≡ Some row) × (row.number ≡ number)) }
+    ensures absent { IfNone result (wagon_in rows.now number ≡ None) }
+{
+    match near {
+        Some(index) if has_number(rows, index, number) => Some(index),
+        _ => index_of(rows, number),
+    }
+}
+
+/// Whether the row at an index is that of a wagon.
+fn has_number(rows: &[WagonRow], index: usize, number: WagonNumber) -> bool
+    ensures { IsTrue result → (row : WagonRow) × (slice_get rows.now index ≡ Some row) × (row.number ≡ number) }
+{
+    match rows.get(index) {
+        Some(row) => is_same_wagon(row.number, number),
+        None => false,
+    }
+}
+
+fn is_same_wagon(one: WagonNumber, other: WagonNumber) -> bool
+    ensures { IsTrue result ↔ (one ≡ other) }
+{
+    one == other
 }
 
 /// Where the row of a wagon stands among ascending rows.

@@ -36,12 +36,14 @@ pub trait Handler {
     ghost runs_out: { Self.State → List ℕ → Self.State → Type 0 };
 
     /// Adds the reply to a line, with its line feed, behind the line's number. Where memory is refused, what was added
-    /// is dropped and the reply is `refused 1`.
+    /// is dropped and the reply is `refused 1`. Where `more` is true, another line that isn't blank has been read, so what
+    /// need not be done at once can wait for it; no contract says so.
     fn answer(
         &self,
         alloc: Global,
         state: &mut Self::State,
         line: &[u8],
+        more: bool,
         reply: &mut ReplyText,
     ) -> Result<Outcome, AllocError>
         requires short { length reply.old ≤ max_head_bytes }
@@ -56,13 +58,15 @@ pub trait Responder {
     /// Line number n may take the state from old to new, get this text, and be refused or not.
     ghost replies: { ℕ → Self.State → List ℕ → List ℕ → Bool → Self.State → Type 0 };
 
-    /// Puts the reply to a line that isn't blank, with its line feed, in place of what stood in `reply`.
+    /// Puts the reply to a line that isn't blank, with its line feed, in place of what stood in `reply`. `more` is as a
+    /// handler's.
     fn respond(
         &self,
         alloc: Global,
         state: &mut Self::State,
         number: u64,
         line: &[u8],
+        more: bool,
         reply: &mut ReplyText,
     ) -> Outcome
         ensures { replies number state.old line.now reply.new (is_refusal result) state.new };
@@ -85,10 +89,11 @@ impl<H: Handler> Responder for NumberedReplies<'_, H> {
         state: &mut H::State,
         number: u64,
         line: &[u8],
+        more: bool,
         reply: &mut ReplyText,
     ) -> Outcome {
         reply.begin(number);
-        match self.handler.answer(alloc, state, line, reply) {
+        match self.handler.answer(alloc, state, line, more, reply) {
             Ok(outcome) => outcome,
             Err(_) => {
                 reply.refuse_for_memory(number);

@@ -130,6 +130,7 @@ fn serve<W: Sink, H: Responder>(
     writer: &mut W,
     number: u64,
     line: &[u8],
+    more: bool,
     reply: &mut ReplyText,
 ) -> Result<bool, DeviceFailed>
     ensures ok { IfOk result (IsServed H.replies W.Sink number line.now (writer.old, state.old) (writer.new, state.new)) }
@@ -139,7 +140,7 @@ fn serve<W: Sink, H: Responder>(
     if is_blank(line) {
         return Ok(false);
     }
-    let outcome = responder.respond(alloc, state, number, line, reply);
+    let outcome = responder.respond(alloc, state, number, line, more, reply);
     write_all(writer, reply.as_slice())?;
     Ok(outcome.is_refusal())
 }
@@ -184,7 +185,10 @@ pub fn run_replies<R: Source, W: Sink, H: Responder>(
             Err(stop) => return Err(RunFault::at_line(stop, number)),
         };
         let text = line.as_slice();
-        let served = serve(alloc, responder, state, writer, number, text, &mut reply);
+        let more = window.has_line();
+        let served = serve(
+            alloc, responder, state, writer, number, text, more, &mut reply,
+        );
         let refused = match served {
             Ok(refused) => refused,
             Err(_) => return Err(RunFault::WriteFailed(number)),

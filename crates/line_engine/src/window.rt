@@ -6,7 +6,7 @@ ghost use Rattle.line_engine.specs.inner.Cutting.{GrowsTooLong, Moves, ReadsLine
 
 use crate::device::Source;
 use crate::line_buffer::LineBuffer;
-use memchr::memchr;
+use memchr::{memchr, memrchr};
 use std::alloc::{AllocError, Global};
 use std::marker::Model;
 
@@ -33,6 +33,8 @@ pub struct Window {
     piece: Vec<u8>,
     start: usize,
     end: usize,
+    /// Where the last line that is whole and isn't blank ends, or 0.
+    whole: usize,
 }
 
 impl Model for Window {
@@ -57,6 +59,14 @@ fn before_feed(bytes: &[u8]) -> (&[u8], bool)
     }
 }
 
+/// Where the last of these lines ends that is whole and isn't blank, without what follows it; 0 where there is none.
+fn end_of_lines(bytes: &[u8]) -> usize {
+    match memrchr(b'\n', bytes) {
+        Some(at) => bytes[..at].trim_ascii_end().len(),
+        None => 0,
+    }
+}
+
 impl Window {
     pub fn new(alloc: Global) -> Result<Window, AllocError>
         ensures { IfOk result (λ window. window ≡ []) }
@@ -65,6 +75,7 @@ impl Window {
             piece: vec![in alloc; 0; PIECE_LEN]?,
             start: 0,
             end: 0,
+            whole: 0,
         })
     }
 
@@ -84,7 +95,13 @@ impl Window {
             .map_err(|_| LineStop::ReadFailed)?;
         self.start = 0;
         self.end = count;
+        self.whole = end_of_lines(&self.piece[..count]);
         Ok(count > 0)
+    }
+
+    /// Whether a line is left that is whole and isn't blank. No contract says so: it may only spare time.
+    pub fn has_line(&self) -> bool {
+        self.start < self.whole
     }
 
     /// Moves the bytes before the next line feed to the line's end, and answers whether there is one.

@@ -45,6 +45,7 @@ impl Handler for CommandLines {
         alloc: Global,
         book: &mut Book,
         line: &[u8],
+        _more: bool,
         reply: &mut ReplyText,
     ) -> Result<Outcome, AllocError> {
         match read_line(alloc, line) {

@@ -205,7 +205,7 @@ fn bring_line(
     ensures setting { book.new.setting ≡ book.old.setting }
 {
     scratch.clear();
-    let _outcome = CommandLines.answer(alloc, book, bytes, scratch)?;
+    let _outcome = CommandLines.answer(alloc, book, bytes, false, scratch)?;
     Ok(())
 }
 
@@ -237,6 +237,7 @@ impl Responder for JournalNotes {
         review: &mut Review,
         number: u64,
         line: &[u8],
+        _more: bool,
         reply: &mut ReplyText,
     ) -> Outcome {
         match review.take_line(alloc, number, line, reply) {

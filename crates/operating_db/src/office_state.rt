@@ -251,7 +251,7 @@ impl OfficeState {
         ensures refused { IfErr result (λ fault. after_call self.now.networks self.now.office event.now ≡ Err fault) }
     {
         match event {
-            Event::Message(message) => match self.change_by(message) {
+            Event::Message(message) => match self.change_by(message, None) {
                 Ok(_) => Ok(()),
                 Err(fault) => Err(fault),
             },
@@ -294,7 +294,11 @@ impl OfficeState {
 
     /// What a message changes, which `accept_change` lets happen; refused as by `possible`. Takes no memory.
     #[tactic(auto, unfolding(crate::specs::After::after_call))]
-    pub fn change_by(&self, message: &Message) -> Result<MessageChange, ApplyFault>
+    pub fn change_by(
+        &self,
+        message: &Message,
+        index: Option<usize>,
+    ) -> Result<MessageChange, ApplyFault>
         ensures change { IfOk result (IsChangeOf self.now.office message.now) }
         ensures possible { OnOk result (IsOk (after_call self.now.networks self.now.office (event.Message message.now))) }
         ensures refused { IfErr result (λ fault. after_call self.now.networks self.now.office (event.Message message.now) ≡ Err fault) }
@@ -302,7 +306,7 @@ impl OfficeState {
     {
         // No wagon carries over 200,000 kg.
         self.wagons.for_the_prover();
-        let Some((index, row)) = self.wagons.find(message.wagon) else {
+        let Some((index, row)) = self.wagons.find_near(message.wagon, index) else {
             return Err(ApplyFault::UnknownWagon);
         };
         match step(row, message, self.order_place(row.promise)) {
@@ -332,7 +336,7 @@ impl OfficeState {
         ensures unchanged { OnErr result (self.new ≡ self.old) }
         ensures networks { self.new.networks ≡ self.old.networks }
     {
-        let found = match self.change_by(message) {
+        let found = match self.change_by(message, None) {
             Ok(found) => found,
             Err(fault) => return Err(fault),
         };

@@ -1,5 +1,5 @@
 -- What the lines of a file do at its seat, by a run over them.
-use Rattle.std.proofs.Common.{◌≡◌, ◌+◌, ◌<◌, ◌≤◌, ◌^◌, ◌∷◌, ℕ, Bool, true, false, cond, List, [], length, refl, sym, ap, ◌∙◌, subst, arith, inl, inr}
+use Rattle.std.proofs.Common.{◌≡◌, ◌+◌, ◌<◌, ◌≤◌, ◌^◌, ◌∷◌, ℕ, Bool, true, false, cond, List, [], ◌++◌, length, append_assoc, refl, sym, ap, ◌∙◌, subst, arith, inl, inr}
 use Rattle.std.specs.Prelude.{Option, Some, None, Result, Ok, Err, IfOk, IfErr, IfSome}
 use Rattle.std.specs.List.{count_by}
 use Rattle.std.specs.Io.KnownBytes.{Consumes, Keeps}
@@ -26,9 +26,10 @@ use Rattle.sessions.specs.Seat.{IsAnswered, SeatValue, count_of, new_seat}
 use Rattle.sessions.specs.FedLines.{AreDone, AreTaken, IsLineTaken, IsReadIn, IsSeatFed, IsStoppedAt, IsSubmitted, IsTakenIn, IsTurnedAway, blank_line, counted_by, is_accepted, is_refused, is_repeated, no_line, one_line}
 use Rattle.sessions.specs.FeedCounts.{IsStopNumber, is_counted, is_command_counted}
 use Rattle.sessions.specs.inner.Fed.{stop_number}
-use Rattle.sessions.specs.inner.FeedLines.{Adds, IsLineFed}
+use Rattle.sessions.specs.inner.FeedLines.{Adds, AreEventsFed, IsFedBehind, IsLineBrought, IsReadFed, Waits}
 use Rattle.sessions.specs.declared.feed_lines.Counted.{Counted}
 use Rattle.sessions.specs.declared.feed_lines.Counted.TheVariants.{Refused, Nowhere}
+use Rattle.sessions.specs.declared.feed_lines.FileLines.{FileLines}
 use Rattle.sessions.specs.declared.feed_lines.FileSeat.{FileSeat}
 
 -- ---- receipts
@@ -126,19 +127,9 @@ record AreFedLines {L : Type 0} (networks : List NetworkValue) (old : FileSeat L
   repeated : old.repeated + length lines < 2 ^ 64 → new.repeated ≡ old.repeated + count_by is_repeated counts
   refused : old.refused + length lines < 2 ^ 64 → new.refused ≡ old.refused + count_by is_refused counts
 
-module _ {L : Type 0} where
-  abbrev pub Answers : Answering (FileSeat L)
-  Answers old line body refused new = IsLineFed old line new
-
-  abbrev pub NeverOut : RunningOut (FileSeat L)
-  NeverOut old line new = ⊥
-
-  fed_response : (old new : FileSeat L) (line body : List ℕ) (refused : Bool) → Responds Answers NeverOut old line body refused new → IsLineFed old line new
-  fed_response old new line body refused (inl fed) = fed
-  fed_response old new line body refused (inr out) = absurd out.0
-
-  nothing_fed : (networks : List NetworkValue) (old new : FileSeat L) → new ≡ old → AreFedLines networks old [] new
-  nothing_fed networks old new same = record {
+module _ {L : Type 0} (networks : List NetworkValue) where
+  nothing_fed : (old new : FileSeat L) → new ≡ old → AreFedLines networks old [] new
+  nothing_fed old new same = record {
     counts = [];
     taken = subst (λ (file : FileSeat L). AreTaken networks old.seat file.seat [] []) (sym same) no_line;
     accepted = omega (arith, ap (λ (file : FileSeat L). count_of file.seat) same);
@@ -146,8 +137,8 @@ module _ {L : Type 0} where
     refused = λ room. omega (arith, ap (λ (file : FileSeat L). file.refused) same);
   }
 
-  blank_fed : (networks : List NetworkValue) (old new : FileSeat L) (line : List ℕ) (lines : List (List ℕ)) → is_blank line ≡ true → AreFedLines networks old lines new → AreFedLines networks old (line ∷ lines) new
-  blank_fed networks old new line lines blank rest = record {
+  blank_fed : (old new : FileSeat L) (line : List ℕ) (lines : List (List ℕ)) → is_blank line ≡ true → AreFedLines networks old lines new → AreFedLines networks old (line ∷ lines) new
+  blank_fed old new line lines blank rest = record {
     counts = rest.counts;
     taken = blank_line blank rest.taken;
     accepted = rest.accepted;
@@ -155,9 +146,9 @@ module _ {L : Type 0} where
     refused = λ room. rest.refused (omega (arith, room));
   }
 
-  line_fed : (networks : List NetworkValue) (old mid new : FileSeat L) (line : List ℕ) (lines : List (List ℕ)) → old.networks.now ≡ networks → is_blank line ≡ false → IsLineFed old line mid → AreFedLines networks mid lines new
+  line_fed : (old mid new : FileSeat L) (line : List ℕ) (lines : List (List ℕ)) → old.networks.now ≡ networks → is_blank line ≡ false → IsReadFed old (command_of line) mid → AreFedLines networks mid lines new
       → AreFedLines networks old (line ∷ lines) new
-  line_fed networks old mid new line lines over filled fed rest =
+  line_fed old mid new line lines over filled fed rest =
       let counted = fed.counted in
       let taken : IsLineTaken networks old.seat mid.seat line counted = subst (λ (all : List NetworkValue). IsLineTaken all old.seat mid.seat line counted) over fed.taken in
       let gains = read_gains networks old.seat mid.seat (command_of line) counted taken in
@@ -177,23 +168,109 @@ module _ {L : Type 0} where
             omega (arith, one, others, sum_by-cons (λ (c : Counted). cond (is_refused c) 1 0) counted rest.counts);
       }
 
-  one_fed : (networks : List NetworkValue) (n : ℕ) (old mid new : FileSeat L) (line text : List ℕ) (refused : Bool) (lines : List (List ℕ)) (blank : Bool) → is_blank line ≡ blank → old.networks.now ≡ networks
-      → AnswersLine Answers NeverOut n old line text refused mid → (mid.networks.now ≡ networks → AreFedLines networks mid lines new) → AreFedLines networks old (line ∷ lines) new
-  one_fed networks n old mid new line text refused lines true is over answers rest =
-      let same : mid ≡ old = (rw is at answers).2 in
-      let others : AreFedLines networks mid lines new = rest (ap (λ (file : FileSeat L). file.networks.now) same ∙ over) in
-      blank_fed networks old new line lines is (subst (λ (file : FileSeat L). AreFedLines networks file lines new) same others)
-  one_fed networks n old mid new line text refused lines false is over answers rest =
-      let says = rw is at answers in
-      let fed = fed_response old mid line says.0 refused says.2 in
-      line_fed networks old mid new line lines over is fed (rest (fed.networks ∙ over))
+-- ---- lines that wait
 
-  lines_fed : (networks : List NetworkValue) (n : ℕ) (old new : FileSeat L) (lines : List (List ℕ)) (output : List ℕ) (refusals : ℕ) → old.networks.now ≡ networks → Replies Answers NeverOut n old lines output refusals new
-      → AreFedLines networks old lines new
-  lines_fed networks n old new [] output refusals over replies = nothing_fed networks old new replies.2
-  lines_fed networks n old new (line ∷ lines) output refusals over replies =
-      one_fed networks n old replies.4 new line replies.0 replies.2 lines (is_blank line) refl over replies.5
-      (λ still. lines_fed networks (n + 1) replies.4 new lines replies.1 replies.3 still replies.6)
+-- Lines that were read, and whose events wait: blank ones, and events.
+data AreHeld : (lines : List (List ℕ)) → List Event → Type 0 where
+  none_held : AreHeld [] []
+  blank_held : {line : List ℕ} {lines : List (List ℕ)} {events : List Event} → is_blank line ≡ true → AreHeld lines events → AreHeld (line ∷ lines) events
+  event_held : {line : List ℕ} {lines : List (List ℕ)} {event : Event} {events : List Event} → is_blank line ≡ false → command_of line ≡ Ok (command.Event event) → AreHeld lines events
+      → AreHeld (line ∷ lines) (event ∷ events)
+
+blank_held_last : {lines : List (List ℕ)} {events : List Event} (line : List ℕ) → is_blank line ≡ true → AreHeld lines events → AreHeld (lines ++ line ∷ []) events
+blank_held_last line blank none_held = blank_held blank none_held
+blank_held_last line blank (blank_held first held) = blank_held first (blank_held_last line blank held)
+blank_held_last line blank (event_held filled read held) = event_held filled read (blank_held_last line blank held)
+
+event_held_last : {lines : List (List ℕ)} {events : List Event} (line : List ℕ) (event : Event) → is_blank line ≡ false → command_of line ≡ Ok (command.Event event) → AreHeld lines events
+    → AreHeld (lines ++ line ∷ []) (events ++ event ∷ [])
+event_held_last line event filled read none_held = event_held filled read none_held
+event_held_last line event filled read (blank_held first held) = blank_held first (event_held_last line event filled read held)
+event_held_last line event filled read (event_held first its held) = event_held first its (event_held_last line event filled read held)
+
+module _ {L : Type 0} where
+  abbrev pub Answers : Answering (FileLines L)
+  Answers old line body refused new = IsLineBrought old line new
+
+  abbrev pub NeverOut : RunningOut (FileLines L)
+  NeverOut old line new = ⊥
+
+  brought_response : (old new : FileLines L) (line body : List ℕ) (refused : Bool) → Responds Answers NeverOut old line body refused new → IsLineBrought old line new
+  brought_response old new line body refused (inl brought) = brought
+  brought_response old new line body refused (inr out) = absurd out.0
+
+  -- events that are submitted leave the networks
+  same_networks : (events : List Event) (old new : FileSeat L) → AreEventsFed events old new → new.networks.now ≡ old.networks.now
+  same_networks [] old new same = ap (λ (file : FileSeat L). file.networks.now) same
+  same_networks (event ∷ events) old new fed = same_networks events fed.0 new fed.2 ∙ fed.1.networks
+
+  -- lines whose events waited and were submitted, and the lines behind them
+  held_fed : (networks : List NetworkValue) {held : List (List ℕ)} {events : List Event} (lines : List (List ℕ)) (old mid new : FileSeat L) → old.networks.now ≡ networks → AreHeld held events → AreEventsFed events old mid
+      → AreFedLines networks mid lines new → AreFedLines networks old (held ++ lines) new
+  held_fed networks lines old mid new over none_held fed rest = subst (λ (file : FileSeat L). AreFedLines networks file lines new) fed rest
+  held_fed networks lines old mid new over (blank_held {line = line} {lines = held} blank others) fed rest =
+      blank_fed networks old new line (held ++ lines) blank (held_fed networks lines old mid new over others fed rest)
+  held_fed networks lines old mid new over (event_held {line = line} {lines = held} filled read others) fed rest =
+      line_fed networks old fed.0 new line (held ++ lines) over filled (rw read fed.1) (held_fed networks lines fed.0 mid new (fed.1.networks ∙ over) others fed.2 rest)
+
+  -- all lines of a run, where what waited at its end was submitted: they are done from the file before the lines that wait
+  abbrev AreAllFed : (networks : List NetworkValue) → (old : FileLines L) → (lines : List (List ℕ)) → (end : FileSeat L) → Type 0
+  AreAllFed networks old lines end = (held : List (List ℕ)) → AreHeld held old.pending.items → AreFedLines networks old.file (held ++ lines) end
+
+  blank_brought : (networks : List NetworkValue) (old : FileLines L) (line : List ℕ) (lines : List (List ℕ)) (end : FileSeat L) → is_blank line ≡ true → AreAllFed networks old lines end → AreAllFed networks old (line ∷ lines) end
+  blank_brought networks old line lines end blank rest held are =
+      subst (λ (all : List (List ℕ)). AreFedLines networks old.file all end) (append_assoc held (line ∷ []) lines) (rest (held ++ line ∷ []) (blank_held_last line blank are))
+
+  line_waits : (networks : List NetworkValue) (old mid : FileLines L) (line : List ℕ) (lines : List (List ℕ)) (end : FileSeat L) → is_blank line ≡ false → Waits old (command_of line) mid → AreAllFed networks mid lines end
+      → AreAllFed networks old (line ∷ lines) end
+  line_waits networks old mid line lines end filled waits rest held are =
+      let behind : AreHeld (held ++ line ∷ []) mid.pending.items = subst (AreHeld (held ++ line ∷ [])) (sym waits.pending) (event_held_last line waits.event filled waits.is_event are) in
+      let fed : AreFedLines networks mid.file ((held ++ line ∷ []) ++ lines) end = rest (held ++ line ∷ []) behind in
+      subst (λ (all : List (List ℕ)). AreFedLines networks old.file all end) (append_assoc held (line ∷ []) lines)
+      (subst (λ (file : FileSeat L). AreFedLines networks file ((held ++ line ∷ []) ++ lines) end) waits.file fed)
+
+  line_behind : (networks : List NetworkValue) (old mid : FileLines L) (line : List ℕ) (lines : List (List ℕ)) (end : FileSeat L) → old.file.networks.now ≡ networks → is_blank line ≡ false → (fed : IsFedBehind old (command_of line) mid)
+      → AreAllFed networks mid lines end → AreAllFed networks old (line ∷ lines) end
+  line_behind networks old mid line lines end over filled fed rest held are =
+      let others : AreFedLines networks mid.file lines end = rest [] (subst (AreHeld []) (sym fed.pending) none_held) in
+      held_fed networks (line ∷ lines) old.file fed.mid end over are fed.before
+      (line_fed networks fed.mid mid.file end line lines (same_networks old.pending.items old.file fed.mid fed.before ∙ over) filled fed.fed others)
+
+  -- a line leaves the networks
+  brought_networks : (old new : FileLines L) (line : List ℕ) → IsLineBrought old line new → new.file.networks.now ≡ old.file.networks.now
+  brought_networks old new line (inl waits) = ap (λ (file : FileSeat L). file.networks.now) waits.file
+  brought_networks old new line (inr fed) = fed.fed.networks ∙ same_networks old.pending.items old.file fed.mid fed.before
+
+  one_brought : (networks : List NetworkValue) (old mid : FileLines L) (line : List ℕ) (lines : List (List ℕ)) (end : FileSeat L) → old.file.networks.now ≡ networks → is_blank line ≡ false → IsLineBrought old line mid
+      → AreAllFed networks mid lines end → AreAllFed networks old (line ∷ lines) end
+  one_brought networks old mid line lines end over filled (inl waits) rest = line_waits networks old mid line lines end filled waits rest
+  one_brought networks old mid line lines end over filled (inr fed) rest = line_behind networks old mid line lines end over filled fed rest
+
+  one_fed : (networks : List NetworkValue) (n : ℕ) (old mid : FileLines L) (line text : List ℕ) (refused : Bool) (lines : List (List ℕ)) (end : FileSeat L) (blank : Bool) → is_blank line ≡ blank → old.file.networks.now ≡ networks
+      → AnswersLine Answers NeverOut n old line text refused mid → (mid.file.networks.now ≡ networks → AreAllFed networks mid lines end) → AreAllFed networks old (line ∷ lines) end
+  one_fed networks n old mid line text refused lines end true is over answers rest =
+      let same : mid ≡ old = (rw is at answers).2 in
+      let others : AreAllFed networks mid lines end = rest (ap (λ (state : FileLines L). state.file.networks.now) same ∙ over) in
+      blank_brought networks old line lines end is (subst (λ (state : FileLines L). AreAllFed networks state lines end) same others)
+  one_fed networks n old mid line text refused lines end false is over answers rest =
+      let says = rw is at answers in
+      let brought = brought_response old mid line says.0 refused says.2 in
+      one_brought networks old mid line lines end over is brought (rest (brought_networks old mid line brought ∙ over))
+
+  lines_brought : (networks : List NetworkValue) (n : ℕ) (old new : FileLines L) (lines : List (List ℕ)) (output : List ℕ) (refusals : ℕ) (end : FileSeat L) → old.file.networks.now ≡ networks
+      → Replies Answers NeverOut n old lines output refusals new → AreEventsFed new.pending.items new.file end → AreAllFed networks old lines end
+  lines_brought networks n old new [] output refusals end over replies fed = λ held are.
+      let last : AreEventsFed old.pending.items old.file end = subst (λ (state : FileLines L). AreEventsFed state.pending.items state.file end) replies.2 fed in
+      held_fed networks [] old.file end end over are last (nothing_fed networks end end refl)
+  lines_brought networks n old new (line ∷ lines) output refusals end over replies fed =
+      one_fed networks n old replies.4 line replies.0 replies.2 lines end (is_blank line) refl over replies.5
+      (λ still. lines_brought networks (n + 1) replies.4 new lines replies.1 replies.3 end still replies.6 fed)
+
+  -- the same from a file none of whose lines waits
+  lines_fed : (networks : List NetworkValue) (n : ℕ) (old new : FileLines L) (lines : List (List ℕ)) (output : List ℕ) (refusals : ℕ) (end : FileSeat L) → old.file.networks.now ≡ networks → old.pending.items ≡ []
+      → Replies Answers NeverOut n old lines output refusals new → AreEventsFed new.pending.items new.file end → AreFedLines networks old.file lines end
+  lines_fed networks n old new lines output refusals end over none replies fed =
+      lines_brought networks n old new lines output refusals end over replies fed [] (subst (AreHeld []) (sym none) none_held)
 
 -- ---- a file's run
 
@@ -211,17 +288,18 @@ consumes_none None to keeps = tt
 consumes_none (Some xs) None keeps = absurd keeps
 consumes_none (Some xs) (Some ys) keeps = sym keeps
 
-module _ {L : Type 0} (networks : List NetworkValue) (run : Run (FileSeat L)) (failed : Failures) (over : run.old.networks.now ≡ networks) (new : count_of run.old.seat ≡ 0) (no_repeated : run.old.repeated ≡ 0) (no_refused : run.old.refused ≡ 0) (standard : run.most ≡ max_line_bytes) where
+module _ {L : Type 0} (networks : List NetworkValue) (run : Run (FileLines L)) (failed : Failures) (end : FileSeat L) (over : run.old.file.networks.now ≡ networks) (new : count_of run.old.file.seat ≡ 0) (no_repeated : run.old.file.repeated ≡ 0)
+    (no_refused : run.old.file.refused ≡ 0) (none_waits : run.old.pending.items ≡ []) (standard : run.most ≡ max_line_bytes) (last : AreEventsFed run.new.pending.items run.new.file end) where
   abbrev Fed : Option ℕ → Type 0
-  Fed stop = IsSeatFed networks run.from run.to stop run.new.seat run.new.repeated run.new.refused
+  Fed stop = IsSeatFed networks run.from run.to stop end.seat end.repeated end.refused
 
-  fed_by : (stop : Option ℕ) (lines : List (List ℕ)) → AreDone run.from run.to stop lines → AreFedLines networks run.old lines run.new → Fed stop
+  fed_by : (stop : Option ℕ) (lines : List (List ℕ)) → AreDone run.from run.to stop lines → AreFedLines networks run.old.file lines end → Fed stop
   fed_by stop lines done fed = record {
     lines = lines;
     done = done;
-    number = run.old.seat.number;
+    number = run.old.file.seat.number;
     counts = fed.counts;
-    taken = subst (λ (seat : SeatValue). AreTaken networks seat run.new.seat lines fed.counts) (fresh_seat run.old.seat new) fed.taken;
+    taken = subst (λ (seat : SeatValue). AreTaken networks seat end.seat lines fed.counts) (fresh_seat run.old.file.seat new) fed.taken;
     counts_accepted = omega (arith, fed.accepted, new);
     counts_repeated = let is = fed.repeated (omega (arith, no_repeated, done.few)) in omega (arith, is, no_repeated);
     counts_refused = let is = fed.refused (omega (arith, no_refused, done.few)) in omega (arith, is, no_refused);
@@ -230,12 +308,12 @@ module _ {L : Type 0} (networks : List NetworkValue) (run : Run (FileSeat L)) (f
   fed_to_end : (count : RunCount) → Ends Answers NeverOut run count → Fed None
   fed_to_end count ends =
       fed_by None (lines_of ends.input) (record { read = ends.input; consumed = ends.consumed; which = (ends.ended, refl); few = omega (arith, ends.lines, ends.few) })
-      (lines_fed networks 1 run.old run.new (lines_of ends.input) ends.output count.refused over ends.replies)
+      (lines_fed networks 1 run.old run.new (lines_of ends.input) ends.output count.refused end over none_waits ends.replies last)
 
   fed_to_stop : (n code : ℕ) (at : StandsAt Answers NeverOut run n) → IsStoppedAt code at.input at.lines → n ≤ max_input_lines + 1 → Fed (Some code)
   fed_to_stop n code at stopped few =
       fed_by (Some code) at.lines (record { read = at.input; consumed = at.consumed; which = stopped; few = omega (arith, few, at.number) })
-      (lines_fed networks 1 run.old run.new at.lines at.output at.refusals over at.replies)
+      (lines_fed networks 1 run.old run.new at.lines at.output at.refusals end over none_waits at.replies last)
 
   -- a stop behind some lines, by what each number says of it
   stopped_at : (n code : ℕ) (at : StandsAt Answers NeverOut run n) → 1 < code → (code ≡ 91 → (length at.lines ≡ max_input_lines) × (0 < length at.rest)) → (code ≡ 92 → max_line_bytes < length (first_line at.rest))
@@ -262,7 +340,7 @@ module _ {L : Type 0} (networks : List NetworkValue) (run : Run (FileSeat L)) (f
         };
         few = omega arith;
       })
-      (nothing_fed networks run.old run.new stops.2)
+      (lines_fed networks 1 run.old run.new [] [] 0 end over none_waits (refl, refl, stops.2) last)
   fed_until (TooManyLines n) quiet stops =
       stopped_at n 91 stops.0 (omega arith) (λ e. (omega (arith, stops.0.number, stops.1), stops.2)) (λ e. absurd (omega arith)) (λ e. absurd (omega arith)) (omega (arith, stops.1))
   fed_until (LineTooLong n) quiet stops =

@@ -28,7 +28,11 @@ pub fn close<L: Ledger>(shared: SharedBook<L>, seats: Vec<Seat<L>>) -> Result<Bo
     if seats.len() < shared.seats as usize {
         return Err(CloseFault::SeatsMissing(shared, seats));
     }
-    let SharedBook { book, seats: _ } = shared;
+    let SharedBook {
+        book,
+        seats: _,
+        wagons: _,
+    } = shared;
     let CountedBook {
         book,
         mut total,
@@ -73,7 +77,7 @@ fn has_entry(book: &Book, receipt: &Receipt) -> bool
     ensures { IsTrue result ↔ HasEntry book.now.state.history receipt.now }
 {
     match book.entry(receipt.entry) {
-        Some(entry) => entry.is_event(&receipt.event),
+        Some(entry) => entry.is_same(&receipt.event),
         None => false,
     }
 }

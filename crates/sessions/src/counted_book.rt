@@ -5,11 +5,12 @@ ghost use Rattle.commit_book.specs.Books.{IsNoEntry, answer_of, begun_of, IsSett
 ghost use Rattle.commit_book.specs.Headline.{IsProved};
 ghost use Rattle.commit_book.specs.Snap.{snap_of};
 ghost use Rattle.commit_book.specs.declared.call.Call.TheVariants as call;
+ghost use Rattle.move_messages.specs.declared.event.Event.TheVariants as event;
 ghost use Rattle.sessions.specs.AnyBook.{IsBooksAnswer};
-ghost use Rattle.sessions.specs.inner.Counted.{IsCounted, accepted_in};
+ghost use Rattle.sessions.specs.inner.Counted.{IsEnteredBy, accepted_in};
 
 use commit_book::{Book, Refusal, Reply, Snap};
-use move_messages::Event;
+use move_messages::{Event, Message};
 use rail_codes::Moment;
 use std::alloc::{AllocError, Global};
 use std::sync::ledger;
@@ -36,12 +37,7 @@ impl<L: Ledger> CountedBook<L> {
         event: Event,
     ) -> Result<Reply, Refusal>
         requires { 0 < share.old.parts }
-        ensures call { IsCall self.old.book.setting self.old.book.state (call.Event event) (answer_of result) self.new.book.state }
-        ensures given { IsSetting self.old.book.setting }
-        ensures proved { IsProved self.old.book.setting self.old.book.state.history }
-        ensures proved_after { IsProved self.old.book.setting self.new.book.state.history }
-        ensures within { share.old.amount ≤ length self.old.book.state.history }
-        ensures counted { IsCounted share.old.amount share.new.amount result }
+        ensures entered { IsEnteredBy self.old.book self.new.book share.old.amount share.new.amount event result }
         ensures parts { share.new.parts ≡ share.old.parts }
     {
         self.audit(share);
@@ -51,6 +47,33 @@ impl<L: Ledger> CountedBook<L> {
             rest: _,
         } = self;
         let answer = book.submit(alloc, event);
+        book.for_the_prover();
+        let reply = match answer {
+            Ok(reply) => reply,
+            Err(refusal) => return Err(refusal),
+        };
+        count(total, share, reply);
+        Ok(reply)
+    }
+
+    /// The same of a message. The row of its wagon is looked for at an index first, where one is given.
+    pub(crate) fn enter_message(
+        &mut self,
+        share: &mut Share<L>,
+        message: &Message,
+        index: Option<usize>,
+    ) -> Result<Reply, Refusal>
+        requires { 0 < share.old.parts }
+        ensures entered { IsEnteredBy self.old.book self.new.book share.old.amount share.new.amount (event.Message message.now) result }
+        ensures parts { share.new.parts ≡ share.old.parts }
+    {
+        self.audit(share);
+        let CountedBook {
+            book,
+            total,
+            rest: _,
+        } = self;
+        let answer = book.message_near(message, index);
         book.for_the_prover();
         let reply = match answer {
             Ok(reply) => reply,

@@ -3,11 +3,12 @@ ghost use Rattle.std.specs.Prelude.{◌≡◌, false};
 ghost use Rattle.sessions.specs.Seat.{count_of};
 ghost use Rattle.sessions.specs.inner.Fed.{IsFedFile, stop_number};
 
-use crate::feed_lines::{FeedLines, FileSeat, NoReplies};
+use crate::feed_lines::{FeedLines, FileLines, FileSeat, NoReplies};
 use crate::{Seat, SharedBook};
 use line_engine::{LineLimit, RunCount, RunFault, Source, run_lines};
 use line_network::Networks;
 use std::alloc::Global;
+use std::collections::VecDeque;
 use std::snapshot::Snapshot;
 use std::sync::Wait;
 use std::sync::ledger::Ledger;
@@ -60,16 +61,29 @@ pub(crate) fn fed_file<W: Wait, L: Ledger, R: Source>(
     ensures { IsFedFile networks.now R.remaining R.has_failed reader result }
 {
     let mut reader = reader;
-    let mut file = FileSeat {
+    let file = FileSeat {
         networks,
         seat,
         repeated: 0,
         refused: 0,
     };
-    let lines = FeedLines { rt, shared };
+    let mut lines = FileLines {
+        file,
+        pending: VecDeque::new(alloc),
+    };
+    let bring = FeedLines { rt, shared };
     let limit = LineLimit::standard();
-    let run = run_lines(alloc, limit, &mut reader, &mut NoReplies, &lines, &mut file);
+    let run = run_lines(
+        alloc,
+        limit,
+        &mut reader,
+        &mut NoReplies,
+        &bring,
+        &mut lines,
+    );
     let failed = stop_of(run);
+    bring.submit_pending(alloc, &mut lines);
+    let FileLines { file, pending: _ } = lines;
     let FileSeat {
         networks: _,
         seat,

@@ -1,7 +1,8 @@
 //! What a file's lines do at the file's seat.
-ghost use Rattle.std.specs.Prelude.{◌≡◌, IfSome, None, Some, false};
-ghost use Rattle.sessions.specs.FedLines.{IsLineTaken, IsPlannedIn, IsPlansCommit, IsSubmitted, IsTakenIn, counted_by, is_refused, is_repeated};
-ghost use Rattle.sessions.specs.inner.FeedLines.{Adds, IsLineFed};
+ghost use Rattle.std.specs.Prelude.{◌≡◌, [], IfSome, None, Ok, Some, false};
+ghost use Rattle.line_fields.specs.declared.command.Command.TheVariants as command;
+ghost use Rattle.sessions.specs.FedLines.{IsPlannedIn, IsPlansCommit, IsSubmitted, IsTakenIn, counted_by, is_refused, is_repeated};
+ghost use Rattle.sessions.specs.inner.FeedLines.{Adds, AreEventsFed, IsLineBrought, IsFedBehind, IsReadBrought, IsReadFed};
 
 use crate::{Seat, SharedBook, work};
 use commit_book::{Refusal, Reply, Snap};
@@ -11,6 +12,7 @@ use line_network::Networks;
 use move_messages::{CommitText, Event};
 use rail_codes::Moment;
 use std::alloc::{AllocError, Global};
+use std::collections::VecDeque;
 use std::sync::Wait;
 use std::sync::ledger::Ledger;
 
@@ -21,6 +23,17 @@ pub(crate) struct FileSeat<'a, L: Ledger> {
     pub(crate) seat: Seat<L>,
     pub(crate) repeated: u64,
     pub(crate) refused: u64,
+}
+
+/// The most events of a file that wait to be submitted. A thread that submits many in a row mostly keeps the lock, and the
+/// book in its processor's cache.
+const MAX_PENDING: usize = 64;
+
+/// A file's seat and counts, and its events that wait to be submitted, in the order of their lines.
+#[derive(Drop)]
+pub(crate) struct FileLines<'a, L: Ledger> {
+    pub(crate) file: FileSeat<'a, L>,
+    pub(crate) pending: VecDeque<Event>,
 }
 
 /// What a line counts as.
@@ -72,20 +85,67 @@ impl<'a, W: Wait, L: Ledger> Drop for FeedLines<'a, W, L> {
 }
 
 impl<'a, W: Wait, L: Ledger> FeedLines<'a, W, L> {
-    /// Does at a seat what a line asks for. One that isn't read counts as refused.
-    fn take_line(
-        &self,
-        alloc: Global,
-        networks: &Networks,
-        seat: &mut Seat<L>,
-        line: &[u8],
-    ) -> Counted
-        ensures { IsLineTaken networks.now seat.old seat.new line.now result }
+    /// Does what a line asks for, behind what waits; an event may wait where more lines have been read. A line that isn't
+    /// read counts as refused.
+    fn bring_line(&self, alloc: Global, lines: &mut FileLines<'a, L>, line: &[u8], more: bool)
+        ensures { IsLineBrought lines.old line.now lines.new }
     {
         match read_line(alloc, line) {
-            Ok(command) => self.take_in(alloc, networks, seat, command),
-            Err(_) => Counted::Refused,
+            Ok(command) => self.bring(alloc, lines, command, more),
+            Err(_) => {
+                self.submit_pending(alloc, lines);
+                lines.file.count(Counted::Refused);
+            }
         }
+    }
+
+    /// The same of a command.
+    fn bring(&self, alloc: Global, lines: &mut FileLines<'a, L>, command: Command, more: bool)
+        ensures { IsReadBrought lines.old (Ok command) lines.new }
+    {
+        match command {
+            Command::Event(event) if more => self.hold(alloc, lines, event),
+            other => self.feed_behind(alloc, lines, other),
+        }
+    }
+
+    /// Lets an event wait. Where as many wait as may, or memory is refused, it is submitted behind them.
+    fn hold(&self, alloc: Global, lines: &mut FileLines<'a, L>, event: Event)
+        ensures { IsReadBrought lines.old (Ok (command.Event event)) lines.new }
+    {
+        if lines.pending.len() >= MAX_PENDING {
+            return self.feed_behind(alloc, lines, Command::Event(event));
+        }
+        if let Err(refused) = lines.pending.push_back(event) {
+            self.feed_behind(alloc, lines, Command::Event(refused.value));
+        }
+    }
+
+    /// Does what a command asks for, behind what waits.
+    fn feed_behind(&self, alloc: Global, lines: &mut FileLines<'a, L>, command: Command)
+        ensures { IsFedBehind lines.old (Ok command) lines.new }
+    {
+        self.submit_pending(alloc, lines);
+        self.feed(alloc, &mut lines.file, command);
+    }
+
+    /// Submits the events that wait.
+    pub(crate) fn submit_pending(&self, alloc: Global, lines: &mut FileLines<'a, L>)
+        ensures fed { AreEventsFed lines.old.pending.items lines.old.file lines.new.file }
+        ensures none { lines.new.pending.items ≡ [] }
+    {
+        if let Some(event) = lines.pending.pop_front() {
+            self.feed(alloc, &mut lines.file, Command::Event(event));
+            self.submit_pending(alloc, lines);
+        }
+    }
+
+    /// Does at a file's seat what a command asks for, and counts it.
+    fn feed(&self, alloc: Global, file: &mut FileSeat<'a, L>, command: Command)
+        ensures { IsReadFed file.old (Ok command) file.new }
+    {
+        let counted = self.take_in(alloc, file.networks, &mut file.seat, command);
+        file.count(counted);
     }
 
     /// Does at a seat what a command asks for.
@@ -142,21 +202,21 @@ fn planned_commit(alloc: Global, snap: &Snap, networks: &Networks) -> Option<Com
 }
 
 impl<'a, W: Wait, L: Ledger> Handler for FeedLines<'a, W, L> {
-    type State = FileSeat<'a, L>;
+    type State = FileLines<'a, L>;
 
-    ghost answers = { λ old line _ _ new. IsLineFed old line new };
+    ghost answers = { λ old line _ _ new. IsLineBrought old line new };
 
     ghost runs_out = { λ _ _ _. ⊥ };
 
     fn answer(
         &self,
         alloc: Global,
-        file: &mut FileSeat<'a, L>,
+        lines: &mut FileLines<'a, L>,
         line: &[u8],
+        more: bool,
         _reply: &mut ReplyText,
     ) -> Result<Outcome, AllocError> {
-        let counted = self.take_line(alloc, file.networks, &mut file.seat, line);
-        file.count(counted);
+        self.bring_line(alloc, lines, line, more);
         Ok(Outcome::Answered)
     }
 }

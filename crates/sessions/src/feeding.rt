@@ -47,7 +47,8 @@ struct Fed<L: Ledger, R> {
 }
 
 /// Brings the command lines of 1 to 16 readers to a book without entries, by a thread and a seat for each, and answers what
-/// became of each file, in their order, and the book. Lines of several files are taken in as they come.
+/// became of each file, in their order, and the book. Lines of several files are taken in as they come: up to 64 events of a
+/// file in a row, where as many have been read, and all that have been before its reader is asked for more.
 ///
 /// A message, an order, a withdrawal, a revision and a commit count as they are answered. A plan line is a begin, planning
 /// with no lock held, and a commit of the plan's certificate; it counts as that commit's answer, or as refused where the

@@ -5,9 +5,11 @@ ghost use Rattle.sessions.specs.Seat.{IsSeatCount, new_seats};
 use crate::counted_book::CountedBook;
 use crate::{OpenFault, Seat, SharedBook};
 use commit_book::Book;
-use std::alloc::Global;
+use rail_codes::WagonNumber;
+use std::alloc::{AllocError, Global};
 use std::sync::Mutex;
 use std::sync::ledger::{Blank, Ledger, Share};
+use wagons_and_orders::WagonRow;
 
 /// The most seats.
 pub const MAX_SEATS: u32 = 64;
@@ -35,10 +37,29 @@ pub fn open<L: Ledger>(
     let Ok(mut seats) = Vec::with_capacity(alloc, count as usize) else {
         return Err(OpenFault { blank, book });
     };
+    let Ok(wagons) = numbers_of(alloc, book.state().wagon_rows()) else {
+        return Err(OpenFault { blank, book });
+    };
     let (total, mut rest) = blank.open::<L>();
     seat_all(alloc, &mut seats, &mut rest, count);
     let book = Mutex::new(CountedBook { book, total, rest });
-    Ok((SharedBook { book, seats: count }, seats))
+    Ok((
+        SharedBook {
+            book,
+            seats: count,
+            wagons,
+        },
+        seats,
+    ))
+}
+
+/// The numbers of wagons, in the order of their rows.
+fn numbers_of(alloc: Global, rows: &[WagonRow]) -> Result<Vec<WagonNumber>, AllocError> {
+    let mut numbers = Vec::with_capacity(alloc, rows.len())?;
+    for row in rows {
+        numbers.push(row.number)?;
+    }
+    Ok(numbers)
 }
 
 /// Makes the seats, each with a part of a share.

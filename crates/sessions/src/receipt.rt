@@ -1,12 +1,12 @@
 //! Receipts.
 
-use move_messages::Event;
+use commit_book::Entry;
 
 /// That a call of a seat was accepted: the number of its entry, counted from 1, and the event.
-#[derive(Debug, Drop, PartialEq, Eq)]
+#[derive(Debug, Drop)]
 pub struct Receipt {
     /// The number of the entry.
     pub entry: u64,
     /// The event.
-    pub event: Event,
+    pub event: Entry,
 }

@@ -7,10 +7,11 @@ ghost use Rattle.sessions.specs.Submitted.{IsSubmitted};
 
 use crate::counted_book::CountedBook;
 use crate::{Receipt, Seat};
-use commit_book::{Refusal, Reply, Snap};
+use commit_book::{Entry, Refusal, Reply, Snap};
 use move_messages::{CommitText, Event, Message, OrderText};
-use rail_codes::{Moment, OrderId};
+use rail_codes::{Moment, OrderId, WagonNumber};
 use std::alloc::{AllocError, Global};
+use std::hint::spin_loop;
 use std::marker::Model;
 use std::sync::ledger::Ledger;
 use std::sync::{Mutex, MutexGuard, Wait};
@@ -19,6 +20,12 @@ use std::thread::yield_now;
 /// How often a call tries to take the lock before it waits in turn. With a yield after each try that is longer than most
 /// calls hold it.
 const TRIES: u32 = 2_000;
+
+/// The first tries, after each of which a call pauses and doesn't yield.
+const QUICK_TRIES: u32 = 64;
+
+/// How many pauses of the processor stand between two quick tries.
+const PAUSES: u32 = 4;
 
 /// A book that several seats share. A contract sees how many seats it was opened with.
 ///
@@ -30,6 +37,8 @@ const TRIES: u32 = 2_000;
 pub struct SharedBook<L: Ledger> {
     pub(crate) book: Mutex<CountedBook<L>>,
     pub(crate) seats: u32,
+    /// The numbers of the book's wagons, ascending.
+    pub(crate) wagons: Vec<WagonNumber>,
 }
 
 impl<L: Ledger> Model for SharedBook<L> {
@@ -53,7 +62,22 @@ impl<L: Ledger> SharedBook<L> {
     ) -> Result<Reply, Refusal>
         ensures { IsSubmitted seat.old seat.new (event.Message message.now) result }
     {
-        self.submit(rt, alloc, seat, Event::Message(*message))
+        // The receipt's room comes first, then the book's call while the lock is held, then the receipt: once the book has
+        // taken the message nothing can fail. Its wagon's row is looked for before, since no wagon comes or goes.
+        if seat.receipts.reserve(1).is_err() {
+            let mut book = self.locked(rt);
+            return book.answer_without_memory(&mut seat.share, &Event::Message(*message));
+        }
+        let index = self.wagons.binary_search(&message.wagon).ok();
+        let reply = match self
+            .locked(rt)
+            .enter_message(&mut seat.share, message, index)
+        {
+            Ok(reply) => reply,
+            Err(refusal) => return Err(refusal),
+        };
+        note(&mut seat.receipts, reply, Entry::of_message(message));
+        Ok(reply)
     }
 
     /// Places an order. One that is accepted gives the seat a receipt. Refused, with book and seat unchanged: as
@@ -141,8 +165,24 @@ impl<L: Ledger> SharedBook<L> {
     ) -> Result<Reply, Refusal>
         ensures { IsSubmitted seat.old seat.new event result }
     {
-        // First the receipt's event and memory, then the book's call while the lock is held, then the receipt: once the
-        // book has taken the event nothing can fail. An answer that gives no receipt needs none of that memory.
+        match event {
+            Event::Message(message) => self.send(rt, alloc, seat, &message),
+            other => self.submit_other(rt, alloc, seat, other),
+        }
+    }
+
+    /// The same of an event that may want memory for its receipt.
+    fn submit_other(
+        &self,
+        rt: &impl Wait,
+        alloc: Global,
+        seat: &mut Seat<L>,
+        event: Event,
+    ) -> Result<Reply, Refusal>
+        ensures { IsSubmitted seat.old seat.new event result }
+    {
+        // As in `send`, with the receipt's entry too before the call. An answer that gives no receipt needs none of that
+        // memory.
         let Ok(copy) = copy_with_room(alloc, &mut seat.receipts, &event) else {
             let mut book = self.locked(rt);
             return book.answer_without_memory(&mut seat.share, &event);
@@ -158,33 +198,45 @@ impl<L: Ledger> SharedBook<L> {
     /// The book behind the lock. May wait.
     fn locked(&self, rt: &impl Wait) -> MutexGuard<'_, CountedBook<L>> {
         // Most calls are short, and to sleep and be woken takes long. A try takes the lock's cache line from the thread
-        // that holds it, so a yield, for which no other thread need wait, keeps the tries apart.
-        for _ in 0..TRIES {
+        // that holds it, so something must keep the tries apart: pauses at first, which are short, then yields, since the
+        // thread that holds the lock may wait for this one's processor.
+        for attempt in 0..TRIES {
             if let Some(book) = self.book.try_lock() {
                 return book;
             }
-            yield_now();
+            if attempt < QUICK_TRIES {
+                pause();
+            } else {
+                yield_now();
+            }
         }
         self.book.lock(rt)
     }
 }
 
-/// The event of a receipt, and room for one more behind the others.
+/// Waits for as short as a few pauses of the processor take.
+fn pause() {
+    for _ in 0..PAUSES {
+        spin_loop();
+    }
+}
+
+/// The entry of a receipt, and room for one more behind the others.
 fn copy_with_room(
     alloc: Global,
     receipts: &mut Vec<Receipt>,
     event: &Event,
-) -> Result<Event, AllocError>
+) -> Result<Entry, AllocError>
     ensures copy { IfOk result (λ copy. copy ≡ event.now) }
     ensures receipts { receipts.new.items ≡ receipts.old.items }
     ensures room { OnOk result (vec_len receipts.new < vec_capacity receipts.new) }
 {
     receipts.reserve(1)?;
-    event.copy(alloc)
+    Entry::of(alloc, event.copy(alloc)?)
 }
 
 /// Puts the receipt of an accepted event behind the others; any other answer gives none.
-fn note(receipts: &mut Vec<Receipt>, reply: Reply, event: Event)
+fn note(receipts: &mut Vec<Receipt>, reply: Reply, event: Entry)
     requires { vec_len receipts.old < vec_capacity receipts.old }
     ensures { receipts.new.items ≡ noted receipts.old.items event reply }
 {

@@ -27,6 +27,7 @@ impl Handler for TableChecker {
         alloc: Global,
         _state: &mut (),
         line: &[u8],
+        _more: bool,
         reply: &mut ReplyText,
     ) -> Result<Outcome, AllocError> {
         let answer = table_cost(alloc, line);

@@ -30,6 +30,7 @@ impl Responder for TableSolver {
         limit: &mut LineLimit,
         number: u64,
         line: &[u8],
+        _more: bool,
         reply: &mut ReplyText,
     ) -> Outcome {
         match push_solved(alloc, *limit, number, line, reply) {

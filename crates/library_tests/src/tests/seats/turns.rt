@@ -2,8 +2,7 @@
 
 use super::desks::Desk;
 use super::scenes::{Action, played};
-use commit_book::{Book, Call};
-use move_messages::Event;
+use commit_book::{Book, Call, Entry};
 use sessions::Seat;
 use std::alloc::Global;
 use std::sync::Wait;
@@ -24,10 +23,10 @@ fn entry_told(told: &str) -> Option<u64> {
     told.strip_prefix("accepted ")?.parse::<u64>().ok()
 }
 
-/// Whether an event is a line's.
-fn is_of(alloc: Global, event: &Event, line: Line<'_>) -> Result<bool, Fail> {
+/// Whether an entry's event is a line's.
+fn is_of(alloc: Global, entry: &Entry, line: Line<'_>) -> Result<bool, Fail> {
     match call(alloc, line)? {
-        Call::Event(its_event) => Ok(*event == its_event),
+        Call::Event(event) => Ok(entry.is_event(&event)),
         Call::Begin(_) => Ok(false),
     }
 }
@@ -89,11 +88,7 @@ fn has_entry(alloc: Global, book: &Book, line: Line<'_>, told: &str) -> Result<b
     let Some(number) = entry_told(told) else {
         return Ok(true);
     };
-    let entry = book.entry(number).ok_or("no entry")?;
-    match call(alloc, line)? {
-        Call::Event(event) => Ok(entry.is_event(&event)),
-        Call::Begin(_) => Ok(false),
-    }
+    is_of(alloc, book.entry(number).ok_or("no entry")?, line)
 }
 
 /// Whether a book has the events of all accepted calls of these turns, and no other entry.
