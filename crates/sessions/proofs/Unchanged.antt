@@ -26,14 +26,14 @@ use Rattle.sessions.proofs.SameTables.{columns}
 none_where_true : (b : Bool) (rest : Option Refusal) (refusal : Refusal) → b ≡ true → rest ≡ None → cond b rest (Some refusal) ≡ None
 none_where_true b rest refusal h k = rw h k
 
-pub no_wagon_changed : (office : Office) (at : ℕ) → IsNamedOnce office → (pairs : List Pair) (places : List (ℕ × ℕ)) → ArePlaced (problem_of office at) pairs places → wagon_changed (problem_of office at) office pairs ≡ None
+pub no_wagon_changed : (office : Office) (at : ℕ) → IsNamedOnce office → (pairs : List Pair) (indices : List (ℕ × ℕ)) → ArePlaced (problem_of office at) pairs indices → wagon_changed (problem_of office at) office pairs ≡ None
 no_wagon_changed office at once [] [] placed = refl
-no_wagon_changed office at once (pair ∷ pairs) (place ∷ places) placed =
+no_wagon_changed office at once (pair ∷ pairs) (index ∷ indices) placed =
     let problem = problem_of office at in
-    let wagon = wagon_there problem pair.0 place.0 placed.0.wagon in
-    let test = wagon_same office at once pair.0 place.0 wagon.0 wagon.1 wagon.2 in
-    none_where_true (is_same_free (wagon_of problem pair.0) (free_in office pair.0)) (wagon_changed problem office pairs) (WagonChanged pair.0) test (no_wagon_changed office at once pairs places placed.1)
-no_wagon_changed office at once [] (place ∷ places) placed = absurd placed
+    let wagon = wagon_there problem pair.0 index.0 placed.0.wagon in
+    let test = wagon_same office at once pair.0 index.0 wagon.0 wagon.1 wagon.2 in
+    none_where_true (is_same_free (wagon_of problem pair.0) (free_in office pair.0)) (wagon_changed problem office pairs) (WagonChanged pair.0) test (no_wagon_changed office at once pairs indices placed.1)
+no_wagon_changed office at once [] (index ∷ indices) placed = absurd placed
 no_wagon_changed office at once (pair ∷ pairs) [] placed = absurd placed
 
 -- ---- orders
@@ -47,22 +47,22 @@ index-map f [] i x h = cc
 index-map f (y ∷ xs) zero x h = let is : y ≡ x = cc in ap f is
 index-map f (y ∷ xs) (suc i) x h = index-map f xs i x h
 
-within_by : (net : NetworkValue) (office : Office) (at : ℕ) (t : Table) → IsNamedOnce office → IsTableOf net (problem_of office at) t → (all : List Pair) (all_places : List (ℕ × ℕ)) → ArePlaced (problem_of office at) all all_places
-    → ((j : ℕ) → j < order_count t → serves j all_places ≤ lack_at t j) → (pairs : List Pair) (places : List (ℕ × ℕ)) → ArePlaced (problem_of office at) pairs places → All (IsWithin office all) pairs
-within_by net office at t once is all all_places are_all lacks [] [] placed = All-nil (IsWithin office all)
-within_by net office at t once is all all_places are_all lacks (pair ∷ pairs) (place ∷ places) placed =
+within_by : (net : NetworkValue) (office : Office) (at : ℕ) (t : Table) → IsNamedOnce office → IsTableOf net (problem_of office at) t → (all : List Pair) (all_indices : List (ℕ × ℕ)) → ArePlaced (problem_of office at) all all_indices
+    → ((j : ℕ) → j < order_count t → serves j all_indices ≤ lack_at t j) → (pairs : List Pair) (indices : List (ℕ × ℕ)) → ArePlaced (problem_of office at) pairs indices → All (IsWithin office all) pairs
+within_by net office at t once is all all_indices are_all lacks [] [] placed = All-nil (IsWithin office all)
+within_by net office at t once is all all_indices are_all lacks (pair ∷ pairs) (index ∷ indices) placed =
     let problem = problem_of office at in
-    let order = order_there problem pair.1 place.1 placed.0.order in
-    let count = order_times problem all all_places are_all pair.1 place.1 placed.0.order in
-    let in_problem = slice_get_within problem.orders place.1 order.0 order.1 in
-    let j : place.1 < order_count t = omega (arith, in_problem, columns net problem t is) in
-    let bound = lacks place.1 j in
-    let column : lack_at t place.1 ≡ order.0.lack = ap (λ ls. slice_index ls place.1) is.lacks ∙ index-map (λ (o : WantedOrder). o.lack) problem.orders place.1 order.0 order.1 in
-    let lack = order_same office once pair.1 place.1 order.0 order.1 order.2 in
+    let order = order_there problem pair.1 index.1 placed.0.order in
+    let count = order_times problem all all_indices are_all pair.1 index.1 placed.0.order in
+    let in_problem = slice_get_within problem.orders index.1 order.0 order.1 in
+    let j : index.1 < order_count t = omega (arith, in_problem, columns net problem t is) in
+    let bound = lacks index.1 j in
+    let column : lack_at t index.1 ≡ order.0.lack = ap (λ ls. slice_index ls index.1) is.lacks ∙ index-map (λ (o : WantedOrder). o.lack) problem.orders index.1 order.0 order.1 in
+    let lack = order_same office once pair.1 index.1 order.0 order.1 order.2 in
     All-cons (IsWithin office all) pair pairs (omega (arith, count, bound, column, lack))
-    (within_by net office at t once is all all_places are_all lacks pairs places placed.1)
-within_by net office at t once is all all_places are_all lacks [] (place ∷ places) placed = absurd placed
-within_by net office at t once is all all_places are_all lacks (pair ∷ pairs) [] placed = absurd placed
+    (within_by net office at t once is all all_indices are_all lacks pairs indices placed.1)
+within_by net office at t once is all all_indices are_all lacks [] (index ∷ indices) placed = absurd placed
+within_by net office at t once is all all_indices are_all lacks (pair ∷ pairs) [] placed = absurd placed
 
 -- a pair counts among all of them beside those before it
 counts : (before pairs : List Pair) (pair : Pair) → times_of_order pair.1 before < times_of_order pair.1 (before ++ pair ∷ pairs)
@@ -85,6 +85,6 @@ no_order_in office before (pair ∷ pairs) all =
     none_where_true (nat_lt (times_of_order pair.1 before) (lack_in (order_in office.orders pair.1))) (order_changed office (before ++ pair ∷ []) pairs) (OrderChanged pair.1) (less_test _ _ less)
     (no_order_in office (before ++ pair ∷ []) pairs rest)
 
-pub no_order_changed : (net : NetworkValue) (office : Office) (at : ℕ) (t : Table) → IsNamedOnce office → IsTableOf net (problem_of office at) t → (pairs : List Pair) (places : List (ℕ × ℕ)) → ArePlaced (problem_of office at) pairs places
-    → ((j : ℕ) → j < order_count t → serves j places ≤ lack_at t j) → order_changed office [] pairs ≡ None
-no_order_changed net office at t once is pairs places placed lacks = no_order_in office [] pairs (within_by net office at t once is pairs places placed lacks pairs places placed)
+pub no_order_changed : (net : NetworkValue) (office : Office) (at : ℕ) (t : Table) → IsNamedOnce office → IsTableOf net (problem_of office at) t → (pairs : List Pair) (indices : List (ℕ × ℕ)) → ArePlaced (problem_of office at) pairs indices
+    → ((j : ℕ) → j < order_count t → serves j indices ≤ lack_at t j) → order_changed office [] pairs ≡ None
+no_order_changed net office at t once is pairs indices placed lacks = no_order_in office [] pairs (within_by net office at t once is pairs indices placed lacks pairs indices placed)

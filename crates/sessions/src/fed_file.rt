@@ -3,9 +3,9 @@ ghost use Rattle.std.specs.Prelude.{◌≡◌, false};
 ghost use Rattle.sessions.specs.Seat.{count_of};
 ghost use Rattle.sessions.specs.inner.Fed.{IsFedFile, stop_number};
 
-use crate::feed_lines::{FeedLines, FileLines, FileSeat, NoReplies};
+use crate::feed_lines::{FeedLines, FileLines, FileSeat};
 use crate::{Seat, SharedBook};
-use line_engine::{LineLimit, RunCount, RunFault, Source, run_lines};
+use line_engine::{LineLimit, NoReplies, RunCount, RunFault, Source, run_lines};
 use line_network::Networks;
 use std::alloc::Global;
 use std::collections::VecDeque;

@@ -1,12 +1,12 @@
 //! What a file's lines do at the file's seat.
-ghost use Rattle.std.specs.Prelude.{◌≡◌, [], IfSome, None, Ok, Some, false};
+ghost use Rattle.std.specs.Prelude.{◌≡◌, [], IfSome, Ok};
 ghost use Rattle.line_fields.specs.declared.command.Command.TheVariants as command;
 ghost use Rattle.sessions.specs.FedLines.{IsPlannedIn, IsPlansCommit, IsSubmitted, IsTakenIn, counted_by, is_refused, is_repeated};
 ghost use Rattle.sessions.specs.inner.FeedLines.{Adds, AreEventsFed, IsLineBrought, IsFedBehind, IsReadBrought, IsReadFed};
 
 use crate::{Seat, SharedBook, work};
 use commit_book::{Refusal, Reply, Snap};
-use line_engine::{DeviceFailed, Handler, Outcome, ReplyText, Sink};
+use line_engine::{Handler, Outcome, ReplyText};
 use line_fields::{Command, read_line};
 use line_network::Networks;
 use move_messages::{CommitText, Event};
@@ -218,23 +218,5 @@ impl<'a, W: Wait, L: Ledger> Handler for FeedLines<'a, W, L> {
     ) -> Result<Outcome, AllocError> {
         self.bring_line(alloc, lines, line, more);
         Ok(Outcome::Answered)
-    }
-}
-
-/// Where replies go that nobody reads.
-#[derive(Drop)]
-pub(crate) struct NoReplies;
-
-impl Sink for NoReplies {
-    ghost contents = { λ _. None };
-
-    ghost has_failed = { λ _. false };
-
-    fn write(&mut self, piece: &[u8]) -> Result<usize, DeviceFailed> {
-        Ok(piece.len())
-    }
-
-    fn failed(&self) -> bool {
-        false
     }
 }
