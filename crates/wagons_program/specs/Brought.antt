@@ -3,12 +3,12 @@ use Rattle.std.specs.Prelude.{◌≡◌, ℕ, List, Option}
 use Rattle.command_line.specs.declared.office_options.OfficeOptions.{OfficeOptions}
 use Rattle.commit_book.specs.Books.{BookValue}
 use Rattle.line_engine.specs.Lines.{max_line_bytes}
-use Rattle.line_engine.specs.Replies.{Numbered, Replying}
+use Rattle.line_engine.specs.Replies.{Replying}
 use Rattle.line_engine.specs.Runs.{Failures, Run, RunEnds, RunStops}
 use Rattle.line_engine.specs.declared.run.RunCount.{RunCount}
 use Rattle.line_engine.specs.declared.run.RunFault.{RunFault}
 use Rattle.line_network.specs.Network.{NetworkValue}
-use Rattle.office.specs.CommandReplies.{RepliesToLine, LineRunsOutOfMemory}
+use Rattle.office.specs.CommandReplies.{ToCommands}
 use Rattle.office_files.specs.FirstBook.{IsFirstBookFor}
 use Rattle.office_files.specs.declared.stop.Stop.{Stop}
 use Rattle.office_files.specs.declared.stop.Stop.TheVariants as stop
@@ -52,10 +52,6 @@ pub record AreStopped {H : Type 0} (replying : Replying H) (lines : Lines H) (wh
   pub fault : RunFault
   pub stops : RunStops replying (run_of lines left holds) failed fault
   pub why_is : why ≡ stop.Run fault
-
--- the replies to command lines
-abbrev pub ToCommands : Replying BookValue
-ToCommands = Numbered RepliesToLine LineRunsOutOfMemory
 
 -- the command lines of an input were brought to the first book for these options, and this is the status
 abbrev pub IsInputBrought : OfficeOptions → (input : Option (List ℕ)) → (status : ℕ) → Type 0

@@ -1,7 +1,8 @@
 //! An office that is opened, and the command lines of an input brought to it.
 ghost use Rattle.std.specs.Prelude.{◌≡◌, IfErr, IfOk};
 ghost use Rattle.line_engine.specs.Lines.{max_line_bytes};
-ghost use Rattle.wagons_program.specs.Brought.{AreAnswered, AreStopped, IsBroughtTo, ToCommands, lines_over};
+ghost use Rattle.office.specs.CommandReplies.{ToCommands};
+ghost use Rattle.wagons_program.specs.Brought.{AreAnswered, AreStopped, IsBroughtTo, lines_over};
 
 use crate::status::status_of_run;
 use command_line::OfficeOptions;

@@ -1,5 +1,5 @@
 use Rattle.std.proofs.Common.{ap}
-use Rattle.wagons_program.specs.Brought.{ToCommands}
+use Rattle.office.specs.CommandReplies.{ToCommands}
 use Rattle.wagons_program.proofs.Outcomes.{are_answered, are_stopped, status_of_ended, why_of_stopped}
 use Rattle.wagons_program.proofs.bringing.bring_lines.Goals as goal
 
