@@ -2,11 +2,9 @@
 use Rattle.std.proofs.Common.{◌≡◌, ◌∙◌, ℕ, zero, suc, ◌+◌, Bool, true, false, cond, List, [], ◌∷◌, ◌++◌, length, Option, Some, None, refl, sym, ap, arith, position, true≢false}
 use Rattle.std.specs.Prelude.{◌&&◌, IfNone, IfSome, nat_eq, slice_get}
 use Rattle.std.specs.BTreeMap.{BTreeMap, get}
-use Rattle.std.specs.Cmp.Lexicographic.{pointwise, bytes_decides, slice_cmp, texts_ties}
+use Rattle.std.specs.Cmp.Lexicographic.{pointwise, bytes_decides}
 use Rattle.std.specs.List.{position_from}
-use Rattle.std.specs.Ordering.{is_eq, nat_cmp, ordering_then}
-use Rattle.std.specs.declared.cmp.Ordering.{Ordering}
-use Rattle.std.specs.declared.cmp.Ordering.TheVariants.{Less, Equal, Greater}
+use Rattle.std.specs.Ordering.{is_eq}
 use Rattle.std.proofs.lemmas.Bool.Decides.{nat_tests}
 use Rattle.std.proofs.lemmas.Iterator.Adapters.{position_from-zero}
 use Rattle.rail_codes.specs.declared.message_id.MessageId.{MessageId}
@@ -15,6 +13,7 @@ use Rattle.fleet_rows.proofs.Named.{position-new, position-push}
 use Rattle.move_messages.specs.declared.event.Event.{Event}
 use Rattle.move_messages.specs.declared.event.Event.TheVariants.{Message, Place, Withdraw, Commit, Revise}
 use Rattle.commit_book.specs.History.{IsFresh}
+use Rattle.commit_book.specs.inner.IdKey.{ids_tie}
 use Rattle.commit_book.specs.inner.Ledger.{HasNoted, IsIndexOf, IsMessageAt, IsNoMessage, compare_ids, is_id, is_message_of}
 
 -- ---- ids compared
@@ -46,17 +45,8 @@ by_test : (b : Bool) → (b ≡ true → ⊥) → b ≡ false
 by_test true h = absurd (h refl)
 by_test false h = refl
 
--- ids that compare equal are one
-equal_first : (o q : Ordering) → is_eq (ordering_then o q) ≡ (is_eq o && is_eq q)
-equal_first Less q = refl
-equal_first Equal q = refl
-equal_first Greater q = refl
-
-nat_ties : (a b : ℕ) → is_eq (nat_cmp a b) ≡ nat_eq a b
-nat_ties a b = grind (arith, nat_tests)
-
 pub id_ties : (a b : MessageId) → is_eq (compare_ids a b) ≡ is_id a b
-id_ties a b = equal_first (slice_cmp nat_cmp a.company b.company) (nat_cmp a.number b.number) ∙ (ap (λ t. t && is_eq (nat_cmp a.number b.number)) (sym (texts_ties a.company b.company)) ∙ ap (λ t. pointwise nat_eq a.company b.company && t) (nat_ties a.number b.number))
+id_ties a b = sym (ids_tie a b)
 
 -- ---- the index of a message
 

@@ -5,6 +5,7 @@ pub mod CommitLaws
 pub mod CommitWalks
 pub mod Histories
 pub mod Ids
+pub mod IdKeys
 pub mod Judging
 pub mod Placed
 pub mod Replays

@@ -2,6 +2,7 @@
 pub mod Ascending
 pub mod CommitTests
 pub mod Entered
+pub mod IdKey
 pub mod Kept
 pub mod Ledger
 pub mod KeptEvent

@@ -10,6 +10,7 @@ ghost use Rattle.std.specs.Ordering.{is_eq};
 ghost use Rattle.rail_codes.specs.declared.message_id.MessageId.{MessageId};
 
 use crate::entry::{Entry, boxed};
+use crate::id_key::IdKey;
 use move_messages::{Event, Message};
 use operating_db::{ApplyFault, MessageChange, OfficeState};
 use rail_codes::MessageId;
@@ -43,7 +44,7 @@ pub(crate) struct Ledger {
     events: Vec<Entry>,
     // The index of each message among the events, by its id. Senders choose the ids, so the map is an ordered one: a
     // look-up in it is short for all ids.
-    ids: BTreeMap<MessageId, usize>,
+    ids: BTreeMap<IdKey, usize>,
     state: OfficeState,
 }
 
@@ -123,7 +124,7 @@ impl Ledger {
             Err(fault) => return Err(fault),
         };
         if let Err(_) = self.state.accept_change(message, &found) {
-            self.ids.remove(&message.id);
+            self.ids.remove(&IdKey::of(message.id));
             return Err(ApplyFault::OutOfMemory);
         }
         self.events.push_reserved(Entry::of_message(message));
@@ -182,7 +183,7 @@ fn make_room(state: &OfficeState, events: &mut Vec<Entry>, event: &Event) -> Res
 /// for: map and list stay as they were. Where memory is refused, nothing is noted.
 fn admit(
     state: &OfficeState,
-    ids: &mut BTreeMap<MessageId, usize>,
+    ids: &mut BTreeMap<IdKey, usize>,
     events: &mut Vec<Entry>,
     message: &Message,
     index: Option<usize>,
@@ -202,7 +203,7 @@ fn admit(
             };
         }
     };
-    match note(ids, events, message.id) {
+    match note(ids, events, &message.id) {
         Ok(None) => Ok(Admission::Noted(found)),
         Ok(Some(known)) => Ok(Admission::Known(known)),
         Err(_) => Err(ApplyFault::OutOfMemory),
@@ -210,42 +211,42 @@ fn admit(
 }
 
 /// The index that is noted for an id.
-fn index_of(ids: &BTreeMap<MessageId, usize>, id: MessageId) -> Option<usize>
+fn index_of(ids: &BTreeMap<IdKey, usize>, id: MessageId) -> Option<usize>
     ensures { result ≡ get compare_ids ids.now id }
 {
-    ids.get(&id).copied()
+    ids.get(&IdKey::of(id)).copied()
 }
 
 /// Notes the index behind the events by the id of a message, and makes room for the message there; or, where an event
 /// is a message of this id, gives its index and notes nothing. Where memory is refused, no event is, and nothing is
 /// noted. In the common case, a new id, the map is searched once.
 fn note(
-    ids: &mut BTreeMap<MessageId, usize>,
+    ids: &mut BTreeMap<IdKey, usize>,
     events: &mut Vec<Entry>,
-    id: MessageId,
+    id: &MessageId,
 ) -> Result<Option<usize>, AllocError>
     requires { IsIndexOf events.old.items (get compare_ids ids.old) }
-    ensures noted { IsNoted events.old.items id result (get compare_ids ids.new) }
+    ensures noted { IsNoted events.old.items id.now result (get compare_ids ids.new) }
     ensures events { events.new.items ≡ events.old.items }
     ensures room { IfOk result (λ known. IfNone known (vec_len events.new < vec_capacity events.new)) }
 {
-    if let Some(index) = ids.insert(id, events.len())? {
+    if let Some(index) = ids.insert(IdKey::of(*id), events.len())? {
         note_again(ids, id, index);
         return Ok(Some(index));
     }
     if events.reserve(1).is_err() {
-        ids.remove(&id);
+        ids.remove(&IdKey::of(*id));
         return Err(AllocError);
     }
     Ok(None)
 }
 
 /// Notes another index for an id that is noted. Takes no memory.
-fn note_again(ids: &mut BTreeMap<MessageId, usize>, id: MessageId, index: usize)
-    requires { IsSome (get compare_ids ids.old id) }
-    ensures { (other : MessageId) → get compare_ids ids.new other ≡ cond (is_eq (compare_ids id other)) (Some index) (get compare_ids ids.old other) }
+fn note_again(ids: &mut BTreeMap<IdKey, usize>, id: &MessageId, index: usize)
+    requires { IsSome (get compare_ids ids.old id.now) }
+    ensures { (other : MessageId) → get compare_ids ids.new other ≡ cond (is_eq (compare_ids id.now other)) (Some index) (get compare_ids ids.old other) }
 {
-    if let Some(noted) = ids.get_mut(&id) {
+    if let Some(noted) = ids.get_mut(&IdKey::of(*id)) {
         *noted = index;
     }
 }

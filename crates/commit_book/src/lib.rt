@@ -9,6 +9,7 @@ mod call;
 mod call_runs;
 mod commits;
 mod entry;
+mod id_key;
 mod kept_problems;
 mod laws;
 mod ledger;

@@ -11,7 +11,7 @@ pub invariant_of-self-in-Err-accept_change : goal.invariant_of-self-in-Err-accep
 invariant_of-self-in-Err-accept_change c =
     let noted = (rw c.in-Ok-Noted.field-0-is at c.in-Ok-Noted.ensures.admitted).2 in
     rw (c.in-Err-accept_change.ensures.unchanged, c.in-Ok-Noted.ensures.events) (record {
-      indexed = index_unnoted c.self.inside.events.items c.args.message.now (get compare_ids c.admit.new.ids) (get compare_ids c.remove.new.self) noted (λ q. c.remove.ensures.updates.0 q);
+      indexed = index_unnoted c.self.inside.events.items c.args.message.now (get compare_ids c.admit.new.ids) (get compare_ids c.remove.new.self) noted (λ q. rw c.of.ensures at (c.remove.ensures.updates.0 q));
       counted = c.self.invariant.counted;
       replayed = c.self.invariant.replayed;
     })
