@@ -3,6 +3,7 @@ ghost use Rattle.std.specs.Prelude.{◌≡◌, Some, refl};
 ghost use Rattle.std.specs.Cmp.Rules.{comparing};
 ghost use Rattle.std.proofs.Common.{rules};
 ghost use Rattle.std.specs.Cmp.{po};
+ghost use Rattle.std.specs.Ordering.{nat_cmp};
 ghost use Rattle.commit_book.specs.inner.IdKey.{ids_ordered, ids_tie};
 ghost use Rattle.commit_book.specs.inner.Ledger.{compare_ids, is_id};
 
@@ -78,6 +79,20 @@ impl Ord for IdKey {
     ghost matches_eq = { ids_tie };
 
     fn cmp(&self, other: &Self) -> Ordering {
-        self.number.cmp(&other.number)
+        order_of(self.number, other.number)
+    }
+}
+
+/// How two numbers are ordered. What a search asks first, whether one is greater, is tested first, and so compiles to one
+/// comparison.
+fn order_of(one: u64, other: u64) -> Ordering
+    ensures { result ≡ nat_cmp one other }
+{
+    if one > other {
+        Ordering::Greater
+    } else if one == other {
+        Ordering::Equal
+    } else {
+        Ordering::Less
     }
 }
