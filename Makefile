@@ -9,7 +9,8 @@ SHELL := /bin/bash
 PREFIX ?= /usr/local
 # What proves and builds a program; the test of this file puts another command in its place.
 PROVE ?= tools/prove
-WAGONS = out/wagons
+# (A user's WAGONS names another program: make would hand one of its own on in its place.)
+BUILT = out/wagons
 # What `wagons` is made from: sources with their folders, and out/wagons.with, which has the kit's line and the program's
 # own lines of crates.txt.
 SOURCES := $(shell tools/sources wagons)
@@ -17,19 +18,19 @@ SOURCES := $(shell tools/sources wagons)
 # Shows the program at work: the proved one where it is built; else first a build with nothing proved, and then it is
 # proved and built.
 run:
-	@if $(MAKE) -q $(WAGONS); then tools/play; else tools/play --unproved && $(MAKE) --no-print-directory prove; fi
+	@if $(MAKE) -q $(BUILT); then tools/play; else tools/play --unproved && $(MAKE) --no-print-directory prove; fi
 
 # Shows the program at work through a build with nothing proved, in one to three minutes, and leaves nothing behind.
 demo:
 	@tools/play --unproved
 
 # Proves all that the program stands on and builds it, where that has changed. Interrupted, it goes on where it was.
-prove: $(WAGONS)
-	@echo "the proved program: $(CURDIR)/$(WAGONS)"
+prove: $(BUILT)
+	@echo "the proved program: $(CURDIR)/$(BUILT)"
 
 build: prove
 
-$(WAGONS): $(SOURCES)
+$(BUILT): $(SOURCES)
 	@$(PROVE) wagons
 
 # Compares the manual of refusals with what `wagons explain` must print; tries what this file says of sources, the completion
@@ -45,9 +46,9 @@ test:
 	@mkdir -p out && touch out/tested
 	@echo "== rt ci: every proof from nothing (bench/README.md has its time)"
 	@rt ci | tee out/test.log
-	@cp crates/wagons/out/wagons $(WAGONS).new && touch -r out/tested $(WAGONS).new && mv $(WAGONS).new $(WAGONS)
-	@tools/try_replies $(WAGONS)
-	@tools/scripts $(WAGONS)
+	@cp crates/wagons/out/wagons $(BUILT).new && touch -r out/tested $(BUILT).new && mv $(BUILT).new $(BUILT)
+	@tools/try_replies $(BUILT)
+	@tools/scripts $(BUILT)
 	@examples/try
 	@service/tests/run
 	@tail -n 1 out/test.log
@@ -105,8 +106,8 @@ LIB = $(DESTDIR)$(PREFIX)/lib/wagons-service
 
 # The program, its manual page, its other pages with the examples that they use, completions for bash, zsh and fish, and
 # the service, under PREFIX.
-install: $(WAGONS)
-	install -D -m 755 $(WAGONS) $(DESTDIR)$(PREFIX)/bin/wagons
+install: $(BUILT)
+	install -D -m 755 $(BUILT) $(DESTDIR)$(PREFIX)/bin/wagons
 	install -D -m 644 docs/wagons.1 $(SHARE)/man/man1/wagons.1
 	install -D -m 644 -t $(SHARE)/doc/wagons README.md CHANGELOG.md
 	install -D -m 644 -t $(SHARE)/doc/wagons/docs docs/*.md docs/day.svg docs/fleet.svg docs/page.png
