@@ -37,12 +37,23 @@ use std::sync::Arc;
 /// A history of events from an office on, which is legal whatever is called; the office after it; and the problems that
 /// commits may name. Each `Book` method is one step of such a run, so any `Book` value has a history for which the
 /// headline holds. A contract sees what the book was given, its history, and which problems it keeps.
-#[derive(Drop)]
 pub struct Book {
     ledger: Ledger,
     networks: Arc<Networks>,
     limits: Limits,
     kept: Vec<KeptProblem>,
+}
+
+// Written out, it is proved here once; a derived one, in each crate that drops a value.
+impl Drop for Book {
+    fn drop(self) {
+        let Book {
+            ledger: _,
+            networks: _,
+            limits: _,
+            kept: _,
+        } = self;
+    }
 }
 
 impl Model for Book {

@@ -1,5 +1,5 @@
 -- Rows that stand in two blocks.
-use Rattle.std.proofs.Common.{◌≡◌, ◌∙◌, ◌+◌, ◌<◌, ◌≤◌, ℕ, List, [], ◌∷◌, ◌++◌, length, get_or, take, map, refl, sym, ap, arith, append-nil, append_assoc}
+use Rattle.std.proofs.Common.{◌≡◌, ◌∙◌, ◌+◌, ◌<◌, ◌≤◌, ℕ, List, [], ◌∷◌, ◌++◌, length, get_or, take, map, replicate, zero, suc, refl, sym, ap, arith, append-nil, append_assoc}
 use Rattle.std.specs.Prelude.{All}
 use Rattle.std.proofs.lemmas.List.{get_or_append_left, get_or_push, get_or-map, length-append, length-map, take_more, map-append}
 use Rattle.std.proofs.lemmas.List.Elements.{All-head, All-push, All-tail, All-weaker}
@@ -53,3 +53,11 @@ block_more block indices k l h =
     rows_taken block [] indices k
     ∙ (ap (λ rows. rows ++ row_among block [] k ∷ []) h
     ∙ (ap (λ row. take k block ++ row ∷ []) (ap (λ rows. get_or rows k []) (append-nil block)) ∙ sym (take_more block k [] l)))
+
+-- ---- one empty row, and no other
+
+pub rows_empty : (shared : List (List (ℕ × ℕ))) (n : ℕ) → shared ≡ [] ∷ [] → rows_among shared [] (replicate n 0) ≡ replicate n []
+rows_empty shared zero is = refl
+rows_empty shared (suc n) is =
+    let first : row_among shared [] 0 ≡ [] = rw is refl in
+    ap (λ rows. row_among shared [] 0 ∷ rows) (rows_empty shared n is) ∙ ap (λ row. row ∷ replicate n []) first

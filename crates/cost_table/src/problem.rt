@@ -19,11 +19,22 @@ use wagons_and_orders::{FreeWagon, Wanted};
 
 /// Free wagons and waiting orders at a moment: at most 1,000 wagons, 500 orders, and 500 lacking wagons in all;
 /// no wagon and no order is listed twice. A contract sees the moment and the two lists, which copies share.
-#[derive(Debug, Drop)]
+#[derive(Debug)]
 pub struct Problem {
     at: Moment,
     wagons: Arc<Vec<FreeWagon>>,
     orders: Arc<Vec<Wanted>>,
+}
+
+// Written out, it is proved here once; a derived one, in each crate that drops a value.
+impl Drop for Problem {
+    fn drop(self) {
+        let Problem {
+            at: _,
+            wagons: _,
+            orders: _,
+        } = self;
+    }
 }
 
 impl Model for Problem {

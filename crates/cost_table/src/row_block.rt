@@ -6,10 +6,20 @@ use std::alloc::{AllocError, Global};
 use std::marker::Model;
 
 /// Rows that lie one after another in one list, and where each ends. A contract sees the list of rows.
-#[derive(Debug, Drop)]
+#[derive(Debug)]
 pub struct RowBlock {
     entries: Vec<(u32, u32)>,
     ends: Vec<usize>,
+}
+
+// Written out, it is proved here once; a derived one, in each crate that drops a value.
+impl Drop for RowBlock {
+    fn drop(self) {
+        let RowBlock {
+            entries: _,
+            ends: _,
+        } = self;
+    }
 }
 
 impl Model for RowBlock {

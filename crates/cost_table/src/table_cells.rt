@@ -18,11 +18,22 @@ use std::marker::Model;
 /// The table of a distribution: per wagon the orders that it may serve with their costs, per order the penalty of
 /// a missed wagon and how many wagons it lacks. Costs and penalties are in kilometres, each at most 1,000,000,000;
 /// each lack is 1 to 20; at most 1,000 wagons, 500 orders, and 500 lacking wagons in all.
-#[derive(Debug, Drop)]
+#[derive(Debug)]
 pub struct Cells {
     rows: TableRows,
     penalties: Vec<u64>,
     lacks: Vec<u32>,
+}
+
+// Written out, it is proved here once; a derived one, in each crate that drops a value.
+impl Drop for Cells {
+    fn drop(self) {
+        let Cells {
+            rows: _,
+            penalties: _,
+            lacks: _,
+        } = self;
+    }
 }
 
 impl Model for Cells {

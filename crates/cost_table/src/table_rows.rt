@@ -1,5 +1,5 @@
 //! The rows of a table, some of which it may share with other tables.
-ghost use Rattle.std.specs.Prelude.{◌≡◌, ◌+◌, ◌<◌, [], IfOk, IsTrue, OnErr, OnOk, length, slice_index_or};
+ghost use Rattle.std.specs.Prelude.{◌≡◌, ◌+◌, ◌<◌, [], IfOk, IsTrue, OnErr, OnOk, length, replicate, slice_index_or};
 ghost use Rattle.cost_table.specs.SharedRows.{HasIndices, AreIndices, HasRowMore, HasSameRows, are_scattered, row_among, rows_among, rows_in};
 
 use crate::row_block::RowBlock;
@@ -26,6 +26,20 @@ impl TableRows {
             shared: Arc::new(alloc, block)?,
             own: RowBlock::new(alloc),
             indices,
+        })
+    }
+
+    /// So many rows without a cell: they are one.
+    pub fn all_empty(alloc: Global, count: usize) -> Result<TableRows, AllocError>
+        ensures rows { IfOk result (λ rows. rows_in rows ≡ replicate count []) }
+        ensures indexed { IfOk result HasIndices }
+    {
+        let mut block = RowBlock::new(alloc);
+        block.push(&[])?;
+        Ok(TableRows {
+            shared: Arc::new(alloc, block)?,
+            own: RowBlock::new(alloc),
+            indices: Vec::from_elem(alloc, 0, count)?,
         })
     }
 

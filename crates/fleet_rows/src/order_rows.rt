@@ -17,7 +17,7 @@ use wagons_and_orders::OrderRow;
 
 /// What an office knows of its orders, in the order in which they were placed. No two have one
 /// name, and the open ones want at most 500 wagons in all. A contract sees the rows.
-#[derive(Debug, Drop)]
+#[derive(Debug)]
 pub struct OrderRows {
     rows: Vec<OrderRow>,
     // The index of each row by the name of its order. Customers choose the names, so the map is an
@@ -29,6 +29,18 @@ pub struct OrderRows {
     // open orders may want; the room for them is there before the first row, so that an order that waits again wants
     // no memory.
     waiting: Vec<usize>,
+}
+
+// Written out, it is proved here once; a derived one, in each crate that drops a value.
+impl Drop for OrderRows {
+    fn drop(self) {
+        let OrderRows {
+            rows: _,
+            indexes: _,
+            open_wagons: _,
+            waiting: _,
+        } = self;
+    }
 }
 
 impl Model for OrderRows {

@@ -17,12 +17,19 @@ use wagons_and_orders::WagonRow;
 
 /// What an office knows of its wagons: at most 1,000 rows, ascending by number. No wagon comes or
 /// goes. A contract sees the rows.
-#[derive(Debug, Drop)]
+#[derive(Debug)]
 pub struct WagonRows {
     rows: Vec<WagonRow>,
     // Where the empty wagons stand that aren't held, by place, then by class, then by number. Whether one of them is
     // promised is asked of its row, so that the end of a promise wants no memory.
     empty: BTreeSet<Standing>,
+}
+
+// Written out, it is proved here once; a derived one, in each crate that drops a value.
+impl Drop for WagonRows {
+    fn drop(self) {
+        let WagonRows { rows: _, empty: _ } = self;
+    }
 }
 
 impl Model for WagonRows {

@@ -9,11 +9,20 @@ use rail_codes::Place;
 use std::marker::Model;
 
 /// The distances between the places of a network, which is kept with them. A contract sees the network.
-#[derive(Drop)]
 pub struct Tables {
     pub(crate) network: Network,
     // by the number of the place where a walk begins, then by that of the place where it ends
     pub(crate) rows: Vec<Vec<Length>>,
+}
+
+// Written out, it is proved here once; a derived one, in each crate that drops a value.
+impl Drop for Tables {
+    fn drop(self) {
+        let Tables {
+            network: _,
+            rows: _,
+        } = self;
+    }
 }
 
 impl Model for Tables {

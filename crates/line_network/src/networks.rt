@@ -12,9 +12,15 @@ pub const MAX_NETWORKS: u32 = 8;
 
 /// The networks that a book may run on, 1 to 8, each with its distances and numbered from 1. A contract sees
 /// the list of the networks.
-#[derive(Drop)]
 pub struct Networks {
     tables: Vec<Tables>,
+}
+
+// Written out, it is proved here once; a derived one, in each crate that drops a value.
+impl Drop for Networks {
+    fn drop(self) {
+        let Networks { tables: _ } = self;
+    }
 }
 
 impl Model for Networks {

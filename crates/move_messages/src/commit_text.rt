@@ -10,9 +10,16 @@ use std::alloc::{AllocError, Global};
 use std::marker::Model;
 
 /// Which wagon goes to which order. A contract sees the list of the pairs.
-#[derive(Debug, Drop)]
+#[derive(Debug)]
 pub struct Pairs {
     items: Vec<(WagonNumber, OrderId)>,
+}
+
+// Written out, it is proved here once; a derived one, in each crate that drops a value.
+impl Drop for Pairs {
+    fn drop(self) {
+        let Pairs { items: _ } = self;
+    }
 }
 
 impl Model for Pairs {
@@ -70,9 +77,16 @@ impl Eq for Pairs {
 }
 
 /// Dual prices in km, one after the other. A contract sees the list of the numbers.
-#[derive(Debug, Drop)]
+#[derive(Debug)]
 pub struct PriceList {
     prices: Vec<u64>,
+}
+
+// Written out, it is proved here once; a derived one, in each crate that drops a value.
+impl Drop for PriceList {
+    fn drop(self) {
+        let PriceList { prices: _ } = self;
+    }
 }
 
 impl Model for PriceList {

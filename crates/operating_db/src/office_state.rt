@@ -37,12 +37,24 @@ use wagons_and_orders::{OrderRow, WagonRow, free, step};
 /// the order has it among its promised wagons; no two orders have one name; and each order has every promised wagon
 /// once, together with those that filled it at most as many as it wants. A contract sees the office of the definitions,
 /// and how many networks there are.
-#[derive(Debug, Drop)]
+#[derive(Debug)]
 pub struct OfficeState {
     wagons: WagonRows,
     orders: OrderRows,
     network: u32,
     networks: u32,
+}
+
+// Written out, it is proved here once; a derived one, in each crate that drops a value.
+impl Drop for OfficeState {
+    fn drop(self) {
+        let OfficeState {
+            wagons: _,
+            orders: _,
+            network: _,
+            networks: _,
+        } = self;
+    }
 }
 
 impl Model for OfficeState {

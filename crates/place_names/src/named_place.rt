@@ -15,7 +15,7 @@ use std::marker::Model;
 use std::str;
 
 /// A place with its name and where it lies.
-#[derive(Debug, Drop)]
+#[derive(Debug)]
 pub struct NamedPlace {
     /// The place.
     pub place: Place,
@@ -23,6 +23,17 @@ pub struct NamedPlace {
     pub name: PlaceName,
     /// Where it lies, if that is said.
     pub coordinates: Option<Coordinates>,
+}
+
+// Written out, it is proved here once; a derived one, in each crate that drops a value.
+impl Drop for NamedPlace {
+    fn drop(self) {
+        let NamedPlace {
+            place: _,
+            name: _,
+            coordinates: _,
+        } = self;
+    }
 }
 
 /// Where a place lies, in whatever unit its file has.

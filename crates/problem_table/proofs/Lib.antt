@@ -7,3 +7,4 @@ pub mod Made
 pub mod MakingLemmas
 pub mod MovedLemmas
 pub mod MovedSteps
+pub mod UnwantedLemmas

@@ -10,30 +10,31 @@ use wagons_and_orders::FreeWagon;
 /// How many wagons are remembered.
 const SLOTS: usize = 2_048;
 
-/// Wagons that were seen. They are hints, on which nothing rests: what is remembered is looked at before it is used.
+/// Wagons that were seen, of a table's at most 1,000. They are hints, on which nothing rests: what is remembered is looked
+/// at before it is used.
 #[derive(Drop)]
 pub(crate) struct Seen {
-    wagons: Vec<usize>,
+    wagons: Vec<u16>,
 }
 
 impl Seen {
     /// None.
     pub(crate) fn none(alloc: Global) -> Result<Seen, AllocError> {
         Ok(Seen {
-            wagons: Vec::from_elem(alloc, usize::MAX, SLOTS)?,
+            wagons: Vec::from_elem(alloc, u16::MAX, SLOTS)?,
         })
     }
 
     /// The wagon that was noted last under a number, or one under which another was.
     pub(crate) fn at(&self, number: usize) -> usize {
         let wagon = self.wagons.get(number % SLOTS);
-        wagon.copied().unwrap_or(usize::MAX)
+        usize::from(wagon.copied().unwrap_or(u16::MAX))
     }
 
     /// Notes a wagon under a number.
     pub(crate) fn note(&mut self, number: usize, wagon: usize) {
         if let Some(at) = self.wagons.get_mut(number % SLOTS) {
-            *at = wagon;
+            *at = u16::try_from(wagon).unwrap_or(u16::MAX);
         }
     }
 }

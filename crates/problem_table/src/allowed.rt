@@ -12,6 +12,7 @@ ghost use Rattle.cost_table.specs.TableLimits.{max_cost};
 use crate::goals::Goal;
 use crate::lasting::{TimedCells, timed_table};
 use crate::making::{Making, make};
+use crate::unwanted::unwanted_rows;
 use cost_table::{Cells, Problem, TableRows};
 use line_network::Tables;
 use rail_codes::Moment;
@@ -52,6 +53,9 @@ fn rows(
     ensures indexed { IfOk result (λ r. HasIndices r.0) }
     ensures rows { IfOk result (λ r. AreLastingRows tables.now problem.now.at problem.now.wagons problem.now.orders (rows_in r.0) r.1.items) }
 {
+    if problem.orders().is_empty() {
+        return unwanted_rows(alloc, problem, tables);
+    }
     let wagons = problem.wagons();
     let rows = TableRows::empty(alloc, wagons.len())?;
     let mut making = Making::beginning(alloc, rows, wagons.len())?;

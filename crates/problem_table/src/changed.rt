@@ -16,6 +16,7 @@ use crate::goals::{ClassGoals, Goal, class_position};
 use crate::lasting::{TimedCells, timed_table};
 use crate::making::{Making, make, repeat};
 use crate::moved::{Moved, have_same_texts, move_cells};
+use crate::unwanted::unwanted_rows;
 use cost_table::{Problem, TableRows};
 use line_network::Tables;
 use rail_codes::{Moment, WagonNumber};
@@ -55,6 +56,9 @@ fn rows_after(
     ensures indexed { IfOk result (λ r. HasIndices r.0) }
     ensures rows { IfOk result (λ r. AreLastingRows tables.now problem.now.at problem.now.wagons problem.now.orders (rows_in r.0) r.1.items) }
 {
+    if problem.orders().is_empty() {
+        return unwanted_rows(alloc, problem, tables);
+    }
     let rows = made.cells.rows();
     if may_share(rows, earlier, problem) {
         return shared_rows(alloc, problem, tables, earlier, rows, &made.lasts);

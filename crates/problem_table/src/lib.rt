@@ -8,6 +8,7 @@ mod goals;
 mod lasting;
 mod making;
 mod moved;
+mod unwanted;
 
 pub use allowed::{cells, timed_cells};
 pub use changed::changed_cells;
