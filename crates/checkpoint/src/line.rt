@@ -7,7 +7,7 @@ use std::marker::Model;
 use wagons_and_orders::WagonRow;
 
 /// A line of a checkpoint.
-#[derive(Debug, Drop)]
+#[derive(Drop)]
 pub enum CheckpointLine {
     /// The first line, with the number of the network in force.
     Head(u32),
@@ -21,7 +21,7 @@ pub enum CheckpointLine {
 
 /// An open order: as placed, the wagons promised to it, and those that filled it. A contract sees a
 /// record of the definitions.
-#[derive(Debug, Drop)]
+#[derive(Drop)]
 pub struct OrderLine {
     text: OrderText,
     promised: Vec<WagonNumber>,

@@ -8,7 +8,7 @@ use std::marker::Model;
 use wagons_and_orders::WagonRow;
 
 /// What the lines of a checkpoint say that were read so far. A contract sees it as a record of the definitions.
-#[derive(Debug, Drop)]
+#[derive(Drop)]
 pub(crate) struct Parts {
     /// The network in force, once the head was read.
     pub(crate) network: Option<u32>,

@@ -10,7 +10,7 @@ use std::alloc::{AllocError, AllocFailed};
 use thiserror::Error;
 
 /// Why no checkpoint was read. The message is the fault's name.
-#[derive(Clone, Copy, Debug, PartialEq, Eq, Error)]
+#[derive(Clone, Copy, Debug, Error)]
 pub enum ReadFault {
     /// The lines weren't read to their end (91 to 93), or memory was out (1).
     #[error("{0}")]

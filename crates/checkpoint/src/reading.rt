@@ -16,7 +16,7 @@ use operating_db::OfficeState;
 use std::alloc::Global;
 
 /// What the lines of a checkpoint say that were read so far, or the first fault.
-#[derive(Debug, Drop)]
+#[derive(Drop)]
 pub(crate) struct LinesSoFar {
     /// How many networks there are.
     pub(crate) networks: u32,
@@ -24,7 +24,7 @@ pub(crate) struct LinesSoFar {
 }
 
 /// Takes the lines of a checkpoint. It gives no replies.
-#[derive(Clone, Copy, Debug, PartialEq, Eq)]
+#[derive(Clone, Copy)]
 pub(crate) struct CheckpointLines;
 
 impl Responder for CheckpointLines {

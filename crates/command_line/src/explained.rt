@@ -14,7 +14,7 @@ pub(crate) const CODE: &str = "code";
 const NUMBERS_END: u32 = 1_000;
 
 /// What `explain` prints.
-#[derive(Debug, Drop)]
+#[derive(Drop)]
 pub enum Explained {
     /// The whole manual of refusals.
     Manual,

@@ -1,7 +1,7 @@
 //! The texts of help. No line is longer than 80 characters where help prints it.
 
 /// The help of a word.
-#[derive(Clone, Copy, Debug)]
+#[derive(Clone, Copy)]
 pub(crate) struct WordHelp {
     /// The word.
     pub(crate) name: &'static str,
@@ -16,7 +16,7 @@ pub(crate) struct WordHelp {
 }
 
 /// What a word takes.
-#[derive(Clone, Copy, Debug)]
+#[derive(Clone, Copy)]
 pub(crate) enum Arguments {
     /// The most bytes of a line.
     Lines,

@@ -7,7 +7,7 @@ use line_engine::{LARGEST_LINE_LIMIT, LineLimit};
 use std::alloc::{AllocError, Global};
 
 /// What `check` and `solve` are asked to do.
-#[derive(Debug, Drop)]
+#[derive(Drop)]
 pub struct LineOptions {
     /// The most bytes of a line.
     pub limit: LineLimit,

@@ -12,7 +12,7 @@ use std::alloc::{AllocError, Global};
 const MAP: &str = "wagons map";
 
 /// What `map` is asked to do.
-#[derive(Debug, Drop)]
+#[derive(Drop)]
 pub struct MapOptions<'a> {
     /// What the office is opened with.
     pub office: OfficeOptions<'a>,

@@ -10,7 +10,7 @@ use rail_codes::{Moment, WagonNumber};
 use std::alloc::{AllocError, Global};
 
 /// The file that an office begins with.
-#[derive(Clone, Copy, Debug)]
+#[derive(Clone, Copy)]
 pub enum Start<'a> {
     /// A roster: no order, the first network.
     Roster(&'a str),
@@ -19,7 +19,7 @@ pub enum Start<'a> {
 }
 
 /// What an office is opened with.
-#[derive(Debug, Drop)]
+#[derive(Drop)]
 pub struct OfficeOptions<'a> {
     /// The file that the office begins with.
     pub start: Start<'a>,
@@ -59,7 +59,7 @@ fn start_of<'a>(matches: &ArgMatches<'a>) -> Start<'a> {
 }
 
 /// What `feed` is asked to do.
-#[derive(Debug, Drop)]
+#[derive(Drop)]
 pub struct FeedOptions<'a> {
     /// What the office is opened with.
     pub office: OfficeOptions<'a>,
@@ -82,7 +82,7 @@ impl<'a> FeedOptions<'a> {
 }
 
 /// What `table` and `why` are asked to do.
-#[derive(Debug, Drop)]
+#[derive(Drop)]
 pub struct ProblemOptions<'a> {
     /// What the office is opened with.
     pub office: OfficeOptions<'a>,
@@ -125,7 +125,7 @@ pub(crate) fn with_problem_options<'a>(
 }
 
 /// What `save` is asked to do.
-#[derive(Debug, Drop)]
+#[derive(Drop)]
 pub struct SaveOptions<'a> {
     /// What the office is opened with.
     pub office: OfficeOptions<'a>,

@@ -11,7 +11,7 @@ use std::alloc::{AllocError, Global};
 const PLAN: &str = "wagons plan";
 
 /// What `plan` is asked to do.
-#[derive(Debug, Drop)]
+#[derive(Drop)]
 pub struct PlanOptions<'a> {
     /// The office and the moment of the problem.
     pub problem: ProblemOptions<'a>,

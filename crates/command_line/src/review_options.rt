@@ -6,7 +6,7 @@ use clap::{ArgMatches, Command};
 use std::alloc::{AllocError, Global};
 
 /// What `review` is asked to do.
-#[derive(Debug, Drop)]
+#[derive(Drop)]
 pub struct ReviewOptions<'a> {
     /// What the office is opened with.
     pub office: OfficeOptions<'a>,

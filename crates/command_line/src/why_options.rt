@@ -12,7 +12,7 @@ use std::alloc::{AllocError, Global};
 const WHY: &str = "wagons why";
 
 /// What `why` is asked about.
-#[derive(Clone, Copy, Debug, PartialEq, Eq)]
+#[derive(Clone, Copy)]
 pub enum Asked {
     /// The whole plan.
     Plan,
@@ -23,7 +23,7 @@ pub enum Asked {
 }
 
 /// What `why` is asked to do.
-#[derive(Debug, Drop)]
+#[derive(Drop)]
 pub struct WhyOptions<'a> {
     /// The office and the moment of the problem.
     pub problem: ProblemOptions<'a>,

@@ -36,7 +36,7 @@ const WORDS: [WordHelp; 11] = [
 const VERSION: &str = "0.1.0";
 
 /// What the program is asked to do.
-#[derive(Debug, Drop)]
+#[derive(Drop)]
 pub enum Word<'a> {
     /// Check the table lines of standard input.
     Check(LineOptions),

@@ -3,7 +3,7 @@
 use crate::{Refusal, Reply};
 
 /// What a call is answered.
-#[derive(Clone, Copy, Debug, PartialEq, Eq)]
+#[derive(Clone, Copy, PartialEq, Eq)]
 pub enum Answer {
     /// An event is entered, or was before.
     Done(Reply),

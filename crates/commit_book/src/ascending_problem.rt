@@ -13,7 +13,7 @@ use std::marker::Model;
 use wagons_and_orders::{FreeWagon, Wanted};
 
 /// A problem whose wagons ascend by number, so that one is found by halves. A contract sees the problem.
-#[derive(Debug, Drop)]
+#[derive(Drop)]
 pub(crate) struct AscendingProblem {
     problem: Problem,
 }

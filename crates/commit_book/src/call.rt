@@ -4,7 +4,7 @@ use move_messages::Event;
 use rail_codes::Moment;
 
 /// A call of a book, as a value.
-#[derive(Debug, Drop, PartialEq, Eq)]
+#[derive(Drop)]
 pub enum Call {
     /// An event is submitted.
     Event(Event),

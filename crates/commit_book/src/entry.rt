@@ -8,13 +8,13 @@ use std::marker::Model;
 
 /// An event as a book keeps it. Nearly all are messages, so another event stands behind a pointer, and an entry takes
 /// 48 bytes. A contract sees the event.
-#[derive(Debug, Drop)]
+#[derive(Drop)]
 pub struct Entry {
     kept: KeptEvent,
 }
 
 /// A message, or any event.
-#[derive(Debug, Drop)]
+#[derive(Drop)]
 enum KeptEvent {
     Message(Message),
     Other(Box<Event>),

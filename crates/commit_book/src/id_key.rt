@@ -13,7 +13,7 @@ use std::marker::Model;
 
 /// The id of a message as one number: a search for an id compares it with many, and numbers are compared in one step. A
 /// contract sees the id.
-#[derive(Debug, Drop)]
+#[derive(Drop)]
 pub(crate) struct IdKey {
     // The company's four characters, the first of them highest, then the 32 bits of its number.
     number: u64,

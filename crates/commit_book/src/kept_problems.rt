@@ -10,7 +10,7 @@ use std::alloc::AllocError;
 use std::sync::Arc;
 
 /// A kept problem: that of a version at a moment, with its table.
-#[derive(Debug, Drop)]
+#[derive(Drop)]
 pub(crate) struct KeptProblem {
     pub version: u64,
     pub at: Moment,

@@ -19,7 +19,7 @@ use std::collections::BTreeMap;
 use std::marker::Model;
 
 /// What came of a message that was to be entered.
-#[derive(Clone, Copy, Debug, PartialEq, Eq)]
+#[derive(Clone, Copy)]
 pub(crate) enum MessageEntry {
     /// It is the last event now.
     Entered,
@@ -29,7 +29,7 @@ pub(crate) enum MessageEntry {
 
 /// The accepted events in their order, and the office after them. A contract sees the office that it began with, how many
 /// networks there are, and the list of the events.
-#[derive(Debug, Drop)]
+#[derive(Drop)]
 pub(crate) struct Ledger {
     first: OfficeState,
     events: Vec<Entry>,

@@ -13,7 +13,7 @@ use std::alloc::{AllocError, Global};
 
 /// What kept problems of one version share: the problem at the first of their moments, and its table over the network of
 /// that version, with the moments up to which it is the table of the same wagons and orders.
-#[derive(Debug, Drop)]
+#[derive(Drop)]
 pub(crate) struct MadeProblem {
     pub problem: AscendingProblem,
     /// The network's number, counted from 1.

@@ -11,7 +11,7 @@ use rail_codes::{OrderId, WagonNumber};
 use std::marker::Model;
 
 /// The names of a table's wagons and orders, in the table's order. A contract sees them as two lists of texts.
-#[derive(Debug, Drop)]
+#[derive(Drop)]
 pub struct Names {
     wagons: Vec<WagonNumber>,
     orders: Vec<OrderId>,

@@ -5,7 +5,7 @@ ghost use Rattle.cost_table.specs.PlanList.{IsPlanList};
 use std::marker::Model;
 
 /// Pairs of a wagon's and an order's position, ascending by order, then by wagon; no wagon is there twice.
-#[derive(Debug, Drop)]
+#[derive(Drop)]
 pub struct Plan {
     pairs: Vec<(usize, usize)>,
 }

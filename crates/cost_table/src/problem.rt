@@ -19,7 +19,6 @@ use wagons_and_orders::{FreeWagon, Wanted};
 
 /// Free wagons and waiting orders at a moment: at most 1,000 wagons, 500 orders, and 500 lacking wagons in all;
 /// no wagon and no order is listed twice. A contract sees the moment and the two lists, which copies share.
-#[derive(Debug)]
 pub struct Problem {
     at: Moment,
     wagons: Arc<Vec<FreeWagon>>,

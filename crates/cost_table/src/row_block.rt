@@ -6,7 +6,6 @@ use std::alloc::{AllocError, Global};
 use std::marker::Model;
 
 /// Rows that lie one after another in one list, and where each ends. A contract sees the list of rows.
-#[derive(Debug)]
 pub struct RowBlock {
     entries: Vec<(u32, u32)>,
     ends: Vec<usize>,

@@ -18,7 +18,6 @@ use std::marker::Model;
 /// The table of a distribution: per wagon the orders that it may serve with their costs, per order the penalty of
 /// a missed wagon and how many wagons it lacks. Costs and penalties are in kilometres, each at most 1,000,000,000;
 /// each lack is 1 to 20; at most 1,000 wagons, 500 orders, and 500 lacking wagons in all.
-#[derive(Debug)]
 pub struct Cells {
     rows: TableRows,
     penalties: Vec<u64>,

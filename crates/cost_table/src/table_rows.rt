@@ -7,7 +7,7 @@ use std::alloc::{AllocError, Global};
 use std::sync::Arc;
 
 /// The rows of a table: each stands in a block that tables share, or in the table's own.
-#[derive(Debug, Drop)]
+#[derive(Drop)]
 pub struct TableRows {
     pub shared: Arc<RowBlock>,
     pub own: RowBlock,

@@ -6,7 +6,7 @@ use csv::ByteRecord;
 use std::alloc::Global;
 
 /// A record of a file.
-#[derive(Debug, Drop)]
+#[derive(Drop)]
 pub struct RecordAt {
     /// Its number, the header being record 1.
     pub number: u32,
@@ -28,7 +28,7 @@ impl RecordAt {
 }
 
 /// Why a file is refused, and the record at which that was found.
-#[derive(Debug, Drop)]
+#[derive(Drop)]
 pub struct FaultAt<F> {
     pub fault: F,
     pub at: RecordAt,

@@ -45,7 +45,7 @@ impl StepFault {
 }
 
 /// Why a reader of records gave no record. The message is the fault's name.
-#[derive(Clone, Copy, Debug, PartialEq, Eq, Error)]
+#[derive(Clone, Copy, Debug, Error)]
 pub enum RecordFault {
     /// Out of memory (1).
     #[error("OutOfMemory")]
@@ -192,7 +192,7 @@ impl From<RecordFault> for RosterFault {
 }
 
 /// Why the lines of a checkpoint are none, each with the number of the line. The message is the fault's name.
-#[derive(Clone, Copy, Debug, PartialEq, Eq, Error)]
+#[derive(Clone, Copy, Debug, Error)]
 pub enum CheckpointFault {
     /// An earlier line has this wagon (51).
     #[error("DuplicateWagon")]
@@ -260,7 +260,7 @@ impl CheckpointFault {
 }
 
 /// Why a fleet isn't changed. The message is the fault's name.
-#[derive(Clone, Copy, Debug, PartialEq, Eq, Error)]
+#[derive(Clone, Copy, Debug, Error)]
 pub enum FleetFault {
     /// Out of memory (1).
     #[error("OutOfMemory")]
@@ -490,7 +490,7 @@ impl<T: Drop> From<AllocFailed<T>> for NamedFault {
 }
 
 /// Why an event is refused. The message is the refusal's name.
-#[derive(Clone, Copy, Debug, PartialEq, Eq, Error)]
+#[derive(Clone, Copy, Debug, Error)]
 pub enum ApplyFault {
     /// Out of memory (1).
     #[error("OutOfMemory")]
@@ -677,7 +677,7 @@ impl From<NamedFault> for Refusal {
 }
 
 /// Why no plan was made. The message is the fault's name.
-#[derive(Clone, Copy, Debug, PartialEq, Eq, Error)]
+#[derive(Clone, Copy, Debug, Error)]
 pub enum PlanFault {
     /// Out of memory (1).
     #[error("OutOfMemory")]
@@ -708,7 +708,7 @@ impl From<AllocError> for PlanFault {
 }
 
 /// Why files were not fed to a book. The message is the fault's name.
-#[derive(Clone, Copy, Debug, PartialEq, Eq, Error)]
+#[derive(Clone, Copy, Debug, Error)]
 pub enum FeedFault {
     /// Out of memory before any thread was started (1).
     #[error("OutOfMemory")]

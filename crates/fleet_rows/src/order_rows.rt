@@ -17,7 +17,6 @@ use wagons_and_orders::OrderRow;
 
 /// What an office knows of its orders, in the order in which they were placed. No two have one
 /// name, and the open ones want at most 500 wagons in all. A contract sees the rows.
-#[derive(Debug)]
 pub struct OrderRows {
     rows: Vec<OrderRow>,
     // The index of each row by the name of its order. Customers choose the names, so the map is an

@@ -15,7 +15,7 @@ use wagons_and_orders::WagonRow;
 
 /// The rows of a fleet's wagons, at most 1,000, ascending by number. No wagon is held or promised. A contract
 /// sees the rows.
-#[derive(Debug, Drop)]
+#[derive(Drop)]
 pub struct Roster {
     rows: Vec<WagonRow>,
 }

@@ -10,7 +10,7 @@ use csv_records::{is_text, place_of, text_of};
 use rail_codes::{ClassCode, Moment, WagonNumber};
 
 /// A field of a roster's record.
-#[derive(Clone, Copy, Debug, PartialEq, Eq)]
+#[derive(Clone, Copy)]
 pub enum RosterField {
     Wagon,
     Class,

@@ -6,7 +6,7 @@ use crate::RosterFault;
 use csv_records::RecordFault;
 
 /// Why a file is no roster.
-#[derive(Clone, Copy, Debug, PartialEq, Eq)]
+#[derive(Clone, Copy)]
 pub struct RosterRefusal {
     pub fault: RosterFault,
     /// Of a wagon that stands twice: the number of the record that names it first, the header being record 1.

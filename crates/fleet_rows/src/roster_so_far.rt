@@ -15,7 +15,7 @@ use std::alloc::Global;
 use wagons_and_orders::WagonRow;
 
 /// The roster that the records so far say, and their wagons in the records' order.
-#[derive(Debug, Drop)]
+#[derive(Drop)]
 pub(crate) struct RosterSoFar {
     pub(crate) roster: Roster,
     pub(crate) named: Vec<WagonNumber>,

@@ -12,7 +12,7 @@ use wagons_and_orders::{Status, WagonRow};
 
 /// Where an empty wagon stands that isn't held. Places come first, since two of them differ far more often than two
 /// classes, and are compared as numbers.
-#[derive(Clone, Copy, Debug, PartialEq, Eq, PartialOrd, Ord)]
+#[derive(Clone, Copy, PartialEq, Eq, PartialOrd, Ord)]
 pub(crate) struct Standing {
     /// The place where it stands.
     pub place: Place,

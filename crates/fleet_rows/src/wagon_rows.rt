@@ -17,7 +17,6 @@ use wagons_and_orders::WagonRow;
 
 /// What an office knows of its wagons: at most 1,000 rows, ascending by number. No wagon comes or
 /// goes. A contract sees the rows.
-#[derive(Debug)]
 pub struct WagonRows {
     rows: Vec<WagonRow>,
     // Where the empty wagons stand that aren't held, by place, then by class, then by number. Whether one of them is

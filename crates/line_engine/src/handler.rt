@@ -7,7 +7,7 @@ use crate::reply_text::ReplyText;
 use std::alloc::{AllocError, Global};
 
 /// Whether a reply is a refusal.
-#[derive(Clone, Copy, Debug, PartialEq, Eq)]
+#[derive(Clone, Copy)]
 pub enum Outcome {
     Answered,
     Refused,

@@ -10,7 +10,7 @@ pub const MAX_LINE_BYTES: u32 = 65_536;
 pub const LARGEST_LINE_LIMIT: u32 = 67_108_864;
 
 /// The most bytes of a line, 1 to 67,108,864, its line feed not counted. A contract sees the number.
-#[derive(Clone, Copy, Debug, PartialEq, Eq)]
+#[derive(Clone, Copy)]
 pub struct LineLimit {
     bytes: u32,
 }

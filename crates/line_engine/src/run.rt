@@ -24,7 +24,7 @@ pub const MAX_FILES: usize = 16;
 const _: () = prove!(MAX_FILES == 16);
 
 /// How many lines a run has read, blank ones too, and how many of its replies are refusals.
-#[derive(Clone, Copy, Debug, PartialEq, Eq)]
+#[derive(Clone, Copy, PartialEq, Eq)]
 pub struct RunCount {
     pub lines: u64,
     pub refused: u64,

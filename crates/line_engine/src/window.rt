@@ -14,14 +14,14 @@ use std::marker::Model;
 const PIECE_LEN: usize = 16_384;
 
 /// What ended a line.
-#[derive(Clone, Copy, Debug, PartialEq, Eq)]
+#[derive(Clone, Copy)]
 pub enum LineEnd {
     Feed,
     Input,
 }
 
 /// Why no line could be cut.
-#[derive(Clone, Copy, Debug, PartialEq, Eq)]
+#[derive(Clone, Copy)]
 pub enum LineStop {
     TooLong,
     ReadFailed,

@@ -4,7 +4,7 @@ use move_messages::Event;
 use rail_codes::Moment;
 
 /// What a command line asks for.
-#[derive(Debug, Drop, PartialEq, Eq)]
+#[derive(Drop)]
 pub enum Command {
     /// An event is to be entered.
     Event(Event),

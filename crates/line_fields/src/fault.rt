@@ -9,7 +9,7 @@ use std::alloc::{AllocError, AllocFailed};
 use thiserror::Error;
 
 /// What is wrong with the value of a field. The message is the fault's name.
-#[derive(Clone, Copy, Debug, PartialEq, Eq, Error)]
+#[derive(Clone, Copy, Debug, Error)]
 pub enum FieldFault {
     /// A text that is no code of its kind, 11 to 18.
     #[error("{0}")]
@@ -23,7 +23,7 @@ pub enum FieldFault {
 }
 
 /// Why a line is refused: the first fault that is met. The message is the fault's name.
-#[derive(Clone, Copy, Debug, PartialEq, Eq, Error)]
+#[derive(Clone, Copy, Debug, Error)]
 pub enum LineFault {
     /// 1: out of memory.
     #[error("OutOfMemory")]

@@ -1,7 +1,7 @@
 //! The names of the members of a line.
 
 /// A member's name in a command line, a table line or a line of a checkpoint.
-#[derive(Clone, Copy, Debug, PartialEq, Eq, PartialOrd, Ord, Hash)]
+#[derive(Clone, Copy, Debug, PartialEq, Eq, PartialOrd, Ord)]
 pub enum Field {
     /// `type`: what a command line is for.
     TypeName,

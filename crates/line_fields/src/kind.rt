@@ -41,7 +41,7 @@ impl<C: FromText> ItemKind for CodeKind<C> {
 }
 
 /// Whole numbers from `low` to `high`.
-#[derive(Clone, Copy, Debug)]
+#[derive(Clone, Copy)]
 pub(crate) struct NumberKind {
     pub low: u64,
     pub high: u64,
@@ -58,7 +58,7 @@ impl ItemKind for NumberKind {
 }
 
 /// Whole numbers of 32 bits from `low` to `high`.
-#[derive(Clone, Copy, Debug)]
+#[derive(Clone, Copy)]
 pub struct CountKind {
     /// The least of the numbers.
     pub low: u32,
@@ -77,7 +77,7 @@ impl ItemKind for CountKind {
 }
 
 /// Pairs of a wagon number and the name of an order, each a list of two texts.
-#[derive(Clone, Copy, Debug)]
+#[derive(Clone, Copy)]
 pub(crate) struct PairKind;
 
 impl ItemKind for PairKind {

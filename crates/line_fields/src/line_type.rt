@@ -6,7 +6,7 @@ ghost use Rattle.line_fields.specs.LineType.{line_type_of, type_name};
 use crate::LineFault;
 
 /// What a command line is for, as its member `type` says.
-#[derive(Clone, Copy, Debug, PartialEq, Eq)]
+#[derive(Clone, Copy)]
 pub(crate) enum LineType {
     Release,
     Departure,

@@ -14,7 +14,7 @@ use move_messages::{Message, MessageKind};
 use rail_codes::{Company, MessageId, Moment, Place, WagonNumber};
 
 /// The fields of a message, as they stand in its line.
-#[derive(Clone, Copy, Debug, PartialEq, Eq)]
+#[derive(Clone, Copy)]
 pub(crate) struct PlainMessage<'a> {
     type_name: &'a str,
     company: &'a str,

@@ -10,7 +10,7 @@ const MINUTES: u64 = 33_554_432;
 /// The kilometres and minutes of a walk as one number: its kilometres, then its minutes, as digits. So one sum leads
 /// on by a line, and one comparison finds the shorter of two. As the label of a place it is the length of the
 /// shortest way found, and the greatest number where none is found; the tables keep the labels that a search leaves.
-#[derive(Clone, Copy, Debug, PartialEq, Eq)]
+#[derive(Clone, Copy, PartialEq, Eq)]
 pub(crate) struct Length {
     pub(crate) number: u64,
 }

@@ -10,7 +10,7 @@ use csv::ByteRecord;
 use csv_records::place_of;
 
 /// A field of a network's record.
-#[derive(Clone, Copy, Debug, PartialEq, Eq)]
+#[derive(Clone, Copy)]
 pub enum LineField {
     From,
     To,

@@ -10,7 +10,7 @@ use csv_records::{is_text, place_of, whole_number};
 use rail_codes::Place;
 
 /// Whether a line is run one way or both ways.
-#[derive(Clone, Copy, Debug, PartialEq, Eq)]
+#[derive(Clone, Copy)]
 pub enum Way {
     /// Only from its first place to its second.
     One,
@@ -19,7 +19,7 @@ pub enum Way {
 }
 
 /// What one record says: a line, and whether it is run back too.
-#[derive(Clone, Copy, Debug, PartialEq, Eq)]
+#[derive(Clone, Copy)]
 pub struct LineRecord {
     /// Where the line begins.
     pub from: Place,

@@ -16,7 +16,6 @@ use std::marker::Model;
 
 /// The places and lines of a rail network. A place goes by its number, from 0, in the order in which the
 /// records named it. A contract sees the places as texts, and the lines.
-#[derive(Debug)]
 pub struct Network {
     places: IndexSet<Place>,
     lines: Vec<Line>,

@@ -6,7 +6,7 @@ use crate::Line;
 use crate::length::Length;
 
 /// A line without the place where it begins. The search reads these, since more of them fit a cache.
-#[derive(Clone, Copy, Debug)]
+#[derive(Clone, Copy)]
 pub(crate) struct Step {
     pub(crate) to: usize,
     pub(crate) length: Length,

@@ -10,7 +10,7 @@ const PLACES: u64 = 2_048;
 
 /// A place whose lines are still to be relaxed, and its label when it was put there, as one number: the label, then
 /// the number of the place, as digits. So one comparison finds which of two is nearer.
-#[derive(Clone, Copy, Debug, PartialEq, Eq, PartialOrd, Ord)]
+#[derive(Clone, Copy, PartialEq, Eq, PartialOrd, Ord)]
 pub(crate) struct Turn {
     number: u64,
 }

@@ -12,7 +12,7 @@ use std::marker::Model;
 
 /// 1 to 8 wagon classes in their order; one may stand several times. A contract sees the list of
 /// their texts.
-#[derive(Clone, Copy, Debug)]
+#[derive(Clone, Copy)]
 pub struct Classes {
     // the first class again behind those in use
     items: [ClassCode; MAX_CLASSES],

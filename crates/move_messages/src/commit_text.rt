@@ -10,7 +10,6 @@ use std::alloc::{AllocError, Global};
 use std::marker::Model;
 
 /// Which wagon goes to which order. A contract sees the list of the pairs.
-#[derive(Debug)]
 pub struct Pairs {
     items: Vec<(WagonNumber, OrderId)>,
 }
@@ -77,7 +76,6 @@ impl Eq for Pairs {
 }
 
 /// Dual prices in km, one after the other. A contract sees the list of the numbers.
-#[derive(Debug)]
 pub struct PriceList {
     prices: Vec<u64>,
 }
@@ -144,7 +142,7 @@ impl Eq for PriceList {
 }
 
 /// A plan that is to be promised, with its prices. Nothing ties the lists' lengths to one another.
-#[derive(Debug, Drop, PartialEq, Eq)]
+#[derive(Drop, PartialEq, Eq)]
 pub struct CommitText {
     /// The version whose problem was planned, 0 to 1,000,000 in a line.
     pub version: u64,

@@ -8,7 +8,7 @@ use rail_codes::OrderId;
 use std::alloc::{AllocError, Global};
 
 /// What happens to an office.
-#[derive(Debug, Drop, PartialEq, Eq)]
+#[derive(Drop)]
 pub enum Event {
     /// A movement message comes.
     Message(Message),

@@ -4,7 +4,7 @@ ghost use Rattle.std.specs.Prelude.{◌≡◌, ◌↔◌, IsTrue};
 use rail_codes::{MessageId, Moment, Place, WagonNumber};
 
 /// What has happened to the wagon.
-#[derive(Clone, Copy, Debug, PartialEq, Eq, Hash)]
+#[derive(Clone, Copy, PartialEq, Eq)]
 pub enum MessageKind {
     /// It is ready for pull.
     Release,
@@ -23,7 +23,7 @@ pub enum MessageKind {
 }
 
 /// A movement message.
-#[derive(Clone, Copy, Debug, PartialEq, Eq, Hash)]
+#[derive(Clone, Copy)]
 pub struct Message {
     /// The name that its sender gave it.
     pub id: MessageId,

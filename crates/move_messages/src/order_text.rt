@@ -10,7 +10,7 @@ use std::marker::Model;
 
 /// What an order asks for. Its load, penalty and count of wagons are within their limits. A
 /// contract sees an order of the definitions.
-#[derive(Clone, Copy, Debug, PartialEq, Eq)]
+#[derive(Clone, Copy)]
 pub struct OrderText {
     id: OrderId,
     place: Place,

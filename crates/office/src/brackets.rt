@@ -5,7 +5,7 @@ ghost use Rattle.office.specs.inner.Counted.{CountsClosing, CountsOpening};
 ghost use Rattle.office.specs.declared.brackets.Reading.TheVariants as at;
 
 /// Where a byte of a line stands.
-#[derive(Clone, Copy, Debug, PartialEq, Eq)]
+#[derive(Clone, Copy)]
 pub enum Reading {
     /// Outside of JSON texts.
     Outside,
@@ -16,7 +16,7 @@ pub enum Reading {
 }
 
 /// How many brackets were read outside of texts, and where the next byte stands.
-#[derive(Clone, Copy, Debug, PartialEq, Eq)]
+#[derive(Clone, Copy)]
 struct Brackets {
     reading: Reading,
     opened: u64,

@@ -30,7 +30,7 @@ use reply_texts::{
 use std::alloc::{AllocError, Global};
 
 /// Brings command lines to a book.
-#[derive(Clone, Copy, Debug, PartialEq, Eq)]
+#[derive(Clone, Copy)]
 pub struct CommandLines;
 
 impl Handler for CommandLines {

@@ -14,7 +14,7 @@ use std::alloc::AllocError;
 const DAY: u64 = 86_400;
 
 /// A message of a journal: its line, its wagon and its moment.
-#[derive(Clone, Copy, Debug, PartialEq, Eq)]
+#[derive(Clone, Copy)]
 pub struct HeardMessage {
     pub line: u64,
     pub wagon: WagonNumber,
@@ -22,7 +22,7 @@ pub struct HeardMessage {
 }
 
 /// The last two messages of a journal.
-#[derive(Clone, Copy, Debug, PartialEq, Eq)]
+#[derive(Clone, Copy)]
 pub struct Heard {
     pub last: Option<HeardMessage>,
     pub before_last: Option<HeardMessage>,

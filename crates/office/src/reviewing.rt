@@ -27,7 +27,7 @@ use std::alloc::{AllocError, Global};
 use std::marker::Model;
 
 /// Answers each line of a journal with its notes.
-#[derive(Clone, Copy, Debug, PartialEq, Eq)]
+#[derive(Clone, Copy)]
 pub struct JournalNotes;
 
 /// What a review has come to: the book, and what it knows of the lines before. A contract sees the book, the names of places, the

@@ -16,7 +16,7 @@ use std::fmt::{Display, Formatter};
 
 /// Why the program could not run or stopped. It prints as `wagons: CODE` and what the code's details are: the number of
 /// the line at which the run stopped, of a file's record, a wagon, or a seat and an entry.
-#[derive(Clone, Copy, Debug, PartialEq, Eq)]
+#[derive(Clone, Copy)]
 pub enum Stop {
     /// Memory was refused before the run (1).
     OutOfMemory,

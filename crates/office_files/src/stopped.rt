@@ -20,7 +20,7 @@ const NO_THREAD: &str =
 
 /// Why the program could not run or stopped. It prints as two lines: the first is for programs, as `Stop` prints it; the second
 /// is for people.
-#[derive(Debug, Drop)]
+#[derive(Drop)]
 pub struct Stopped {
     pub stop: Stop,
     /// What people are told: the file, the record or line, and what was expected. Where it is missing, there is more to say than

@@ -4,7 +4,7 @@ ghost use Rattle.std.specs.Prelude.{◌≡◌, false, None};
 use rail_codes::{ClassCode, OrderId};
 
 /// What of an office is to be on its map. `Choice::all` has everything.
-#[derive(Clone, Copy, Debug, PartialEq, Eq)]
+#[derive(Clone, Copy)]
 pub struct Choice {
     /// Whether places with no wagon and no order on the map are left out, with the lines that lead there.
     pub busy: bool,

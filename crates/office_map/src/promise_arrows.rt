@@ -10,7 +10,7 @@ use std::alloc::{AllocError, Global};
 use wagons_and_orders::WagonRow;
 
 /// From where promised wagons go, and where to.
-#[derive(Clone, Copy, Debug)]
+#[derive(Clone, Copy)]
 struct Arrow {
     from: Place,
     to: Place,

@@ -10,7 +10,7 @@ use std::alloc::{AllocError, Global};
 use wagons_and_orders::{OrderRow, WagonRow};
 
 /// An order on a map.
-#[derive(Clone, Copy, Debug)]
+#[derive(Clone, Copy)]
 pub(crate) struct ShownOrder {
     /// What it asks for.
     pub(crate) text: OrderText,

@@ -4,7 +4,7 @@ use rail_codes::OrderId;
 use wagons_and_orders::Change;
 
 /// What a message changes in an office. It is made once, and then let happen (`OfficeState::accept_change`).
-#[derive(Clone, Copy, Debug)]
+#[derive(Clone, Copy)]
 pub struct MessageChange {
     /// Where the row of the message's wagon stands.
     pub(crate) index: usize,

@@ -37,7 +37,6 @@ use wagons_and_orders::{OrderRow, WagonRow, free, step};
 /// the order has it among its promised wagons; no two orders have one name; and each order has every promised wagon
 /// once, together with those that filled it at most as many as it wants. A contract sees the office of the definitions,
 /// and how many networks there are.
-#[derive(Debug)]
 pub struct OfficeState {
     wagons: WagonRows,
     orders: OrderRows,

@@ -15,7 +15,6 @@ use std::marker::Model;
 use std::str;
 
 /// A place with its name and where it lies.
-#[derive(Debug)]
 pub struct NamedPlace {
     /// The place.
     pub place: Place,
@@ -37,7 +36,7 @@ impl Drop for NamedPlace {
 }
 
 /// Where a place lies, in whatever unit its file has.
-#[derive(Debug, Drop)]
+#[derive(Drop)]
 pub struct Coordinates {
     /// How far to the east, or to the right.
     pub x: Decimal,
@@ -46,7 +45,7 @@ pub struct Coordinates {
 }
 
 /// A place's name: UTF-8 of at most 60 bytes without a control character; it may be empty. A contract sees its bytes.
-#[derive(Debug, Drop)]
+#[derive(Drop)]
 pub struct PlaceName {
     text: String,
 }
@@ -88,7 +87,7 @@ impl PlaceName {
 
 /// A decimal number as it was written: a minus sign or none, 1 to 7 digits, and 1 to 6 digits behind a point, if there is
 /// one. A contract sees its characters.
-#[derive(Debug, Drop)]
+#[derive(Drop)]
 pub struct Decimal {
     text: String,
 }

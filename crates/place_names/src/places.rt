@@ -9,7 +9,7 @@ use std::alloc::{AllocError, Global};
 use std::marker::Model;
 
 /// Places with their names and where they lie, at most 2,000, in the order of their file. A contract sees them as a list.
-#[derive(Debug, Drop)]
+#[derive(Drop)]
 pub struct Places {
     places: Vec<NamedPlace>,
 }

@@ -25,7 +25,7 @@ use std::marker::Model;
 /// A plan of a table and prices that are a certificate of it. A contract sees the table, the plan's pairs and the prices.
 ///
 /// Each bound is in kilometres, and holds of every plan of the table that is as its method says.
-#[derive(Debug, Drop)]
+#[derive(Drop)]
 pub struct Bounds<'a> {
     cells: &'a Cells,
     plan: &'a Plan,

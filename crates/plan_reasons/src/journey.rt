@@ -8,7 +8,7 @@ use crate::reasons::{arrival, way_of};
 use rail_codes::{ClassCode, Moment, OrderId, Place, WagonNumber};
 
 /// A wagon that goes to an order.
-#[derive(Clone, Copy, Debug, PartialEq, Eq)]
+#[derive(Clone, Copy)]
 pub struct Journey {
     /// The wagon.
     pub wagon: WagonNumber,

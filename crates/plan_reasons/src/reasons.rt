@@ -11,7 +11,7 @@ use rail_codes::Moment;
 use wagons_and_orders::{FreeWagon, accepts, suits};
 
 /// How many free wagons pass each test for an order; a wagon that passes one passes those before it.
-#[derive(Clone, Copy, Debug, PartialEq, Eq)]
+#[derive(Clone, Copy)]
 pub struct Counts {
     /// The order lists the wagon's class.
     pub class: u64,
@@ -26,7 +26,7 @@ pub struct Counts {
 }
 
 /// A test that a free wagon passes or fails for an order. A wagon that passes one passes those before it.
-#[derive(Clone, Copy, Debug, PartialEq, Eq)]
+#[derive(Clone, Copy)]
 pub(crate) enum Test {
     /// The order lists the wagon's class.
     Class,
@@ -41,7 +41,7 @@ pub(crate) enum Test {
 }
 
 /// Which tests one wagon passes.
-#[derive(Clone, Copy, Debug)]
+#[derive(Clone, Copy)]
 pub(crate) struct Passed {
     pub(crate) class: bool,
     pub(crate) load: bool,

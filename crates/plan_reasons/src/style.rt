@@ -11,7 +11,7 @@ use rail_codes::{Moment, push_ascii};
 use std::alloc::AllocError;
 
 /// How a line is written.
-#[derive(Clone, Copy, Debug, PartialEq, Eq)]
+#[derive(Clone, Copy)]
 pub enum Style {
     /// Values parted by one space, the first behind a word that says what the line is.
     Text,

@@ -17,7 +17,7 @@ use move_messages::OrderText;
 use std::alloc::{AllocError, Global};
 
 /// What is counted once for all orders of a planned problem, and the wagons as their counts need them.
-#[derive(Debug, Drop)]
+#[derive(Drop)]
 pub(crate) struct Tallies {
     pub(crate) tested: TestedWagons,
     /// For each order, how many wagons are there by the latest moment.

@@ -17,7 +17,7 @@ use std::alloc::{AllocError, Global};
 use wagons_and_orders::accepts;
 
 /// A free wagon as these tests see it.
-#[derive(Clone, Copy, Debug)]
+#[derive(Clone, Copy)]
 pub(crate) struct TestedWagon {
     /// Where its class stands among the classes.
     pub(crate) class: usize,
@@ -28,7 +28,7 @@ pub(crate) struct TestedWagon {
 }
 
 /// The free wagons of a problem, and their classes, each once.
-#[derive(Debug, Drop)]
+#[derive(Drop)]
 pub(crate) struct TestedWagons {
     pub(crate) classes: Vec<ClassCode>,
     pub(crate) wagons: Vec<TestedWagon>,
@@ -92,7 +92,7 @@ pub(crate) fn listed_classes(
 }
 
 /// How many wagons suit an order.
-#[derive(Clone, Copy, Debug)]
+#[derive(Clone, Copy)]
 pub(crate) struct Suited {
     /// They are of a class that the order lists.
     pub(crate) class: u64,

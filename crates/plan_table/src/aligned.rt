@@ -9,7 +9,7 @@ use std::alloc::{AllocError, Global};
 use unicode_width::UnicodeWidthStr;
 
 /// At which side of its column a cell stands.
-#[derive(Clone, Copy, Debug, PartialEq, Eq)]
+#[derive(Clone, Copy)]
 pub enum Side {
     /// At the left, as texts do.
     Left,

@@ -4,7 +4,7 @@ use plan_reasons::Journey;
 use rail_codes::{Moment, OrderId, Place};
 
 /// The first test that no wagon passes for an order, but those that it gets. A wagon that passes a test passes those before it.
-#[derive(Clone, Copy, Debug, PartialEq, Eq)]
+#[derive(Clone, Copy)]
 pub enum Reason {
     /// The order lists the wagon's class.
     Class,
@@ -21,7 +21,7 @@ pub enum Reason {
 }
 
 /// An order that misses wagons.
-#[derive(Clone, Copy, Debug, PartialEq, Eq)]
+#[derive(Clone, Copy)]
 pub struct Shortfall {
     /// The order.
     pub order: OrderId,
@@ -38,7 +38,7 @@ pub struct Shortfall {
 }
 
 /// A plan of a version's problem at a moment.
-#[derive(Debug, Drop)]
+#[derive(Drop)]
 pub struct PlanList {
     /// The version.
     pub version: u64,

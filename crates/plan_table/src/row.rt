@@ -8,7 +8,7 @@ use std::alloc::{AllocError, Global};
 use std::marker::Model;
 
 /// The cells of a row, from the left. A contract sees their texts.
-#[derive(Debug, Drop)]
+#[derive(Drop)]
 pub(crate) struct Row {
     cells: Vec<String>,
 }

@@ -9,7 +9,7 @@ pub const MAX_ENTRIES: u64 = 1_000_000;
 pub const MAX_KEPT_PROBLEMS: u32 = 64;
 
 /// How many entries a book may have, 1 to 1,000,000, and how many problems it keeps, 1 to 64.
-#[derive(Clone, Copy, Debug, PartialEq, Eq)]
+#[derive(Clone, Copy)]
 pub struct Limits {
     entries: u64,
     kept: u32,

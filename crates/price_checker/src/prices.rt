@@ -1,6 +1,6 @@
 //! Dual prices.
 /// Dual prices of a table, in kilometres.
-#[derive(Debug, Drop)]
+#[derive(Drop)]
 pub struct Prices {
     /// One price per wagon, in the table's order.
     pub u: Vec<u64>,

@@ -12,7 +12,7 @@ use std::marker::Model;
 
 /// The problem of a version at a moment, and the network in force in that version. A contract sees the version, the
 /// network's number and the problem.
-#[derive(Debug, Drop)]
+#[derive(Drop)]
 pub struct Snap {
     version: u64,
     network: u32,

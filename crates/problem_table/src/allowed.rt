@@ -159,7 +159,7 @@ fn distance_to(tables: &Tables, from: Option<usize>, goal: Goal) -> Option<(u32,
 
 /// The way of a wagon to a goal that it reaches in time: the kilometres, and the last moment at which it may start, in
 /// seconds since 1970.
-#[derive(Clone, Copy, Debug)]
+#[derive(Clone, Copy)]
 struct Way {
     km: u32,
     last_start: u64,

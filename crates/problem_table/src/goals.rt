@@ -11,7 +11,7 @@ use std::alloc::{AllocError, Global};
 use wagons_and_orders::{Wanted, accepts};
 
 /// An order that wants wagons of a class: where, how much each loads, and by when.
-#[derive(Clone, Copy, Debug)]
+#[derive(Clone, Copy)]
 pub(crate) struct Goal {
     /// The order's position in the problem.
     pub(crate) order: u32,
@@ -24,7 +24,7 @@ pub(crate) struct Goal {
 
 /// The goals for the wagons of one class, ascending by order: one for each order that lists the class and whose
 /// place the network has.
-#[derive(Debug, Drop)]
+#[derive(Drop)]
 pub(crate) struct ClassGoals {
     pub(crate) class: ClassCode,
     pub(crate) goals: Vec<Goal>,

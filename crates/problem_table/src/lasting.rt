@@ -15,7 +15,7 @@ use wagons_and_orders::Wanted;
 
 /// The table of a problem, and up to which moment it is the table of the same wagons and orders. Moments are in seconds
 /// since 1970-01-01T00:00:00Z.
-#[derive(Debug, Drop)]
+#[derive(Drop)]
 pub struct TimedCells {
     pub cells: Cells,
     /// For each wagon the moment up to which its cells stay as they are.

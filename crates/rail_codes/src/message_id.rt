@@ -3,7 +3,7 @@
 use crate::Company;
 
 /// The name that a company gives a message of its own.
-#[derive(Clone, Copy, Debug, PartialEq, Eq, PartialOrd, Ord, Hash)]
+#[derive(Clone, Copy, PartialEq, Eq, PartialOrd, Ord)]
 pub struct MessageId {
     /// The company that sent the message.
     pub company: Company,

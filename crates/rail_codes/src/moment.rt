@@ -17,7 +17,7 @@ const LAST_SECOND: u64 = 4_102_444_799;
 
 /// A moment: a whole second from the year 2000 to the year 2099, in UTC. A contract sees the
 /// seconds since 1970-01-01T00:00:00Z.
-#[derive(Clone, Copy, Debug, PartialEq, Eq, PartialOrd, Ord, Hash)]
+#[derive(Clone, Copy, Debug, PartialEq, Eq, PartialOrd, Ord)]
 pub struct Moment {
     seconds: u64,
 }

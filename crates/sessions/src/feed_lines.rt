@@ -37,7 +37,7 @@ pub(crate) struct FileLines<'a, L: Ledger> {
 }
 
 /// What a line counts as.
-#[derive(Clone, Copy, Debug, PartialEq, Eq)]
+#[derive(Clone, Copy)]
 pub(crate) enum Counted {
     Accepted,
     Repeated,

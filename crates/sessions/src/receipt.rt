@@ -3,7 +3,7 @@
 use commit_book::Entry;
 
 /// That a call of a seat was accepted: the number of its entry, counted from 1, and the event.
-#[derive(Debug, Drop)]
+#[derive(Drop)]
 pub struct Receipt {
     /// The number of the entry.
     pub entry: u64,

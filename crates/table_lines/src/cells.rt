@@ -16,7 +16,7 @@ use serde_json::Value;
 use std::alloc::Global;
 
 /// Costs of cells in km, null where the pair is not allowed.
-#[derive(Clone, Copy, Debug)]
+#[derive(Clone, Copy)]
 pub(crate) struct CellKind;
 
 impl ItemKind for CellKind {

@@ -19,7 +19,7 @@ use std::alloc::Global;
 const OPENING: &[u8] = b"{\"";
 
 /// The lists of a table line that have been read so far.
-#[derive(Debug, Drop)]
+#[derive(Drop)]
 pub(crate) struct FoundLists {
     pub wagons: Option<Vec<WagonNumber>>,
     pub orders: Option<Vec<OrderId>>,

@@ -12,7 +12,7 @@ use reply_texts::{push_counted, push_refused};
 use std::alloc::{AllocError, Global};
 
 /// Answers table lines, each by itself.
-#[derive(Clone, Copy, Debug, PartialEq, Eq)]
+#[derive(Clone, Copy)]
 pub struct TableChecker;
 
 impl Handler for TableChecker {

@@ -4,7 +4,7 @@ use rail_codes::{OrderId, WagonNumber};
 
 /// A table with a plan and its prices, as a line gives them. The lists may be of any lengths, and a
 /// name may be there more than once.
-#[derive(Debug, Drop)]
+#[derive(Drop)]
 pub struct TableLine {
     /// The wagons, in the order of `cells` and `u`.
     pub wagons: Vec<WagonNumber>,

@@ -16,7 +16,7 @@ use line_engine::{
 use std::alloc::{AllocError, Global};
 
 /// Solves table lines, each by itself. The state is the most bytes of a line.
-#[derive(Clone, Copy, Debug, PartialEq, Eq)]
+#[derive(Clone, Copy)]
 pub struct TableSolver;
 
 impl Responder for TableSolver {

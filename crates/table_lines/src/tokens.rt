@@ -96,7 +96,7 @@ impl<C: FromText> TokenKind for CodeToken<C> {
 }
 
 /// Whole numbers up to `high`.
-#[derive(Clone, Copy, Debug)]
+#[derive(Clone, Copy)]
 pub(crate) struct NumberToken {
     pub high: u64,
 }
@@ -119,7 +119,7 @@ impl TokenKind for NumberToken {
 }
 
 /// How many wagons an order lacks.
-#[derive(Clone, Copy, Debug)]
+#[derive(Clone, Copy)]
 pub(crate) struct LackToken;
 
 impl TokenKind for LackToken {
@@ -140,7 +140,7 @@ impl TokenKind for LackToken {
 }
 
 /// Costs of cells in km, null where the pair is not allowed.
-#[derive(Clone, Copy, Debug)]
+#[derive(Clone, Copy)]
 pub(crate) struct CellToken;
 
 impl TokenKind for CellToken {
@@ -167,7 +167,7 @@ impl TokenKind for CellToken {
 }
 
 /// Pairs of a wagon and an order, each a list of two texts.
-#[derive(Clone, Copy, Debug)]
+#[derive(Clone, Copy)]
 pub(crate) struct PairToken;
 
 impl TokenKind for PairToken {
@@ -189,7 +189,7 @@ impl TokenKind for PairToken {
 }
 
 /// The costs of one wagon.
-#[derive(Clone, Copy, Debug)]
+#[derive(Clone, Copy)]
 pub(crate) struct RowToken;
 
 impl TokenKind for RowToken {

@@ -3,7 +3,7 @@
 use crate::WagonRow;
 
 /// What becomes of the promise of a wagon's row.
-#[derive(Clone, Copy, Debug, PartialEq, Eq, Hash)]
+#[derive(Clone, Copy)]
 pub enum Effect {
     /// Nothing: it stays, or there is none.
     None,
@@ -14,7 +14,7 @@ pub enum Effect {
 }
 
 /// What an accepted message changes.
-#[derive(Clone, Copy, Debug, PartialEq, Eq, Hash)]
+#[derive(Clone, Copy)]
 pub struct Change {
     /// The wagon's row after the message.
     pub row: WagonRow,

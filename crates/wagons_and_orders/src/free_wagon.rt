@@ -6,7 +6,7 @@ use crate::{Status, WagonRow};
 use rail_codes::{ClassCode, Moment, Place, WagonNumber};
 
 /// A wagon that may be promised.
-#[derive(Clone, Copy, Debug, PartialEq, Eq, Hash)]
+#[derive(Clone, Copy, PartialEq, Eq)]
 pub struct FreeWagon {
     /// Its number.
     pub number: WagonNumber,

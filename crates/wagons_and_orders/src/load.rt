@@ -3,7 +3,7 @@ ghost use Rattle.std.specs.Prelude.{◌≡◌};
 ghost use Rattle.wagons_and_orders.specs.declared.load.Load.TheVariants.{Loaded, Unladen};
 
 /// Whether a wagon on its way carries a load.
-#[derive(Clone, Copy, Debug, PartialEq, Eq, Hash)]
+#[derive(Clone, Copy, PartialEq, Eq)]
 pub enum Load {
     /// It carries one.
     Loaded,

@@ -15,7 +15,7 @@ use std::marker::Model;
 /// There is room for all of them from the beginning on, so that only `new` allocates. A withdrawn
 /// order has no promised wagon.
 /// A contract sees a row of the definitions.
-#[derive(Debug, Drop)]
+#[derive(Drop)]
 pub struct OrderRow {
     text: OrderText,
     promised: Vec<WagonNumber>,

@@ -1,7 +1,7 @@
 //! The state of an order.
 
 /// The state of an order.
-#[derive(Clone, Copy, Debug, PartialEq, Eq, Hash)]
+#[derive(Clone, Copy)]
 pub enum OrderState {
     /// It lacks a wagon.
     Waiting,

@@ -6,7 +6,7 @@ use crate::Load;
 use rail_codes::{Moment, Place};
 
 /// What a wagon is doing, and where.
-#[derive(Clone, Copy, Debug, PartialEq, Eq, Hash)]
+#[derive(Clone, Copy, PartialEq, Eq)]
 pub enum Status {
     /// It is under fleet control, ready for pull at the place from the moment on.
     Empty(Place, Moment),

@@ -4,7 +4,7 @@ use crate::Status;
 use rail_codes::{ClassCode, Moment, OrderId, WagonNumber};
 
 /// What the office knows of a wagon.
-#[derive(Clone, Copy, Debug, PartialEq, Eq, Hash)]
+#[derive(Clone, Copy, PartialEq, Eq)]
 pub struct WagonRow {
     /// Its number.
     pub number: WagonNumber,

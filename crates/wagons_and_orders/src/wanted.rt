@@ -5,7 +5,7 @@ use move_messages::{MAX_ORDER_WAGONS, OrderText};
 use std::marker::Model;
 
 /// An order, with how many wagons it lacks: 1 to 20. A contract sees the two as a record.
-#[derive(Clone, Copy, Debug, PartialEq, Eq)]
+#[derive(Clone, Copy)]
 pub struct Wanted {
     order: OrderText,
     lack: u32,
