@@ -4,7 +4,7 @@ ghost use Rattle.operating_db.specs.After.{after_call};
 ghost use Rattle.operating_db.specs.ApplyFault.{IsRefusal};
 ghost use Rattle.operating_db.specs.Steps.{IsPromised};
 ghost use Rattle.commit_book.specs.History.{IsFresh};
-ghost use Rattle.commit_book.specs.inner.Ledger.{IsIndexOf, IsKnownOrRefused, IsMessageAt, IsMessageEntry, IsNoMessage, IsNoted, compare_ids, office_of, state_of};
+ghost use Rattle.commit_book.specs.inner.Ledger.{IsAdmitted, IsIndexOf, IsMessageAt, IsMessageEntry, IsNoMessage, IsNoted, OnNoted, compare_ids, message_after, office_of, state_of};
 ghost use Rattle.std.specs.BTreeMap.{get};
 ghost use Rattle.std.specs.Ordering.{is_eq};
 ghost use Rattle.rail_codes.specs.declared.message_id.MessageId.{MessageId};
@@ -12,7 +12,7 @@ ghost use Rattle.rail_codes.specs.declared.message_id.MessageId.{MessageId};
 use crate::entry::{Entry, boxed};
 use crate::id_key::IdKey;
 use move_messages::{Event, Message};
-use operating_db::{ApplyFault, OfficeState};
+use operating_db::{ApplyFault, MessageChange, OfficeState};
 use rail_codes::MessageId;
 use std::alloc::{AllocError, Global};
 use std::collections::BTreeMap;
@@ -23,6 +23,15 @@ use std::marker::Model;
 pub(crate) enum MessageEntry {
     /// It is the last event now.
     Entered,
+    /// The event at this index is a message of its id.
+    Known(usize),
+}
+
+/// What came of a message that was to be noted.
+#[derive(Clone, Copy)]
+enum Admission {
+    /// It is noted behind the events, and this is what it changes.
+    Noted(MessageChange),
     /// The event at this index is a message of its id.
     Known(usize),
 }
@@ -109,32 +118,17 @@ impl Ledger {
     ) -> Result<MessageEntry, ApplyFault>
         ensures { IsMessageEntry self.old message.now result self.new }
     {
-        // What the message changes is large, so it stays where it was made until it happens.
-        let found = match self.state.change_by(message, index) {
-            Ok(found) => found,
-            Err(fault) => return self.known_or_refused(message.id, fault),
+        let found = match admit(&self.state, &mut self.ids, &mut self.events, message, index) {
+            Ok(Admission::Noted(found)) => found,
+            Ok(Admission::Known(index)) => return Ok(MessageEntry::Known(index)),
+            Err(fault) => return Err(fault),
         };
-        match note(&mut self.ids, &mut self.events, &message.id) {
-            Ok(None) => {}
-            Ok(Some(known)) => return Ok(MessageEntry::Known(known)),
-            Err(_) => return Err(ApplyFault::OutOfMemory),
-        }
         if let Err(_) = self.state.accept_change(message, &found) {
             self.ids.remove(&IdKey::of(message.id));
             return Err(ApplyFault::OutOfMemory);
         }
         self.events.push_reserved(Entry::of_message(message));
         Ok(MessageEntry::Entered)
-    }
-
-    /// The index of the message of an id; or this fault, where no event has the id.
-    fn known_or_refused(&self, id: MessageId, fault: ApplyFault) -> Result<MessageEntry, ApplyFault>
-        ensures { IsKnownOrRefused self.now.events id fault result }
-    {
-        match self.find(id) {
-            Some(known) => Ok(MessageEntry::Known(known)),
-            None => Err(fault),
-        }
     }
 
     /// Lets an event that is no message happen, as the last one; a commit must be possible. Refused as the office
@@ -182,6 +176,38 @@ fn make_room(state: &OfficeState, events: &mut Vec<Entry>, event: &Event) -> Res
     }
     events.reserve(1)?;
     Ok(())
+}
+
+/// Notes a message that is possible, and whose id no event has, behind the events, and makes room for it there. Else gives
+/// the index of the event of its id, or refuses it as the office refuses it. Where the office does, no memory is asked
+/// for: map and list stay as they were. Where memory is refused, nothing is noted.
+fn admit(
+    state: &OfficeState,
+    ids: &mut BTreeMap<IdKey, usize>,
+    events: &mut Vec<Entry>,
+    message: &Message,
+    index: Option<usize>,
+) -> Result<Admission, ApplyFault>
+    requires { IsIndexOf events.old.items (get compare_ids ids.old) }
+    ensures admitted { IsAdmitted state.now events.old.items message.now result (get compare_ids ids.new) }
+    ensures events { events.new.items ≡ events.old.items }
+    ensures room { IfOk result (OnNoted (vec_len events.new < vec_capacity events.new)) }
+    ensures unasked { OnErr (message_after state.now message.now) ((ids.new ≡ ids.old) × (events.new ≡ events.old)) }
+{
+    let found = match state.change_by(message, index) {
+        Ok(found) => found,
+        Err(fault) => {
+            return match index_of(ids, message.id) {
+                Some(known) => Ok(Admission::Known(known)),
+                None => Err(fault),
+            };
+        }
+    };
+    match note(ids, events, &message.id) {
+        Ok(None) => Ok(Admission::Noted(found)),
+        Ok(Some(known)) => Ok(Admission::Known(known)),
+        Err(_) => Err(ApplyFault::OutOfMemory),
+    }
 }
 
 /// The index that is noted for an id.

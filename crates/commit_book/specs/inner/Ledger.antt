@@ -8,12 +8,15 @@ use Rattle.rail_codes.specs.declared.message_id.MessageId.{MessageId}
 use Rattle.move_messages.specs.declared.message.Message as movement
 use Rattle.operating_db.specs.After.{after_call}
 use Rattle.operating_db.specs.ApplyFault.{IsRefusal}
+use Rattle.operating_db.specs.MessageChange.{IsChangeOf}
 use Rattle.operating_db.specs.Office.{Office}
 use Rattle.operating_db.specs.State.{StateValue}
 use Rattle.faults.specs.declared.faults.ApplyFault.{ApplyFault}
 use Rattle.move_messages.specs.declared.event.Event.{Event}
 use Rattle.move_messages.specs.declared.event.Event.TheVariants.{Message, Place, Withdraw, Commit, Revise}
 use Rattle.commit_book.specs.History.{IsFresh, after_all}
+use Rattle.commit_book.specs.declared.ledger.Admission.{Admission}
+use Rattle.commit_book.specs.declared.ledger.Admission.TheVariants as admission
 use Rattle.commit_book.specs.declared.ledger.MessageEntry.{MessageEntry}
 use Rattle.commit_book.specs.declared.ledger.MessageEntry.TheVariants.{Entered, Known}
 
@@ -71,6 +74,10 @@ pub record IsLedger (first : StateValue) (events : List Event) (ids : MessageId 
 
 -- ---- a message that is entered
 
+-- the office after a message, or why it is refused
+abbrev pub message_after : StateValue → movement.Message → Result Office ApplyFault
+message_after state message = after_call state.networks state.office (Message message)
+
 -- the map of ids has a message of this id behind the events
 pub record HasNoted (events : List Event) (id : MessageId) (ids : MessageId → Option ℕ) : Type 0 where
   pub fresh : IsFresh id events
@@ -83,11 +90,18 @@ IsNoted events id (Ok None) ids = HasNoted events id ids
 IsNoted events id (Ok (Some index)) ids = IsMessageAt events id index × IsIndexOf events ids
 IsNoted events id (Err error) ids = IsFresh id events × IsIndexOf events ids
 
--- an event is a message of the id, and this is its index; or none is, and this is the fault
-abbrev pub IsKnownOrRefused : List Event → MessageId → ApplyFault → Result MessageEntry ApplyFault → Type 0
-IsKnownOrRefused events id fault (Ok Entered) = ⊥
-IsKnownOrRefused events id fault (Ok (Known index)) = IsMessageAt events id index
-IsKnownOrRefused events id fault (Err refusal) = IsFresh id events × (refusal ≡ fault)
+-- What came of noting a message in a state: it is possible and noted behind the events, and this is what it changes; or an
+-- event is a message of its id; or it is refused. In the last two the map of ids is that of the events.
+abbrev pub IsAdmitted : StateValue → List Event → movement.Message → Result Admission ApplyFault → (ids : MessageId → Option ℕ) → Type 0
+IsAdmitted state events message (Ok (admission.Noted found)) ids =
+    IsOk (message_after state message) × IsChangeOf state.office message found × HasNoted events message.id ids
+IsAdmitted state events message (Ok (admission.Known index)) ids = IsMessageAt events message.id index × IsIndexOf events ids
+IsAdmitted state events message (Err fault) ids = IsFresh message.id events × IsIndexOf events ids × IsRefusal (message_after state message) fault
+
+-- it holds where a message is noted
+abbrev pub OnNoted : Type 0 → Admission → Type 0
+OnNoted Holds (admission.Noted found) = Holds
+OnNoted Holds (admission.Known index) = Unit {0}
 
 -- what came of entering a message: it is the last event; or an event is a message of its id; or it is refused
 abbrev pub IsMessageEntry : (old : LedgerValue) → movement.Message → Result MessageEntry ApplyFault → (new : LedgerValue) → Type 0
