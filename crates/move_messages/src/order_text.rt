@@ -123,7 +123,7 @@ impl OrderText {
     }
 }
 
-/// Whether two orders are one, field by field. (Of `==` it isn't proved.)
+/// Whether two orders are one, field by field.
 pub fn is_same_order(one: &OrderText, other: &OrderText) -> bool
     ensures { IsTrue result ↔ (one.now ≡ other.now) }
 {
