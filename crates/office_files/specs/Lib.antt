@@ -1,4 +1,4 @@
 pub mod Stop
 pub mod Told
-pub mod FirstBook
+pub mod FirstOffice
 pub mod PlacesFor

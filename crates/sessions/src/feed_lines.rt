@@ -1,18 +1,20 @@
 //! What a file's lines do at the file's seat.
 ghost use Rattle.std.specs.Prelude.{◌≡◌, [], IfSome, Ok};
 ghost use Rattle.line_fields.specs.declared.command.Command.TheVariants as command;
+ghost use Rattle.move_messages.specs.declared.event.Event.TheVariants as event;
 ghost use Rattle.sessions.specs.FedLines.{IsPlannedIn, IsPlansCommit, IsSubmitted, IsTakenIn, counted_by, is_refused, is_repeated};
-ghost use Rattle.sessions.specs.inner.FeedLines.{Adds, AreEventsFed, IsLineBrought, IsFedBehind, IsReadBrought, IsReadFed};
+ghost use Rattle.sessions.specs.inner.FeedLines.{Adds, AreEventsFed, IsEventFed, IsFedBehind, IsLineBrought, IsReadBrought, IsReadFed};
 
 use crate::{Seat, SharedBook, work};
 use commit_book::{Refusal, Reply, Snap};
 use line_engine::{Handler, Outcome, ReplyText};
 use line_fields::{Command, read_line};
 use line_network::Networks;
-use move_messages::{CommitText, Event};
+use move_messages::{CommitText, Event, Message};
 use rail_codes::Moment;
 use std::alloc::{AllocError, Global};
 use std::collections::VecDeque;
+use std::marker::Model;
 use std::sync::Wait;
 use std::sync::ledger::Ledger;
 
@@ -25,15 +27,32 @@ pub(crate) struct FileSeat<'a, L: Ledger> {
     pub(crate) refused: u64,
 }
 
-/// The most events of a file that wait to be submitted. A thread that submits many in a row mostly keeps the lock, and the
+/// The most messages of a file that wait to be submitted. A thread that submits many in a row mostly keeps the lock, and the
 /// book in its processor's cache.
 const MAX_PENDING: usize = 64;
 
-/// A file's seat and counts, and its events that wait to be submitted, in the order of their lines.
+/// A message that waits to be submitted. A contract sees the event that it is.
+#[derive(Drop)]
+pub(crate) struct Waiting {
+    message: Message,
+    /// Where the row of its wagon stands.
+    index: Option<usize>,
+}
+
+impl Model for Waiting {
+    ghost use Rattle.move_messages.specs.declared.event.Event.{Event};
+    ghost use Rattle.move_messages.specs.declared.event.Event.TheVariants as event;
+
+    ghost Value = { Event };
+
+    ghost view = { λ waiting. event.Message waiting.message };
+}
+
+/// A file's seat and counts, and its messages that wait to be submitted, in the order of their lines.
 #[derive(Drop)]
 pub(crate) struct FileLines<'a, L: Ledger> {
     pub(crate) file: FileSeat<'a, L>,
-    pub(crate) pending: VecDeque<Event>,
+    pub(crate) pending: VecDeque<Waiting>,
 }
 
 /// What a line counts as.
@@ -85,7 +104,7 @@ impl<'a, W: Wait, L: Ledger> Drop for FeedLines<'a, W, L> {
 }
 
 impl<'a, W: Wait, L: Ledger> FeedLines<'a, W, L> {
-    /// Does what a line asks for, behind what waits; an event may wait where more lines have been read. A line that isn't
+    /// Does what a line asks for, behind what waits; a message may wait where more lines have been read. A line that isn't
     /// read counts as refused.
     fn bring_line(&self, alloc: Global, lines: &mut FileLines<'a, L>, line: &[u8], more: bool)
         ensures { IsLineBrought lines.old line.now lines.new }
@@ -104,20 +123,34 @@ impl<'a, W: Wait, L: Ledger> FeedLines<'a, W, L> {
         ensures { IsReadBrought lines.old (Ok command) lines.new }
     {
         match command {
-            Command::Event(event) if more => self.hold(alloc, lines, event),
+            Command::Event(event) if more => self.bring_event(alloc, lines, event),
             other => self.feed_behind(alloc, lines, other),
         }
     }
 
-    /// Lets an event wait. Where as many wait as may, or memory is refused, it is submitted behind them.
-    fn hold(&self, alloc: Global, lines: &mut FileLines<'a, L>, event: Event)
+    /// The same of an event behind which more lines have been read.
+    fn bring_event(&self, alloc: Global, lines: &mut FileLines<'a, L>, event: Event)
         ensures { IsReadBrought lines.old (Ok (command.Event event)) lines.new }
     {
-        if lines.pending.len() >= MAX_PENDING {
-            return self.feed_behind(alloc, lines, Command::Event(event));
+        match event {
+            Event::Message(message) => self.hold(alloc, lines, message),
+            other => self.feed_behind(alloc, lines, Command::Event(other)),
         }
-        if let Err(refused) = lines.pending.push_back(event) {
-            self.feed_behind(alloc, lines, Command::Event(refused.value));
+    }
+
+    /// Lets a message wait. Where as many wait as may, or memory is refused, it is submitted behind them.
+    fn hold(&self, alloc: Global, lines: &mut FileLines<'a, L>, message: Message)
+        ensures { IsReadBrought lines.old (Ok (command.Event (event.Message message))) lines.new }
+    {
+        if lines.pending.len() >= MAX_PENDING {
+            return self.feed_behind(alloc, lines, Command::Event(Event::Message(message)));
+        }
+        // The row is looked for here and not when the message is submitted, since other files wait meanwhile.
+        let index = self.shared.index_of(message.wagon);
+        let waiting = Waiting { message, index };
+        if let Err(refused) = lines.pending.push_back(waiting) {
+            let message = refused.value.message;
+            self.feed_behind(alloc, lines, Command::Event(Event::Message(message)));
         }
     }
 
@@ -129,15 +162,26 @@ impl<'a, W: Wait, L: Ledger> FeedLines<'a, W, L> {
         self.feed(alloc, &mut lines.file, command);
     }
 
-    /// Submits the events that wait.
+    /// Submits the messages that wait.
     pub(crate) fn submit_pending(&self, alloc: Global, lines: &mut FileLines<'a, L>)
         ensures fed { AreEventsFed lines.old.pending.items lines.old.file lines.new.file }
         ensures none { lines.new.pending.items ≡ [] }
     {
-        if let Some(event) = lines.pending.pop_front() {
-            self.feed(alloc, &mut lines.file, Command::Event(event));
+        if let Some(waiting) = lines.pending.pop_front() {
+            self.feed_waiting(alloc, &mut lines.file, waiting);
             self.submit_pending(alloc, lines);
         }
+    }
+
+    /// Submits a message that waited, and counts it.
+    fn feed_waiting(&self, alloc: Global, file: &mut FileSeat<'a, L>, waiting: Waiting)
+        ensures { IsEventFed file.old waiting file.new }
+    {
+        let Waiting { message, index } = waiting;
+        let answer = self
+            .shared
+            .send_near(self.rt, alloc, &mut file.seat, &message, index);
+        file.count(counted_as(answer));
     }
 
     /// Does at a file's seat what a command asks for, and counts it.

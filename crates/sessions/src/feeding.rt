@@ -47,7 +47,7 @@ struct Fed<L: Ledger, R> {
 }
 
 /// Brings the command lines of 1 to 16 readers to a book without entries, by a thread and a seat for each, and answers what
-/// became of each file, in their order, and the book. Lines of several files are taken in as they come: up to 64 events of a
+/// became of each file, in their order, and the book. Lines of several files are taken in as they come: up to 64 messages of a
 /// file in a row, where as many have been read, and all that have been before its reader is asked for more.
 ///
 /// A message, an order, a withdrawal, a revision and a commit count as they are answered. A plan line is a begin, planning

@@ -62,13 +62,26 @@ impl<L: Ledger> SharedBook<L> {
     ) -> Result<Reply, Refusal>
         ensures { IsSubmitted seat.old seat.new (event.Message message.now) result }
     {
+        self.send_near(rt, alloc, seat, message, self.index_of(message.wagon))
+    }
+
+    /// The same. The row of the message's wagon is looked for at an index first, where one is given.
+    pub(crate) fn send_near(
+        &self,
+        rt: &impl Wait,
+        alloc: Global,
+        seat: &mut Seat<L>,
+        message: &Message,
+        index: Option<usize>,
+    ) -> Result<Reply, Refusal>
+        ensures { IsSubmitted seat.old seat.new (event.Message message.now) result }
+    {
         // The receipt's room comes first, then the book's call while the lock is held, then the receipt: once the book has
-        // taken the message nothing can fail. Its wagon's row is looked for before, since no wagon comes or goes.
+        // taken the message nothing can fail.
         if seat.receipts.reserve(1).is_err() {
             let mut book = self.locked(rt);
             return book.answer_without_memory(&mut seat.share, &Event::Message(*message));
         }
-        let index = self.wagons.binary_search(&message.wagon).ok();
         let reply = match self
             .locked(rt)
             .enter_message(&mut seat.share, message, index)
@@ -78,6 +91,11 @@ impl<L: Ledger> SharedBook<L> {
         };
         note(&mut seat.receipts, reply, Entry::of_message(message));
         Ok(reply)
+    }
+
+    /// Where the row of a wagon stands among the book's rows, which no wagon joins or leaves. Takes no lock.
+    pub(crate) fn index_of(&self, wagon: WagonNumber) -> Option<usize> {
+        self.wagons.binary_search(&wagon).ok()
     }
 
     /// Places an order. One that is accepted gives the seat a receipt. Refused, with book and seat unchanged: as

@@ -9,7 +9,7 @@ use Rattle.line_engine.specs.declared.run.RunCount.{RunCount}
 use Rattle.line_engine.specs.declared.run.RunFault.{RunFault}
 use Rattle.line_network.specs.Network.{NetworkValue}
 use Rattle.office.specs.CommandReplies.{ToCommands}
-use Rattle.office_files.specs.FirstBook.{IsFirstBookFor}
+use Rattle.wagons_program.specs.FirstBook.{IsFirstBookFor}
 use Rattle.office_files.specs.declared.stop.Stop.{Stop}
 use Rattle.office_files.specs.declared.stop.Stop.TheVariants as stop
 use Rattle.wagons_program.specs.Status.{status_of_count}

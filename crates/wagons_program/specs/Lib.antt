@@ -1,10 +1,5 @@
+pub mod FirstBook
 pub mod Status
 pub mod Brought
 pub mod Laws
-pub mod TableOfLast
-pub mod ReasonsOfLast
-pub mod PlanOfLast
-pub mod ZoneClock
-pub mod MapOfLast
-pub mod SavedOfLast
 pub mod Reviewed

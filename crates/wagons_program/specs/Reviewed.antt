@@ -11,7 +11,7 @@ use Rattle.line_engine.specs.Runs.{RunEnds}
 use Rattle.line_engine.specs.declared.run.RunCount.{RunCount}
 use Rattle.line_network.specs.Network.{NetworkValue}
 use Rattle.place_names.specs.declared.named_place.NamedPlace.{NamedPlace}
-use Rattle.office_files.specs.FirstBook.{IsFirstBookFor}
+use Rattle.wagons_program.specs.FirstBook.{IsFirstBookFor}
 use Rattle.office_files.specs.PlacesFor.{ArePlacesFor}
 use Rattle.office_files.specs.declared.stop.Stop.{Stop}
 use Rattle.office_files.specs.declared.stop.Stop.TheVariants as stop

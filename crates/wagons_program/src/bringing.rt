@@ -4,14 +4,13 @@ ghost use Rattle.line_engine.specs.Lines.{max_line_bytes};
 ghost use Rattle.office.specs.CommandReplies.{ToCommands};
 ghost use Rattle.wagons_program.specs.Brought.{AreAnswered, AreStopped, IsBroughtTo, lines_over};
 
+use crate::opening::{NewBook, leave_book, new_book};
 use crate::status::status_of_run;
 use command_line::OfficeOptions;
 use commit_book::Book;
 use line_engine::{LineLimit, StdDevice};
 use line_network::{Network, Networks};
-use office_files::{
-    NewBook, OfficeFiles, Stop, Stopped, leave_book, new_book, read_files, told_of_lines,
-};
+use office_files::{OfficeFiles, Stop, Stopped, read_files, told_of_lines};
 use std::alloc::Global;
 use std::io::{Read, Write};
 use std::rt::Files;

@@ -3,13 +3,12 @@ ghost use Rattle.std.specs.Prelude.{◌≡◌, nat_lt, is_some, All, IfOk, false
 ghost use Rattle.std.specs.List.{list_any};
 ghost use Rattle.wagons_program.specs.Status.{status_of_files};
 
+use crate::opening::{NewBook, leave_book, leave_office, new_book};
 use crate::printing::print_whole;
 use crate::status::{DONE, REFUSED, STOPPED};
 use command_line::FeedOptions;
 use line_engine::{MAX_FILES, Source, StdDevice};
-use office_files::{
-    NewBook, OfficeFiles, Stop, Stopped, leave_book, leave_office, new_book, open_plain, read_files,
-};
+use office_files::{OfficeFiles, Stop, Stopped, open_plain, read_files};
 use sessions::{FeedReport, report_text};
 use std::rt::Files;
 use std::sync::Wait;

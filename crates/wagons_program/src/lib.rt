@@ -8,6 +8,7 @@ mod feed;
 mod first_lines;
 mod laws;
 mod map;
+mod opening;
 mod plan;
 mod printing;
 mod program;
@@ -19,7 +20,6 @@ mod status;
 mod table;
 mod terminal;
 mod why;
-mod zone;
 
 pub use laws::{each_fault_is_listed, each_number_is_a_faults};
 pub use program::{run_program, run_words};

@@ -3,8 +3,9 @@ ghost use Rattle.std.specs.Prelude.{◌≡◌, IfErr, IfOk, OnOk};
 ghost use Rattle.std.specs.Io.KnownBytes.{Appends};
 ghost use Rattle.office_files.specs.declared.stop.Stop.TheVariants.{WriteFailed};
 
+use crate::opening::leave_book;
 use commit_book::Book;
-use office_files::{Stop, Stopped, leave_book};
+use office_files::{Stop, Stopped};
 use std::io;
 use std::io::Write;
 

@@ -7,15 +7,13 @@ ghost use Rattle.office_files.specs.declared.stop.Stop.TheVariants as stop;
 ghost use Rattle.wagons_program.specs.Brought.{lines_over};
 ghost use Rattle.wagons_program.specs.Reviewed.{AreReviewed, IsFirstReviewFor, IsInputReviewed, IsReviewStopped, status_of_notes};
 
+use crate::opening::{NewBook, leave_book, new_book};
 use crate::printing::write_whole;
 use crate::status::{REFUSED, status_of_run};
 use command_line::{OfficeOptions, ReviewOptions};
 use line_engine::{LineLimit, StdDevice};
 use office::{EndingSource, Review, RunCount, end_note, review_journal};
-use office_files::{
-    NewBook, OfficeFiles, Stop, Stopped, leave_book, new_book, read_files, read_places,
-    told_of_lines,
-};
+use office_files::{OfficeFiles, Stop, Stopped, read_files, read_places, told_of_lines};
 use place_names::Places;
 use std::alloc::Global;
 use std::io;

@@ -3,8 +3,9 @@ ghost use Rattle.std.specs.Prelude.{IfOk};
 ghost use Rattle.wagons_program.specs.Brought.{IsInputBrought};
 
 use crate::bringing::{Brought, bring};
+use crate::opening::leave_book;
 use command_line::OfficeOptions;
-use office_files::{Stopped, leave_book};
+use office_files::Stopped;
 use std::io;
 use std::io::Read;
 use std::rt::Files;

@@ -1,21 +1,15 @@
 //! The word `table`.
-ghost use Rattle.std.specs.Prelude.{◌≡◌, ◌++◌, ◌∷◌, [], IfOk, Some, length, slice_get, string_bytes};
-ghost use Rattle.commit_book.specs.Snap.{snap_of};
-ghost use Rattle.wagons_program.specs.TableOfLast.{IsTableOfLast, IsTableTextOfLast};
 
 use crate::bringing::{Brought, bring};
 use crate::printing::print_last;
 use command_line::ProblemOptions;
-use commit_book::{Book, Snap};
-use office_files::{Stop, Stopped};
-use rail_codes::Moment;
-use std::alloc::{AllocError, Global};
+use last_texts::last_table;
+use office_files::Stopped;
 use std::io;
 use std::io::Read;
 use std::rt::Files;
 use std::sync::Wait;
 use std::thread::Threads;
-use table_lines::problem_line;
 
 /// Opens an office, brings the command lines of an input to it without replies, and prints the problem of its last version
 /// at a moment as a table line: status 0, or 1 where a line was refused.
@@ -32,31 +26,4 @@ pub(crate) fn table<R: Print + Files + Threads + Wait + AllocGlobal, I: Read + D
     } = bring(rt, &options.office, input, io::sink())?;
     let text = last_table(rt.alloc(), &mut book, options.at);
     print_last(rt, book, text, status)
-}
-
-/// The table line of the problem of a book's last version at a moment, and its line feed. `Err` only when out of memory.
-fn last_table(alloc: Global, book: &mut Book, at: Moment) -> Result<String, Stop>
-    ensures { IfOk result (λ text. IsTableTextOfLast book.old.setting book.old.state.history at (string_bytes text)) }
-{
-    let (snap, index) = book.begin_indexed(alloc, at)?;
-    let line = kept_line(alloc, book, &snap, index)?;
-    Ok(with_line_feed(line)?)
-}
-
-/// The table line of the problem just begun, which the book keeps at this index.
-fn kept_line(alloc: Global, book: &Book, snap: &Snap, index: usize) -> Result<String, AllocError>
-    requires kept { slice_get book.now.state.kept index ≡ Some (length book.now.state.history, snap.now.problem.at) }
-    requires last { snap.now ≡ snap_of book.now.setting book.now.state.history snap.now.problem.at }
-    ensures { IfOk result (λ line. IsTableOfLast book.now.setting book.now.state.history snap.now.problem.at (string_bytes line)) }
-{
-    problem_line(alloc, snap.problem(), book.kept_table(index))
-}
-
-/// A line with its line feed.
-fn with_line_feed(line: String) -> Result<String, AllocError>
-    ensures { IfOk result (λ text. string_bytes text ≡ string_bytes line ++ 10 ∷ []) }
-{
-    let mut text = line;
-    text.push_str("\n")?;
-    Ok(text)
 }

@@ -1,19 +1,10 @@
 //! The word `why`.
-ghost use Rattle.std.specs.Prelude.{◌≡◌, IfOk, option_copied, string_bytes};
-ghost use Rattle.plan_reasons.specs.Planned.{IsPlannedProblem};
-ghost use Rattle.wagons_program.specs.ReasonsOfLast.{AreReasonsOfLast, IsAnswerFor, style_of};
 
 use crate::bringing::{Brought, bring};
 use crate::printing::print_last;
-use command_line::{Asked, WhyOptions};
-use commit_book::Book;
-use line_network::Networks;
-use office_files::{Stop, Stopped, read_names};
-use place_names::Places;
-use plan_reasons::{
-    LineForm, PlannedProblem, Style, find_order, find_wagon, order_text, wagon_text, why_text,
-};
-use std::alloc::Global;
+use command_line::WhyOptions;
+use last_texts::last_reasons;
+use office_files::{Stopped, read_names};
 use std::io;
 use std::io::Read;
 use std::rt::Files;
@@ -37,66 +28,4 @@ pub(crate) fn why<R: Print + Files + Threads + Wait + AllocGlobal, I: Read + Dro
     } = bring(rt, &options.problem.office, input, io::sink())?;
     let text = last_reasons(rt.alloc(), &mut book, &distances, options, names.as_ref());
     print_last(rt, book, text, status)
-}
-
-/// What is asked about a plan of a book's last version at a moment, over the network in force, with the names of places where they
-/// are asked for. `OrderNotInProblem` or `WagonNotInProblem` (84) where the problem doesn't have what is asked about.
-fn last_reasons(
-    alloc: Global,
-    book: &mut Book,
-    distances: &Networks,
-    options: &WhyOptions<'_>,
-    names: Option<&Places>,
-) -> Result<String, Stop>
-    requires { distances.now ≡ book.old.setting.networks }
-    ensures { IfOk result (λ text. AreReasonsOfLast book.old.setting book.old.state.history options.now (option_copied names.entry) (string_bytes text)) }
-{
-    let (snap, index) = book.begin_indexed(alloc, options.problem.at)?;
-    // A book's network in force is one of its networks.
-    let Some(tables) = distances.get(snap.network()) else {
-        return Err(Stop::OpenFailed);
-    };
-    let cells = book.kept_table(index);
-    let (plan, prices) = assignment::plan(alloc, cells)?;
-    let planned = PlannedProblem {
-        problem: snap.problem(),
-        tables,
-        cells,
-        plan: &plan,
-        prices: &prices,
-    };
-    answer(alloc, options, names, snap.version(), &planned)
-}
-
-/// The text that answers what is asked about a plan.
-fn answer(
-    alloc: Global,
-    options: &WhyOptions<'_>,
-    names: Option<&Places>,
-    version: u64,
-    planned: &PlannedProblem<'_>,
-) -> Result<String, Stop>
-    requires { IsPlannedProblem planned.now }
-    ensures { IfOk result (λ text. IsAnswerFor options.now (option_copied names.entry) version planned.now (string_bytes text)) }
-{
-    let style = style_of(options.json);
-    let form = LineForm { style, names };
-    match &options.asked {
-        Asked::Plan => Ok(why_text(alloc, style, version, planned)?),
-        Asked::Order(id) => match find_order(planned.problem, id) {
-            Some(j) => Ok(order_text(alloc, &form, planned, j)?),
-            None => Err(Stop::OrderNotInProblem(*id)),
-        },
-        Asked::Wagon(number) => match find_wagon(planned.problem, number) {
-            Some(i) => Ok(wagon_text(alloc, &form, planned, i)?),
-            None => Err(Stop::WagonNotInProblem(*number)),
-        },
-    }
-}
-
-/// How the lines are written.
-fn style_of(json: bool) -> Style
-    ensures { result ≡ style_of json }
-{
-    if json { Style::Json } else { Style::Text }
 }

@@ -1,6 +1,6 @@
 //! The time zone in which moments are shown.
 ghost use Rattle.std.specs.Prelude.{IfOk, Some, option_map};
-ghost use Rattle.wagons_program.specs.ZoneClock.{HasZone, HasZoneFor, IsClockFor, IsReadFor, name_of};
+ghost use Rattle.last_texts.specs.ZoneClock.{HasZone, HasZoneFor, IsClockFor, IsReadFor, name_of};
 
 use fault_texts::file_text;
 use jiff::Error;
@@ -19,13 +19,13 @@ const MAX_ZONE_BYTES: u64 = 1_048_576;
 
 /// A time zone that was read, by its name; none for UTC.
 #[derive(Drop)]
-pub(crate) struct ZoneFile<'a> {
+pub struct ZoneFile<'a> {
     database: TimeZoneDatabase,
     name: Option<&'a str>,
 }
 
 /// The time zone of a name, from its file. `OpenFailed` (93) where there is no such file, or where it has no time zone.
-pub(crate) fn read_zone<'a, R: Files + AllocGlobal>(
+pub fn read_zone<'a, R: Files + AllocGlobal>(
     rt: &R,
     name: Option<&'a str>,
 ) -> Result<ZoneFile<'a>, Stopped>

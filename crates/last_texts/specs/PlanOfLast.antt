@@ -14,7 +14,7 @@ use Rattle.plan_table.specs.CsvText.{IsCsvText}
 use Rattle.plan_table.specs.ListOf.{IsListOf}
 use Rattle.plan_table.specs.TableText.{IsTableText}
 use Rattle.problem_table.specs.Allowed.{IsTableOf}
-use Rattle.wagons_program.specs.ZoneClock.{IsClockFor}
+use Rattle.last_texts.specs.ZoneClock.{IsClockFor}
 
 -- The problem of the last version at a moment, over the network in force, has a plan whose prices show that none costs less; and
 -- this is its list.

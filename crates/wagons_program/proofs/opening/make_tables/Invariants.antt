@@ -1,5 +1,5 @@
 use Rattle.std.proofs.Common.{◌≡◌, take}
-use Rattle.office_files.proofs.first_book.make_tables.Given as goal
+use Rattle.wagons_program.proofs.opening.make_tables.Given as goal
 
 -- the tables so far are those of the first networks
 abbrev pub invariant-loop-network : goal.invariant-loop-network

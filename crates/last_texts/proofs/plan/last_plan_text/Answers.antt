@@ -1,7 +1,7 @@
 use Rattle.std.proofs.Common.{ℕ, List, Option, subst}
 use Rattle.std.proofs.lemmas.Result.{IfOk-weaker}
-use Rattle.wagons_program.specs.PlanOfLast.{IsPrintedIn}
-use Rattle.wagons_program.proofs.plan.last_text.Goals as goal
+use Rattle.last_texts.specs.PlanOfLast.{IsPrintedIn}
+use Rattle.last_texts.proofs.plan.last_plan_text.Goals as goal
 
 -- the zone that was read is the one that is asked for
 pub returns : goal.returns

@@ -4,7 +4,7 @@ use Rattle.jiff.specs.Words.{IsInserted, IsLookedUp, plain_database, plain_zone}
 use Rattle.jiff.specs.declared.tz.db.TimeZoneDatabase.{TimeZoneDatabase}
 use Rattle.jiff.specs.declared.tz.timezone.TimeZone.{TimeZone}
 use Rattle.plan_table.specs.declared.clock.Clock.{Clock}
-use Rattle.wagons_program.specs.declared.zone.ZoneFile.{ZoneFile}
+use Rattle.last_texts.specs.declared.zone.ZoneFile.{ZoneFile}
 
 -- in this database the name was given the zone that some bytes are read as
 abbrev pub HasZone : TimeZoneDatabase → (name : List ℕ) → Type 0

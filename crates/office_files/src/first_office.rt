@@ -1,7 +1,7 @@
-//! A new book from the files that the options name.
+//! The office to begin with and its networks, from the files that the options name.
 ghost use Rattle.std.specs.Prelude.{◌≡◌, ◌≤◌, IfOk, length};
 ghost use Rattle.line_network.specs.NetworkCount.{max_networks};
-ghost use Rattle.office_files.specs.FirstBook.{BeginsWith, IsFirstBook};
+ghost use Rattle.office_files.specs.FirstOffice.{BeginsWith};
 
 use crate::stop::Stop;
 use crate::stopped::Stopped;
@@ -9,29 +9,17 @@ use crate::told_file::open;
 use crate::told_files::{told_of_checkpoint, told_of_network, told_of_roster};
 use checkpoint::read_checkpoint;
 use command_line::{OfficeOptions, Start};
-use commit_book::Book;
 use fleet_rows::Roster;
 use line_engine::StdDevice;
-use line_network::{
-    MAX_NETWORKS, Network, Networks, NetworksFault, OpenGate, Tables, tables_by_workers,
-};
+use line_network::{MAX_NETWORKS, Network, NetworksFault};
 use operating_db::OfficeState;
 use std::rt::Files;
-use std::sync::{Arc, Wait};
-use std::thread::Threads;
 
 /// The office to begin with and the networks, as files say them.
 #[derive(Drop)]
 pub struct OfficeFiles {
     pub first: OfficeState,
     pub networks: Vec<Network>,
-}
-
-/// A book, and its networks.
-#[derive(Drop)]
-pub struct NewBook {
-    pub book: Book,
-    pub networks: Arc<Networks>,
 }
 
 /// The office to begin with and the networks that the options name. What is wrong is found in this order: too many
@@ -89,26 +77,6 @@ fn read_office<R: Files + AllocGlobal>(
     }
 }
 
-/// A book without entries over this office and these networks, whose distances are worked out here.
-pub fn new_book<R: Threads + Wait + AllocGlobal>(
-    rt: &R,
-    options: &OfficeOptions<'_>,
-    first: OfficeState,
-    networks: &[Network],
-) -> Result<NewBook, Stop>
-    requires { first.networks ≡ length networks.now }
-    ensures book { IfOk result (λ new. IsFirstBook first.office networks.now options.now.limits new.book) }
-    ensures networks { IfOk result (λ new. new.networks.value ≡ networks.now) }
-{
-    let tables = make_tables(rt, networks, options.workers)?;
-    let networks = match Networks::new(tables) {
-        Ok(networks) => Arc::new(rt.alloc(), networks)?,
-        Err(fault) => return Err(Stop::Networks(fault)),
-    };
-    let book = Book::from_office(rt.alloc(), first, networks.clone()?, options.limits)?;
-    Ok(NewBook { book, networks })
-}
-
 /// The roster that a file says.
 pub fn read_roster<R: Files + AllocGlobal>(rt: &R, path: &str) -> Result<Roster, Stopped> {
     let mut file = open(rt, path)?;
@@ -136,22 +104,4 @@ fn read_network<R: Files + AllocGlobal>(rt: &R, path: &str) -> Result<Network, S
         Ok(network) => Ok(network),
         Err(stop) => Err(told_of_network(rt.alloc(), path, &stop, &file)),
     }
-}
-
-/// The distances in each network.
-fn make_tables<R: Threads + Wait + AllocGlobal>(
-    rt: &R,
-    networks: &[Network],
-    workers: usize,
-) -> Result<Vec<Tables>, Stop>
-    ensures { IfOk result (λ tables. tables.items ≡ networks.now) }
-{
-    let mut tables = Vec::with_capacity(rt.alloc(), networks.len())?;
-    for network in networks {
-        match tables_by_workers(rt, rt.alloc(), network, workers, &OpenGate) {
-            Ok(made) => tables.push(made)?,
-            Err(fault) => return Err(Stop::Tables(fault)),
-        }
-    }
-    Ok(tables)
 }

@@ -1,5 +1,5 @@
 use Rattle.std.proofs.Common.{◌≡◌, length}
-use Rattle.office_files.proofs.first_book.read_networks.Given as goal
+use Rattle.office_files.proofs.first_office.read_networks.Given as goal
 
 -- as many networks as paths so far
 abbrev pub invariant-loop-path : goal.invariant-loop-path

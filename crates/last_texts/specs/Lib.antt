@@ -1,0 +1,6 @@
+pub mod TableOfLast
+pub mod ReasonsOfLast
+pub mod PlanOfLast
+pub mod ZoneClock
+pub mod MapOfLast
+pub mod SavedOfLast
