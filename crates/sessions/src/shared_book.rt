@@ -25,7 +25,7 @@ const TRIES: u32 = 2_000;
 const QUICK_TRIES: u32 = 64;
 
 /// How many pauses of the processor stand between two quick tries.
-const PAUSES: u32 = 20;
+const PAUSES: u32 = 100;
 
 /// A book that several seats share. A contract sees how many seats it was opened with.
 ///
