@@ -25,8 +25,8 @@ pub fn choice_of(options: &MapOptions<'_>) -> Choice
     }
 }
 
-/// The graph of a book's last version, over the network in force. `OrderNotOnMap` (84) where an order is asked for that isn't
-/// on a map of all.
+/// The graph of a book's last version, over the network in force. Refused with `OrderNotOnMap` (84) where an order is asked for
+/// that isn't on a map of all, else only with `OutOfMemory` (1).
 pub fn last_map(
     alloc: Global,
     book: &Book,

@@ -16,8 +16,9 @@ use plan_table::{Clock, PlanList, csv_text, list_of_plan, table_text};
 use rail_codes::Moment;
 use std::alloc::Global;
 
-/// The plan of a book's last version at a moment, over the network in force, for people; with moments as they are shown in the
-/// time zone that is asked for.
+/// The plan of a book's last version at a moment, over the network in force, for people, as a table or as CSV; with moments as
+/// they are shown in the time zone that is asked for, which was read before. Refused only with `OutOfMemory` (1), or with
+/// `OpenFailed` (93) where that zone can't be looked up. The problem is kept by the book, as a begin keeps it.
 pub fn last_plan_text(
     alloc: Global,
     book: &mut Book,

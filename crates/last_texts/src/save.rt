@@ -13,7 +13,8 @@ use rail_codes::WagonNumber;
 use std::alloc::Global;
 use wagons_and_orders::WagonRow;
 
-/// The checkpoint of a book's last version, with the rows of a roster and without some wagons.
+/// The checkpoint of a book's last version, with the rows of a roster and without some wagons. Refused as
+/// `OfficeState::with_fleet` says: `WagonPromised` (89), `UnknownWagon` (73), `TooLarge` (53) or `OutOfMemory` (1).
 pub fn last_saved(
     alloc: Global,
     book: &Book,

@@ -9,7 +9,8 @@ use rail_codes::Moment;
 use std::alloc::{AllocError, Global};
 use table_lines::problem_line;
 
-/// The table line of the problem of a book's last version at a moment, and its line feed. `Err` only when out of memory.
+/// The table line of the problem of a book's last version at a moment, and its line feed. Refused only with `OutOfMemory` (1).
+/// The problem is kept by the book, as a begin keeps it.
 pub fn last_table(alloc: Global, book: &mut Book, at: Moment) -> Result<String, Stop>
     ensures { IfOk result (λ text. IsTableTextOfLast book.old.setting book.old.state.history at (string_bytes text)) }
 {

@@ -14,7 +14,8 @@ use plan_reasons::{
 use std::alloc::Global;
 
 /// What is asked about a plan of a book's last version at a moment, over the network in force, with the names of places where they
-/// are asked for. `OrderNotInProblem` or `WagonNotInProblem` (84) where the problem doesn't have what is asked about.
+/// are asked for. Refused with `OrderNotInProblem` or `WagonNotInProblem` (84) where the problem doesn't have what is asked about,
+/// else only with `OutOfMemory` (1). The problem is kept by the book, as a begin keeps it.
 pub fn last_reasons(
     alloc: Global,
     book: &mut Book,
