@@ -1,5 +1,5 @@
 -- The reasons of a plan of a history's last version at a moment: what is asked about it, and the text that answers.
-use Rattle.std.specs.Prelude.{◌≡◌, ℕ, Bool, true, false, List, length, Option, Some, slice_get}
+use Rattle.std.specs.Prelude.{◌≡◌, ◌≢◌, ◌⊎◌, ℕ, Bool, true, false, List, length, Option, Some, slice_get}
 use Rattle.command_line.specs.declared.why_options.Asked.{Asked}
 use Rattle.command_line.specs.declared.why_options.Asked.TheVariants.{Plan, Order, Wagon}
 use Rattle.command_line.specs.declared.why_options.WhyOptions.{WhyOptions}
@@ -9,6 +9,8 @@ use Rattle.cost_table.specs.Problem.{ProblemValue, order_names, wagon_names}
 use Rattle.line_network.specs.Network.{NetworkValue}
 use Rattle.line_network.specs.Networks.{network_at}
 use Rattle.move_messages.specs.declared.event.Event.{Event}
+use Rattle.office_files.specs.declared.stop.Stop.{Stop}
+use Rattle.office_files.specs.declared.stop.Stop.TheVariants as stop
 use Rattle.place_names.specs.declared.named_place.NamedPlace.{NamedPlace}
 use Rattle.plan_bounds.specs.PricedPlan.{IsCertified, PricedPlan}
 use Rattle.plan_reasons.specs.PairLists.{IsOrderText, IsWagonText}
@@ -33,6 +35,12 @@ IsAnswer style names (Order id) last network problem plan text =
 IsAnswer style names (Wagon number) last network problem plan text =
     (i : ℕ) × (slice_get (wagon_names problem.wagons) i ≡ Some number) × IsWagonText style names network problem plan i text
 
+-- why nothing answers what is asked about a problem: no order waits by this name, or no wagon is free by this number
+abbrev pub IsLacking : Asked → ProblemValue → (why : Stop) → Type 0
+IsLacking Plan problem why = ⊥
+IsLacking (Order id) problem why = ((j : ℕ) → slice_get (order_names problem.orders) j ≢ Some id) × (why ≡ stop.OrderNotInProblem id)
+IsLacking (Wagon number) problem why = ((i : ℕ) → slice_get (wagon_names problem.wagons) i ≢ Some number) × (why ≡ stop.WagonNotInProblem number)
+
 -- the same of a planned problem, by the options of `why`
 abbrev pub IsAnswerFor : WhyOptions → (names : Option (List NamedPlace)) → (last : ℕ) → PlannedProblem → (text : List ℕ) → Type 0
 IsAnswerFor options names last planned text =
@@ -47,3 +55,8 @@ pub record AreReasonsOfLast (setting : Setting) (history : List Event) (options 
   pub table : IsTableOf network (problem_at setting history (length history) options.problem.at) plan.table
   pub certified : IsCertified plan
   pub answers : IsAnswer (style_of options.json) names options.asked (length history) network (problem_at setting history (length history) options.problem.at) plan text
+
+-- why there are none: the problem of the last version lacks what is asked about, or memory was refused
+abbrev pub AreNoReasonsOfLast : Setting → List Event → WhyOptions → (why : Stop) → Type 0
+AreNoReasonsOfLast setting history options why =
+    IsLacking options.asked (problem_at setting history (length history) options.problem.at) why ⊎ (why ≡ stop.OutOfMemory)

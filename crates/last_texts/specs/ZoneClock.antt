@@ -1,8 +1,10 @@
 -- The clock by which a plan shows moments, by the time zone that is asked for.
-use Rattle.std.specs.Prelude.{◌≡◌, ℕ, List, Option, Some, None, Ok, option_map}
+use Rattle.std.specs.Prelude.{◌≡◌, ◌⊎◌, ℕ, List, Option, Some, None, Ok, option_map}
 use Rattle.jiff.specs.Words.{IsInserted, IsLookedUp, plain_database, plain_zone}
 use Rattle.jiff.specs.declared.tz.db.TimeZoneDatabase.{TimeZoneDatabase}
 use Rattle.jiff.specs.declared.tz.timezone.TimeZone.{TimeZone}
+use Rattle.office_files.specs.declared.stop.Stop.{Stop}
+use Rattle.office_files.specs.declared.stop.Stop.TheVariants as stop
 use Rattle.plan_table.specs.declared.clock.Clock.{Clock}
 use Rattle.last_texts.specs.declared.zone.ZoneFile.{ZoneFile}
 
@@ -35,3 +37,7 @@ pub record IsZoneNamed (name : List ℕ) (zone : TimeZone) : Type 0 where
 abbrev pub IsClockFor : Option (List ℕ) → Clock → Type 0
 IsClockFor None clock = clock.zone ≡ None
 IsClockFor (Some name) clock = (zone : TimeZone) × IsZoneNamed name zone × (clock.zone ≡ Some zone)
+
+-- why moments can't be shown in a time zone: memory was refused, or it can't be read or looked up
+abbrev pub IsNoClock : (why : Stop) → Type 0
+IsNoClock why = (why ≡ stop.OutOfMemory) ⊎ (why ≡ stop.OpenFailed)

@@ -1,14 +1,16 @@
 //! The plan of a book's last version, for people.
-ghost use Rattle.std.specs.Prelude.{◌≡◌, IfOk, option_copied};
+ghost use Rattle.std.specs.Prelude.{◌≡◌, ◌≤◌, IfErr, IfOk, Some, length, option_copied};
 ghost use Rattle.last_texts.specs.PlanOfLast.{IsPlanOfLast, IsPlanTextOfLast, IsPrinted, IsPrintedIn};
-ghost use Rattle.last_texts.specs.ZoneClock.{HasZoneFor, IsReadFor, name_of};
+ghost use Rattle.last_texts.specs.ZoneClock.{HasZoneFor, IsNoClock, IsReadFor, name_of};
+ghost use Rattle.line_network.specs.Networks.{network_at};
+ghost use Rattle.office_files.specs.declared.stop.Stop.TheVariants.{OutOfMemory};
 ghost use Rattle.plan_reasons.specs.Planned.{IsPlannedProblem, priced_plan};
 ghost use Rattle.plan_table.specs.ListOf.{IsListOf};
 
 use crate::zone::{ZoneFile, clock_of};
 use command_line::PlanOptions;
 use commit_book::Book;
-use line_network::Networks;
+use line_network::{Networks, Tables};
 use office_files::Stop;
 use place_names::Places;
 use plan_reasons::PlannedProblem;
@@ -29,7 +31,8 @@ pub fn last_plan_text(
 ) -> Result<Vec<u8>, Stop>
     requires distances { distances.now ≡ book.old.setting.networks }
     requires zone { IsReadFor (option_copied options.now.zone) zone.now }
-    ensures { IfOk result (λ text. IsPlanTextOfLast book.old.setting book.old.state.history options.now places.now text.items) }
+    ensures plan { IfOk result (λ text. IsPlanTextOfLast book.old.setting book.old.state.history options.now places.now text.items) }
+    ensures refused { IfErr result IsNoClock }
 {
     let list = last_plan(alloc, book, distances, options.problem.at)?;
     printed_in(alloc, options.csv, places, zone, &list)
@@ -43,13 +46,11 @@ fn last_plan(
     at: Moment,
 ) -> Result<PlanList, Stop>
     requires { distances.now ≡ book.old.setting.networks }
-    ensures { IfOk result (IsPlanOfLast book.old.setting book.old.state.history at) }
+    ensures plan { IfOk result (IsPlanOfLast book.old.setting book.old.state.history at) }
+    ensures refused { IfErr result (λ why. why ≡ OutOfMemory) }
 {
+    let tables = tables_in(distances, book.state().network());
     let (snap, index) = book.begin_indexed(alloc, at)?;
-    // A book's network in force is one of its networks.
-    let Some(tables) = distances.get(snap.network()) else {
-        return Err(Stop::OpenFailed);
-    };
     let cells = book.kept_table(index);
     let (plan, prices) = assignment::plan(alloc, cells)?;
     let planned = PlannedProblem {
@@ -62,10 +63,20 @@ fn last_plan(
     listed(alloc, snap.version(), &planned)
 }
 
+/// The distances in the network of a number, counted from 1.
+pub(crate) fn tables_in(distances: &Networks, number: u32) -> &Tables
+    requires from_one { 1 ≤ number }
+    requires few { number ≤ length distances.now }
+    ensures { network_at distances.now number ≡ Some result.now }
+{
+    distances.get(number).unwrap()
+}
+
 /// A plan of a version as a list.
 fn listed(alloc: Global, version: u64, planned: &PlannedProblem<'_>) -> Result<PlanList, Stop>
     requires { IsPlannedProblem planned.now }
-    ensures { IfOk result (IsListOf version planned.now.tables.now planned.now.problem.now (priced_plan planned.now)) }
+    ensures list { IfOk result (IsListOf version planned.now.tables.now planned.now.problem.now (priced_plan planned.now)) }
+    ensures refused { IfErr result (λ why. why ≡ OutOfMemory) }
 {
     Ok(list_of_plan(alloc, version, planned)?)
 }
@@ -79,7 +90,8 @@ fn printed_in(
     plan: &PlanList,
 ) -> Result<Vec<u8>, Stop>
     requires { HasZoneFor zone.now.database (name_of zone.now) }
-    ensures { IfOk result (λ text. IsPrintedIn csv places.now (name_of zone.now) plan.now text.items) }
+    ensures text { IfOk result (λ text. IsPrintedIn csv places.now (name_of zone.now) plan.now text.items) }
+    ensures refused { IfErr result IsNoClock }
 {
     match clock_of(zone) {
         Ok(clock) => printed(alloc, csv, places, &clock, plan),
@@ -95,7 +107,8 @@ fn printed(
     clock: &Clock<'_>,
     plan: &PlanList,
 ) -> Result<Vec<u8>, Stop>
-    ensures { IfOk result (λ text. IsPrinted csv places.now clock.now plan.now text.items) }
+    ensures text { IfOk result (λ text. IsPrinted csv places.now clock.now plan.now text.items) }
+    ensures refused { IfErr result (λ why. why ≡ OutOfMemory) }
 {
     if csv {
         return Ok(csv_text(alloc, places, clock, plan)?);

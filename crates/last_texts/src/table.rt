@@ -1,7 +1,8 @@
 //! The problem of a book's last version, as a table line.
-ghost use Rattle.std.specs.Prelude.{◌≡◌, ◌++◌, ◌∷◌, [], IfOk, Some, length, slice_get, string_bytes};
+ghost use Rattle.std.specs.Prelude.{◌≡◌, ◌++◌, ◌∷◌, [], IfErr, IfOk, Some, length, slice_get, string_bytes};
 ghost use Rattle.commit_book.specs.Snap.{snap_of};
 ghost use Rattle.last_texts.specs.TableOfLast.{IsTableOfLast, IsTableTextOfLast};
+ghost use Rattle.office_files.specs.declared.stop.Stop.TheVariants.{OutOfMemory};
 
 use commit_book::{Book, Snap};
 use office_files::Stop;
@@ -12,7 +13,8 @@ use table_lines::problem_line;
 /// The table line of the problem of a book's last version at a moment, and its line feed. Refused only with `OutOfMemory` (1).
 /// The problem is kept by the book, as a begin keeps it.
 pub fn last_table(alloc: Global, book: &mut Book, at: Moment) -> Result<String, Stop>
-    ensures { IfOk result (λ text. IsTableTextOfLast book.old.setting book.old.state.history at (string_bytes text)) }
+    ensures table { IfOk result (λ text. IsTableTextOfLast book.old.setting book.old.state.history at (string_bytes text)) }
+    ensures refused { IfErr result (λ why. why ≡ OutOfMemory) }
 {
     let (snap, index) = book.begin_indexed(alloc, at)?;
     let line = kept_line(alloc, book, &snap, index)?;

@@ -1,8 +1,10 @@
 //! Why the plan of a book's last version is as it is.
-ghost use Rattle.std.specs.Prelude.{◌≡◌, IfOk, option_copied, string_bytes};
-ghost use Rattle.last_texts.specs.ReasonsOfLast.{AreReasonsOfLast, IsAnswerFor, style_of};
+ghost use Rattle.std.specs.Prelude.{◌≡◌, ◌⊎◌, IfErr, IfOk, option_copied, string_bytes};
+ghost use Rattle.last_texts.specs.ReasonsOfLast.{AreNoReasonsOfLast, AreReasonsOfLast, IsAnswerFor, IsLacking, style_of};
+ghost use Rattle.office_files.specs.declared.stop.Stop.TheVariants.{OutOfMemory};
 ghost use Rattle.plan_reasons.specs.Planned.{IsPlannedProblem};
 
+use crate::plan::tables_in;
 use command_line::{Asked, WhyOptions};
 use commit_book::Book;
 use line_network::Networks;
@@ -24,13 +26,11 @@ pub fn last_reasons(
     names: Option<&Places>,
 ) -> Result<String, Stop>
     requires { distances.now ≡ book.old.setting.networks }
-    ensures { IfOk result (λ text. AreReasonsOfLast book.old.setting book.old.state.history options.now (option_copied names.entry) (string_bytes text)) }
+    ensures reasons { IfOk result (λ text. AreReasonsOfLast book.old.setting book.old.state.history options.now (option_copied names.entry) (string_bytes text)) }
+    ensures none { IfErr result (AreNoReasonsOfLast book.old.setting book.old.state.history options.now) }
 {
+    let tables = tables_in(distances, book.state().network());
     let (snap, index) = book.begin_indexed(alloc, options.problem.at)?;
-    // A book's network in force is one of its networks.
-    let Some(tables) = distances.get(snap.network()) else {
-        return Err(Stop::OpenFailed);
-    };
     let cells = book.kept_table(index);
     let (plan, prices) = assignment::plan(alloc, cells)?;
     let planned = PlannedProblem {
@@ -52,7 +52,8 @@ fn answer(
     planned: &PlannedProblem<'_>,
 ) -> Result<String, Stop>
     requires { IsPlannedProblem planned.now }
-    ensures { IfOk result (λ text. IsAnswerFor options.now (option_copied names.entry) version planned.now (string_bytes text)) }
+    ensures answer { IfOk result (λ text. IsAnswerFor options.now (option_copied names.entry) version planned.now (string_bytes text)) }
+    ensures none { IfErr result (λ why. IsLacking options.now.asked planned.now.problem.now why ⊎ (why ≡ OutOfMemory)) }
 {
     let style = style_of(options.json);
     let form = LineForm { style, names };

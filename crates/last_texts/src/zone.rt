@@ -1,6 +1,6 @@
 //! The time zone in which moments are shown.
-ghost use Rattle.std.specs.Prelude.{IfOk, Some, option_map};
-ghost use Rattle.last_texts.specs.ZoneClock.{HasZone, HasZoneFor, IsClockFor, IsReadFor, name_of};
+ghost use Rattle.std.specs.Prelude.{IfErr, IfOk, Some, option_map};
+ghost use Rattle.last_texts.specs.ZoneClock.{HasZone, HasZoneFor, IsClockFor, IsNoClock, IsReadFor, name_of};
 
 use fault_texts::file_text;
 use jiff::Error;
@@ -24,12 +24,14 @@ pub struct ZoneFile<'a> {
     name: Option<&'a str>,
 }
 
-/// The time zone of a name, from its file. `OpenFailed` (93) where there is no such file, or where it has no time zone.
+/// The time zone of a name, from its file; UTC where none is asked for. Refused with `OpenFailed` (93) where there is no such file,
+/// where it couldn't be read, or where it has no time zone, else only with `OutOfMemory` (1).
 pub fn read_zone<'a, R: Files + AllocGlobal>(
     rt: &R,
     name: Option<&'a str>,
 ) -> Result<ZoneFile<'a>, Stopped>
-    ensures { IfOk result (IsReadFor (option_map (λ text. text.now) name.entry)) }
+    ensures zone { IfOk result (IsReadFor (option_map (λ text. text.now) name.entry)) }
+    ensures refused { IfErr result (λ stopped. IsNoClock stopped.stop) }
 {
     let Some(name) = name else {
         return Ok(ZoneFile {
@@ -37,7 +39,9 @@ pub fn read_zone<'a, R: Files + AllocGlobal>(
             name: None,
         });
     };
-    let path = path_of(rt.alloc(), name)?;
+    let Ok(path) = path_of(rt.alloc(), name) else {
+        return Err(Stopped::from(Stop::OutOfMemory));
+    };
     let bytes = read_file(rt, path.as_str())?;
     match zone_of(rt.alloc(), name, &bytes) {
         Ok(zone) => Ok(zone),
@@ -60,7 +64,9 @@ fn zone_of<'a>(alloc: Global, name: &'a str, bytes: &[u8]) -> Result<ZoneFile<'a
 }
 
 /// That a file has no time zone.
-fn no_zone(alloc: Global, path: &str, error: &Error) -> Stopped {
+fn no_zone(alloc: Global, path: &str, error: &Error) -> Stopped
+    ensures { IsNoClock result.stop }
+{
     Stopped::told(
         stop_of(error),
         file_text(alloc, path, "it has no time zone"),
@@ -68,7 +74,9 @@ fn no_zone(alloc: Global, path: &str, error: &Error) -> Stopped {
 }
 
 /// Why a time zone could not be had.
-fn stop_of(error: &Error) -> Stop {
+fn stop_of(error: &Error) -> Stop
+    ensures { IsNoClock result }
+{
     match error {
         Error::OutOfMemory => Stop::OutOfMemory,
         _ => Stop::OpenFailed,
@@ -76,7 +84,9 @@ fn stop_of(error: &Error) -> Stop {
 }
 
 /// The bytes of a time zone's file.
-fn read_file<R: Files + AllocGlobal>(rt: &R, path: &str) -> Result<Vec<u8>, Stopped> {
+fn read_file<R: Files + AllocGlobal>(rt: &R, path: &str) -> Result<Vec<u8>, Stopped>
+    ensures { IfErr result (λ stopped. IsNoClock stopped.stop) }
+{
     let mut bytes = Vec::new(rt.alloc());
     match open(rt, path)?.take(MAX_ZONE_BYTES).read_to_end(&mut bytes) {
         Ok(_) => Ok(bytes),
@@ -100,7 +110,8 @@ fn path_of(alloc: Global, name: &str) -> Result<String, AllocError> {
 /// How moments are shown in a time zone.
 pub(crate) fn clock_of<'a>(zone: &'a ZoneFile<'_>) -> Result<Clock<'a>, Stop>
     requires { HasZoneFor zone.now.database (name_of zone.now) }
-    ensures { IfOk result (IsClockFor (name_of zone.now)) }
+    ensures clock { IfOk result (IsClockFor (name_of zone.now)) }
+    ensures refused { IfErr result IsNoClock }
 {
     match zone.name {
         None => Ok(Clock { zone: None }),
@@ -111,7 +122,8 @@ pub(crate) fn clock_of<'a>(zone: &'a ZoneFile<'_>) -> Result<Clock<'a>, Stop>
 /// How moments are shown in the time zone of a name.
 fn clock_in<'a>(database: &'a TimeZoneDatabase, name: &str) -> Result<Clock<'a>, Stop>
     requires { HasZone database.now name.now }
-    ensures { IfOk result (IsClockFor (Some name.now)) }
+    ensures clock { IfOk result (IsClockFor (Some name.now)) }
+    ensures refused { IfErr result IsNoClock }
 {
     match database.get(name) {
         Ok(found) => Ok(Clock { zone: Some(found) }),
