@@ -147,20 +147,6 @@ index_stays events event index other h q = h q ∙ sym (position-push (is_messag
 pub index_none : (ids : BTreeMap MessageId ℕ) → ids.entries ≡ [] → IsIndexOf [] (get compare_ids ids)
 index_none ids empty id = rw empty refl
 
--- ---- the last event taken back
-
-back_in : (events : List Event) (m : movement.Message) (q : MessageId) (old : Option ℕ) (b : Bool) → is_id m.id q ≡ b → IsFresh m.id events → old ≡ position (is_message_of q) (events ++ Message m ∷ [])
-    → cond b None old ≡ position (is_message_of q) events
-back_in events m q old true is fresh h =
-    let same : m.id ≡ q = id_same m.id q is in
-    sym (ap (λ (x : MessageId). position (is_message_of x) events) (sym same) ∙ unfound_by m.id events fresh)
-back_in events m q old false is fresh h = h ∙ position-push (is_message_of q) events (Message m) (is_id-sym q m.id ∙ is)
-
-index_back : (events : List Event) (m : movement.Message) (old new : MessageId → Option ℕ) → ((q : MessageId) → new q ≡ cond (is_eq (compare_ids m.id q)) None (old q)) → IsFresh m.id events → IsIndexOf (events ++ Message m ∷ []) old
-    → IsIndexOf events new
-index_back events m old new without fresh h q =
-    without q ∙ (ap (λ (b : Bool). cond b None (old q)) (id_ties m.id q) ∙ back_in events m q (old q) (is_id m.id q) refl fresh (h q))
-
 -- ---- a message of a noted id
 
 -- the first index of an id is that of a message of it
@@ -189,10 +175,6 @@ pub index_noted : (events : List Event) (id : MessageId) (old new : MessageId �
 index_noted events id old new h none noted =
     let fresh = fresh_by id events (sym (h id) ∙ none) in
     record { fresh = fresh; behind = λ m same. index_push events m old new (rw same fresh) h (λ q. rw same (noted q)) }
-
--- the note of a message taken back
-pub index_unnoted : (events : List Event) (m : movement.Message) (old new : MessageId → Option ℕ) → HasNoted events m.id old → ((q : MessageId) → new q ≡ cond (is_eq (compare_ids m.id q)) None (old q)) → IsIndexOf events new
-index_unnoted events m old new noted without = index_back events m old new without noted.fresh (noted.behind m refl)
 
 -- an index of the same entries
 pub index_kept : (events : List Event) (old new : BTreeMap MessageId ℕ) → new.entries ≡ old.entries → IsIndexOf events (get compare_ids old) → IsIndexOf events (get compare_ids new)

@@ -123,10 +123,7 @@ impl Ledger {
             Ok(Admission::Known(index)) => return Ok(MessageEntry::Known(index)),
             Err(fault) => return Err(fault),
         };
-        if let Err(_) = self.state.accept_change(message, &found) {
-            self.ids.remove(&IdKey::of(message.id));
-            return Err(ApplyFault::OutOfMemory);
-        }
+        self.state.accept_change(message, &found);
         self.events.push_reserved(Entry::of_message(message));
         Ok(MessageEntry::Entered)
     }

@@ -2,9 +2,7 @@ pub mod ReadingLemmas
 pub mod RecordLemmas
 pub mod RosterLemmas
 pub mod RosterOfLemmas
-pub mod FreeCounts
 pub mod Named
 pub mod Orders
-pub mod Standings
 pub mod Waiting
 pub mod Wagons

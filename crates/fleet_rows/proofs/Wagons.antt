@@ -1,5 +1,5 @@
 -- The rows of the wagons.
-use Rattle.std.proofs.Common.{◌≡◌, ◌∙◌, ◌≤◌, ℕ, Bool, true, false, cond, if◌then◌else◌, List, [], ◌∷◌, length, map, get_or, Option, Some, None, Result, Ok, Err, IfSome, IfNone, option_map, refl, ap, sym, subst, inl, inr, arith}
+use Rattle.std.proofs.Common.{◌≡◌, ◌∙◌, ◌≤◌, ℕ, Bool, true, false, not, cond, if◌then◌else◌, List, [], ◌∷◌, length, map, get_or, Option, Some, None, Result, Ok, Err, IfSome, IfNone, option_map, refl, ap, sym, subst, inl, inr, arith}
 use Rattle.std.specs.Cmp.Lexicographic.{bytes_decides, slice_cmp, texts_ties}
 use Rattle.std.specs.List.{AllByRecursion, IsDistinct, slice_get, slice_set}
 use Rattle.std.specs.List.Sorted.{IsBinarySearchResult, IsSearchInRange, IsStrictlySortedBy}
@@ -11,8 +11,11 @@ use Rattle.std.proofs.lemmas.List.{length-set}
 use Rattle.std.proofs.lemmas.List.Elements.{All-set}
 use Rattle.std.proofs.lemmas.Map.Keys.{IsDistinct-from_sorted}
 use Rattle.std.proofs.lemmas.Option.{get_or_from_slice_get, slice_get-get_or, slice_get_within}
-use Rattle.std.proofs.Math.Seq.{map-set_same}
+use Rattle.std.proofs.Math.Bool.{beq}
+use Rattle.std.proofs.Math.ListN.{get_or-map}
+use Rattle.std.proofs.Math.Seq.{map-set, map-set_same}
 use Rattle.move_messages.specs.MaxLoad.{max_load}
+use Rattle.fleet_rows.specs.FreeWagons.{is_free}
 use Rattle.fleet_rows.specs.Roster.{IsRoster}
 use Rattle.fleet_rows.specs.SameWagons.{has_wagon}
 use Rattle.fleet_rows.proofs.RosterLemmas.{none_at_gap, searched}
@@ -172,3 +175,23 @@ read_row rows k number read found value =
     let (row, there, named) = found in
     let same : read ≡ row = value ∙ get_or_from_slice_get rows k row read there in
     (there ∙ ap Some (sym same), ap (λ (row : WagonRow). row.number) same ∙ named)
+
+-- ---- which wagons are free, once a row is put in the place of another
+
+pub free_put : (rows : List WagonRow) (k : ℕ) (row : WagonRow) (are_free : List Bool) → are_free ≡ map is_free rows → slice_set are_free k (is_free row) ≡ map is_free (slice_set rows k row)
+free_put rows k row are_free h = ap (λ (free : List Bool). slice_set free k (is_free row)) h ∙ sym (map-set is_free rows k row)
+
+one_answer : (a b : Bool) → not (beq a b) ≡ false → a ≡ b
+one_answer true true h = refl
+one_answer false false h = refl
+one_answer true false h = cc h
+one_answer false true h = cc h
+
+-- nothing changes there where what is read is the answer for the new row
+pub free_stays : (rows : List WagonRow) (k : ℕ) (row : WagonRow) (are_free : List Bool) (read free : Bool) → are_free ≡ map is_free rows → read ≡ get_or are_free k read → free ≡ is_free row
+    → not (beq read free) ≡ false → are_free ≡ map is_free (slice_set rows k row)
+free_stays rows k row are_free read free h there is same =
+    let answer : read ≡ is_free row = one_answer read free same ∙ is in
+    let stood : is_free row ≡ get_or are_free k (is_free row) = subst (λ (b : Bool). b ≡ get_or are_free k b) answer there in
+    let was : is_free row ≡ is_free (get_or rows k row) = stood ∙ ap (λ (them : List Bool). get_or them k (is_free row)) h ∙ get_or-map is_free rows k row in
+    h ∙ sym (map-set_same is_free rows k row row was)

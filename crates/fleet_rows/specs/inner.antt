@@ -1,4 +1,4 @@
 pub mod Gaps
 pub mod Reading
 pub mod Indexed
-pub mod Standings
+pub mod Stored

@@ -9,7 +9,6 @@ mod roster;
 mod roster_field;
 mod roster_refusal;
 mod roster_so_far;
-mod standing;
 mod wagon_record;
 mod wagon_rows;
 

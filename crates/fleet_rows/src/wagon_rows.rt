@@ -1,47 +1,45 @@
 //! The rows of the wagons.
-ghost use Rattle.std.specs.Prelude.{◌≡◌, ◌≤◌, ◌↔◌, IfNone, IfOk, IfSome, IsTrue, None, OnErr, OnOk, Some, count_by, option_copied, option_map, slice_get};
+ghost use Rattle.std.specs.Prelude.{◌≡◌, ◌≤◌, ◌<◌, ◌↔◌, IfNone, IfOk, IfSome, IsTrue, None, Some, count_by, length, map, option_copied, option_map, slice_get, slice_set};
 ghost use Rattle.std.specs.List.Sorted.{IsStrictlySortedBy};
-ghost use Rattle.fleet_rows.specs.EmptyWagons.{IsNewStand, is_free_at, stand_in, stand_of};
+ghost use Rattle.fleet_rows.specs.FreeWagons.{is_free, is_free_at};
 ghost use Rattle.fleet_rows.specs.Rows.{at_wagon, wagon_in, with_promise};
-ghost use Rattle.fleet_rows.specs.inner.Standings.{is_unpromised};
 ghost use Rattle.fleet_rows.specs.Kept.{by_number};
 ghost use Rattle.move_messages.specs.MaxLoad.{max_load};
 ghost use Rattle.wagons_and_orders.specs.declared.wagon_row.WagonRow.{WagonRow};
 
-use crate::standing::{Standing, replace, standing_of, standings_of};
 use rail_codes::{ClassCode, OrderId, Place, WagonNumber};
 use std::alloc::{AllocError, Global};
-use std::collections::BTreeSet;
 use std::marker::Model;
-use wagons_and_orders::WagonRow;
+use wagons_and_orders::{WagonRow, free};
 
 /// What an office knows of its wagons: at most 1,000 rows, ascending by number. No wagon comes or
 /// goes. A contract sees the rows.
 pub struct WagonRows {
     rows: Vec<WagonRow>,
-    // Where the empty wagons stand that aren't held, by place, then by class, then by number. Whether one of them is
-    // promised is asked of its row, so that the end of a promise wants no memory.
-    empty: BTreeSet<Standing>,
+    // Whether each of them is free. Most aren't, so one that looks for the free ones reads few rows.
+    are_free: Vec<bool>,
 }
 
 // Written out, it is proved here once; a derived one, in each crate that drops a value.
 impl Drop for WagonRows {
     fn drop(self) {
-        let WagonRows { rows: _, empty: _ } = self;
+        let WagonRows {
+            rows: _,
+            are_free: _,
+        } = self;
     }
 }
 
 impl Model for WagonRows {
     ghost use Rattle.std.specs.Prelude.{List};
-    ghost use Rattle.std.specs.BTreeSet.{contains};
-    ghost use Rattle.fleet_rows.specs.inner.Standings.{AreStored, compare_standings};
+    ghost use Rattle.fleet_rows.specs.inner.Stored.{AreStored};
     ghost use Rattle.wagons_and_orders.specs.declared.wagon_row.WagonRow.{WagonRow};
 
     ghost Value = { List WagonRow };
 
     ghost view = { λ wagons. wagons.rows.items };
 
-    ghost invariant = { λ wagons. AreStored wagons.rows.items (contains compare_standings wagons.empty) };
+    ghost invariant = { λ wagons. AreStored wagons.rows.items wagons.are_free.items };
 }
 
 impl WagonRows {
@@ -53,8 +51,8 @@ impl WagonRows {
         ensures { IfOk result (λ wagons. wagons ≡ rows.now) }
     {
         let rows = Vec::from_slice(alloc, rows)?;
-        let empty = standings_of(alloc, &rows)?;
-        Ok(WagonRows { rows, empty })
+        let are_free = are_free(alloc, &rows)?;
+        Ok(WagonRows { rows, are_free })
     }
 
     /// The rows, ascending by number.
@@ -100,57 +98,81 @@ impl WagonRows {
         Some((index, row))
     }
 
-    /// How many wagons of a class stand at a place empty, not held and not promised. Only those that stand there
-    /// empty and not held are looked at.
+    /// Whether each wagon is free, in the order of the rows.
+    pub fn are_free(&self) -> &[bool]
+        ensures { result.now ≡ map is_free self.now }
+    {
+        &self.are_free
+    }
+
+    /// How many free wagons of a class stand at a place.
     pub fn free_count(&self, class: ClassCode, place: Place) -> usize
         ensures { result ≡ count_by (is_free_at class place) self.now }
     {
-        let first = Standing {
-            place,
-            class,
-            row: 0,
-        };
-        let end = Standing {
-            row: self.rows.len(),
-            ..first
-        };
-        self.empty
-            .range(first..end)
-            .filter(|standing| is_unpromised(&self.rows, standing.row))
+        self.rows
+            .iter()
+            .filter(|row| is_free_at(row, class, place))
             .count()
     }
 
-    /// Puts a row in place of the one that its wagon has, which stands at this index. Memory is wanted only where the
-    /// wagon is then empty and not held at a place where it wasn't so before; where memory is out, nothing changes.
-    pub fn put(&mut self, index: usize, row: WagonRow) -> Result<(), AllocError>
+    /// Puts a row in place of the one that its wagon has, which stands at this index.
+    pub fn put(&mut self, index: usize, row: WagonRow)
         requires its_index { (old : WagonRow) × (slice_get self.old index ≡ Some old) × (old.number ≡ row.number) }
         requires few_kg { row.load_limit ≤ max_load }
-        ensures put { OnOk result (self.new ≡ at_wagon row.number (λ _. row) self.old) }
-        ensures refused { OnErr result (self.new ≡ self.old) }
-        ensures memory { OnErr result (IsNewStand (stand_in self.old row.number) (stand_of row)) }
+        ensures { self.new ≡ at_wagon row.number (λ _. row) self.old }
     {
-        let before = standing_of(&self.rows[index], index);
-        replace(&mut self.empty, before, standing_of(&row, index))?;
-        self.rows[index] = row;
-        Ok(())
+        self.for_the_prover();
+        self.set(index, row);
     }
 
-    /// Sets the promise of a wagon, where the office has it. Takes no memory.
+    /// Sets the promise of a wagon, where the office has it.
     pub fn set_promise(&mut self, number: WagonNumber, promise: Option<OrderId>)
         ensures { self.new ≡ at_wagon number (with_promise promise) self.old }
     {
         if let Some(index) = index_of(&self.rows, number) {
-            self.rows[index].promise = promise;
+            let row = WagonRow {
+                promise,
+                ..self.rows[index]
+            };
+            self.set(index, row);
+        }
+    }
+
+    /// Sets the row at an index, with which the rows are still some that an office may have.
+    fn set(&mut self, index: usize, row: WagonRow)
+        requires within { index < length self.old }
+        requires valid { IsWagonRows (slice_set self.old index row) }
+        ensures { self.new ≡ slice_set self.old index row }
+    {
+        let free = is_free(&row);
+        self.rows[index] = row;
+        // Written only where it changes: other processors hold copies of it, which they would have to read again.
+        if self.are_free[index] != free {
+            self.are_free[index] = free;
         }
     }
 }
 
-/// Whether there is a row at an index, and its wagon isn't promised.
-fn is_unpromised(rows: &[WagonRow], at: usize) -> bool
-    ensures { result ≡ is_unpromised (slice_get rows.now at) }
+/// Whether the wagon of each row is free.
+fn are_free(alloc: Global, rows: &[WagonRow]) -> Result<Vec<bool>, AllocError>
+    ensures { IfOk result (λ are_free. are_free.items ≡ map is_free rows.now) }
 {
-    match rows.get(at) {
-        Some(row) => row.promise.is_none(),
+    rows.iter().map(is_free).collect(alloc)
+}
+
+/// Whether the wagon of a row is free.
+fn is_free(row: &WagonRow) -> bool
+    ensures { result ≡ is_free row.now }
+{
+    free(row).is_some()
+}
+
+/// Whether the wagon of a row is free, of this class, and stands at this place.
+fn is_free_at(row: &WagonRow, class: ClassCode, place: Place) -> bool
+    ensures { result ≡ is_free_at class place row.now }
+{
+    match free(row) {
+        Some(wagon) => wagon.class == class && wagon.place == place,
         None => false,
     }
 }

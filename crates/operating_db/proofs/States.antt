@@ -1,5 +1,4 @@
 -- What the state of an office keeps through each change.
-use Rattle.std.specs.Option.{option_and_then}
 use Rattle.std.proofs.Common.{◌≡◌, ◌∙◌, ℕ, ◌≤◌, arith, List, [], ◌∷◌, ◌++◌, map, refl, ap, sym, subst}
 use Rattle.std.specs.Prelude.{◌↔◌, ◌+◌, nat_lt, Bool, true, false, cond, Option, Some, None, is_some, IsOk, IsSome, IfSome, Result, Ok, Err, OnOk, OnErr, option_map}
 use Rattle.move_messages.specs.Order.{Order}
@@ -10,15 +9,13 @@ use Rattle.fleet_rows.specs.Roster.{IsRoster}
 use Rattle.wagons_and_orders.specs.Lack.{is_open}
 use Rattle.wagons_and_orders.specs.OrderRow.{OrderRowValue, placed_row}
 use Rattle.fleet_rows.specs.Kept.{IsWagonRows}
-use Rattle.fleet_rows.proofs.Wagons.{number-wagon_in, wagon_in-at_wagon}
-use Rattle.fleet_rows.specs.EmptyWagons.{IsNewStand, stand_in, stand_of}
+use Rattle.fleet_rows.proofs.Wagons.{number-wagon_in}
 use Rattle.fleet_rows.specs.Rows.{wagon_in, order_in, at_wagon, at_order, max_open_wagons, open_wagons, promised_to, taken_back, with_promise}
 use Rattle.operating_db.specs.inner.EventParts.{IsNext, unpromised_among}
 use Rattle.operating_db.specs.MessageChange.{IsChange}
 use Rattle.faults.specs.declared.faults.ApplyFault.{ApplyFault}
 use Rattle.faults.specs.declared.faults.ApplyFault.TheVariants.{OrderClosed, OrderKnown, TooManyOpen}
 use Rattle.operating_db.specs.After.{after_order, message_to, moved, order_place, orders_after, unpromised, withdrawn_from}
-use Rattle.operating_db.specs.ApplyFault.{EmptiesWagon}
 use Rattle.operating_db.specs.Commits.{Pair}
 use Rattle.operating_db.specs.Office.{Office}
 use Rattle.operating_db.specs.RosterOffice.{first_office}
@@ -28,7 +25,6 @@ use Rattle.line_network.specs.NetworkCount.{max_networks}
 use Rattle.operating_db.proofs.Changes.{among_known, order_known, withdrawn_wagons}
 use Rattle.operating_db.proofs.Events.{change_kept, not_there, placed_kept, rosters_agree, step_keeps, withdrawn_kept}
 use Rattle.operating_db.proofs.KeptOrders.{next_keeps}
-use Rattle.operating_db.proofs.Names.{same_self}
 
 -- the state with other rows
 abbrev pub with_rows : StateValue → List WagonRow → List OrderRowValue → StateValue
@@ -122,33 +118,6 @@ pub change_done : (office : Office) (m : message.Message) (change : Change) (pro
 change_done office m change promise wagons orders h e f =
     ap (message_to office m) h.found ∙ (ap (moved office m.wagon h.row.promise) h.stepped
     ∙ rows_are office wagons _ orders _ (change_wagons office m change promise wagons h e) (change_orders office m change promise orders h f))
-
--- the row that is put in place of its wagon's row is found
-put_there : (rows : List WagonRow) (n : List ℕ) (old new : WagonRow) → wagon_in rows n ≡ Some old → new.number ≡ n → wagon_in (at_wagon n (λ _. new) rows) n ≡ Some new
-put_there rows n old new found named =
-    wagon_in-at_wagon n (λ _. new) (λ _ _. named) rows n
-    ∙ (ap (λ (b : Bool). cond b (option_map (λ _. new) (wagon_in rows n)) (wagon_in rows n)) (same_self n) ∙ ap (option_map (λ (_ : WagonRow). new)) found)
-
--- a message that wants memory for its wagon makes it one that is empty and not held, or moves it so
-pub change_wants : (office : Office) (m : message.Message) (change : Change) (promise : Option (List ℕ)) → IsChange office m change promise → IsNewStand (stand_in office.wagons change.row.number) (stand_of change.row)
-    → EmptiesWagon office m.wagon (message_to office m (wagon_in office.wagons m.wagon))
-change_wants office m change promise h stands =
-    let named = change_number office m change promise h in
-    let wagons : List WagonRow = at_wagon m.wagon (λ _. change.row) office.wagons in
-    let orders : List OrderRowValue = orders_after change.effect promise m.wagon office.orders in
-    let put : wagons ≡ at_wagon change.row.number (λ _. change.row) office.wagons = ap (λ (n : List ℕ). at_wagon n (λ _. change.row) office.wagons) (sym named) in
-    let there : wagon_in wagons m.wagon ≡ Some change.row = put_there office.wagons m.wagon h.row change.row h.found named in
-    let before : stand_in office.wagons change.row.number ≡ stand_in office.wagons m.wagon = ap (stand_in office.wagons) named in
-    let after : stand_of change.row ≡ stand_in wagons m.wagon = sym (ap (option_and_then stand_of) there) in
-    record {
-      new = record office { wagons = wagons; orders = orders };
-      happens = change_done office m change promise wagons orders h put refl;
-      empties = subst (IsNewStand (stand_in office.wagons m.wagon)) after (subst (λ s. IsNewStand s (stand_of change.row)) before stands);
-    }
-
-pub is_ok : (r : Result Office ApplyFault) (office : Office) → r ≡ Ok office → IsOk r
-is_ok (Ok other) office h = refl
-is_ok (Err fault) office h = cc h
 
 -- ---- a withdrawal
 

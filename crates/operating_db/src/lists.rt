@@ -1,24 +1,39 @@
 //! What is to be distributed: the free wagons and the waiting orders among the rows.
-ghost use Rattle.std.specs.Prelude.{◌≡◌, IfOk};
+ghost use Rattle.std.specs.Prelude.{◌≡◌, IfOk, map};
 ghost use Rattle.std.specs.List.{filter_map};
+ghost use Rattle.fleet_rows.specs.FreeWagons.{is_free};
 ghost use Rattle.operating_db.specs.Problem.{free_wagons, waiting_orders, wanted_in};
+ghost use Rattle.wagons_and_orders.specs.Free.{free_of};
 ghost use Rattle.operating_db.specs.inner.Walks.{wanted_at};
 
 use fleet_rows::OrderRows;
 use std::alloc::{AllocError, Global};
 use wagons_and_orders::{FreeWagon, OrderRow, WagonRow, Wanted, free};
 
-/// The free wagons, in order.
-pub(crate) fn free_wagons(alloc: Global, rows: &[WagonRow]) -> Result<Vec<FreeWagon>, AllocError>
+/// The free wagons, in order. Only their rows are read.
+pub(crate) fn free_wagons(
+    alloc: Global,
+    rows: &[WagonRow],
+    are_free: &[bool],
+) -> Result<Vec<FreeWagon>, AllocError>
+    requires { are_free.now ≡ map is_free rows.now }
     ensures { IfOk result (λ wagons. wagons.items ≡ free_wagons rows.now) }
 {
     let mut wagons = Vec::with_capacity(alloc, rows.len())?;
-    for row in rows {
-        if let Some(wagon) = free(row) {
+    for (index, row) in rows.iter().enumerate() {
+        if let Some(wagon) = free_if(row, are_free[index]) {
             wagons.push_reserved(wagon);
         }
     }
     Ok(wagons)
+}
+
+/// The row's wagon as a free one, where it is one, as is handed in.
+fn free_if(row: &WagonRow, is_one: bool) -> Option<FreeWagon>
+    requires { is_one ≡ is_free row.now }
+    ensures { result ≡ free_of row.now }
+{
+    if is_one { free(row) } else { None }
 }
 
 /// The orders that lack a wagon, as placed, each with how many it lacks. Only those that wait are looked at.

@@ -5,7 +5,7 @@ ghost use Rattle.fleet_rows.specs.Kept.{IsWagonRows};
 ghost use Rattle.fleet_rows.specs.KeptOrders.{IsOrderRows};
 ghost use Rattle.fleet_rows.specs.Rows.{order_in, wagon_in};
 ghost use Rattle.operating_db.specs.After.{after_call, after_message, after_order, after_revision, order_place, withdrawn_from};
-ghost use Rattle.operating_db.specs.inner.EventParts.{EmptiesItsWagon, IsNext, is_promisable};
+ghost use Rattle.operating_db.specs.inner.EventParts.{IsNext, is_promisable};
 ghost use Rattle.operating_db.specs.MessageChange.{IsChangeOf};
 ghost use Rattle.operating_db.specs.ApplyFault.{IsRefusal, IsRefusalOf, MayRunOutOfMemory};
 ghost use Rattle.operating_db.specs.Commits.{CanPromise, is_free_row, lack_in, promise_all, promise_pair};
@@ -195,7 +195,7 @@ impl OfficeState {
     {
         // No name stands twice among the orders, and the open ones want at most 500 wagons.
         self.orders.for_the_prover();
-        let free = free_wagons(alloc, self.wagons.as_slice())?;
+        let free = free_wagons(alloc, self.wagons.as_slice(), self.wagons.are_free())?;
         let waiting = waiting_orders(alloc, &self.orders)?;
         let wagons = Arc::new(alloc, free)?;
         let orders = Arc::new(alloc, waiting)?;
@@ -277,8 +277,7 @@ impl OfficeState {
     /// possible together (`can_promise`).
     ///
     /// Refused, with the office unchanged: a message with `UnknownWagon` (73), else as the status table says (31 to
-    /// 33), else with `OutOfMemory` (1), but only where its wagon would be empty and not held at a place where it isn't
-    /// so yet; an order with `OrderKnown` (74), else with `TooManyOpen` (75) where the open orders and this one want over
+    /// 33); an order with `OrderKnown` (74), else with `TooManyOpen` (75) where the open orders and this one want over
     /// 500 wagons in all, else with `OutOfMemory` (1); a withdrawal with `UnknownOrder` (76), else with `OrderClosed`
     /// (77); a revision with `UnknownNetwork` (79), else with `SameNetwork` (80).
     #[tactic(auto, unfolding(crate::specs::After::after_call))]
@@ -287,7 +286,7 @@ impl OfficeState {
         ensures done { OnOk result (after_call self.old.networks self.old.office event.now ≡ Ok self.new.office) }
         ensures refused { IfErr result (λ fault. IsRefusal (after_call self.old.networks self.old.office event.now) fault) }
         ensures by_event { IfErr result (λ fault. IsRefusalOf event.now (after_call self.old.networks self.old.office event.now) fault) }
-        ensures memory { IfErr result (λ fault. fault ≡ ApplyFault.OutOfMemory → MayRunOutOfMemory self.old event.now) }
+        ensures memory { IfErr result (λ fault. fault ≡ ApplyFault.OutOfMemory → MayRunOutOfMemory event.now) }
         ensures unchanged { OnErr result (self.new ≡ self.old) }
         ensures networks { self.new.networks ≡ self.old.networks }
     {
@@ -342,8 +341,8 @@ impl OfficeState {
     #[tactic(auto, unfolding(crate::specs::After::after_call))]
     fn accept(&mut self, message: &Message) -> Result<(), ApplyFault>
         ensures done { OnOk result (after_message self.old.office message.now ≡ Ok self.new.office) }
-        ensures refused { IfErr result (λ fault. IsRefusal (after_message self.old.office message.now) fault) }
-        ensures memory { IfErr result (λ fault. fault ≡ ApplyFault.OutOfMemory → EmptiesItsWagon self.old.office message.now) }
+        ensures refused { IfErr result (λ fault. after_message self.old.office message.now ≡ Err fault) }
+        ensures memory { IfErr result (λ fault. ¬ (fault ≡ ApplyFault.OutOfMemory)) }
         ensures unchanged { OnErr result (self.new ≡ self.old) }
         ensures networks { self.new.networks ≡ self.old.networks }
     {
@@ -351,34 +350,20 @@ impl OfficeState {
             Ok(found) => found,
             Err(fault) => return Err(fault),
         };
-        match self.accept_change(message, &found) {
-            Ok(()) => Ok(()),
-            Err(_) => Err(ApplyFault::OutOfMemory),
-        }
+        self.accept_change(message, &found);
+        Ok(())
     }
 
-    /// Lets a message happen, by what `change_by` found in this office. `Err` only when out of memory, as `apply` says;
-    /// nothing has changed then.
+    /// Lets a message happen, by what `change_by` found in this office. Takes no memory.
     #[tactic(auto, unfolding(crate::specs::After::after_call))]
-    pub fn accept_change(
-        &mut self,
-        message: &Message,
-        found: &MessageChange,
-    ) -> Result<(), AllocError>
+    pub fn accept_change(&mut self, message: &Message, found: &MessageChange)
         requires { IsChangeOf self.old.office message.now found.now }
-        ensures done { OnOk result (after_call self.old.networks self.old.office (event.Message message.now) ≡ Ok self.new.office) }
-        ensures memory { OnErr result (MayRunOutOfMemory self.old (event.Message message.now)) }
-        ensures unchanged { OnErr result (self.new ≡ self.old) }
+        ensures done { after_call self.old.networks self.old.office (event.Message message.now) ≡ Ok self.new.office }
         ensures networks { self.new.networks ≡ self.old.networks }
     {
-        match self.wagons.put(found.index, found.change.row) {
-            Ok(()) => {
-                let effect = found.change.effect;
-                settle(&mut self.orders, effect, found.promise, message.wagon);
-                Ok(())
-            }
-            Err(_) => Err(AllocError),
-        }
+        self.wagons.put(found.index, found.change.row);
+        let effect = found.change.effect;
+        settle(&mut self.orders, effect, found.promise, message.wagon);
     }
 
     /// Whether an order may be placed.

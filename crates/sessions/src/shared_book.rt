@@ -232,7 +232,7 @@ impl<L: Ledger> SharedBook<L> {
     }
 }
 
-/// Waits for as short as a few pauses of the processor take.
+/// Waits between two quick tries.
 fn pause() {
     for _ in 0..PAUSES {
         spin_loop();

@@ -1,10 +1,7 @@
 -- What the parts of an event ask for and make, as the private functions of an office do them.
 use Rattle.std.specs.Prelude.{◌≡◌, ◌<◌, Bool, true, nat_le, ◌&&◌, if◌then◌else◌, ℕ, List, map, None}
-use Rattle.move_messages.specs.declared.message.Message as message
 use Rattle.wagons_and_orders.specs.declared.wagon_row.WagonRow.{WagonRow}
 use Rattle.fleet_rows.specs.Rows.{wagon_in, order_in, with_promise}
-use Rattle.operating_db.specs.After.{after_message}
-use Rattle.operating_db.specs.ApplyFault.{EmptiesWagon}
 use Rattle.operating_db.specs.Commits.{Pair, is_free_row, lack_in, times_of_order, times_of_wagon}
 use Rattle.operating_db.specs.Office.{Office}
 use Rattle.operating_db.specs.Promises.{is_among}
@@ -22,7 +19,3 @@ is_promisable office pairs pair =
 pub record IsNext (office : Office) (pair : Pair) : Type 0 where
   pub free : is_free_row (wagon_in office.wagons pair.0) ≡ true
   pub lacking : 0 < lack_in (order_in office.orders pair.1)
-
--- a message leaves its wagon Empty and not held, where it wasn't so before
-abbrev pub EmptiesItsWagon : Office → message.Message → Type 0
-EmptiesItsWagon office message = EmptiesWagon office message.wagon (after_message office message)

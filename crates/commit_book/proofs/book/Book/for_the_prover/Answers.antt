@@ -1,4 +1,4 @@
-use Rattle.std.proofs.Common.{◌∙◌, ℕ, ap, length, subst}
+use Rattle.std.proofs.Common.{ℕ, ap, length, subst}
 use Rattle.line_network.specs.NetworkCount.{IsNetworkCount}
 use Rattle.operating_db.specs.FirstOffice.{IsFirstOffice}
 use Rattle.operating_db.specs.State.{StateValue}

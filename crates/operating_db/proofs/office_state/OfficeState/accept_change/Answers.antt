@@ -1,6 +1,6 @@
 use Rattle.operating_db.specs.After.{after_call}
 use Rattle.operating_db.specs.Office.{Office}
-use Rattle.operating_db.proofs.States.{change_done, change_settles, change_state, change_wants}
+use Rattle.operating_db.proofs.States.{change_done, change_settles, change_state}
 use Rattle.operating_db.proofs.office_state.OfficeState.accept_change.Goals as goal
 
 pub put-requires-clause-its_index : goal.put-requires-clause-its_index
@@ -13,16 +13,10 @@ settle-requires c =
 
 pub invariant_of-self : goal.invariant_of-self
 invariant_of-self c =
-    change_state _ c.args.message.now c.args.found.now.change c.args.found.now.promise c.put.new.self c.settle.new.orders (rw (← c.self.view_is) at c.requires.change) c.in-Ok.ensures.put c.settle.ensures c.self.invariant
+    change_state _ c.args.message.now c.args.found.now.change c.args.found.now.promise c.put.new.self c.settle.new.orders (rw (← c.self.view_is) at c.requires.change) c.put.ensures c.settle.ensures c.self.invariant
 
-pub returns-in-Ok-clause-done : goal.returns-in-Ok-clause-done
+pub returns-clause-done : goal.returns-clause-done
 unfolding after_call
-returns-in-Ok-clause-done c =
+returns-clause-done c =
     let office : Office = record { wagons = c.self.inside.wagons; orders = c.self.inside.orders; network = c.self.inside.network } in
-    rw (← c.self.view_is) (change_done office c.args.message.now c.args.found.now.change c.args.found.now.promise c.put.new.self c.settle.new.orders (rw (← c.self.view_is) at c.requires.change) c.in-Ok.ensures.put c.settle.ensures)
-
-pub returns-in-Err-clause-memory : goal.returns-in-Err-clause-memory
-unfolding after_call
-returns-in-Err-clause-memory c =
-    let office : Office = record { wagons = c.self.inside.wagons; orders = c.self.inside.orders; network = c.self.inside.network } in
-    rw (← c.self.view_is) (change_wants office c.args.message.now c.args.found.now.change c.args.found.now.promise (rw (← c.self.view_is) at c.requires.change) c.in-Err.ensures.memory)
+    rw (← c.self.view_is) (change_done office c.args.message.now c.args.found.now.change c.args.found.now.promise c.put.new.self c.settle.new.orders (rw (← c.self.view_is) at c.requires.change) c.put.ensures c.settle.ensures)
