@@ -7,9 +7,6 @@ use clap::{ArgMatches, Error};
 use faults::entry_text;
 use std::alloc::{AllocError, Global};
 
-/// The argument of `explain`.
-pub(crate) const CODE: &str = "code";
-
 /// The numbers of refusals are below this one.
 const NUMBERS_END: u32 = 1_000;
 
@@ -24,7 +21,7 @@ pub enum Explained {
 
 /// What `explain` is asked for. A number or a name that no refusal has is a fault of the arguments.
 pub(crate) fn read_explained(alloc: Global, matches: &ArgMatches<'_>) -> Result<Explained, Error> {
-    let Some(code) = matches.get_str(CODE) else {
+    let Some(code) = matches.get_str(help::CODE.name) else {
         return Ok(Explained::Manual);
     };
     let entries = entries_of(alloc, code)?;

@@ -1,5 +1,10 @@
 //! The texts of help. No line is longer than 80 characters where help prints it.
 
+use crate::arguments::{Argument, Group, Takes};
+use line_engine::{LARGEST_LINE_LIMIT, MAX_INPUT_LINES};
+use line_network::MAX_WORKERS;
+use price_checker::{MAX_ENTRIES, MAX_KEPT_PROBLEMS};
+
 /// The help of a word.
 #[derive(Clone, Copy)]
 pub(crate) struct WordHelp {
@@ -12,32 +17,9 @@ pub(crate) struct WordHelp {
     /// How it is called.
     pub(crate) example: &'static str,
     /// What it takes.
-    pub(crate) arguments: Arguments,
-}
-
-/// What a word takes.
-#[derive(Clone, Copy)]
-pub(crate) enum Arguments {
-    /// The most bytes of a line.
-    Lines,
-    /// The code of a refusal, which may be missing.
-    Code,
-    /// The options of an office.
-    Office,
-    /// The options of an office, and files.
-    OfficeAndFiles,
-    /// The options of an office, and what of it is shown.
-    OfficeAndChoice,
-    /// The options of an office, and a moment.
-    OfficeAndMoment,
-    /// The options of an office, a moment, and how the plan is printed.
-    OfficeAndPlan,
-    /// The options of an office, a moment, and what reasons are asked for.
-    OfficeAndReasons,
-    /// The options of an office, and the names of places.
-    OfficeAndNames,
-    /// The options of an office, up to which line, and what changes of the fleet.
-    OfficeAndFleet,
+    pub(crate) arguments: &'static [&'static [Argument]],
+    /// Which of its options shut each other out.
+    pub(crate) groups: &'static [Group],
 }
 
 /// What the program is.
@@ -63,7 +45,8 @@ pub(crate) const CHECK: WordHelp = WordHelp {
      `N refused CODE` and details. Exits with 0, with 1 where a line was refused,\n\
      with 2 where it could not run or stopped.",
     example: "Example:\n  wagons check < tables.jsonl",
-    arguments: Arguments::Lines,
+    arguments: &[&[LINE_BYTES]],
+    groups: &[],
 };
 
 /// The help of `solve`.
@@ -77,7 +60,8 @@ pub(crate) const SOLVE: WordHelp = WordHelp {
      with 0, with 1 where a line was refused, with 2 where it could not run or\n\
      stopped.",
     example: "Example:\n  wagons solve < problems.jsonl | wagons check",
-    arguments: Arguments::Lines,
+    arguments: &[&[LINE_BYTES]],
+    groups: &[],
 };
 
 /// The help of `run`.
@@ -91,7 +75,8 @@ pub(crate) const RUN: WordHelp = WordHelp {
      with 1 where a line was refused, with 2 where it could not run or stopped.",
     example: "Example:\n  \
      wagons run --roster roster.csv --network network.csv < day.jsonl",
-    arguments: Arguments::Office,
+    arguments: &[OFFICE],
+    groups: &[START],
 };
 
 /// The help of `feed`.
@@ -106,7 +91,8 @@ pub(crate) const FEED: WordHelp = WordHelp {
      file failed or it could not run.",
     example: "Example:\n  \
      wagons feed --roster roster.csv --network network.csv north.jsonl south.jsonl",
-    arguments: Arguments::OfficeAndFiles,
+    arguments: &[OFFICE, &[FILES]],
+    groups: &[START],
 };
 
 /// The help of `map`.
@@ -125,7 +111,8 @@ pub(crate) const MAP: WordHelp = WordHelp {
      neato -Tsvg > day.svg\n  \
      wagons map --busy --class Eanos --roster roster.csv --network network.csv \\\n    \
      < day.jsonl | neato -Tpdf > eanos.pdf",
-    arguments: Arguments::OfficeAndChoice,
+    arguments: &[OFFICE, &[PLACES, BUSY, MAP_ORDER, MAP_CLASS]],
+    groups: &[START],
 };
 
 /// The help of `plan`.
@@ -142,7 +129,8 @@ pub(crate) const PLAN: WordHelp = WordHelp {
     example: "Example:\n  \
      wagons plan --at 2026-03-02T11:00:00Z --roster roster.csv \\\n    \
      --network network.csv --places places.csv < day.jsonl",
-    arguments: Arguments::OfficeAndPlan,
+    arguments: &[OFFICE, &[AT, PLACES, ZONE, CSV]],
+    groups: &[START],
 };
 
 /// The help of `table`.
@@ -158,7 +146,8 @@ pub(crate) const TABLE: WordHelp = WordHelp {
     example: "Example:\n  \
      wagons table --at 2026-03-02T11:00:00Z --roster roster.csv \\\n    \
      --network network.csv < day.jsonl | wagons solve",
-    arguments: Arguments::OfficeAndMoment,
+    arguments: &[OFFICE, &[AT]],
+    groups: &[START],
 };
 
 /// The help of `why`.
@@ -176,7 +165,8 @@ pub(crate) const WHY: WordHelp = WordHelp {
     example: "Example:\n  \
      wagons why --at 2026-03-02T11:00:00Z --roster roster.csv \\\n    \
      --network network.csv < day.jsonl",
-    arguments: Arguments::OfficeAndReasons,
+    arguments: &[OFFICE, &[AT, PLACES, ORDER, WAGON, JSON]],
+    groups: &[START, ASKED],
 };
 
 /// The help of `review`.
@@ -191,7 +181,8 @@ pub(crate) const REVIEW: WordHelp = WordHelp {
      with 0, with 1 where there is a note, with 2 where it could not run or stopped.",
     example: "Example:\n  \
      wagons review --roster roster.csv --network network.csv < day.jsonl",
-    arguments: Arguments::OfficeAndNames,
+    arguments: &[OFFICE, &[PLACES]],
+    groups: &[START],
 };
 
 /// The help of `save`.
@@ -208,7 +199,8 @@ pub(crate) const SAVE: WordHelp = WordHelp {
      wagons save --roster roster.csv --network network.csv < day.jsonl \\\n    \
      > night.jsonl\n  \
      wagons run --from night.jsonl --network network.csv < next.jsonl",
-    arguments: Arguments::OfficeAndFleet,
+    arguments: &[OFFICE, &[UPTO, WITH, WITHOUT]],
+    groups: &[START],
 };
 
 /// The help of `explain`.
@@ -219,129 +211,254 @@ pub(crate) const EXPLAIN: WordHelp = WordHelp {
      usual cause and what to do about it. Without a code it says this of all\n\
      refusals.",
     example: "Examples:\n  wagons explain 82\n  wagons explain WagonChanged",
-    arguments: Arguments::Code,
+    arguments: &[&[CODE]],
+    groups: &[],
 };
 
-/// What the code of `explain` is.
-pub(crate) const CODE: &str = "The number behind `refused` or `wagons:`, or a refusal's name";
+/// The argument of `explain`.
+pub(crate) const CODE: Argument = Argument {
+    name: "code",
+    takes: Takes::Own("CODE"),
+    help: "The number behind `refused` or `wagons:`, or a refusal's name",
+    long_help: None,
+};
 
-/// What the files of `feed` are.
-pub(crate) const FILES: &str = "Files of commands, one JSON object a line; 1 to 16";
-
-pub(crate) const FILES_LONG: &str =
-    "Files of commands, one JSON object a line; 1 to 16. A file that can't be\n\
-     opened stops the program before it begins; one that fails while it is\n\
-     read doesn't stop the others";
-
-/// What the options of `plan` are; `map`, `why` and `review` have the first too.
-pub(crate) const PLACES: &str = "The names of places, a CSV file";
-
-pub(crate) const PLACES_LONG: &str =
-    "The names of places: a CSV file with the header `place,name,x,y`";
-
-pub(crate) const ZONE: &str = "The time zone of the moments, such as Europe/Berlin";
-
-pub(crate) const ZONE_LONG: &str =
-    "The time zone in which moments are shown, by its name, such as\n\
-     Europe/Berlin: a file below /usr/share/zoneinfo. Without it they are\n\
-     shown in UTC";
-
-pub(crate) const CSV: &str = "Prints CSV for a spreadsheet";
-
-/// What the option of `plan`, `table` and `why` is.
-pub(crate) const AT: &str = "The moment at which the wagons may start";
-
-pub(crate) const AT_LONG: &str = "The moment of the problem, at which the wagons may start, as\n\
-     2026-03-02T11:00:00Z";
-
-/// What the options of `why` are.
-pub(crate) const BUSY: &str = "Leaves out places with nothing on them";
-
-pub(crate) const BUSY_LONG: &str =
-    "Leaves out places with no wagon and no order on the map, and the\n\
-     lines that lead there";
-
-pub(crate) const MAP_ORDER: &str = "Only this order, with the wagons promised to it";
-
-pub(crate) const MAP_CLASS: &str = "Only wagons of this class, with the orders that accept it";
-
-pub(crate) const ORDER: &str = "Only this order, with each free wagon";
-
-pub(crate) const ORDER_LONG: &str =
-    "Only this order: which test each free wagon fails, and of the others\n\
-     what every plan costs more, at least, in which it goes there";
-
-pub(crate) const WAGON: &str = "Only this free wagon, with each waiting order";
-
-pub(crate) const WAGON_LONG: &str =
-    "Only this free wagon: which test it fails for each waiting order, and\n\
-     of the others what every plan costs more, at least, in which it goes\n\
-     there";
-
-pub(crate) const JSON: &str = "Prints JSON lines";
-
-/// What the option of `check` and `solve` is.
-pub(crate) const LINE_BYTES: &str = "Most bytes of a line, 1 to 67108864";
-
-pub(crate) const LINE_BYTES_LONG: &str =
-    "The most bytes of a line, its line feed not counted, 1 to 67108864. A\n\
+/// The most bytes of a line.
+const LINE_BYTES: Argument = Argument {
+    name: "line-bytes",
+    takes: Takes::NumberOr(LARGEST_LINE_LIMIT as u64, "65536"),
+    help: "Most bytes of a line, 1 to 67108864",
+    long_help: Some(
+        "The most bytes of a line, its line feed not counted, 1 to 67108864. A\n\
      longer line stops the program. Where the line of a plan would be\n\
-     longer, `solve` refuses the table with 92";
+     longer, `solve` refuses the table with 92",
+    ),
+};
 
-/// What the options of `save` are.
-pub(crate) const UPTO: &str = "Only the first N lines are read, 1 to 1000000";
+/// The roster's file.
+const ROSTER: Argument = Argument {
+    name: "roster",
+    takes: Takes::Value("FILE"),
+    help: "The wagons and where they are at the start, a CSV file",
+    long_help: Some(
+        "The wagons and where they are at the start: a CSV file with the header\n\
+     `wagon,class,load,status,place,moment`. Either this or `--from`",
+    ),
+};
 
-pub(crate) const WITH: &str = "Wagons that are added or changed, a CSV file";
-
-pub(crate) const WITH_LONG: &str =
-    "Wagons that are added: a CSV file in the form of `--roster`. The row\n\
-     of a wagon that is there already takes the place of the old one. A\n\
-     wagon that is promised is refused";
-
-pub(crate) const WITHOUT: &str = "A wagon that leaves; may stand several times";
-
-pub(crate) const WITHOUT_LONG: &str =
-    "A wagon that leaves the fleet; may stand several times. A wagon that\n\
-     is promised is refused";
-
-/// What each option is, on a line.
-pub(crate) const ROSTER: &str = "The wagons and where they are at the start, a CSV file";
-
-pub(crate) const FROM: &str = "The office at the start, a checkpoint of `save`";
-
-pub(crate) const NETWORK: &str = "The lines between places, a CSV file; up to 8 times";
-
-pub(crate) const ENTRIES: &str = "Most events accepted, 1 to 1000000";
-
-pub(crate) const KEPT: &str = "Most problems kept for commits, 1 to 64";
-
-pub(crate) const WORKERS: &str = "Threads that work out distances, 1 to 64";
-
-/// What each option is.
-pub(crate) const ROSTER_LONG: &str =
-    "The wagons and where they are at the start: a CSV file with the header\n\
-     `wagon,class,load,status,place,moment`. Either this or `--from`";
-
-pub(crate) const FROM_LONG: &str =
-    "The office at the start: a checkpoint that `wagons save` printed, with\n\
+/// The checkpoint's file.
+const FROM: Argument = Argument {
+    name: "from",
+    takes: Takes::Value("FILE"),
+    help: "The office at the start, a checkpoint of `save`",
+    long_help: Some(
+        "The office at the start: a checkpoint that `wagons save` printed, with\n\
      its wagons, holds, promises, open orders and network in force. Either\n\
-     this or `--roster`";
+     this or `--roster`",
+    ),
+};
 
-pub(crate) const NETWORK_LONG: &str = "The lines between places: a CSV file with the header\n\
+/// A network's file.
+const NETWORK: Argument = Argument {
+    name: "network",
+    takes: Takes::NeededValues("FILE"),
+    help: "The lines between places, a CSV file; up to 8 times",
+    long_help: Some(
+        "The lines between places: a CSV file with the header\n\
      `from,to,km,minutes,way`. May stand up to 8 times: the networks are\n\
      numbered from 1 in this order; at first network 1 is in force, or the\n\
-     one that the checkpoint names";
+     one that the checkpoint names",
+    ),
+};
 
-pub(crate) const ENTRIES_LONG: &str =
-    "The most events that are accepted, 1 to 1000000: messages, orders,\n\
+/// How many entries a book may have.
+const ENTRIES: Argument = Argument {
+    name: "entries",
+    takes: Takes::NumberOr(MAX_ENTRIES, "100000"),
+    help: "Most events accepted, 1 to 1000000",
+    long_help: Some(
+        "The most events that are accepted, 1 to 1000000: messages, orders,\n\
      withdrawals, commits and changes of the network. Later ones are\n\
-     refused";
+     refused",
+    ),
+};
 
-pub(crate) const KEPT_LONG: &str =
-    "The most problems that are kept for commits, 1 to 64: a new one goes\n\
+/// How many problems a book keeps.
+const KEPT: Argument = Argument {
+    name: "kept",
+    takes: Takes::NumberOr(MAX_KEPT_PROBLEMS as u64, "8"),
+    help: "Most problems kept for commits, 1 to 64",
+    long_help: Some(
+        "The most problems that are kept for commits, 1 to 64: a new one goes\n\
      last, and the first is dropped where there are more; one that is kept\n\
-     already stays where it is. A commit of a dropped one is refused";
+     already stays where it is. A commit of a dropped one is refused",
+    ),
+};
 
-pub(crate) const WORKERS_LONG: &str =
-    "How many threads work out the distances before the first line is\n\
-     read, 1 to 64. The replies are the same for any number";
+/// How many threads work out the distances.
+const WORKERS: Argument = Argument {
+    name: "workers",
+    takes: Takes::NumberOr(MAX_WORKERS as u64, "4"),
+    help: "Threads that work out distances, 1 to 64",
+    long_help: Some(
+        "How many threads work out the distances before the first line is\n\
+     read, 1 to 64. The replies are the same for any number",
+    ),
+};
+
+/// The files of `feed`.
+const FILES: Argument = Argument {
+    name: "file",
+    takes: Takes::Files,
+    help: "Files of commands, one JSON object a line; 1 to 16",
+    long_help: Some(
+        "Files of commands, one JSON object a line; 1 to 16. A file that can't be\n\
+     opened stops the program before it begins; one that fails while it is\n\
+     read doesn't stop the others",
+    ),
+};
+
+/// The moment of a problem.
+const AT: Argument = Argument {
+    name: "at",
+    takes: Takes::Needed("MOMENT"),
+    help: "The moment at which the wagons may start",
+    long_help: Some(
+        "The moment of the problem, at which the wagons may start, as\n\
+     2026-03-02T11:00:00Z",
+    ),
+};
+
+/// The file of the names of places.
+const PLACES: Argument = Argument {
+    name: "places",
+    takes: Takes::Value("FILE"),
+    help: "The names of places, a CSV file",
+    long_help: Some("The names of places: a CSV file with the header `place,name,x,y`"),
+};
+
+/// A time zone.
+const ZONE: Argument = Argument {
+    name: "zone",
+    takes: Takes::Value("ZONE"),
+    help: "The time zone of the moments, such as Europe/Berlin",
+    long_help: Some(
+        "The time zone in which moments are shown, by its name, such as\n\
+     Europe/Berlin: a file below /usr/share/zoneinfo. Without it they are\n\
+     shown in UTC",
+    ),
+};
+
+/// Whether CSV is printed.
+const CSV: Argument = Argument {
+    name: "csv",
+    takes: Takes::Nothing,
+    help: "Prints CSV for a spreadsheet",
+    long_help: None,
+};
+
+/// Whether quiet places are left out of a map.
+const BUSY: Argument = Argument {
+    name: "busy",
+    takes: Takes::Nothing,
+    help: "Leaves out places with nothing on them",
+    long_help: Some(
+        "Leaves out places with no wagon and no order on the map, and the\n\
+     lines that lead there",
+    ),
+};
+
+/// The order that a map shows alone.
+const MAP_ORDER: Argument = Argument {
+    name: "order",
+    takes: Takes::Value("NAME"),
+    help: "Only this order, with the wagons promised to it",
+    long_help: None,
+};
+
+/// The class that a map shows alone.
+const MAP_CLASS: Argument = Argument {
+    name: "class",
+    takes: Takes::Value("CODE"),
+    help: "Only wagons of this class, with the orders that accept it",
+    long_help: None,
+};
+
+/// The order that is asked about.
+const ORDER: Argument = Argument {
+    name: "order",
+    takes: Takes::Value("NAME"),
+    help: "Only this order, with each free wagon",
+    long_help: Some(
+        "Only this order: which test each free wagon fails, and of the others\n\
+     what every plan costs more, at least, in which it goes there",
+    ),
+};
+
+/// The wagon that is asked about.
+const WAGON: Argument = Argument {
+    name: "wagon",
+    takes: Takes::Value("NUMBER"),
+    help: "Only this free wagon, with each waiting order",
+    long_help: Some(
+        "Only this free wagon: which test it fails for each waiting order, and\n\
+     of the others what every plan costs more, at least, in which it goes\n\
+     there",
+    ),
+};
+
+/// Whether JSON lines are printed.
+const JSON: Argument = Argument {
+    name: "json",
+    takes: Takes::Nothing,
+    help: "Prints JSON lines",
+    long_help: None,
+};
+
+/// How many lines are read.
+const UPTO: Argument = Argument {
+    name: "upto",
+    takes: Takes::Number(MAX_INPUT_LINES),
+    help: "Only the first N lines are read, 1 to 1000000",
+    long_help: None,
+};
+
+/// The roster of wagons that come.
+const WITH: Argument = Argument {
+    name: "with",
+    takes: Takes::Value("FILE"),
+    help: "Wagons that are added or changed, a CSV file",
+    long_help: Some(
+        "Wagons that are added: a CSV file in the form of `--roster`. The row\n\
+     of a wagon that is there already takes the place of the old one. A\n\
+     wagon that is promised is refused",
+    ),
+};
+
+/// A wagon that leaves.
+const WITHOUT: Argument = Argument {
+    name: "without",
+    takes: Takes::Values("NUMBER"),
+    help: "A wagon that leaves; may stand several times",
+    long_help: Some(
+        "A wagon that leaves the fleet; may stand several times. A wagon that\n\
+     is promised is refused",
+    ),
+};
+
+/// The arguments of each word that opens an office.
+const OFFICE: &[Argument] = &[ROSTER, FROM, NETWORK, ENTRIES, KEPT, WORKERS];
+
+/// An office begins with a roster or with a checkpoint.
+const START: Group = Group {
+    name: "start",
+    options: ["roster", "from"],
+    required: true,
+};
+
+/// An order is asked about, or a wagon, or neither.
+const ASKED: Group = Group {
+    name: "asked",
+    options: ["order", "wagon"],
+    required: false,
+};

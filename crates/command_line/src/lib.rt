@@ -1,6 +1,7 @@
 //! The command line of the program: its words, their options and their help.
 #![tactic(auto)]
 
+mod arguments;
 mod explained;
 mod help;
 mod hints;

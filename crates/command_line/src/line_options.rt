@@ -1,10 +1,8 @@
 //! The option of the words over table lines.
 
-use crate::help;
-use crate::values::{number_of, number_option};
-use clap::{ArgMatches, Command};
+use crate::values::number_of;
+use clap::ArgMatches;
 use line_engine::{LARGEST_LINE_LIMIT, LineLimit};
-use std::alloc::{AllocError, Global};
 
 /// What `check` and `solve` are asked to do.
 #[derive(Drop)]
@@ -28,16 +26,4 @@ impl LineOptions {
             limit: LineLimit::new(bytes as u32).unwrap(),
         }
     }
-}
-
-/// A word over table lines.
-pub(crate) fn with_line_options<'a>(
-    alloc: Global,
-    word: Command<'a>,
-) -> Result<Command<'a>, AllocError> {
-    word.arg(
-        number_option(alloc, "line-bytes", u64::from(LARGEST_LINE_LIMIT), "65536")
-            .help(help::LINE_BYTES)
-            .long_help(help::LINE_BYTES_LONG),
-    )
 }

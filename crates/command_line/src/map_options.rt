@@ -1,12 +1,10 @@
 //! The options of `map`.
 
-use crate::help;
 use crate::office_options::OfficeOptions;
-use crate::plan_options::places_option;
-use crate::values::{code_from, flag_option, value_option};
-use clap::{Arg, ArgMatches, Command, Error};
+use crate::values::code_from;
+use clap::{ArgMatches, Error};
 use rail_codes::{ClassCode, OrderId};
-use std::alloc::{AllocError, Global};
+use std::alloc::Global;
 
 /// The word, as usage lines name it.
 const MAP: &str = "wagons map";
@@ -53,34 +51,4 @@ fn class_of(alloc: Global, matches: &ArgMatches<'_>) -> Result<Option<ClassCode>
         Some(code) => Ok(Some(code_from(alloc, MAP, "--class <CODE>", code)?)),
         None => Ok(None),
     }
-}
-
-/// A word that may name places, leave out quiet ones, and show one order or one class alone.
-pub(crate) fn with_map_options<'a>(
-    alloc: Global,
-    word: Command<'a>,
-) -> Result<Command<'a>, AllocError> {
-    word.args(vec![in alloc;
-        places_option(alloc),
-        busy_option(alloc),
-        order_option(alloc),
-        class_option(alloc),
-    ]?)
-}
-
-/// The option that leaves out quiet places.
-fn busy_option<'a>(alloc: Global) -> Arg<'a> {
-    flag_option(alloc, "busy")
-        .help(help::BUSY)
-        .long_help(help::BUSY_LONG)
-}
-
-/// The option of an order.
-fn order_option<'a>(alloc: Global) -> Arg<'a> {
-    value_option(alloc, "order", "NAME").help(help::MAP_ORDER)
-}
-
-/// The option of a class.
-fn class_option<'a>(alloc: Global) -> Arg<'a> {
-    value_option(alloc, "class", "CODE").help(help::MAP_CLASS)
 }

@@ -1,9 +1,6 @@
 //! The options of the words that open an office: its files and limits.
-use crate::help;
-use crate::values::{code_from, file_option, number_of, number_option, value_option};
-use clap::builder::ValueParser;
-use clap::{Arg, ArgAction, ArgGroup, ArgMatches, Command, Error};
-use line_engine::{MAX_FILES, MAX_INPUT_LINES};
+use crate::values::{code_from, number_of};
+use clap::{ArgMatches, Error};
 use line_network::MAX_WORKERS;
 use price_checker::{Limits, MAX_ENTRIES, MAX_KEPT_PROBLEMS};
 use rail_codes::{Moment, WagonNumber};
@@ -111,19 +108,6 @@ impl<'a> ProblemOptions<'a> {
     }
 }
 
-/// A word that needs the moment of a problem.
-pub(crate) fn with_problem_options<'a>(
-    alloc: Global,
-    word: Command<'a>,
-) -> Result<Command<'a>, AllocError> {
-    word.arg(
-        value_option(alloc, "at", "MOMENT")
-            .required(true)
-            .help(help::AT)
-            .long_help(help::AT_LONG),
-    )
-}
-
 /// What `save` is asked to do.
 #[derive(Drop)]
 pub struct SaveOptions<'a> {
@@ -152,111 +136,4 @@ impl<'a> SaveOptions<'a> {
             without,
         })
     }
-}
-
-/// A word that may read a part of its input alone, and change the fleet.
-pub(crate) fn with_save_options<'a>(
-    alloc: Global,
-    word: Command<'a>,
-) -> Result<Command<'a>, AllocError> {
-    word.args(vec![in alloc;
-        upto_option(alloc),
-        file_option(alloc, "with")
-            .help(help::WITH)
-            .long_help(help::WITH_LONG),
-        without_option(alloc),
-    ]?)
-}
-
-/// The option of how many lines are read.
-fn upto_option<'a>(alloc: Global) -> Arg<'a> {
-    value_option(alloc, "upto", "N")
-        .value_parser(ValueParser::unsigned(1, MAX_INPUT_LINES))
-        .help(help::UPTO)
-}
-
-/// The option of a wagon that leaves, which may stand several times.
-fn without_option<'a>(alloc: Global) -> Arg<'a> {
-    value_option(alloc, "without", "NUMBER")
-        .action(ArgAction::Append)
-        .help(help::WITHOUT)
-        .long_help(help::WITHOUT_LONG)
-}
-
-/// A word with 1 to 16 files.
-pub(crate) fn with_files<'a>(alloc: Global, word: Command<'a>) -> Result<Command<'a>, AllocError> {
-    word.arg(
-        Arg::new(alloc, "file")
-            .value_name("FILE")
-            .required(true)
-            .num_args(1..=MAX_FILES)
-            .help(help::FILES)
-            .long_help(help::FILES_LONG),
-    )
-}
-
-/// A word with the options of an office.
-pub(crate) fn with_office_options<'a>(
-    alloc: Global,
-    word: Command<'a>,
-) -> Result<Command<'a>, AllocError> {
-    let word = word.args(vec![in alloc;
-        roster_option(alloc),
-        from_option(alloc),
-        network_option(alloc),
-        entries_option(alloc),
-        kept_option(alloc),
-        workers_option(alloc),
-    ]?)?;
-    word.group(start_group(alloc)?)
-}
-
-/// A roster or a checkpoint must be given, and not both.
-fn start_group<'a>(alloc: Global) -> Result<ArgGroup<'a>, AllocError> {
-    let group = ArgGroup::new(alloc, "start").arg("roster")?;
-    group.required(true).arg("from")
-}
-
-/// The option of the roster's file.
-fn roster_option<'a>(alloc: Global) -> Arg<'a> {
-    file_option(alloc, "roster")
-        .help(help::ROSTER)
-        .long_help(help::ROSTER_LONG)
-}
-
-/// The option of the checkpoint's file.
-fn from_option<'a>(alloc: Global) -> Arg<'a> {
-    file_option(alloc, "from")
-        .help(help::FROM)
-        .long_help(help::FROM_LONG)
-}
-
-/// The option of how many entries a book may have.
-fn entries_option<'a>(alloc: Global) -> Arg<'a> {
-    number_option(alloc, "entries", MAX_ENTRIES, "100000")
-        .help(help::ENTRIES)
-        .long_help(help::ENTRIES_LONG)
-}
-
-/// The option of how many problems a book keeps.
-fn kept_option<'a>(alloc: Global) -> Arg<'a> {
-    number_option(alloc, "kept", MAX_KEPT_PROBLEMS as u64, "8")
-        .help(help::KEPT)
-        .long_help(help::KEPT_LONG)
-}
-
-/// The option of how many threads work out the distances.
-fn workers_option<'a>(alloc: Global) -> Arg<'a> {
-    number_option(alloc, "workers", MAX_WORKERS as u64, "4")
-        .help(help::WORKERS)
-        .long_help(help::WORKERS_LONG)
-}
-
-/// The option of a network's file, which may stand several times.
-fn network_option<'a>(alloc: Global) -> Arg<'a> {
-    file_option(alloc, "network")
-        .required(true)
-        .action(ArgAction::Append)
-        .help(help::NETWORK)
-        .long_help(help::NETWORK_LONG)
 }

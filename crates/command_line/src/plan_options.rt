@@ -1,10 +1,8 @@
 //! The options of `plan`.
 
-use crate::help;
 use crate::office_options::ProblemOptions;
-use crate::values::{file_option, flag_option, value_option};
 use clap::error::ErrorKind;
-use clap::{Arg, ArgMatches, Command, Error};
+use clap::{ArgMatches, Command, Error};
 use std::alloc::{AllocError, Global};
 
 /// The word, as usage lines name it.
@@ -62,31 +60,4 @@ fn no_zone(alloc: Global, name: &str) -> Result<Error, AllocError> {
     )?;
     let mut command = Command::new(alloc, "wagons").bin_name(PLAN)?;
     command.error(ErrorKind::InvalidValue, reason.as_str())
-}
-
-/// A word that prints a plan.
-pub(crate) fn with_plan_options<'a>(
-    alloc: Global,
-    word: Command<'a>,
-) -> Result<Command<'a>, AllocError> {
-    word.args(vec![in alloc; places_option(alloc), zone_option(alloc), csv_option(alloc)]?)
-}
-
-/// The option of the names of places.
-pub(crate) fn places_option<'a>(alloc: Global) -> Arg<'a> {
-    file_option(alloc, "places")
-        .help(help::PLACES)
-        .long_help(help::PLACES_LONG)
-}
-
-/// The option of a time zone.
-fn zone_option<'a>(alloc: Global) -> Arg<'a> {
-    value_option(alloc, "zone", "ZONE")
-        .help(help::ZONE)
-        .long_help(help::ZONE_LONG)
-}
-
-/// The option of CSV.
-fn csv_option<'a>(alloc: Global) -> Arg<'a> {
-    flag_option(alloc, "csv").help(help::CSV)
 }

@@ -1,8 +1,7 @@
 //! The options of `review`.
 
 use crate::office_options::OfficeOptions;
-use crate::plan_options::places_option;
-use clap::{ArgMatches, Command};
+use clap::ArgMatches;
 use std::alloc::{AllocError, Global};
 
 /// What `review` is asked to do.
@@ -25,9 +24,4 @@ impl<'a> ReviewOptions<'a> {
             places: matches.get_str("places"),
         })
     }
-}
-
-/// A word that may name places.
-pub(crate) fn with_names<'a>(alloc: Global, word: Command<'a>) -> Result<Command<'a>, AllocError> {
-    word.arg(places_option(alloc))
 }

@@ -1,9 +1,8 @@
-//! Options and their values: numbers, codes, files, and flags.
+//! The values of options: numbers and codes.
 ghost use Rattle.std.specs.Prelude.{◌≤◌};
 
-use clap::builder::ValueParser;
 use clap::error::ErrorKind;
-use clap::{Arg, ArgAction, ArgMatches, Command, Error};
+use clap::{ArgMatches, Command, Error};
 use rail_codes::FromText;
 use std::alloc::Global;
 
@@ -38,34 +37,4 @@ pub(crate) fn number_of(matches: &ArgMatches<'_>, option: &str, most: u64) -> u6
         .get_one::<u64>(option)
         .unwrap_or(most)
         .clamp(1, most)
-}
-
-/// An option that is a number from 1 to `most`.
-pub(crate) fn number_option<'a>(
-    alloc: Global,
-    name: &'a str,
-    most: u64,
-    default: &'a str,
-) -> Arg<'a> {
-    value_option(alloc, name, "N")
-        .value_parser(ValueParser::unsigned(1, most))
-        .default_value(default)
-}
-
-/// An option that names a file.
-pub(crate) fn file_option<'a>(alloc: Global, name: &'a str) -> Arg<'a> {
-    value_option(alloc, name, "FILE")
-}
-
-/// An option with a value, which help calls so.
-pub(crate) fn value_option<'a>(alloc: Global, name: &'a str, value: &'a str) -> Arg<'a> {
-    Arg::new(alloc, name)
-        .long(name)
-        .value_name(value)
-        .action(ArgAction::Set)
-}
-
-/// An option without a value.
-pub(crate) fn flag_option<'a>(alloc: Global, name: &'a str) -> Arg<'a> {
-    Arg::new(alloc, name).long(name).action(ArgAction::SetTrue)
 }

@@ -1,12 +1,10 @@
 //! The options of `why`.
 
-use crate::help;
 use crate::office_options::ProblemOptions;
-use crate::plan_options::places_option;
-use crate::values::{code_from, flag_option, value_option};
-use clap::{Arg, ArgGroup, ArgMatches, Command, Error};
+use crate::values::code_from;
+use clap::{ArgMatches, Error};
 use rail_codes::{OrderId, WagonNumber};
-use std::alloc::{AllocError, Global};
+use std::alloc::Global;
 
 /// The word, as usage lines name it.
 const WHY: &str = "wagons why";
@@ -57,43 +55,4 @@ fn asked_of(alloc: Global, matches: &ArgMatches<'_>) -> Result<Asked, Error> {
         Some(number) => Ok(Asked::Wagon(code_from(alloc, WHY, "--wagon <NUMBER>", number)?)),
         None => Ok(Asked::Plan),
     }
-}
-
-/// A word that may name places, ask about one order or one wagon, and print JSON lines.
-pub(crate) fn with_why_options<'a>(
-    alloc: Global,
-    word: Command<'a>,
-) -> Result<Command<'a>, AllocError> {
-    let word = word.args(vec![in alloc;
-        places_option(alloc),
-        order_option(alloc),
-        wagon_option(alloc),
-        json_option(alloc),
-    ]?)?;
-    word.group(asked_group(alloc)?)
-}
-
-/// An order or a wagon may be given, and not both.
-fn asked_group<'a>(alloc: Global) -> Result<ArgGroup<'a>, AllocError> {
-    let group = ArgGroup::new(alloc, "asked").arg("order")?;
-    group.arg("wagon")
-}
-
-/// The option of an order.
-fn order_option<'a>(alloc: Global) -> Arg<'a> {
-    value_option(alloc, "order", "NAME")
-        .help(help::ORDER)
-        .long_help(help::ORDER_LONG)
-}
-
-/// The option of a wagon.
-fn wagon_option<'a>(alloc: Global) -> Arg<'a> {
-    value_option(alloc, "wagon", "NUMBER")
-        .help(help::WAGON)
-        .long_help(help::WAGON_LONG)
-}
-
-/// The option of JSON lines.
-fn json_option<'a>(alloc: Global) -> Arg<'a> {
-    flag_option(alloc, "json").help(help::JSON)
 }

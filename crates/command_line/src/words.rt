@@ -1,19 +1,17 @@
 //! The command line: its words, and the faults of arguments.
 
-use crate::explained::{CODE, Explained, read_explained};
+use crate::arguments::{with_arguments, with_groups};
+use crate::explained::{Explained, read_explained};
 use crate::help;
-use crate::help::{Arguments, WordHelp};
-use crate::line_options::{LineOptions, with_line_options};
-use crate::map_options::{MapOptions, with_map_options};
-use crate::office_options::{
-    FeedOptions, OfficeOptions, ProblemOptions, SaveOptions, with_files, with_office_options,
-    with_problem_options, with_save_options,
-};
-use crate::plan_options::{PlanOptions, with_plan_options};
-use crate::review_options::{ReviewOptions, with_names};
-use crate::why_options::{WhyOptions, with_why_options};
+use crate::help::WordHelp;
+use crate::line_options::LineOptions;
+use crate::map_options::MapOptions;
+use crate::office_options::{FeedOptions, OfficeOptions, ProblemOptions, SaveOptions};
+use crate::plan_options::PlanOptions;
+use crate::review_options::ReviewOptions;
+use crate::why_options::WhyOptions;
 use clap::error::ErrorKind;
-use clap::{Arg, ArgMatches, Command, Error};
+use clap::{ArgMatches, Command, Error};
 use std::alloc::{AllocError, Global};
 use std::convert::AsStr;
 
@@ -130,49 +128,12 @@ fn program<'a>(alloc: Global) -> Result<Command<'a>, AllocError> {
 
 /// A word with its help and what it takes.
 pub(crate) fn word_command<'a>(alloc: Global, help: WordHelp) -> Result<Command<'a>, AllocError> {
-    let word = Command::new(alloc, help.name)
+    let mut word = Command::new(alloc, help.name)
         .about(help.about)
         .long_about(help.long_about)
         .after_help(help.example);
-    match help.arguments {
-        Arguments::Lines => with_line_options(alloc, word),
-        Arguments::Code => with_code(alloc, word),
-        arguments => with_office_arguments(alloc, with_office_options(alloc, word)?, arguments),
+    for arguments in help.arguments {
+        word = with_arguments(alloc, word, arguments)?;
     }
-}
-
-/// A word that opens an office, with what else it takes.
-fn with_office_arguments<'a>(
-    alloc: Global,
-    word: Command<'a>,
-    arguments: Arguments,
-) -> Result<Command<'a>, AllocError> {
-    match arguments {
-        Arguments::OfficeAndFiles => with_files(alloc, word),
-        Arguments::OfficeAndChoice => with_map_options(alloc, word),
-        Arguments::OfficeAndNames => with_names(alloc, word),
-        Arguments::OfficeAndFleet => with_save_options(alloc, word),
-        Arguments::OfficeAndMoment | Arguments::OfficeAndPlan | Arguments::OfficeAndReasons => {
-            with_problem_arguments(alloc, with_problem_options(alloc, word)?, arguments)
-        }
-        Arguments::Lines | Arguments::Code | Arguments::Office => Ok(word),
-    }
-}
-
-/// A word that makes the problem of a moment, with what else it takes.
-fn with_problem_arguments<'a>(
-    alloc: Global,
-    word: Command<'a>,
-    arguments: Arguments,
-) -> Result<Command<'a>, AllocError> {
-    match arguments {
-        Arguments::OfficeAndPlan => with_plan_options(alloc, word),
-        Arguments::OfficeAndReasons => with_why_options(alloc, word),
-        _ => Ok(word),
-    }
-}
-
-/// A word that may have the number or the name of a refusal.
-fn with_code<'a>(alloc: Global, word: Command<'a>) -> Result<Command<'a>, AllocError> {
-    word.arg(Arg::new(alloc, CODE).value_name("CODE").help(help::CODE))
+    with_groups(alloc, word, help.groups)
 }
