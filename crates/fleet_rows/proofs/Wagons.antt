@@ -12,7 +12,6 @@ use Rattle.std.proofs.lemmas.List.Elements.{All-set}
 use Rattle.std.proofs.lemmas.Map.Keys.{IsDistinct-from_sorted}
 use Rattle.std.proofs.lemmas.Option.{get_or_from_slice_get, slice_get-get_or, slice_get_within}
 use Rattle.std.proofs.Math.Bool.{beq}
-use Rattle.std.proofs.Math.ListN.{get_or-map}
 use Rattle.std.proofs.Math.Seq.{map-set, map-set_same}
 use Rattle.move_messages.specs.MaxLoad.{max_load}
 use Rattle.fleet_rows.specs.FreeWagons.{is_free}
@@ -187,11 +186,9 @@ one_answer false false h = refl
 one_answer true false h = cc h
 one_answer false true h = cc h
 
--- nothing changes there where what is read is the answer for the new row
-pub free_stays : (rows : List WagonRow) (k : ℕ) (row : WagonRow) (are_free : List Bool) (read free : Bool) → are_free ≡ map is_free rows → read ≡ get_or are_free k read → free ≡ is_free row
-    → not (beq read free) ≡ false → are_free ≡ map is_free (slice_set rows k row)
-free_stays rows k row are_free read free h there is same =
-    let answer : read ≡ is_free row = one_answer read free same ∙ is in
-    let stood : is_free row ≡ get_or are_free k (is_free row) = subst (λ (b : Bool). b ≡ get_or are_free k b) answer there in
-    let was : is_free row ≡ is_free (get_or rows k row) = stood ∙ ap (λ (them : List Bool). get_or them k (is_free row)) h ∙ get_or-map is_free rows k row in
-    h ∙ sym (map-set_same is_free rows k row row was)
+-- nothing changes there where both rows are free, or neither
+pub free_stays : (rows : List WagonRow) (k : ℕ) (row read : WagonRow) (are_free : List Bool) (was now : Bool) → are_free ≡ map is_free rows → read ≡ get_or rows k read → was ≡ is_free read → now ≡ is_free row
+    → not (beq was now) ≡ false → are_free ≡ map is_free (slice_set rows k row)
+free_stays rows k row read are_free was now h there before after same =
+    let stays : is_free row ≡ is_free (get_or rows k read) = sym after ∙ sym (one_answer was now same) ∙ before ∙ ap is_free there in
+    h ∙ sym (map-set_same is_free rows k row read stays)

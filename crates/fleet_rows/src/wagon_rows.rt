@@ -144,11 +144,11 @@ impl WagonRows {
         requires valid { IsWagonRows (slice_set self.old index row) }
         ensures { self.new ≡ slice_set self.old index row }
     {
-        let free = is_free(&row);
+        let (was_free, now_free) = (is_free(&self.rows[index]), is_free(&row));
         self.rows[index] = row;
-        // Written only where it changes: other processors hold copies of it, which they would have to read again.
-        if self.are_free[index] != free {
-            self.are_free[index] = free;
+        // Not even read where it stays: its neighbours are those of other wagons, which other processors may have changed.
+        if was_free != now_free {
+            self.are_free[index] = now_free;
         }
     }
 }
