@@ -3,6 +3,9 @@
 
 .PHONY: run demo prove build claim test quick scripts examples hostile bench service service-test test-streams install uninstall
 
+# No file here is made by a rule that make has of its own; it would look for one for each source.
+MAKEFLAGS += --no-builtin-rules
+
 SHELL := /bin/bash
 .SHELLFLAGS := -o pipefail -c
 
