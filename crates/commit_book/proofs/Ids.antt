@@ -1,7 +1,6 @@
 -- What the index of the messages finds.
 use Rattle.std.proofs.Common.{◌≡◌, ◌∙◌, ℕ, zero, suc, ◌+◌, Bool, true, false, cond, List, [], ◌∷◌, ◌++◌, length, Option, Some, None, refl, sym, ap, arith, position, true≢false}
 use Rattle.std.specs.Prelude.{◌&&◌, IfNone, IfSome, nat_eq, slice_get}
-use Rattle.std.specs.BTreeMap.{BTreeMap, get}
 use Rattle.std.specs.Cmp.Lexicographic.{pointwise, bytes_decides}
 use Rattle.std.specs.List.{position_from}
 use Rattle.std.specs.Ordering.{is_eq}
@@ -30,7 +29,7 @@ id_same a b h =
     let fields : ◌≡◌ {A = MessageId} (record { company = a.company; number = a.number }) (record { company = b.company; number = b.number }) = rw (company, number) refl in
     fields
 
-id_self : (a : MessageId) → is_id a a ≡ true
+pub id_self : (a : MessageId) → is_id a a ≡ true
 id_self a =
     let company : pointwise nat_eq a.company a.company ≡ true = (bytes_decides a.company a.company).1 refl in
     let number : nat_eq a.number a.number ≡ true = grind (arith, nat_tests) in
@@ -143,10 +142,6 @@ no_message (Revise network) q h = refl
 pub index_stays : (events : List Event) (event : Event) (index : MessageId → Option ℕ) → IsNoMessage event → IsIndexOf events index → IsIndexOf (events ++ event ∷ []) index
 index_stays events event index other h q = h q ∙ sym (position-push (is_message_of q) events event (no_message event q other))
 
--- the index of no event
-pub index_none : (ids : BTreeMap MessageId ℕ) → ids.entries ≡ [] → IsIndexOf [] (get compare_ids ids)
-index_none ids empty id = rw empty refl
-
 -- ---- a message of a noted id
 
 -- the first index of an id is that of a message of it
@@ -160,25 +155,11 @@ message_found id events index h =
       its_id = sym (id_same id at.its_message.id at.passes);
     }
 
-again_in : (id q : MessageId) (was next : Option ℕ) (old : MessageId → Option ℕ) (b : Bool) → is_id id q ≡ b → old id ≡ was → cond b was (cond b next (old q)) ≡ old q
-again_in id q was next old true is h = sym (ap old (sym (id_same id q is)) ∙ h)
-again_in id q was next old false is h = refl
-
--- an index that was changed at one id, and then back there
-pub index_again : (events : List Event) (id : MessageId) (was next : Option ℕ) (old mid new : MessageId → Option ℕ) → IsIndexOf events old → old id ≡ was → ((q : MessageId) → mid q ≡ cond (is_eq (compare_ids id q)) next (old q))
-    → ((q : MessageId) → new q ≡ cond (is_eq (compare_ids id q)) was (mid q)) → IsIndexOf events new
-index_again events id was next old mid new h known changed back q =
-    back q ∙ ap (cond (is_eq (compare_ids id q)) was) (changed q) ∙ ap (λ (b : Bool). cond b was (cond b next (old q))) (id_ties id q) ∙ again_in id q was next old (is_id id q) refl known ∙ h q
-
 -- an id that no message has was noted behind the events
 pub index_noted : (events : List Event) (id : MessageId) (old new : MessageId → Option ℕ) → IsIndexOf events old → old id ≡ None → ((q : MessageId) → new q ≡ cond (is_eq (compare_ids id q)) (Some (length events)) (old q)) → HasNoted events id new
 index_noted events id old new h none noted =
     let fresh = fresh_by id events (sym (h id) ∙ none) in
     record { fresh = fresh; behind = λ m same. index_push events m old new (rw same fresh) h (λ q. rw same (noted q)) }
-
--- an index of the same entries
-pub index_kept : (events : List Event) (old new : BTreeMap MessageId ℕ) → new.entries ≡ old.entries → IsIndexOf events (get compare_ids old) → IsIndexOf events (get compare_ids new)
-index_kept events old new same h q = rw same (h q)
 
 pub none_by : (o : Option ℕ) → ((index : ℕ) → o ≡ Some index → ⊥) → o ≡ None
 none_by None h = refl

@@ -5,4 +5,6 @@ pub mod Entered
 pub mod IdKey
 pub mod Kept
 pub mod Ledger
+pub mod MessageIds
+pub mod Noted
 pub mod KeptEvent

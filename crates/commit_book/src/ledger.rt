@@ -4,18 +4,16 @@ ghost use Rattle.operating_db.specs.After.{after_call};
 ghost use Rattle.operating_db.specs.ApplyFault.{IsRefusal};
 ghost use Rattle.operating_db.specs.Steps.{IsPromised};
 ghost use Rattle.commit_book.specs.History.{IsFresh};
-ghost use Rattle.commit_book.specs.inner.Ledger.{IsAdmitted, IsIndexOf, IsMessageAt, IsMessageEntry, IsNoMessage, IsNoted, OnNoted, compare_ids, message_after, office_of, state_of};
-ghost use Rattle.std.specs.BTreeMap.{get};
-ghost use Rattle.std.specs.Ordering.{is_eq};
+ghost use Rattle.commit_book.specs.inner.Ledger.{IsAdmitted, IsIndexOf, IsMessageAt, IsMessageEntry, IsNoMessage, IsNoted, OnNoted, message_after, office_of, state_of};
+ghost use Rattle.commit_book.specs.inner.MessageIds.{index_of};
 ghost use Rattle.rail_codes.specs.declared.message_id.MessageId.{MessageId};
 
 use crate::entry::{Entry, boxed};
-use crate::id_key::IdKey;
+use crate::message_ids::MessageIds;
 use move_messages::{Event, Message};
 use operating_db::{ApplyFault, MessageChange, OfficeState};
 use rail_codes::MessageId;
 use std::alloc::{AllocError, Global};
-use std::collections::BTreeMap;
 use std::marker::Model;
 
 /// What came of a message that was to be entered.
@@ -42,21 +40,20 @@ enum Admission {
 pub(crate) struct Ledger {
     first: OfficeState,
     events: Vec<Entry>,
-    // The index of each message among the events, by its id. Senders choose the ids, so the map is an ordered one: a
-    // look-up in it is short for all ids.
-    ids: BTreeMap<IdKey, usize>,
+    // The index of each message among the events, by its id.
+    ids: MessageIds,
     state: OfficeState,
 }
 
 impl Model for Ledger {
-    ghost use Rattle.commit_book.specs.inner.Ledger.{LedgerValue, IsLedger, compare_ids};
-    ghost use Rattle.std.specs.BTreeMap.{get};
+    ghost use Rattle.commit_book.specs.inner.Ledger.{LedgerValue, IsLedger};
+    ghost use Rattle.commit_book.specs.inner.MessageIds.{index_of};
 
     ghost Value = { LedgerValue };
 
     ghost view = { λ ledger. record { first = ledger.first.office; networks = ledger.state.networks; events = ledger.events.items } };
 
-    ghost invariant = { λ ledger. IsLedger ledger.first ledger.events.items (get compare_ids ledger.ids) ledger.state };
+    ghost invariant = { λ ledger. IsLedger ledger.first ledger.events.items (index_of ledger.ids) ledger.state };
 }
 
 impl Ledger {
@@ -68,7 +65,7 @@ impl Ledger {
         Ok(Ledger {
             first,
             events: Vec::new(alloc),
-            ids: BTreeMap::new(alloc),
+            ids: MessageIds::none(alloc),
             state,
         })
     }
@@ -106,7 +103,7 @@ impl Ledger {
         ensures found { IfSome result (λ index. IsMessageAt self.now.events id index) }
         ensures fresh { IfNone result (IsFresh id self.now.events) }
     {
-        index_of(&self.ids, id)
+        self.ids.index_of(&id)
     }
 
     /// Lets a message happen, as the last event, unless an event has its id. Refused as the office refuses it, or
@@ -180,13 +177,13 @@ fn make_room(state: &OfficeState, events: &mut Vec<Entry>, event: &Event) -> Res
 /// for: map and list stay as they were. Where memory is refused, nothing is noted.
 fn admit(
     state: &OfficeState,
-    ids: &mut BTreeMap<IdKey, usize>,
+    ids: &mut MessageIds,
     events: &mut Vec<Entry>,
     message: &Message,
     index: Option<usize>,
 ) -> Result<Admission, ApplyFault>
-    requires { IsIndexOf events.old.items (get compare_ids ids.old) }
-    ensures admitted { IsAdmitted state.now events.old.items message.now result (get compare_ids ids.new) }
+    requires { IsIndexOf events.old.items (index_of ids.old) }
+    ensures admitted { IsAdmitted state.now events.old.items message.now result (index_of ids.new) }
     ensures events { events.new.items ≡ events.old.items }
     ensures room { IfOk result (OnNoted (vec_len events.new < vec_capacity events.new)) }
     ensures unasked { OnErr (message_after state.now message.now) ((ids.new ≡ ids.old) × (events.new ≡ events.old)) }
@@ -194,7 +191,7 @@ fn admit(
     let found = match state.change_by(message, index) {
         Ok(found) => found,
         Err(fault) => {
-            return match index_of(ids, message.id) {
+            return match ids.index_of(&message.id) {
                 Some(known) => Ok(Admission::Known(known)),
                 None => Err(fault),
             };
@@ -207,43 +204,23 @@ fn admit(
     }
 }
 
-/// The index that is noted for an id.
-fn index_of(ids: &BTreeMap<IdKey, usize>, id: MessageId) -> Option<usize>
-    ensures { result ≡ get compare_ids ids.now id }
-{
-    ids.get(&IdKey::of(id)).copied()
-}
-
 /// Notes the index behind the events by the id of a message, and makes room for the message there; or, where an event
 /// is a message of this id, gives its index and notes nothing. Where memory is refused, no event is, and nothing is
-/// noted. In the common case, a new id, the map is searched once.
+/// noted.
 fn note(
-    ids: &mut BTreeMap<IdKey, usize>,
+    ids: &mut MessageIds,
     events: &mut Vec<Entry>,
     id: &MessageId,
 ) -> Result<Option<usize>, AllocError>
-    requires { IsIndexOf events.old.items (get compare_ids ids.old) }
-    ensures noted { IsNoted events.old.items id.now result (get compare_ids ids.new) }
+    requires { IsIndexOf events.old.items (index_of ids.old) }
+    ensures noted { IsNoted events.old.items id.now result (index_of ids.new) }
     ensures events { events.new.items ≡ events.old.items }
     ensures room { IfOk result (λ known. IfNone known (vec_len events.new < vec_capacity events.new)) }
 {
-    if let Some(index) = ids.insert(IdKey::of(*id), events.len())? {
-        note_again(ids, id, index);
-        return Ok(Some(index));
+    if let Some(known) = ids.index_of(id) {
+        return Ok(Some(known));
     }
-    if events.reserve(1).is_err() {
-        ids.remove(&IdKey::of(*id));
-        return Err(AllocError);
-    }
+    events.reserve(1)?;
+    ids.note(*events.allocator(), id, events.len())?;
     Ok(None)
-}
-
-/// Notes another index for an id that is noted. Takes no memory.
-fn note_again(ids: &mut BTreeMap<IdKey, usize>, id: &MessageId, index: usize)
-    requires { IsSome (get compare_ids ids.old id.now) }
-    ensures { (other : MessageId) → get compare_ids ids.new other ≡ cond (is_eq (compare_ids id.now other)) (Some index) (get compare_ids ids.old other) }
-{
-    if let Some(noted) = ids.get_mut(&IdKey::of(*id)) {
-        *noted = index;
-    }
 }

@@ -14,7 +14,9 @@ mod kept_problems;
 mod laws;
 mod ledger;
 mod made_problem;
+mod message_ids;
 mod reply;
+mod rising_ids;
 
 pub use answer::Answer;
 pub use book::Book;
