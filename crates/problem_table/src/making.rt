@@ -3,7 +3,7 @@ ghost use Rattle.std.specs.Prelude.{◌≡◌, ◌+◌, ◌<◌, [], All, IfOk, 
 ghost use Rattle.cost_table.specs.SharedRows.{HasIndices, rows_in};
 ghost use Rattle.line_network.specs.Network.{place_index};
 ghost use Rattle.problem_table.specs.declared.goals.ClassGoals.{ClassGoals};
-ghost use Rattle.problem_table.specs.inner.Goals.{AreGoalsOf};
+ghost use Rattle.problem_table.specs.inner.Goals.{AreGoalsOf, goals_of};
 ghost use Rattle.problem_table.specs.inner.Making.{AddsRowUntil, AddsWagon, AreMade};
 
 use crate::alike::{Seen, is_alike_before};
@@ -94,6 +94,9 @@ fn make_of_class(
     ensures made { OnOk result (AreMade tables.now problem.now (k + 1) making.new) }
     ensures shared { OnOk result (making.new.rows.shared.value ≡ making.old.rows.shared.value) }
 {
+    if making.classes[class].goals.is_empty() {
+        return add_unwanted(making, problem, tables, wagon);
+    }
     let from = tables.network().index_of(wagon.place);
     let number = number_of(class, from);
     let i = making.seen.at(number);
@@ -102,6 +105,25 @@ fn make_of_class(
     }
     making.seen.note(number, k);
     find(making, problem, tables, wagon, from, class)
+}
+
+/// Adds the row of a wagon whose class no order wants: it is empty, and stays so. The tables are for the prover alone.
+fn add_unwanted(
+    making: &mut Making,
+    problem: &Problem,
+    _tables: &Tables,
+    wagon: &FreeWagon,
+) -> Result<(), AllocError>
+    requires indexed { HasIndices making.old.rows }
+    requires unwanted { goals_of _tables.now wagon.now.class problem.now.orders ≡ [] }
+    ensures row { OnOk result (AddsWagon _tables.now problem.now wagon.now making.old making.new) }
+    ensures classes { making.new.classes ≡ making.old.classes }
+{
+    // A moment is below the greatest number.
+    problem.at().for_the_prover();
+    making.rows.push(&[])?;
+    making.lasts.push(u64::MAX)?;
+    Ok(())
 }
 
 /// A number that few other classes and places have.

@@ -26,3 +26,9 @@ returns-clause-made c =
 
 pub returns-clause-shared : goal.returns-clause-shared
 returns-clause-shared c = on_ok c.find.result (λ adds. adds.more.shared) c.find.ensures.row
+
+pub returns-then-is_empty-clause-made : goal.returns-then-is_empty-clause-made
+returns-then-is_empty-clause-made c =
+    on_ok c.add_unwanted.result (λ adds.
+    made_next c.args.tables.now c.args.problem.now c.args.k c.args.wagon.now c.requires.wagon c.args.making.now c.requires.made c.add_unwanted.new.making adds
+    (rw c.add_unwanted.ensures.classes c.requires.made.classes)) c.add_unwanted.ensures.row
