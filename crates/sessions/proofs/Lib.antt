@@ -11,3 +11,5 @@ pub mod FedSeats
 pub mod FeedTallies
 pub mod Handles
 pub mod NewSeats
+pub mod LostSeats
+pub mod SharedBooks

@@ -4,13 +4,15 @@ ghost use Rattle.std.specs.List.{sum_by};
 ghost use Rattle.sessions.specs.Closing.{HasEntries, HasEntry, IsLost};
 ghost use Rattle.sessions.specs.CloseFault.{IsHandedBack, IsMissing};
 ghost use Rattle.sessions.specs.Seat.{count_of};
-ghost use Rattle.sessions.specs.inner.Others.{IsOther};
+ghost use Rattle.sessions.specs.inner.Others.{IsOther, IsTooFew};
 
 use crate::counted_book::CountedBook;
 use crate::{CloseFault, Receipt, Seat, SharedBook};
 use commit_book::Book;
 use std::sync::ledger;
 use std::sync::ledger::{Ledger, Share};
+use std::thread;
+use std::thread::Threads;
 
 /// Closes a shared book, and answers its book: as many entries as all seats have receipts, and each receipt's event is the
 /// entry of its number. A shared book has as many seats as its ledger has parts.
@@ -24,6 +26,45 @@ pub fn close<L: Ledger>(shared: SharedBook<L>, seats: Vec<Seat<L>>) -> Result<Bo
     ensures receipts { IfOk result (λ book. All (HasEntries book.state.history) seats.items) }
     ensures fault { IfErr result (IsHandedBack shared seats) }
     ensures missing { IsMissing result shared seats.items }
+{
+    let (book, seats) = audited(shared, seats)?;
+    match first_lost(&book, &seats) {
+        Some((number, entry)) => Err(CloseFault::ReceiptLost(number, entry, book, seats)),
+        None => Ok(book),
+    }
+}
+
+/// The same, where the receipts of the seats are looked at side by side, by a thread for each seat. May wait for these
+/// threads.
+pub(crate) fn close_by_threads<L: Ledger, T: Threads>(
+    rt: &T,
+    shared: SharedBook<L>,
+    seats: Vec<Seat<L>>,
+) -> Result<Book, CloseFault<L>>
+    requires { shared.seats ≡ L.parts }
+    ensures counts { IfOk result (λ book. length book.state.history ≡ sum_by count_of seats.items) }
+    ensures receipts { IfOk result (λ book. All (HasEntries book.state.history) seats.items) }
+    ensures fault { IfErr result (IsHandedBack shared seats) }
+    ensures missing { IsMissing result shared seats.items }
+{
+    let (book, seats) = audited(shared, seats)?;
+    match first_lost_by_threads(rt, &book, &seats) {
+        Some((number, entry)) => Err(CloseFault::ReceiptLost(number, entry, book, seats)),
+        None => Ok(book),
+    }
+}
+
+/// The book behind the lock, once no seat is missing, and the seats as they came: the book has as many entries as they
+/// have receipts.
+fn audited<L: Ledger>(
+    shared: SharedBook<L>,
+    seats: Vec<Seat<L>>,
+) -> Result<(Book, Vec<Seat<L>>), CloseFault<L>>
+    requires { shared.seats ≡ L.parts }
+    ensures seats { IfOk result (λ parts. parts.1 ≡ seats) }
+    ensures counts { IfOk result (λ parts. length parts.0.state.history ≡ sum_by count_of seats.items) }
+    ensures all { IfOk result (λ parts. shared.seats ≤ length seats.items) }
+    ensures missing { IfErr result (λ fault. IsTooFew shared seats fault) }
 {
     if seats.len() < shared.seats as usize {
         return Err(CloseFault::SeatsMissing(shared, seats));
@@ -40,9 +81,38 @@ pub fn close<L: Ledger>(shared: SharedBook<L>, seats: Vec<Seat<L>>) -> Result<Bo
     } = book.into_inner();
     let mut seats = seats;
     audit_all(&mut total, &mut rest, &mut seats);
-    match first_lost(&book, &seats) {
-        Some((number, entry)) => Err(CloseFault::ReceiptLost(number, entry, book, seats)),
-        None => Ok(book),
+    Ok((book, seats))
+}
+
+/// The first receipt whose event is not the entry of its number, as `first_lost` finds it, where the receipts of each seat are
+/// looked at by a thread of their own. Only receipts are lent to it, since a seat's share can't be lent to threads.
+#[cycle(seats)]
+fn first_lost_by_threads<L: Ledger, T: Threads>(
+    rt: &T,
+    book: &Book,
+    seats: &[Seat<L>],
+) -> Option<(u32, u64)>
+    ensures none { IfNone result (All (HasEntries book.now.state.history) seats.now) }
+    ensures some { IfSome result (λ lost. IsLost book.now.state.history seats.now lost.0 lost.1) }
+{
+    let Some((seat, others)) = seats.split_first() else {
+        return None;
+    };
+    let receipts = seat.receipts();
+    let (one, other) = thread::join(
+        rt,
+        move || -> Option<u64>
+            ensures none { IfNone result (All (HasEntry book.entry.now.state.history) receipts.entry.now) }
+            ensures some { IfSome result (IsOther book.entry.now.state.history receipts.entry.now) }
+        { first_other(book, receipts) },
+        move || -> Option<(u32, u64)>
+            ensures none { IfNone result (All (HasEntries book.entry.now.state.history) others.entry.now) }
+            ensures some { IfSome result (λ lost. IsLost book.entry.now.state.history others.entry.now lost.0 lost.1) }
+        { first_lost_by_threads(rt, book, others) },
+    );
+    match one {
+        Some(entry) => Some((seat.number(), entry)),
+        None => other,
     }
 }
 

@@ -7,8 +7,9 @@ ghost use Rattle.sessions.specs.Seat.{count_of};
 ghost use Rattle.sessions.specs.FeedReports.{IsFeedReport, MayBeFed};
 ghost use Rattle.sessions.specs.inner.Fed.{AreFed, AreToStart, HasRoom, IsFedFile, handed_to, given_with};
 
+use crate::closing::close_by_threads;
 use crate::fed_file::{FedFile, FileOf, fed_file};
-use crate::{CloseFault, FeedFault, FeedReport, FileCount, Seat, SharedBook, close, open};
+use crate::{CloseFault, FeedFault, FeedReport, FileCount, Seat, SharedBook, open};
 use commit_book::Book;
 use line_engine::Source;
 use line_network::Networks;
@@ -104,7 +105,7 @@ fn feed_by<L: Ledger + Send + Sync, T: Threads + Wait + Sync, R: Source + Send +
         networks,
     };
     match fed_in_threads(feeding, readers, seats, room) {
-        Ok(fed) => closed(shared, fed),
+        Ok(fed) => closed(rt, shared, fed),
         Err(fault) => Err(fault),
     }
 }
@@ -260,7 +261,8 @@ fn drop_all<L: Ledger, T: Threads, R: Source + Drop>(rt: &T, running: Vec<Runnin
 }
 
 /// The report, once the shared book is closed.
-fn closed<L: Ledger, R: Drop>(
+fn closed<L: Ledger, T: Threads, R: Drop>(
+    rt: &T,
     shared: SharedBook<L>,
     fed: Fed<L, R>,
 ) -> Result<FeedReport<R>, FeedFault>
@@ -272,7 +274,7 @@ fn closed<L: Ledger, R: Drop>(
     ensures proved { IfOk result (λ report. IsProved report.book.setting report.book.state.history) }
 {
     let Fed { files, seats } = fed;
-    match close(shared, seats) {
+    match close_by_threads(rt, shared, seats) {
         Ok(book) => {
             book.for_the_prover();
             Ok(FeedReport { files, book })
