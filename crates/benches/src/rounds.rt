@@ -86,11 +86,11 @@ fn timed_planning(
     Ok((table, planned(alloc, snap, &made)?))
 }
 
-/// A problem is begun.
+/// A problem is begun, with its table.
 fn timed_begin(rt: &HostRuntime, alloc: Global, growth: &mut Growth) -> Result<(u128, Snap)> {
     let at = growth.at()?;
     let start = Instant::now(rt)?;
-    let snap = growth.book.begin(alloc, at)?;
+    let (snap, _made) = growth.book.begin_with_table(alloc, at)?;
     Ok((since(rt, start)?, snap))
 }
 

@@ -1,29 +1,26 @@
 -- What a book keeps, call by call, and what it says of a commit of a kept problem.
-use Rattle.std.proofs.Common.{◌≡◌, ◌∙◌, ◌+◌, ◌≤◌, ℕ, Bool, true, false, cond, ◌||◌, List, [], ◌∷◌, ◌++◌, length, drop, map, refl, sym, ap, arith, subst, length-append}
-use Rattle.std.specs.Prelude.{◌==◌, nat_le, nat_lt, Option, Some, None, Result, Ok, Err, is_some, All}
+use Rattle.std.proofs.Common.{◌≡◌, ◌∙◌, ◌+◌, ◌≤◌, ℕ, Bool, true, false, cond, ◌||◌, List, [], ◌∷◌, ◌++◌, length, drop, map, set, refl, sym, ap, arith, subst, length-append}
+use Rattle.std.specs.Prelude.{◌==◌, nat_le, nat_lt, Option, Some, None, IfSome, is_some, All}
+use Rattle.cost_table.specs.Table.{Table}
 use Rattle.std.specs.List.{find}
-use Rattle.std.specs.Option.{option_or}
 use Rattle.std.proofs.lemmas.Bool.Decides.{nat_tests}
 use Rattle.std.proofs.lemmas.List.{length-map}
-use Rattle.std.proofs.lemmas.List.Elements.{All-drop, All-head, All-nil, All-push, All-tail, All-weaker}
+use Rattle.std.proofs.lemmas.List.Elements.{All-drop, All-head, All-nil, All-push, All-set, All-tail, All-weaker}
+use Rattle.std.proofs.lemmas.Option.{IfSome_then}
 use Rattle.move_messages.specs.declared.commit_text.CommitText.{CommitText}
-use Rattle.cost_table.specs.Problem.{ProblemValue, names_of_problem}
-use Rattle.price_checker.specs.NamedPairs.{checked}
-use Rattle.faults.specs.declared.faults.NamedFault.{NamedFault}
-use Rattle.operating_db.specs.Commits.{CanPromise, Pair}
+use Rattle.cost_table.specs.Problem.{ProblemValue}
+use Rattle.operating_db.specs.Commits.{CanPromise}
 use Rattle.operating_db.specs.Office.{Office}
 use Rattle.move_messages.specs.declared.event.Event.{Event}
-use Rattle.commit_book.specs.BookStep.{IsJudged, accepted_unless, is_kept, is_this, kept_after, refusal_by, refusal_in}
-use Rattle.commit_book.specs.Commits.{free_in, is_same_free, order_changed, wagon_changed, wagon_of}
+use Rattle.commit_book.specs.BookStep.{IsJudged, accepted_unless, is_kept, is_this, kept_after, refusal_in}
 use Rattle.commit_book.specs.History.{IsLeast, IsTableAt, problem_at, replay}
-use Rattle.commit_book.specs.inner.Kept.{IsBook, IsInSpan, IsKeptAt, IsMade, is_covering, covers, which_of, with_kept}
+use Rattle.commit_book.specs.inner.Kept.{IsBook, IsInSpan, IsKeptAt, IsMade, IsTabled, covers, is_covered, is_covering, made_of, which_of, with_kept}
 use Rattle.commit_book.specs.Setting.{Setting}
 use Rattle.commit_book.specs.declared.kept_problems.KeptProblem.{KeptProblem}
 use Rattle.commit_book.specs.declared.made_problem.MadeProblem.{MadeProblem}
 use Rattle.faults.specs.declared.faults.Refusal.{Refusal}
-use Rattle.faults.specs.declared.faults.Refusal.TheVariants.{WagonChanged}
 use Rattle.commit_book.proofs.CommitLaws.{both_true, commit_owed, same_number}
-use Rattle.commit_book.proofs.Histories.{empty_legal, problem_kept, table_kept}
+use Rattle.commit_book.proofs.Histories.{empty_legal, problem_kept, table_kept, version_kept}
 use Rattle.commit_book.proofs.Runs.{IsLegalEntry, entered_legal}
 
 pub empty_book : (setting : Setting) → IsBook setting [] []
@@ -38,11 +35,15 @@ made_kept setting history event version made had h = record {
   lasting = h.lasting;
 }
 
+tabled_kept : (setting : Setting) (history : List Event) (event : Event) (version at : ℕ) (made : MadeProblem) → version ≤ length history → IsTabled setting history version at made → IsTabled setting (history ++ event ∷ []) version at made
+tabled_kept setting history event version at made had h = record { is_made = made_kept setting history event version made had h.is_made; in_span = h.in_span }
+
 still_kept : (setting : Setting) (history : List Event) (event : Event) (kept : KeptProblem) → IsKeptAt setting history kept → IsKeptAt setting (history ++ event ∷ []) kept
 still_kept setting history event kept h = record {
   had = let longer = length-append history (event ∷ []) in let had = h.had in omega (arith, longer, had);
-  made = made_kept setting history event kept.version kept.made.value h.had h.made;
-  span = h.span;
+  is_problem = h.is_problem ∙ sym (problem_kept setting history event kept.version kept.problem.at h.had);
+  network = record { in_force = ap (λ (o : Office). o.network) (version_kept setting history event kept.version h.had) ∙ h.network.in_force; known = h.network.known };
+  made = IfSome_then (made_of kept) h.made (λ made. tabled_kept setting history event kept.version kept.problem.at made h.had);
 }
 
 pub book_push : (setting : Setting) (history : List Event) (event : Event) (kept : List KeptProblem) → IsBook setting history kept → IsLegalEntry setting history event → IsBook setting (history ++ event ∷ []) kept
@@ -62,6 +63,10 @@ book_keep setting history most kept one book here = record {
   legal = book.legal;
   problems = all_kept (IsKeptAt setting history) (nat_lt (length kept) most) kept one book.problems here;
 }
+
+-- another in the place of one
+pub book_put : (setting : Setting) (history : List Event) (kept : List KeptProblem) (index : ℕ) (new : KeptProblem) → IsBook setting history kept → IsKeptAt setting history new → IsBook setting history (set kept index new)
+book_put setting history kept index new book here = record { legal = book.legal; problems = All-set (IsKeptAt setting history) kept index new here book.problems }
 
 map-push : (kept : List KeptProblem) (one : KeptProblem) → map which_of (kept ++ one ∷ []) ≡ map which_of kept ++ which_of one ∷ []
 map-push [] one = refl
@@ -141,84 +146,36 @@ kept_which (first ∷ kept) which one h = which_step which first one (kept_as ke
 
 -- ---- what is shared
 
--- a problem of a version is that of another moment, once it has that moment
-pub at_moment : (setting : Setting) (history : List Event) (version : ℕ) (made : MadeProblem) (m : ℕ) → IsMade setting history version made → record made.problem { at = m } ≡ problem_at setting history version m
-at_moment setting history version made m h = ap (λ (p : ProblemValue). record p { at = m }) h.is_problem
-
 span_of : (made : MadeProblem) (at : ℕ) → covers made at ≡ true → IsInSpan made at
 span_of made at h =
     let f = both_true (nat_le made.problem.at at) (nat_le at made.timed.until) h in
     record { first = grind (arith, nat_tests, f.0); last = grind (arith, nat_tests, f.1) }
 
--- what was found of a version, whose table is that of a moment
-pub record IsCovering (setting : Setting) (history : List Event) (version at : ℕ) (made : MadeProblem) : Type 0 where
-  pub is_made : IsMade setting history version made
-  pub in_span : IsInSpan made at
-
-pub found_covering : (setting : Setting) (history : List Event) (kept : List KeptProblem) (version at : ℕ) (one : KeptProblem) → IsBook setting history kept → find (is_covering version at) kept ≡ Some one → IsCovering setting history version at one.made.value
-found_covering setting history kept version at one book h =
+pub covering_tabled : (setting : Setting) (history : List Event) (kept : List KeptProblem) (version at : ℕ) (one : KeptProblem) (made : MadeProblem) → IsBook setting history kept → find (is_covering version at) kept ≡ Some one → made_of one ≡ Some made
+    → IsTabled setting history version at made
+covering_tabled setting history kept version at one made book h has =
     let found = found_kept (IsKeptAt setting history) (is_covering version at) kept one book.problems h in
-    let f = both_true (one.version == version) (covers one.made.value at) found.passes in
+    let f = both_true (one.version == version) (is_covered at (made_of one)) found.passes in
+    let covered : covers made at ≡ true = subst (λ (o : Option MadeProblem). is_covered at o ≡ true) has f.1 in
+    let tabled : IsTabled setting history one.version one.problem.at made = subst (λ (o : Option MadeProblem). IfSome o (IsTabled setting history one.version one.problem.at)) has found.holds.made in
     record {
-      is_made = subst (λ (n : ℕ). IsMade setting history n one.made.value) (same_number one.version version f.0) found.holds.made;
-      in_span = span_of one.made.value at f.1;
+      is_made = subst (λ (n : ℕ). IsMade setting history n made) (same_number one.version version f.0) tabled.is_made;
+      in_span = span_of made at covered;
     }
 
 -- ---- a commit of a kept problem
 
--- the problem that a commit names, and its table
-pub record IsNamed (setting : Setting) (history : List Event) (commit : CommitText) (made : MadeProblem) : Type 0 where
-  pub had : commit.version ≤ length history
-  pub is_problem : record made.problem { at = commit.at } ≡ problem_at setting history commit.version commit.at
-  pub is_table : IsTableAt setting history commit.version commit.at made.timed.cells
-
-named_by : (setting : Setting) (history : List Event) (commit : CommitText) (one : KeptProblem) → which_of one ≡ (commit.version, commit.at) → IsKeptAt setting history one → IsNamed setting history commit one.made.value
-named_by setting history commit one is h =
-    let version : one.version ≡ commit.version = ap (λ (w : ℕ × ℕ). w.0) is in
-    let at : one.at ≡ commit.at = ap (λ (w : ℕ × ℕ). w.1) is in
-    let made = subst (λ (n : ℕ). IsMade setting history n one.made.value) version h.made in
-    let had = h.had in
-    record {
-      had = omega (arith, version, had);
-      is_problem = at_moment setting history commit.version one.made.value commit.at made;
-      is_table = made.is_table commit.at (subst (IsInSpan one.made.value) at h.span);
-    }
-
-pub named_problem : (setting : Setting) (history : List Event) (kept : List KeptProblem) (commit : CommitText) (one : KeptProblem) → IsBook setting history kept → kept_as kept (commit.version, commit.at) ≡ Some one → IsNamed setting history commit one.made.value
-named_problem setting history kept commit one book h =
-    let which : ℕ × ℕ = (commit.version, commit.at) in
-    let found = found_kept (IsKeptAt setting history) (λ one. is_this which (which_of one)) kept one book.problems h in
-    named_by setting history commit one (same_which which (which_of one) found.passes) found.holds
-
--- what a commit is refused for doesn't depend on the problem's moment
-wagon_changed_at : (problem : ProblemValue) (at : ℕ) (now : Office) (pairs : List Pair) → wagon_changed (record problem { at = at }) now pairs ≡ wagon_changed problem now pairs
-wagon_changed_at problem at now [] = refl
-wagon_changed_at problem at now (pair ∷ pairs) = ap (λ (rest : Option Refusal). cond (is_same_free (wagon_of problem pair.0) (free_in now pair.0)) rest (Some (WagonChanged pair.0))) (wagon_changed_at problem at now pairs)
-
-refusal_by_at : (problem : ProblemValue) (at : ℕ) (now : Office) (pairs : List Pair) (checked : Result ℕ NamedFault) → refusal_by (record problem { at = at }) now pairs checked ≡ refusal_by problem now pairs checked
-refusal_by_at problem at now pairs (Ok cost) = ap (λ (changed : Option Refusal). option_or changed (order_changed now [] pairs)) (wagon_changed_at problem at now pairs)
-refusal_by_at problem at now pairs (Err fault) = refl
-
--- what is found of what a kept problem shares is what is found of the problem that is named
-pub refusal_named : (setting : Setting) (history : List Event) (commit : CommitText) (made : MadeProblem) (now : Office) → IsNamed setting history commit made → refusal_in (problem_at setting history commit.version commit.at) now commit made.timed.cells ≡ refusal_in made.problem now commit made.timed.cells
-refusal_named setting history commit made now named =
-    ap (λ (problem : ProblemValue). refusal_in problem now commit made.timed.cells) (sym named.is_problem)
-    ∙ refusal_by_at made.problem commit.at now commit.pairs (checked (names_of_problem made.problem) made.timed.cells commit.pairs commit.u commit.v)
-
 -- what the tests of a commit find is what it is answered
-pub commit_judged : (setting : Setting) (history : List Event) (kept : List KeptProblem) (commit : CommitText) (one : KeptProblem) (refusal : Option Refusal) → IsBook setting history kept → kept_as kept (commit.version, commit.at) ≡ Some one
-    → refusal_in one.made.value.problem (replay setting history) commit one.made.value.timed.cells ≡ refusal → IsJudged setting history commit (accepted_unless (length history + 1) refusal)
-commit_judged setting history kept commit one refusal book found h =
-    let named = named_problem setting history kept commit one book found in
-    record {
-      table = one.made.value.timed.cells;
-      is_table = named.is_table;
-      answered = ap (accepted_unless (length history + 1)) (sym (refusal_named setting history commit one.made.value (replay setting history) named ∙ h));
-    }
+pub commit_judged : (setting : Setting) (history : List Event) (commit : CommitText) (problem : ProblemValue) (table : Table) (refusal : Option Refusal) → problem ≡ problem_at setting history commit.version commit.at → IsTableAt setting history commit.version commit.at table
+    → refusal_in problem (replay setting history) commit table ≡ refusal → IsJudged setting history commit (accepted_unless (length history + 1) refusal)
+commit_judged setting history commit problem table refusal is is_table h = record {
+  table = table;
+  is_table = is_table;
+  answered = ap (accepted_unless (length history + 1)) (sym (ap (λ (p : ProblemValue). refusal_in p (replay setting history) commit table) (sym is) ∙ h));
+}
 
 -- where they find nothing, it pays what it owes, and can be promised
-pub commit_passed : (setting : Setting) (history : List Event) (kept : List KeptProblem) (commit : CommitText) (one : KeptProblem) → IsBook setting history kept → kept_as kept (commit.version, commit.at) ≡ Some one
-    → refusal_in one.made.value.problem (replay setting history) commit one.made.value.timed.cells ≡ None → IsLeast setting history commit × CanPromise (replay setting history) commit.pairs
-commit_passed setting history kept commit one book found h =
-    let named = named_problem setting history kept commit one book found in
-    commit_owed setting history commit one.made.value.timed.cells named.had named.is_table (refusal_named setting history commit one.made.value (replay setting history) named ∙ h)
+pub commit_passed : (setting : Setting) (history : List Event) (commit : CommitText) (problem : ProblemValue) (table : Table) → commit.version ≤ length history → problem ≡ problem_at setting history commit.version commit.at → IsTableAt setting history commit.version commit.at table
+    → refusal_in problem (replay setting history) commit table ≡ None → IsLeast setting history commit × CanPromise (replay setting history) commit.pairs
+commit_passed setting history commit problem table had is is_table h =
+    commit_owed setting history commit table had is_table (ap (λ (p : ProblemValue). refusal_in p (replay setting history) commit table) (sym is) ∙ h)

@@ -50,7 +50,7 @@ alike a b number class load_limit place ready =
     let parts : ◌≡◌ {A = FreeWagon} (record { number = a.number; class = a.class; load_limit = a.load_limit; place = a.place; ready = a.ready }) (record { number = b.number; class = b.class; load_limit = b.load_limit; place = b.place; ready = b.ready }) = cc in
     parts
 
-same_wagon : (a b : FreeWagon) → is_same_wagon a b ≡ true → a ≡ b
+pub same_wagon : (a b : FreeWagon) → is_same_wagon a b ≡ true → a ≡ b
 same_wagon a b h =
     let number = both_true (same a.number b.number) _ h in
     let class = both_true (same a.class b.class) _ number.1 in

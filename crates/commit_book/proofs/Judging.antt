@@ -1,65 +1,49 @@
 -- What the tests of a commit say, of the kept problem that was found.
-use Rattle.std.proofs.Common.{◌≡◌, ◌≢◌, ◌∙◌, true, false, List, length, map, Some, None, is_some, refl, sym, ap, inl, inr}
+use Rattle.std.proofs.Common.{◌≡◌, ◌≢◌, ◌∙◌, ◌≤◌, ℕ, true, false, List, length, Some, None, refl, sym, ap, inl, inr}
 use Rattle.std.proofs.lemmas.List.{length-map}
 use Rattle.wagons_and_orders.specs.Wanted.{WantedOrder}
 use Rattle.move_messages.specs.declared.commit_text.CommitText.{CommitText}
 use Rattle.cost_table.specs.Problem.{ProblemValue}
-use Rattle.cost_table.specs.Table.{order_count, wagon_count}
+use Rattle.cost_table.specs.Table.{Table, order_count, wagon_count}
 use Rattle.move_messages.specs.declared.event.Event.{Event}
-use Rattle.commit_book.specs.BookStep.{BookState, is_full, refusal_in}
+use Rattle.commit_book.specs.BookStep.{BookState, is_full, is_kept, refusal_in}
 use Rattle.commit_book.specs.inner.CommitTests.{IsAccepted, IsRefused, IsTestable}
-use Rattle.commit_book.specs.History.{replay}
-use Rattle.commit_book.specs.inner.Kept.{IsBook, which_of}
+use Rattle.commit_book.specs.History.{IsTableAt, problem_at, replay}
 use Rattle.commit_book.specs.Setting.{Setting}
 use Rattle.commit_book.specs.declared.answer.Answer.TheVariants.{Refused}
-use Rattle.commit_book.specs.declared.kept_problems.KeptProblem.{KeptProblem}
 use Rattle.faults.specs.declared.faults.Refusal.{Refusal}
 use Rattle.faults.specs.declared.faults.Refusal.TheVariants.{OutOfMemory, NotKept, BookFull}
 use Rattle.commit_book.proofs.BookCalls.{commit_step, memory_or}
-use Rattle.commit_book.proofs.Books.{commit_judged, commit_passed, kept_as, kept_is_found, named_problem}
+use Rattle.commit_book.proofs.Books.{commit_judged, commit_passed}
 
--- the state of a book with these kept problems
-abbrev pub with_these : List Event → List KeptProblem → BookState
-with_these history kept = record { history = history; kept = map which_of kept }
-
-testable : (setting : Setting) (history : List Event) (kept : List KeptProblem) (commit : CommitText) (one : KeptProblem) → kept_as kept (commit.version, commit.at) ≡ Some one → is_full setting history ≡ false → IsTestable setting (with_these history kept) commit
-testable setting history kept commit one found room = record { kept = kept_is_found kept (commit.version, commit.at) ∙ ap is_some found; room = room }
-
-pub accepted_by : (setting : Setting) (history : List Event) (kept : List KeptProblem) (commit : CommitText) (one : KeptProblem) → IsBook setting history kept → kept_as kept (commit.version, commit.at) ≡ Some one → is_full setting history ≡ false
-    → refusal_in one.made.value.problem (replay setting history) commit one.made.value.timed.cells ≡ None → IsAccepted setting (with_these history kept) commit
-accepted_by setting history kept commit one book found room h =
-    let passed = commit_passed setting history kept commit one book found h in
+pub accepted_by : (setting : Setting) (book : BookState) (commit : CommitText) (problem : ProblemValue) (table : Table) → IsTestable setting book commit → commit.version ≤ length book.history → problem ≡ problem_at setting book.history commit.version commit.at
+    → IsTableAt setting book.history commit.version commit.at table → refusal_in problem (replay setting book.history) commit table ≡ None → IsAccepted setting book commit
+accepted_by setting book commit problem table test had is is_table h =
+    let passed = commit_passed setting book.history commit problem table had is is_table h in
     record {
-      testable = testable setting history kept commit one found room;
-      answered = commit_judged setting history kept commit one None book found h;
+      testable = test;
+      answered = commit_judged setting book.history commit problem table None is is_table h;
       least = passed.0;
       promised = passed.1;
     }
 
-pub refused_by : (setting : Setting) (history : List Event) (kept : List KeptProblem) (commit : CommitText) (one : KeptProblem) → IsBook setting history kept → kept_as kept (commit.version, commit.at) ≡ Some one → is_full setting history ≡ false
-    → (refusal : Refusal) → (refusal ≢ OutOfMemory → refusal_in one.made.value.problem (replay setting history) commit one.made.value.timed.cells ≡ Some refusal) → IsRefused setting (with_these history kept) commit refusal
-refused_by setting history kept commit one book found room refusal h =
-    let test = testable setting history kept commit one found room in
-    elim (memory_or (refusal_in one.made.value.problem (replay setting history) commit one.made.value.timed.cells ≡ Some refusal) refusal h) [
-      | inl says ↦ inl (commit_step setting (with_these history kept) commit (Refused refusal) true false test.kept test.room (commit_judged setting history kept commit one (Some refusal) book found says))
+pub refused_by : (setting : Setting) (book : BookState) (commit : CommitText) (problem : ProblemValue) (table : Table) → IsTestable setting book commit → problem ≡ problem_at setting book.history commit.version commit.at
+    → IsTableAt setting book.history commit.version commit.at table → (refusal : Refusal) → (refusal ≢ OutOfMemory → refusal_in problem (replay setting book.history) commit table ≡ Some refusal) → IsRefused setting book commit refusal
+refused_by setting book commit problem table test is is_table refusal h =
+    elim (memory_or (refusal_in problem (replay setting book.history) commit table ≡ Some refusal) refusal h) [
+      | inl says ↦ inl (commit_step setting book commit (Refused refusal) true false test.kept test.room (commit_judged setting book.history commit problem table (Some refusal) is is_table says))
       | inr memory ↦ inr (memory, test)
     ]
 
-pub not_kept : (setting : Setting) (history : List Event) (kept : List KeptProblem) (commit : CommitText) → kept_as kept (commit.version, commit.at) ≡ None → IsRefused setting (with_these history kept) commit NotKept
-not_kept setting history kept commit none =
-    inl (commit_step setting (with_these history kept) commit (Refused NotKept) false (is_full setting history) (kept_is_found kept (commit.version, commit.at) ∙ ap is_some none) refl refl)
+pub not_kept : (setting : Setting) (book : BookState) (commit : CommitText) → is_kept book.kept (commit.version, commit.at) ≡ false → IsRefused setting book commit NotKept
+not_kept setting book commit none = inl (commit_step setting book commit (Refused NotKept) false (is_full setting book.history) none refl refl)
 
-pub full : (setting : Setting) (history : List Event) (kept : List KeptProblem) (commit : CommitText) (one : KeptProblem) → kept_as kept (commit.version, commit.at) ≡ Some one → is_full setting history ≡ true → IsRefused setting (with_these history kept) commit BookFull
-full setting history kept commit one found no_room =
-    inl (commit_step setting (with_these history kept) commit (Refused BookFull) true true (kept_is_found kept (commit.version, commit.at) ∙ ap is_some found) no_room refl)
+pub full : (setting : Setting) (book : BookState) (commit : CommitText) → is_kept book.kept (commit.version, commit.at) ≡ true → is_full setting book.history ≡ true → IsRefused setting book commit BookFull
+full setting book commit kept no_room = inl (commit_step setting book commit (Refused BookFull) true true kept no_room refl)
 
--- the table of a kept problem is of its wagons and orders
-pub wagons_fit : (setting : Setting) (history : List Event) (kept : List KeptProblem) (commit : CommitText) (one : KeptProblem) → IsBook setting history kept → kept_as kept (commit.version, commit.at) ≡ Some one → wagon_count one.made.value.timed.cells ≡ length one.made.value.problem.wagons
-wagons_fit setting history kept commit one book found =
-    let named = named_problem setting history kept commit one book found in
-    named.is_table.of_problem.wagons ∙ ap (λ (p : ProblemValue). length p.wagons) (sym named.is_problem)
+-- the table of a problem is of its wagons and orders
+pub wagons_fit : (setting : Setting) (history : List Event) (n at : ℕ) (problem : ProblemValue) (table : Table) → problem ≡ problem_at setting history n at → IsTableAt setting history n at table → wagon_count table ≡ length problem.wagons
+wagons_fit setting history n at problem table is is_table = is_table.of_problem.wagons ∙ ap (λ (p : ProblemValue). length p.wagons) (sym is)
 
-pub orders_fit : (setting : Setting) (history : List Event) (kept : List KeptProblem) (commit : CommitText) (one : KeptProblem) → IsBook setting history kept → kept_as kept (commit.version, commit.at) ≡ Some one → order_count one.made.value.timed.cells ≡ length one.made.value.problem.orders
-orders_fit setting history kept commit one book found =
-    let named = named_problem setting history kept commit one book found in
-    ap length named.is_table.of_problem.lacks ∙ length-map _ (λ (o : WantedOrder). o.lack) ∙ ap (λ (p : ProblemValue). length p.orders) (sym named.is_problem)
+pub orders_fit : (setting : Setting) (history : List Event) (n at : ℕ) (problem : ProblemValue) (table : Table) → problem ≡ problem_at setting history n at → IsTableAt setting history n at table → order_count table ≡ length problem.orders
+orders_fit setting history n at problem table is is_table = ap length is_table.of_problem.lacks ∙ length-map _ (λ (o : WantedOrder). o.lack) ∙ ap (λ (p : ProblemValue). length p.orders) (sym is)

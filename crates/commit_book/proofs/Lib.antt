@@ -14,3 +14,4 @@ pub mod Runs
 pub mod Searches
 pub mod Sound
 pub mod Versions
+pub mod SameLists

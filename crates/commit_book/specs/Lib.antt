@@ -3,6 +3,7 @@ pub mod Books
 pub mod Commits
 pub mod Headline
 pub mod History
+pub mod Made
 pub mod Setting
 pub mod Snap
 pub mod inner

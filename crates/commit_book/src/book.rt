@@ -1,5 +1,5 @@
 //! The book: its history, the office after it, and the problems that commits may name.
-ghost use Rattle.std.specs.Prelude.{◌≡◌, [], IfErr, IfNone, IfOk, IfSome, IsSome, OnErr, OnOk, Some, false, is_some, length, option_map, slice_get, true};
+ghost use Rattle.std.specs.Prelude.{◌≡◌, [], IfErr, IfNone, IfOk, IfSome, IsSome, IsTrue, OnErr, OnOk, Some, false, is_some, length, option_map, slice_get, true};
 ghost use Rattle.line_network.specs.Networks.{network_at};
 ghost use Rattle.operating_db.specs.Problem.{problem_of};
 ghost use Rattle.operating_db.specs.RosterOffice.{first_office};
@@ -9,20 +9,23 @@ ghost use Rattle.commit_book.specs.Books.{IsNoEntry, IsSetting, answer_of, begun
 ghost use Rattle.commit_book.specs.inner.Entered.{IsEntered};
 ghost use Rattle.commit_book.specs.inner.CommitTests.{IsAccepted, IsRefused};
 ghost use Rattle.commit_book.specs.Headline.{IsProved};
-ghost use Rattle.commit_book.specs.History.{IsTableAt, Owes, replay};
+ghost use Rattle.commit_book.specs.History.{IsTableAt, Owes, problem_at, replay, version};
+ghost use Rattle.commit_book.specs.Made.{IsMadeAmong};
 ghost use Rattle.move_messages.specs.declared.event.Event.TheVariants as event;
-ghost use Rattle.commit_book.specs.inner.Kept.{IsInSpan, IsIndexOfKept, IsKeptAt, IsLasting, IsMade, IsChangeable, begun_at, which_of};
+ghost use Rattle.commit_book.specs.inner.Kept.{IsChangeable, IsIndexOfKept, IsKeptAt, IsLasting, IsNetworkOf, IsTabled, begun_at, which_of};
 ghost use Rattle.commit_book.specs.inner.Ledger.{IsMessageAt, IsNoMessage};
 ghost use Rattle.price_checker.specs.Snap.{IsVersionNumber};
 ghost use Rattle.commit_book.specs.Snap.{snap_of};
 ghost use Rattle.commit_book.specs.declared.answer.Answer.TheVariants.{Refused};
 ghost use Rattle.commit_book.specs.declared.call.Call.TheVariants as call;
 
+use crate::ascending_problem::AscendingProblem;
 use crate::commits::judge;
 use crate::entry::Entry;
-use crate::kept_problems::{KeptProblem, find_covering, find_kept, index_of_kept, keep};
+use crate::kept_problems::{KeptProblem, find_covering, index_of_kept, keep, last_made};
 use crate::ledger::{Ledger, MessageEntry};
 use crate::made_problem::MadeProblem;
+use crate::same_problem::is_same_problem;
 use crate::{Limits, Refusal, Reply, Snap};
 use cost_table::{Cells, Problem};
 use fleet_rows::Roster;
@@ -156,6 +159,24 @@ impl Book {
         }
     }
 
+    /// The same. With a commit may come what was made of a problem over one of the book's networks: where that is the problem
+    /// that the commit names, and the book has no table of it yet, it takes this one and makes none.
+    pub fn submit_with(
+        &mut self,
+        alloc: Global,
+        event: Event,
+        made: Option<Arc<MadeProblem>>,
+    ) -> Result<Reply, Refusal>
+        requires { IfSome made (λ made. IsMadeAmong self.old.setting.networks made.value) }
+        ensures call { IsCall self.old.setting self.old.state (call.Event event) (answer_of result) self.new.state }
+        ensures setting { self.new.setting ≡ self.old.setting }
+    {
+        if let Some(made) = made {
+            self.take(&event, made);
+        }
+        self.submit(alloc, event)
+    }
+
     /// Takes a movement message in. One that is an entry already is answered with `Repeated`. Refused, with nothing
     /// changed: `IdReused` (71), another message has its id; `BookFull` (72); `UnknownWagon` (73); as the status table
     /// says (31 to 33); `OutOfMemory` (1).
@@ -220,38 +241,56 @@ impl Book {
     }
 
     /// The problem of the present version at a moment, which is kept so that a commit may name it. It goes behind the
-    /// kept ones, unless it is among them; where there are as many as the limit says, the oldest is dropped. Where a kept
-    /// problem of this version has a table that is that of this moment too, the two share it, and none is made. `Err`
-    /// only when out of memory; nothing has changed then.
+    /// kept ones, unless it is among them; where there are as many as the limit says, the oldest is dropped. Its table is
+    /// made when it is asked for, or when a commit names it. `Err` only when out of memory; nothing has changed then.
     pub fn begin(&mut self, alloc: Global, at: Moment) -> Result<Snap, AllocError>
         ensures call { IsCall self.old.setting self.old.state (call.Begin at) (begun_of result) self.new.state }
         ensures snap { IfOk result (λ snap. snap ≡ snap_of self.old.setting self.old.state.history at) }
         ensures kept { OnOk result (is_kept self.new.state.kept (length self.old.state.history, at) ≡ true) }
         ensures setting { self.new.setting ≡ self.old.setting }
     {
-        let (snap, _index) = self.begin_indexed(alloc, at)?;
+        let snap = self.snap(alloc, at)?;
+        let _index = self.keep_present(snap.problem())?;
         Ok(snap)
     }
 
-    /// The same, with the index of the problem among the kept ones, at which `kept_table` has its table.
-    pub fn begin_indexed(&mut self, alloc: Global, at: Moment) -> Result<(Snap, usize), AllocError>
+    /// The same, with what has the problem's table over the network in force. Where a kept problem of this version has a
+    /// table that is that of this moment too, the two share it, and none is made.
+    pub fn begin_with_table(
+        &mut self,
+        alloc: Global,
+        at: Moment,
+    ) -> Result<(Snap, Arc<MadeProblem>), AllocError>
         ensures call { IsCall self.old.setting self.old.state (call.Begin at) (begun_with result) self.new.state }
         ensures snap { IfOk result (λ begun. begun.0 ≡ snap_of self.old.setting self.old.state.history at) }
-        ensures index { IfOk result (λ begun. slice_get self.new.state.kept begun.1 ≡ Some (length self.old.state.history, at)) }
+        ensures table { IfOk result (λ begun. IsTableAt self.old.setting self.old.state.history (length self.old.state.history) at begun.1.value.timed.cells) }
         ensures kept { OnOk result (is_kept self.new.state.kept (length self.old.state.history, at) ≡ true) }
         ensures setting { self.new.setting ≡ self.old.setting }
     {
         let snap = self.snap(alloc, at)?;
-        let index = self.keep_present(alloc, snap.problem())?;
-        Ok((snap, index))
+        let made = self.made_for(alloc, self.len(), self.state().network(), snap.problem())?;
+        let shared = Arc::try_clone(&made)?;
+        let index = self.keep_present(snap.problem())?;
+        self.put(index, shared);
+        Ok((snap, made))
     }
 
-    /// The table of the kept problem at an index, over the network in force in its version. Takes no memory.
-    pub fn kept_table(&self, index: usize) -> &Cells
-        requires { IsSome (slice_get self.now.state.kept index) }
-        ensures { IfSome (slice_get self.now.state.kept index) (λ which. IsTableAt self.now.setting self.now.state.history which.0 which.1 result.now) }
+    /// What has the table of the problem of a version at a moment, over the network in force in that version; none where that
+    /// problem isn't kept. `Err` only when out of memory. The book stays as it is.
+    pub fn kept_table(
+        &mut self,
+        alloc: Global,
+        version: u64,
+        at: Moment,
+    ) -> Result<Option<Arc<MadeProblem>>, AllocError>
+        ensures kept { IfOk result (λ made. is_some made ≡ is_kept self.old.state.kept (version, at)) }
+        ensures table { IfOk result (λ made. IfSome made (λ made. IsTableAt self.old.setting self.old.state.history version at made.value.timed.cells)) }
+        ensures book { self.new ≡ self.old }
     {
-        &self.kept[index].made.timed.cells
+        match self.index_of_kept(version, at) {
+            Some(index) => Ok(Some(self.table_at(alloc, index)?)),
+            None => Ok(None),
+        }
     }
 
     /// What the call for an event is answered where no memory is to be had, and no call is made: what needs none; else
@@ -305,31 +344,54 @@ impl Book {
         Refusal::from(self.ledger.refusal_without_memory(event))
     }
 
-    /// The table of the problem of a version at a moment, over the network in force in that version; none where that
-    /// problem isn't kept. Takes no memory.
-    pub fn kept_cells(&self, version: u64, at: Moment) -> Option<&Cells>
-        ensures kept { is_some result ≡ is_kept self.now.state.kept (version, at) }
-        ensures table { IfSome result (λ cells. IsTableAt self.now.setting self.now.state.history version at cells.now) }
+    /// The networks. Takes no memory.
+    pub fn networks(&self) -> &Arc<Networks>
+        ensures { result.now.value ≡ self.now.setting.networks }
     {
-        match find_kept(&self.kept, version, at) {
-            Some(kept) => Some(&kept.made.timed.cells),
-            None => None,
-        }
+        &self.networks
     }
 
-    /// Tests a commit.
-    fn judged(&self, alloc: Global, commit: &CommitText) -> Result<(), Refusal>
-        ensures accepted { OnOk result (IsAccepted self.now.setting self.now.state commit.now) }
-        ensures refused { IfErr result (λ refusal. IsRefused self.now.setting self.now.state commit.now refusal) }
+    /// Tests a commit, and makes the table of the problem that it names where there is none yet.
+    fn judged(&mut self, alloc: Global, commit: &CommitText) -> Result<(), Refusal>
+        ensures accepted { OnOk result (IsAccepted self.old.setting self.old.state commit.now) }
+        ensures refused { IfErr result (λ refusal. IsRefused self.old.setting self.old.state commit.now refusal) }
+        ensures book { self.new ≡ self.old }
     {
-        let kept = match find_kept(&self.kept, commit.version, commit.at) {
-            Some(kept) => kept,
+        let index = match self.index_of_kept(commit.version, commit.at) {
+            Some(index) => index,
             None => return Err(Refusal::NotKept),
         };
         if self.is_full() {
             return Err(Refusal::BookFull);
         }
-        judge(alloc, &kept.made, self.state(), commit)
+        let made = match self.table_at(alloc, index) {
+            Ok(made) => made,
+            Err(_) => return Err(Refusal::OutOfMemory),
+        };
+        self.judged_by(alloc, index, made.cells(), commit)
+    }
+
+    /// Tests a commit of the kept problem at an index by its table, where the book isn't full.
+    fn judged_by(
+        &self,
+        alloc: Global,
+        index: usize,
+        cells: &Cells,
+        commit: &CommitText,
+    ) -> Result<(), Refusal>
+        requires kept { IsIndexOfKept self.now.state.kept (commit.now.version, commit.now.at) index }
+        requires room { is_full self.now.setting self.now.state.history ≡ false }
+        requires table { IsTableAt self.now.setting self.now.state.history commit.now.version commit.now.at cells.now }
+        ensures accepted { OnOk result (IsAccepted self.now.setting self.now.state commit.now) }
+        ensures refused { IfErr result (λ refusal. IsRefused self.now.setting self.now.state commit.now refusal) }
+    {
+        judge(
+            alloc,
+            &self.kept[index].problem,
+            cells,
+            self.state(),
+            commit,
+        )
     }
 
     /// Whether there are as many entries as there may be.
@@ -414,19 +476,19 @@ impl Book {
         Ok(Snap::of(self.len(), self.state().network(), problem))
     }
 
-    /// The problem of the present version at a moment: a copy of what a kept one has, where its table is that of this
-    /// moment too, else as the office's rows say.
+    /// The problem of the present version at a moment: a copy of the one that is kept last, where that is of this version,
+    /// else as the office's rows say.
     fn present_problem(&self, alloc: Global, at: Moment) -> Result<Problem, AllocError>
         ensures { IfOk result (λ problem. problem ≡ problem_of (replay self.now.setting self.now.state.history) at) }
     {
-        match self.made_for(at) {
-            Some(made) => made.problem.copy_at(at),
-            None => self.state().problem(alloc, at),
+        match self.kept.last() {
+            Some(last) if last.version == self.len() => last.problem.copy_at(at),
+            _ => self.state().problem(alloc, at),
         }
     }
 
     /// Keeps the problem of the present version at a moment, unless that problem is kept: the index at which it is.
-    fn keep_present(&mut self, alloc: Global, problem: &Problem) -> Result<usize, AllocError>
+    fn keep_present(&mut self, problem: &Problem) -> Result<usize, AllocError>
         requires { problem.now ≡ problem_of (replay self.old.setting self.old.state.history) problem.now.at }
         ensures kept { OnOk result (self.new.state ≡ begun_at self.old.setting self.old.state problem.now.at) }
         ensures index { IfOk result (λ index. slice_get self.new.state.kept index ≡ Some (length self.old.state.history, problem.now.at)) }
@@ -436,7 +498,7 @@ impl Book {
         if let Some(index) = self.index_of_kept(self.len(), problem.at()) {
             return Ok(index);
         }
-        let one = self.kept_present(alloc, problem)?;
+        let one = self.kept_present(problem)?;
         let most = self.limits.kept() as usize;
         let index = keep(&mut self.kept, most, one)?;
         Ok(index)
@@ -454,80 +516,161 @@ impl Book {
     fn is_kept(&self, version: u64, at: Moment) -> bool
         ensures { result ≡ is_kept self.now.state.kept (version, at) }
     {
-        self.kept_cells(version, at).is_some()
+        self.index_of_kept(version, at).is_some()
     }
 
     /// The problem of the present version at a moment, to be kept.
-    fn kept_present(&self, alloc: Global, problem: &Problem) -> Result<KeptProblem, AllocError>
+    fn kept_present(&self, problem: &Problem) -> Result<KeptProblem, AllocError>
         requires { problem.now ≡ problem_of (replay self.now.setting self.now.state.history) problem.now.at }
         ensures kept { IfOk result (λ one. IsKeptAt self.now.setting self.now.state.history one) }
         ensures which { IfOk result (λ one. which_of one ≡ (length self.now.state.history, problem.now.at)) }
     {
-        let made = self.made(alloc, problem)?;
+        self.state().for_the_prover();
         Ok(KeptProblem {
             version: self.len(),
-            at: problem.at(),
-            made,
+            network: self.state().network(),
+            problem: AscendingProblem::of(problem.copy()?),
+            made: None,
         })
     }
 
-    /// What the problem of the present version at a moment is kept with: what a kept one has whose table is that of this
-    /// moment too, which is shared; else what is made of the problem.
-    fn made(&self, alloc: Global, problem: &Problem) -> Result<Arc<MadeProblem>, AllocError>
-        requires { problem.now ≡ problem_of (replay self.now.setting self.now.state.history) problem.now.at }
-        ensures made { IfOk result (λ made. IsMade self.now.setting self.now.state.history (length self.now.state.history) made.value) }
-        ensures span { IfOk result (λ made. IsInSpan made.value problem.now.at) }
+    /// What has the table of the kept problem at an index: it is made where there is none yet, and kept.
+    fn table_at(&mut self, alloc: Global, index: usize) -> Result<Arc<MadeProblem>, AllocError>
+        requires { IsSome (slice_get self.old.state.kept index) }
+        ensures table { IfOk result (λ made. IfSome (slice_get self.old.state.kept index) (λ which. IsTabled self.old.setting self.old.state.history which.0 which.1 made.value)) }
+        ensures book { self.new ≡ self.old }
     {
-        match self.made_for(problem.at()) {
-            Some(made) => Arc::try_clone(made),
-            None => self.with_table(alloc, problem),
+        if let Some(made) = self.made_at(index) {
+            return Arc::try_clone(made);
+        }
+        let made = self.made_of(alloc, index)?;
+        let shared = Arc::try_clone(&made)?;
+        self.put(index, shared);
+        Ok(made)
+    }
+
+    /// What has the table of the kept problem at an index, where it was made.
+    fn made_at(&self, index: usize) -> Option<&Arc<MadeProblem>>
+        requires { IsSome (slice_get self.now.state.kept index) }
+        ensures { IfSome result (λ made. IfSome (slice_get self.now.state.kept index) (λ which. IsTabled self.now.setting self.now.state.history which.0 which.1 made.now.value)) }
+    {
+        self.kept[index].made.as_ref()
+    }
+
+    /// What has the table of the kept problem at an index, to be kept there.
+    fn made_of(&self, alloc: Global, index: usize) -> Result<Arc<MadeProblem>, AllocError>
+        requires { IsSome (slice_get self.now.state.kept index) }
+        ensures { IfOk result (λ made. IfSome (slice_get self.now.state.kept index) (λ which. IsTabled self.now.setting self.now.state.history which.0 which.1 made.value)) }
+    {
+        let kept = &self.kept[index];
+        self.made_for(alloc, kept.version, kept.network, kept.problem.problem())
+    }
+
+    /// Keeps what has the table of the kept problem at an index.
+    fn put(&mut self, index: usize, made: Arc<MadeProblem>)
+        requires kept { IsSome (slice_get self.old.state.kept index) }
+        requires table { IfSome (slice_get self.old.state.kept index) (λ which. IsTabled self.old.setting self.old.state.history which.0 which.1 made.value) }
+        ensures { self.new ≡ self.old }
+    {
+        self.kept[index].made = Some(made);
+    }
+
+    /// Keeps what was made of a problem over one of the networks, where an event is a commit of that problem, and it is kept
+    /// without its table.
+    fn take(&mut self, event: &Event, made: Arc<MadeProblem>)
+        requires { IsMadeAmong self.old.setting.networks made.value }
+        ensures { self.new ≡ self.old }
+    {
+        let Event::Commit(commit) = event else {
+            return;
+        };
+        if let Some(index) = self.index_of_kept(commit.version, commit.at) {
+            if self.is_made_of(index, &made) {
+                self.put(index, made);
+            }
         }
     }
 
-    /// What a kept problem of the present version has whose table is that of this moment too, where there is one.
-    fn made_for(&self, at: Moment) -> Option<&Arc<MadeProblem>>
-        ensures made { IfSome result (λ made. IsMade self.now.setting self.now.state.history (length self.now.state.history) made.now.value) }
-        ensures span { IfSome result (λ made. IsInSpan made.now.value at) }
+    /// Whether the kept problem at an index is without its table, and this was made of it over the network of its version.
+    fn is_made_of(&self, index: usize, made: &MadeProblem) -> bool
+        requires kept { IsSome (slice_get self.now.state.kept index) }
+        requires made { IsMadeAmong self.now.setting.networks made.now }
+        ensures { IsTrue result → IfSome (slice_get self.now.state.kept index) (λ which. IsTabled self.now.setting self.now.state.history which.0 which.1 made.now) }
     {
-        match find_covering(&self.kept, self.len(), at) {
-            Some(kept) => Some(&kept.made),
+        let kept = &self.kept[index];
+        kept.made.is_none()
+            && kept.network == made.network
+            && is_same_problem(kept.problem.problem(), &made.problem)
+    }
+
+    /// What has the table of the problem of a version at a moment over the network in force in it: what a kept problem of
+    /// that version has, where its table is that of this moment too, which is shared; else what is made of the problem.
+    fn made_for(
+        &self,
+        alloc: Global,
+        version: u64,
+        network: u32,
+        problem: &Problem,
+    ) -> Result<Arc<MadeProblem>, AllocError>
+        requires is_problem { problem.now ≡ problem_at self.now.setting self.now.state.history version problem.now.at }
+        requires network { IsNetworkOf self.now.setting self.now.state.history version network }
+        ensures { IfOk result (λ made. IsTabled self.now.setting self.now.state.history version problem.now.at made.value) }
+    {
+        match self.covering(version, problem.at()) {
+            Some(made) => Arc::try_clone(made),
+            None => self.with_table(alloc, version, network, problem),
+        }
+    }
+
+    /// What a kept problem of a version has whose table is that of this moment too, where there is one.
+    fn covering(&self, version: u64, at: Moment) -> Option<&Arc<MadeProblem>>
+        ensures { IfSome result (λ made. IsTabled self.now.setting self.now.state.history version at made.now.value) }
+    {
+        match find_covering(&self.kept, version, at) {
+            Some(kept) => kept.made.as_ref(),
             None => None,
         }
     }
 
-    /// A copy of the problem of the present version at a moment, with its table over the network in force, to be shared.
-    fn with_table(&self, alloc: Global, problem: &Problem) -> Result<Arc<MadeProblem>, AllocError>
-        requires { problem.now ≡ problem_of (replay self.now.setting self.now.state.history) problem.now.at }
-        ensures made { IfOk result (λ made. IsMade self.now.setting self.now.state.history (length self.now.state.history) made.value) }
-        ensures span { IfOk result (λ made. IsInSpan made.value problem.now.at) }
+    /// A copy of the problem of a version at a moment, with its table over the network in force in it, to be shared. The
+    /// version is for the prover alone.
+    fn with_table(
+        &self,
+        alloc: Global,
+        _version: u64,
+        network: u32,
+        problem: &Problem,
+    ) -> Result<Arc<MadeProblem>, AllocError>
+        requires is_problem { problem.now ≡ problem_at self.now.setting self.now.state.history _version problem.now.at }
+        requires network { IsNetworkOf self.now.setting self.now.state.history _version network }
+        ensures { IfOk result (λ made. IsTabled self.now.setting self.now.state.history _version problem.now.at made.value) }
     {
-        self.state().for_the_prover();
-        let made = match self.changeable(problem) {
-            Some(earlier) => earlier.changed(alloc, problem, self.tables())?,
-            None => MadeProblem::of(alloc, problem, self.state().network(), self.tables())?,
+        let made = match self.changeable(network, problem) {
+            Some(earlier) => earlier.changed(alloc, problem, self.tables(network))?,
+            None => MadeProblem::of(alloc, problem, network, self.tables(network))?,
         };
         Ok(Arc::new(alloc, made)?)
     }
 
-    /// What was kept last, where its table can be changed to be that of a problem over the network in force.
-    fn changeable(&self, problem: &Problem) -> Option<&Arc<MadeProblem>>
-        ensures network { IfSome result (λ made. made.now.value.network ≡ (replay self.now.setting self.now.state.history).network) }
+    /// What was made last, where its table can be changed to be that of a problem over the network of this number.
+    fn changeable(&self, network: u32, problem: &Problem) -> Option<&Arc<MadeProblem>>
+        ensures network { IfSome result (λ made. made.now.value.network ≡ network) }
         ensures changeable { IfSome result (λ made. IsChangeable made.now.value problem.now) }
         ensures lasting { IfSome result (λ made. IsLasting self.now.setting made.now.value) }
     {
-        let last = self.kept.last()?;
-        if last.made.network == self.state().network() && last.made.is_changeable(problem) {
-            Some(&last.made)
+        let last = last_made(&self.kept)?;
+        if last.network == network && last.is_changeable(problem) {
+            Some(last)
         } else {
             None
         }
     }
 
-    /// The distances of the network in force.
-    fn tables(&self) -> &Tables
-        ensures { network_at self.now.setting.networks (replay self.now.setting self.now.state.history).network ≡ Some result.now }
+    /// The distances of the network of a number.
+    fn tables(&self, network: u32) -> &Tables
+        requires { IsSome (network_at self.now.setting.networks network) }
+        ensures { network_at self.now.setting.networks network ≡ Some result.now }
     {
-        let network = self.state().network();
         self.networks.get(network).unwrap()
     }
 }

@@ -2,7 +2,7 @@
 ghost use Rattle.std.specs.Prelude.{◌≡◌, ◌≢◌, [], IfErr, IfOk, None, OnOk, Some, length, nat_lt};
 ghost use Rattle.std.specs.Result.{result_err};
 ghost use Rattle.cost_table.specs.Table.{order_count, wagon_count};
-ghost use Rattle.commit_book.specs.inner.CommitTests.{refusal_over};
+ghost use Rattle.commit_book.specs.BookStep.{refusal_in};
 ghost use Rattle.commit_book.specs.Commits.{free_in, is_same_free, order_changed, wagon_changed, wagon_of as wagon_in_problem};
 ghost use Rattle.faults.specs.declared.faults.Refusal.TheVariants.{OutOfMemory};
 ghost use Rattle.operating_db.specs.Commits.{lack_in, times_of_order as times_in};
@@ -10,7 +10,7 @@ ghost use Rattle.fleet_rows.specs.Rows.{order_in};
 
 use crate::Refusal;
 use crate::ascending_problem::AscendingProblem;
-use crate::made_problem::MadeProblem;
+use cost_table::Cells;
 use move_messages::CommitText;
 use operating_db::{OfficeState, times_of_order};
 use price_checker::{Prices, check_named};
@@ -18,24 +18,25 @@ use rail_codes::{OrderId, WagonNumber};
 use std::alloc::{AllocError, Global};
 use wagons_and_orders::{FreeWagon, free};
 
-/// Tests a commit of a kept problem in the office as it is now, by what that problem may share with others; of its moment
-/// all depends on the table alone. Its pairs are of the problem (84); they and its prices are a certificate of the table
-/// (61 to 66); its wagons are free as they were (82); its orders lack as many wagons as they are given (83).
+/// Tests a commit of a kept problem, whose table is handed in, in the office as it is now. Its pairs are of the problem (84);
+/// they and its prices are a certificate of the table (61 to 66); its wagons are free as they were (82); its orders lack as
+/// many wagons as they are given (83).
 pub(crate) fn judge(
     alloc: Global,
-    made: &MadeProblem,
+    problem: &AscendingProblem,
+    cells: &Cells,
     now: &OfficeState,
     commit: &CommitText,
 ) -> Result<(), Refusal>
-    requires wagons { wagon_count made.now.timed.cells ≡ length made.now.problem.wagons }
-    requires orders { order_count made.now.timed.cells ≡ length made.now.problem.orders }
-    ensures accepted { OnOk result (refusal_over made.now now.now.office commit.now ≡ None) }
-    ensures refused { IfErr result (λ refusal. refusal ≢ OutOfMemory → refusal_over made.now now.now.office commit.now ≡ Some refusal) }
+    requires wagons { wagon_count cells.now ≡ length problem.now.wagons }
+    requires orders { order_count cells.now ≡ length problem.now.orders }
+    ensures accepted { OnOk result (refusal_in problem.now now.now.office commit.now cells.now ≡ None) }
+    ensures refused { IfErr result (λ refusal. refusal ≢ OutOfMemory → refusal_in problem.now now.now.office commit.now cells.now ≡ Some refusal) }
 {
     let pairs = commit.pairs.as_slice();
     let prices = prices_of(alloc, commit)?;
-    let _cost = check_named(alloc, &made.problem, &made.timed.cells, pairs, &prices)?;
-    wagons_unchanged(&made.problem, now, pairs)?;
+    let _cost = check_named(alloc, problem, cells, pairs, &prices)?;
+    wagons_unchanged(problem, now, pairs)?;
     orders_unchanged(now, pairs)
 }
 

@@ -1,20 +1,24 @@
 //! The problems that a book keeps.
-ghost use Rattle.std.specs.Prelude.{◌≡◌, ◌≤◌, IfOk, OnErr, OnOk, Some, length, option_map, position, slice_get};
+ghost use Rattle.std.specs.Prelude.{◌≡◌, ◌≤◌, IfOk, IfSome, OnErr, OnOk, Some, length, option_map, position, slice_get};
 ghost use Rattle.std.specs.List.{find};
 ghost use Rattle.commit_book.specs.BookStep.{is_this};
-ghost use Rattle.commit_book.specs.inner.Kept.{is_covering, which_of, with_kept};
+ghost use Rattle.commit_book.specs.inner.Kept.{IsMadeIn, is_covering, which_of, with_kept};
 
+use crate::ascending_problem::AscendingProblem;
 use crate::made_problem::MadeProblem;
 use rail_codes::Moment;
 use std::alloc::AllocError;
 use std::sync::Arc;
 
-/// A kept problem: that of a version at a moment, with its table.
+/// A kept problem: that of a version at its moment.
 #[derive(Drop)]
 pub(crate) struct KeptProblem {
     pub version: u64,
-    pub at: Moment,
-    pub made: Arc<MadeProblem>,
+    /// The network in force in the version, counted from 1.
+    pub network: u32,
+    pub problem: AscendingProblem,
+    /// What has its table, once that was made.
+    pub made: Option<Arc<MadeProblem>>,
 }
 
 impl KeptProblem {
@@ -22,22 +26,18 @@ impl KeptProblem {
     fn is_of(&self, version: u64, at: Moment) -> bool
         ensures { result ≡ is_this (version, at) (which_of self.now) }
     {
-        self.version == version && self.at == at
+        self.version == version && self.problem.at() == at
     }
 
-    /// Whether this is a problem of a version whose table is that of this moment too.
+    /// Whether this is a problem of a version whose table was made, and is that of this moment too.
     fn is_covering(&self, version: u64, at: Moment) -> bool
         ensures { result ≡ is_covering version at self.now }
     {
-        self.version == version && self.made.covers(at)
+        match &self.made {
+            Some(made) => self.version == version && made.covers(at),
+            None => false,
+        }
     }
-}
-
-/// The problem of a version at a moment, where it is kept.
-pub(crate) fn find_kept(kept: &[KeptProblem], version: u64, at: Moment) -> Option<&KeptProblem>
-    ensures { option_map (λ one. one.now) result ≡ find (λ one. is_this (version, at) (which_of one)) kept.now }
-{
-    kept.iter().find(|one| one.is_of(version, at))
 }
 
 /// The index of the problem of a version at a moment, where it is kept.
@@ -47,11 +47,23 @@ pub(crate) fn index_of_kept(kept: &[KeptProblem], version: u64, at: Moment) -> O
     kept.iter().position(|one| one.is_of(version, at))
 }
 
-/// A kept problem of a version whose table is that of this moment too, where there is one.
+/// A kept problem of a version whose table was made, and is that of this moment too, where there is one.
 pub(crate) fn find_covering(kept: &[KeptProblem], version: u64, at: Moment) -> Option<&KeptProblem>
     ensures { option_map (λ one. one.now) result ≡ find (is_covering version at) kept.now }
 {
     kept.iter().find(|one| one.is_covering(version, at))
+}
+
+/// What was made last of the kept problems.
+pub(crate) fn last_made(kept: &[KeptProblem]) -> Option<&Arc<MadeProblem>>
+    ensures { IfSome result (λ made. IsMadeIn kept.now made.now.value) }
+{
+    for behind in 0..kept.len() {
+        if let Some(made) = &kept[kept.len() - 1 - behind].made {
+            return Some(made);
+        }
+    }
+    None
 }
 
 /// Keeps one more problem, as the last one, and gives its index. Where there are as many as may be, the first makes room.

@@ -17,6 +17,7 @@ mod made_problem;
 mod message_ids;
 mod reply;
 mod rising_ids;
+mod same_problem;
 
 pub use answer::Answer;
 pub use book::Book;
@@ -24,5 +25,6 @@ pub use call::Call;
 pub use entry::Entry;
 pub use faults::Refusal;
 pub use laws::every_commit_is_proved_least;
+pub use made_problem::MadeProblem;
 pub use price_checker::{Limits, MAX_ENTRIES, MAX_KEPT_PROBLEMS, Snap};
 pub use reply::Reply;

@@ -50,8 +50,8 @@ fn last_plan(
     ensures refused { IfErr result (λ why. why ≡ OutOfMemory) }
 {
     let tables = tables_in(distances, book.state().network());
-    let (snap, index) = book.begin_indexed(alloc, at)?;
-    let cells = book.kept_table(index);
+    let (snap, made) = book.begin_with_table(alloc, at)?;
+    let cells = made.cells();
     let (plan, prices) = assignment::plan(alloc, cells)?;
     let planned = PlannedProblem {
         problem: snap.problem(),

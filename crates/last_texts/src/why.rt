@@ -30,8 +30,8 @@ pub fn last_reasons(
     ensures none { IfErr result (AreNoReasonsOfLast book.old.setting book.old.state.history options.now) }
 {
     let tables = tables_in(distances, book.state().network());
-    let (snap, index) = book.begin_indexed(alloc, options.problem.at)?;
-    let cells = book.kept_table(index);
+    let (snap, made) = book.begin_with_table(alloc, options.problem.at)?;
+    let cells = made.cells();
     let (plan, prices) = assignment::plan(alloc, cells)?;
     let planned = PlannedProblem {
         problem: snap.problem(),

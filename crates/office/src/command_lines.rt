@@ -1,5 +1,6 @@
 //! The run that brings command lines to a book.
-ghost use Rattle.std.specs.Prelude.{◌≡◌, ◌≢◌, ◌≤◌, ◌++◌, false, true, List, ℕ, IfOk, IsOk, OnErr, OnOk, length, Some, slice_get};
+ghost use Rattle.std.specs.Prelude.{◌≡◌, ◌≢◌, ◌≤◌, ◌++◌, false, true, List, ℕ, IfOk, IsOk, OnErr, OnOk, length};
+ghost use Rattle.commit_book.specs.History.{IsTableAt};
 ghost use Rattle.commit_book.specs.Books.{answer_of};
 ghost use Rattle.commit_book.specs.Headline.{IsProved};
 ghost use Rattle.commit_book.specs.declared.answer.Answer.TheVariants.{Refused};
@@ -77,8 +78,8 @@ fn answer_command(
             push_begun_reply(reply, &snap)?;
         }
         Command::Plan(at) => {
-            let (snap, index) = book.begin_indexed(alloc, at)?;
-            push_plan(alloc, reply, book, &snap, index)?;
+            let (snap, made) = book.begin_with_table(alloc, at)?;
+            push_plan(alloc, reply, book, &snap, made.cells())?;
         }
         Command::Sheet => reply.push_str(&sheet_text(alloc, book.len(), book.state())?)?,
     }
@@ -124,19 +125,19 @@ fn push_begun_reply(reply: &mut ReplyText, snap: &Snap) -> Result<(), AllocError
     )
 }
 
-/// Plans the problem just begun, which the book keeps at this index, and adds the plan and its certificate.
+/// Plans the problem just begun, whose table is handed in, and adds the plan and its certificate. The book is for the prover
+/// alone.
 fn push_plan(
     alloc: Global,
     reply: &mut ReplyText,
-    book: &Book,
+    _book: &Book,
     snap: &Snap,
-    index: usize,
+    cells: &Cells,
 ) -> Result<(), AllocError>
-    requires kept { slice_get book.now.state.kept index ≡ Some (snap.now.version, snap.now.problem.at) }
-    requires present { snap.now ≡ present book.now snap.now.problem.at }
-    ensures { OnOk result ((body : List ℕ) × (reply.new ≡ reply.old ++ body) × IsPlanOf book.now snap.now.problem.at body) }
+    requires present { snap.now ≡ present _book.now snap.now.problem.at }
+    requires table { IsTableAt _book.now.setting _book.now.state.history (length _book.now.state.history) snap.now.problem.at cells.now }
+    ensures { OnOk result ((body : List ℕ) × (reply.new ≡ reply.old ++ body) × IsPlanOf _book.now snap.now.problem.at body) }
 {
-    let cells = book.kept_table(index);
     let (plan, prices) = plan(alloc, cells)?;
     push_planned_reply(alloc, reply, snap, cells, &plan, &prices)
 }

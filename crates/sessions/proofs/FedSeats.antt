@@ -30,7 +30,8 @@ use Rattle.sessions.specs.inner.FeedLines.{Adds, AreEventsFed, IsFedBehind, IsLi
 use Rattle.sessions.specs.declared.feed_lines.Counted.{Counted}
 use Rattle.sessions.specs.declared.feed_lines.Counted.TheVariants.{Refused, Nowhere}
 use Rattle.sessions.specs.declared.feed_lines.FileLines.{FileLines}
-use Rattle.sessions.specs.declared.feed_lines.FileSeat.{FileSeat}
+use Rattle.sessions.specs.declared.file_seat.FileSeat.{FileSeat}
+use Rattle.sessions.specs.declared.book_ledger.BookLedger.{Ghosts}
 
 -- ---- receipts
 
@@ -120,24 +121,24 @@ at_most_one true old new adds = adds.little
 at_most_one false old new same = omega arith
 
 -- What a run over lines leads to, where 64 bits hold the counts.
-record AreFedLines {L : Type 0} (networks : List NetworkValue) (old : FileSeat L) (lines : List (List ℕ)) (new : FileSeat L) : Type 0 where
+record AreFedLines {L : Type 0} {g : Ghosts L} (networks : List NetworkValue) (old : FileSeat L g) (lines : List (List ℕ)) (new : FileSeat L g) : Type 0 where
   counts : List Counted
   taken : AreTaken networks old.seat new.seat lines counts
   accepted : count_of new.seat ≡ count_of old.seat + count_by is_accepted counts
   repeated : old.repeated + length lines < 2 ^ 64 → new.repeated ≡ old.repeated + count_by is_repeated counts
   refused : old.refused + length lines < 2 ^ 64 → new.refused ≡ old.refused + count_by is_refused counts
 
-module _ {L : Type 0} (networks : List NetworkValue) where
-  nothing_fed : (old new : FileSeat L) → new ≡ old → AreFedLines networks old [] new
+module _ {L : Type 0} {g : Ghosts L} (networks : List NetworkValue) where
+  nothing_fed : (old new : FileSeat L g) → new ≡ old → AreFedLines networks old [] new
   nothing_fed old new same = record {
     counts = [];
-    taken = subst (λ (file : FileSeat L). AreTaken networks old.seat file.seat [] []) (sym same) no_line;
-    accepted = omega (arith, ap (λ (file : FileSeat L). count_of file.seat) same);
-    repeated = λ room. omega (arith, ap (λ (file : FileSeat L). file.repeated) same);
-    refused = λ room. omega (arith, ap (λ (file : FileSeat L). file.refused) same);
+    taken = subst (λ (file : FileSeat L g). AreTaken networks old.seat file.seat [] []) (sym same) no_line;
+    accepted = omega (arith, ap (λ (file : FileSeat L g). count_of file.seat) same);
+    repeated = λ room. omega (arith, ap (λ (file : FileSeat L g). file.repeated) same);
+    refused = λ room. omega (arith, ap (λ (file : FileSeat L g). file.refused) same);
   }
 
-  blank_fed : (old new : FileSeat L) (line : List ℕ) (lines : List (List ℕ)) → is_blank line ≡ true → AreFedLines networks old lines new → AreFedLines networks old (line ∷ lines) new
+  blank_fed : (old new : FileSeat L g) (line : List ℕ) (lines : List (List ℕ)) → is_blank line ≡ true → AreFedLines networks old lines new → AreFedLines networks old (line ∷ lines) new
   blank_fed old new line lines blank rest = record {
     counts = rest.counts;
     taken = blank_line blank rest.taken;
@@ -146,7 +147,7 @@ module _ {L : Type 0} (networks : List NetworkValue) where
     refused = λ room. rest.refused (omega (arith, room));
   }
 
-  line_fed : (old mid new : FileSeat L) (line : List ℕ) (lines : List (List ℕ)) → old.networks.now ≡ networks → is_blank line ≡ false → IsReadFed old (command_of line) mid → AreFedLines networks mid lines new
+  line_fed : (old mid new : FileSeat L g) (line : List ℕ) (lines : List (List ℕ)) → old.networks.now ≡ networks → is_blank line ≡ false → IsReadFed old (command_of line) mid → AreFedLines networks mid lines new
       → AreFedLines networks old (line ∷ lines) new
   line_fed old mid new line lines over filled fed rest =
       let counted = fed.counted in
@@ -188,48 +189,48 @@ event_held_last line event filled read none_held = event_held filled read none_h
 event_held_last line event filled read (blank_held first held) = blank_held first (event_held_last line event filled read held)
 event_held_last line event filled read (event_held first its held) = event_held first its (event_held_last line event filled read held)
 
-module _ {L : Type 0} where
-  abbrev pub Answers : Answering (FileLines L)
+module _ {L : Type 0} {g : Ghosts L} where
+  abbrev pub Answers : Answering (FileLines L g)
   Answers old line body refused new = IsLineBrought old line new
 
-  abbrev pub NeverOut : RunningOut (FileLines L)
+  abbrev pub NeverOut : RunningOut (FileLines L g)
   NeverOut old line new = ⊥
 
-  brought_response : (old new : FileLines L) (line body : List ℕ) (refused : Bool) → Responds Answers NeverOut old line body refused new → IsLineBrought old line new
+  brought_response : (old new : FileLines L g) (line body : List ℕ) (refused : Bool) → Responds Answers NeverOut old line body refused new → IsLineBrought old line new
   brought_response old new line body refused (inl brought) = brought
   brought_response old new line body refused (inr out) = absurd out.0
 
   -- events that are submitted leave the networks
-  same_networks : (events : List Event) (old new : FileSeat L) → AreEventsFed events old new → new.networks.now ≡ old.networks.now
-  same_networks [] old new same = ap (λ (file : FileSeat L). file.networks.now) same
+  same_networks : (events : List Event) (old new : FileSeat L g) → AreEventsFed events old new → new.networks.now ≡ old.networks.now
+  same_networks [] old new same = ap (λ (file : FileSeat L g). file.networks.now) same
   same_networks (event ∷ events) old new fed = same_networks events fed.0 new fed.2 ∙ fed.1.networks
 
   -- lines whose events waited and were submitted, and the lines behind them
-  held_fed : (networks : List NetworkValue) {held : List (List ℕ)} {events : List Event} (lines : List (List ℕ)) (old mid new : FileSeat L) → old.networks.now ≡ networks → AreHeld held events → AreEventsFed events old mid
+  held_fed : (networks : List NetworkValue) {held : List (List ℕ)} {events : List Event} (lines : List (List ℕ)) (old mid new : FileSeat L g) → old.networks.now ≡ networks → AreHeld held events → AreEventsFed events old mid
       → AreFedLines networks mid lines new → AreFedLines networks old (held ++ lines) new
-  held_fed networks lines old mid new over none_held fed rest = subst (λ (file : FileSeat L). AreFedLines networks file lines new) fed rest
+  held_fed networks lines old mid new over none_held fed rest = subst (λ (file : FileSeat L g). AreFedLines networks file lines new) fed rest
   held_fed networks lines old mid new over (blank_held {line = line} {lines = held} blank others) fed rest =
       blank_fed networks old new line (held ++ lines) blank (held_fed networks lines old mid new over others fed rest)
   held_fed networks lines old mid new over (event_held {line = line} {lines = held} filled read others) fed rest =
       line_fed networks old fed.0 new line (held ++ lines) over filled (rw read fed.1) (held_fed networks lines fed.0 mid new (fed.1.networks ∙ over) others fed.2 rest)
 
   -- all lines of a run, where what waited at its end was submitted: they are done from the file before the lines that wait
-  abbrev AreAllFed : (networks : List NetworkValue) → (old : FileLines L) → (lines : List (List ℕ)) → (end : FileSeat L) → Type 0
+  abbrev AreAllFed : (networks : List NetworkValue) → (old : FileLines L g) → (lines : List (List ℕ)) → (end : FileSeat L g) → Type 0
   AreAllFed networks old lines end = (held : List (List ℕ)) → AreHeld held old.pending.items → AreFedLines networks old.file (held ++ lines) end
 
-  blank_brought : (networks : List NetworkValue) (old : FileLines L) (line : List ℕ) (lines : List (List ℕ)) (end : FileSeat L) → is_blank line ≡ true → AreAllFed networks old lines end → AreAllFed networks old (line ∷ lines) end
+  blank_brought : (networks : List NetworkValue) (old : FileLines L g) (line : List ℕ) (lines : List (List ℕ)) (end : FileSeat L g) → is_blank line ≡ true → AreAllFed networks old lines end → AreAllFed networks old (line ∷ lines) end
   blank_brought networks old line lines end blank rest held are =
       subst (λ (all : List (List ℕ)). AreFedLines networks old.file all end) (append_assoc held (line ∷ []) lines) (rest (held ++ line ∷ []) (blank_held_last line blank are))
 
-  line_waits : (networks : List NetworkValue) (old mid : FileLines L) (line : List ℕ) (lines : List (List ℕ)) (end : FileSeat L) → is_blank line ≡ false → Waits old (command_of line) mid → AreAllFed networks mid lines end
+  line_waits : (networks : List NetworkValue) (old mid : FileLines L g) (line : List ℕ) (lines : List (List ℕ)) (end : FileSeat L g) → is_blank line ≡ false → Waits old (command_of line) mid → AreAllFed networks mid lines end
       → AreAllFed networks old (line ∷ lines) end
   line_waits networks old mid line lines end filled waits rest held are =
       let behind : AreHeld (held ++ line ∷ []) mid.pending.items = subst (AreHeld (held ++ line ∷ [])) (sym waits.pending) (event_held_last line waits.event filled waits.is_event are) in
       let fed : AreFedLines networks mid.file ((held ++ line ∷ []) ++ lines) end = rest (held ++ line ∷ []) behind in
       subst (λ (all : List (List ℕ)). AreFedLines networks old.file all end) (append_assoc held (line ∷ []) lines)
-      (subst (λ (file : FileSeat L). AreFedLines networks file ((held ++ line ∷ []) ++ lines) end) waits.file fed)
+      (subst (λ (file : FileSeat L g). AreFedLines networks file ((held ++ line ∷ []) ++ lines) end) waits.file fed)
 
-  line_behind : (networks : List NetworkValue) (old mid : FileLines L) (line : List ℕ) (lines : List (List ℕ)) (end : FileSeat L) → old.file.networks.now ≡ networks → is_blank line ≡ false → (fed : IsFedBehind old (command_of line) mid)
+  line_behind : (networks : List NetworkValue) (old mid : FileLines L g) (line : List ℕ) (lines : List (List ℕ)) (end : FileSeat L g) → old.file.networks.now ≡ networks → is_blank line ≡ false → (fed : IsFedBehind old (command_of line) mid)
       → AreAllFed networks mid lines end → AreAllFed networks old (line ∷ lines) end
   line_behind networks old mid line lines end over filled fed rest held are =
       let others : AreFedLines networks mid.file lines end = rest [] (subst (AreHeld []) (sym fed.pending) none_held) in
@@ -237,37 +238,37 @@ module _ {L : Type 0} where
       (line_fed networks fed.mid mid.file end line lines (same_networks old.pending.items old.file fed.mid fed.before ∙ over) filled fed.fed others)
 
   -- a line leaves the networks
-  brought_networks : (old new : FileLines L) (line : List ℕ) → IsLineBrought old line new → new.file.networks.now ≡ old.file.networks.now
-  brought_networks old new line (inl waits) = ap (λ (file : FileSeat L). file.networks.now) waits.file
+  brought_networks : (old new : FileLines L g) (line : List ℕ) → IsLineBrought old line new → new.file.networks.now ≡ old.file.networks.now
+  brought_networks old new line (inl waits) = ap (λ (file : FileSeat L g). file.networks.now) waits.file
   brought_networks old new line (inr fed) = fed.fed.networks ∙ same_networks old.pending.items old.file fed.mid fed.before
 
-  one_brought : (networks : List NetworkValue) (old mid : FileLines L) (line : List ℕ) (lines : List (List ℕ)) (end : FileSeat L) → old.file.networks.now ≡ networks → is_blank line ≡ false → IsLineBrought old line mid
+  one_brought : (networks : List NetworkValue) (old mid : FileLines L g) (line : List ℕ) (lines : List (List ℕ)) (end : FileSeat L g) → old.file.networks.now ≡ networks → is_blank line ≡ false → IsLineBrought old line mid
       → AreAllFed networks mid lines end → AreAllFed networks old (line ∷ lines) end
   one_brought networks old mid line lines end over filled (inl waits) rest = line_waits networks old mid line lines end filled waits rest
   one_brought networks old mid line lines end over filled (inr fed) rest = line_behind networks old mid line lines end over filled fed rest
 
-  one_fed : (networks : List NetworkValue) (n : ℕ) (old mid : FileLines L) (line text : List ℕ) (refused : Bool) (lines : List (List ℕ)) (end : FileSeat L) (blank : Bool) → is_blank line ≡ blank → old.file.networks.now ≡ networks
+  one_fed : (networks : List NetworkValue) (n : ℕ) (old mid : FileLines L g) (line text : List ℕ) (refused : Bool) (lines : List (List ℕ)) (end : FileSeat L g) (blank : Bool) → is_blank line ≡ blank → old.file.networks.now ≡ networks
       → AnswersLine Answers NeverOut n old line text refused mid → (mid.file.networks.now ≡ networks → AreAllFed networks mid lines end) → AreAllFed networks old (line ∷ lines) end
   one_fed networks n old mid line text refused lines end true is over answers rest =
       let same : mid ≡ old = (rw is at answers).2 in
-      let others : AreAllFed networks mid lines end = rest (ap (λ (state : FileLines L). state.file.networks.now) same ∙ over) in
-      blank_brought networks old line lines end is (subst (λ (state : FileLines L). AreAllFed networks state lines end) same others)
+      let others : AreAllFed networks mid lines end = rest (ap (λ (state : FileLines L g). state.file.networks.now) same ∙ over) in
+      blank_brought networks old line lines end is (subst (λ (state : FileLines L g). AreAllFed networks state lines end) same others)
   one_fed networks n old mid line text refused lines end false is over answers rest =
       let says = rw is at answers in
       let brought = brought_response old mid line says.0 refused says.2 in
       one_brought networks old mid line lines end over is brought (rest (brought_networks old mid line brought ∙ over))
 
-  lines_brought : (networks : List NetworkValue) (n : ℕ) (old new : FileLines L) (lines : List (List ℕ)) (output : List ℕ) (refusals : ℕ) (end : FileSeat L) → old.file.networks.now ≡ networks
+  lines_brought : (networks : List NetworkValue) (n : ℕ) (old new : FileLines L g) (lines : List (List ℕ)) (output : List ℕ) (refusals : ℕ) (end : FileSeat L g) → old.file.networks.now ≡ networks
       → Replies Answers NeverOut n old lines output refusals new → AreEventsFed new.pending.items new.file end → AreAllFed networks old lines end
   lines_brought networks n old new [] output refusals end over replies fed = λ held are.
-      let last : AreEventsFed old.pending.items old.file end = subst (λ (state : FileLines L). AreEventsFed state.pending.items state.file end) replies.2 fed in
+      let last : AreEventsFed old.pending.items old.file end = subst (λ (state : FileLines L g). AreEventsFed state.pending.items state.file end) replies.2 fed in
       held_fed networks [] old.file end end over are last (nothing_fed networks end end refl)
   lines_brought networks n old new (line ∷ lines) output refusals end over replies fed =
       one_fed networks n old replies.4 line replies.0 replies.2 lines end (is_blank line) refl over replies.5
       (λ still. lines_brought networks (n + 1) replies.4 new lines replies.1 replies.3 end still replies.6 fed)
 
   -- the same from a file none of whose lines waits
-  lines_fed : (networks : List NetworkValue) (n : ℕ) (old new : FileLines L) (lines : List (List ℕ)) (output : List ℕ) (refusals : ℕ) (end : FileSeat L) → old.file.networks.now ≡ networks → old.pending.items ≡ []
+  lines_fed : (networks : List NetworkValue) (n : ℕ) (old new : FileLines L g) (lines : List (List ℕ)) (output : List ℕ) (refusals : ℕ) (end : FileSeat L g) → old.file.networks.now ≡ networks → old.pending.items ≡ []
       → Replies Answers NeverOut n old lines output refusals new → AreEventsFed new.pending.items new.file end → AreFedLines networks old.file lines end
   lines_fed networks n old new lines output refusals end over none replies fed =
       lines_brought networks n old new lines output refusals end over replies fed [] (subst (AreHeld []) (sym none) none_held)
@@ -288,7 +289,7 @@ consumes_none None to keeps = tt
 consumes_none (Some xs) None keeps = absurd keeps
 consumes_none (Some xs) (Some ys) keeps = sym keeps
 
-module _ {L : Type 0} (networks : List NetworkValue) (run : Run (FileLines L)) (failed : Failures) (end : FileSeat L) (over : run.old.file.networks.now ≡ networks) (new : count_of run.old.file.seat ≡ 0) (no_repeated : run.old.file.repeated ≡ 0)
+module _ {L : Type 0} {g : Ghosts L} (networks : List NetworkValue) (run : Run (FileLines L g)) (failed : Failures) (end : FileSeat L g) (over : run.old.file.networks.now ≡ networks) (new : count_of run.old.file.seat ≡ 0) (no_repeated : run.old.file.repeated ≡ 0)
     (no_refused : run.old.file.refused ≡ 0) (none_waits : run.old.pending.items ≡ []) (standard : run.most ≡ max_line_bytes) (last : AreEventsFed run.new.pending.items run.new.file end) where
   abbrev Fed : Option ℕ → Type 0
   Fed stop = IsSeatFed networks run.from run.to stop end.seat end.repeated end.refused

@@ -7,6 +7,8 @@ use Rattle.line_network.specs.contracts.networks.Networks as Networks
 use Rattle.operating_db.specs.contracts.office_state.OfficeState as OfficeState
 use Rattle.commit_book.specs.contracts.entry.Entry as Entry
 use Rattle.commit_book.specs.contracts.made_problem.MadeProblem as MadeProblem
+use Rattle.commit_book.specs.contracts.ascending_problem.AscendingProblem as AscendingProblem
+use Rattle.commit_book.specs.contracts.kept_problems.KeptProblem as KeptProblem
 use Rattle.sessions.specs.contracts.receipt.Receipt as Receipt
 
 networks_sync : IsSync Networks.the_row
@@ -27,8 +29,14 @@ made_sync = search (maps.crosses, crosses, sendable) depth 60 fits 20000
 made_send : IsSend MadeProblem.the_row
 made_send = search (maps.crosses, crosses, sendable) depth 60 fits 20000
 
+ascending_sync : IsSync AscendingProblem.the_row
+ascending_sync = search (maps.crosses, crosses, sendable) depth 60 fits 20000
+
+kept_sync : IsSync KeptProblem.the_row
+kept_sync = search (made_sync, made_send, ascending_sync, maps.crosses, crosses, sendable) depth 100 fits 50000
+
 pub book_sync : IsSync Book.the_row
-book_sync = search (made_sync, made_send, networks_sync, networks_send, office_sync, entry_sync, maps.crosses, crosses, sendable) depth 300 fits 100000
+book_sync = search (kept_sync, networks_sync, networks_send, office_sync, entry_sync, maps.crosses, crosses, sendable) depth 300 fits 100000
 
 pub receipt_sync : IsSync Receipt.the_row
 receipt_sync = search (maps.crosses, crosses, sendable) depth 60 fits 20000

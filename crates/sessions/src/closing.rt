@@ -7,10 +7,10 @@ ghost use Rattle.sessions.specs.Seat.{count_of};
 ghost use Rattle.sessions.specs.inner.Others.{IsOther, IsTooFew};
 
 use crate::counted_book::CountedBook;
-use crate::{CloseFault, Receipt, Seat, SharedBook};
+use crate::{BookLedger, CloseFault, Receipt, Seat, SharedBook};
 use commit_book::Book;
 use std::sync::ledger;
-use std::sync::ledger::{Ledger, Share};
+use std::sync::ledger::Share;
 use std::thread;
 use std::thread::Threads;
 
@@ -20,7 +20,10 @@ use std::thread::Threads;
 /// The first of these is answered: `SeatsMissing` (95), exactly where fewer seats come than the shared book was opened with;
 /// shared book and seats are handed back. `ReceiptLost` (96), only where the entry of a receipt is not its event; the book,
 /// with as many entries as all seats have receipts, and the seats are handed back. Takes no memory, and waits for nobody.
-pub fn close<L: Ledger>(shared: SharedBook<L>, seats: Vec<Seat<L>>) -> Result<Book, CloseFault<L>>
+pub fn close<L: BookLedger>(
+    shared: SharedBook<L>,
+    seats: Vec<Seat<L>>,
+) -> Result<Book, CloseFault<L>>
     requires { shared.seats ≡ L.parts }
     ensures counts { IfOk result (λ book. length book.state.history ≡ sum_by count_of seats.items) }
     ensures receipts { IfOk result (λ book. All (HasEntries book.state.history) seats.items) }
@@ -36,7 +39,7 @@ pub fn close<L: Ledger>(shared: SharedBook<L>, seats: Vec<Seat<L>>) -> Result<Bo
 
 /// The same, where the receipts of the seats are looked at side by side, by a thread for each seat. May wait for these
 /// threads.
-pub(crate) fn close_by_threads<L: Ledger, T: Threads>(
+pub(crate) fn close_by_threads<L: BookLedger, T: Threads>(
     rt: &T,
     shared: SharedBook<L>,
     seats: Vec<Seat<L>>,
@@ -56,7 +59,7 @@ pub(crate) fn close_by_threads<L: Ledger, T: Threads>(
 
 /// The book behind the lock, once no seat is missing, and the seats as they came: the book has as many entries as they
 /// have receipts.
-fn audited<L: Ledger>(
+fn audited<L: BookLedger>(
     shared: SharedBook<L>,
     seats: Vec<Seat<L>>,
 ) -> Result<(Book, Vec<Seat<L>>), CloseFault<L>>
@@ -87,7 +90,7 @@ fn audited<L: Ledger>(
 /// The first receipt whose event is not the entry of its number, as `first_lost` finds it, where the receipts of each seat are
 /// looked at by a thread of their own. Only receipts are lent to it, since a seat's share can't be lent to threads.
 #[cycle(seats)]
-fn first_lost_by_threads<L: Ledger, T: Threads>(
+fn first_lost_by_threads<L: BookLedger, T: Threads>(
     rt: &T,
     book: &Book,
     seats: &[Seat<L>],
@@ -117,7 +120,7 @@ fn first_lost_by_threads<L: Ledger, T: Threads>(
 }
 
 /// The first receipt whose event is not the entry of its number: its seat's number, and the entry's.
-fn first_lost<L: Ledger>(book: &Book, seats: &[Seat<L>]) -> Option<(u32, u64)>
+fn first_lost<L: BookLedger>(book: &Book, seats: &[Seat<L>]) -> Option<(u32, u64)>
     ensures none { IfNone result (All (HasEntries book.now.state.history) seats.now) }
     ensures some { IfSome result (λ lost. IsLost book.now.state.history seats.now lost.0 lost.1) }
 {
@@ -154,7 +157,7 @@ fn has_entry(book: &Book, receipt: &Receipt) -> bool
 
 /// Holds the shares of all seats together against the total, which changes nothing: the seats' counts add up to it. Each
 /// seat lends its share to the sum while the seats behind it are looked at, so it has it back at the end.
-fn audit_all<L: Ledger>(total: &mut ledger::Book<L>, sum: &mut Share<L>, seats: &mut [Seat<L>])
+fn audit_all<L: BookLedger>(total: &mut ledger::Book<L>, sum: &mut Share<L>, seats: &mut [Seat<L>])
     requires all { L.parts ≤ sum.old.parts + length seats.old }
     requires few { sum.old.parts ≤ L.parts }
     ensures total { total.old.total ≡ sum.old.amount + sum_by count_of seats.old }

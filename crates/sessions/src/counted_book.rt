@@ -1,42 +1,48 @@
 //! The book behind the lock.
-ghost use Rattle.std.specs.Prelude.{◌≡◌, ◌≤◌, ◌<◌, ◌+◌, IfOk, length};
+ghost use Rattle.std.specs.Prelude.{◌≡◌, ◌≤◌, ◌<◌, ◌+◌, IfOk, IfSome, length};
 ghost use Rattle.commit_book.specs.BookStep.{IsCall};
 ghost use Rattle.commit_book.specs.Books.{IsNoEntry, answer_of, begun_of, IsSetting};
 ghost use Rattle.commit_book.specs.Headline.{IsProved};
+ghost use Rattle.commit_book.specs.Made.{IsMadeAmong};
 ghost use Rattle.commit_book.specs.Snap.{snap_of};
 ghost use Rattle.commit_book.specs.declared.call.Call.TheVariants as call;
 ghost use Rattle.move_messages.specs.declared.event.Event.TheVariants as event;
 ghost use Rattle.sessions.specs.AnyBook.{IsBooksAnswer};
 ghost use Rattle.sessions.specs.inner.Counted.{IsEnteredBy, accepted_in};
 
-use commit_book::{Book, Refusal, Reply, Snap};
+use crate::BookLedger;
+use commit_book::{Book, MadeProblem, Refusal, Reply, Snap};
 use move_messages::{Event, Message};
 use rail_codes::Moment;
 use std::alloc::{AllocError, Global};
-use std::sync::ledger;
 use std::sync::ledger::{Ledger, Share};
+use std::sync::{Arc, ledger};
 
 /// What stands behind the lock: a book, and the total of the ledger whose shares the seats have. The total is the number of
 /// the book's entries, so the counts of all seats add up to it whenever the lock is taken.
 #[derive(Drop)]
-pub(crate) struct CountedBook<L: Ledger> {
+pub(crate) struct CountedBook<L: BookLedger> {
     pub(crate) book: Book,
     pub(crate) total: ledger::Book<L>,
     /// A share that has no part, into which those of the seats are merged when the shared book closes.
     pub(crate) rest: Share<L>,
     ghost counted: { length book.state.history ≡ total.total },
+    ghost over: { book.setting.networks ≡ L.networks },
     ghost no_part: { rest.parts ≡ 0 },
 }
 
-impl<L: Ledger> CountedBook<L> {
-    /// Lets an event of a seat be taken in by the book, and counts it on the seat's share if it was accepted.
+impl<L: BookLedger> CountedBook<L> {
+    /// Lets an event of a seat be taken in by the book, and counts it on the seat's share if it was accepted. With a commit
+    /// may come what was made of a problem over the book's networks.
     pub(crate) fn enter(
         &mut self,
         alloc: Global,
         share: &mut Share<L>,
         event: Event,
+        made: Option<Arc<MadeProblem>>,
     ) -> Result<Reply, Refusal>
-        requires { 0 < share.old.parts }
+        requires parts { 0 < share.old.parts }
+        requires made { IfSome made (λ made. IsMadeAmong L.networks made.value) }
         ensures entered { IsEnteredBy self.old.book self.new.book share.old.amount share.new.amount event result }
         ensures parts { share.new.parts ≡ share.old.parts }
     {
@@ -46,7 +52,7 @@ impl<L: Ledger> CountedBook<L> {
             total,
             rest: _,
         } = self;
-        let answer = book.submit(alloc, event);
+        let answer = book.submit_with(alloc, event, made);
         book.for_the_prover();
         let reply = match answer {
             Ok(reply) => reply,

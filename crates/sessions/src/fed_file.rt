@@ -3,20 +3,20 @@ ghost use Rattle.std.specs.Prelude.{◌≡◌, false};
 ghost use Rattle.sessions.specs.Seat.{count_of};
 ghost use Rattle.sessions.specs.inner.Fed.{IsFedFile, stop_number};
 
-use crate::feed_lines::{FeedLines, FileLines, FileSeat};
-use crate::{Seat, SharedBook};
+use crate::feed_lines::{FeedLines, FileLines};
+use crate::file_seat::FileSeat;
+use crate::{BookLedger, Seat, SharedBook};
 use line_engine::{LineLimit, NoReplies, RunCount, RunFault, Source, run_lines};
 use line_network::Networks;
 use std::alloc::Global;
 use std::collections::VecDeque;
 use std::snapshot::Snapshot;
 use std::sync::Wait;
-use std::sync::ledger::Ledger;
 use std::thread::Promise;
 
 /// A file whose lines were brought to its seat.
 #[derive(Drop)]
-pub(crate) struct FedFile<L: Ledger, R> {
+pub(crate) struct FedFile<L: BookLedger, R> {
     pub(crate) seat: Seat<L>,
     pub(crate) repeated: u64,
     pub(crate) refused: u64,
@@ -31,7 +31,7 @@ pub(crate) struct FileOf<R> {
     pub(crate) reader: Snapshot<R>,
 }
 
-impl<L: Ledger, R: Source> Promise<FedFile<L, R>> for FileOf<R> {
+impl<L: BookLedger, R: Source> Promise<FedFile<L, R>> for FileOf<R> {
     ghost use Rattle.sessions.specs.inner.Fed.{IsFedFile};
 
     ghost kept_by = { λ before file. IsFedFile before.networks.value R.remaining R.has_failed before.reader.value file };
@@ -48,16 +48,17 @@ fn stop_of(run: Result<RunCount, RunFault>) -> Option<u32>
 }
 
 /// Brings the lines of a reader to a new seat, up to the reader's end or to what stops it.
-pub(crate) fn fed_file<W: Wait, L: Ledger, R: Source>(
-    rt: &W,
+pub(crate) fn fed_file<'a, W: Wait, L: BookLedger, R: Source>(
+    rt: &'a W,
     alloc: Global,
-    shared: &SharedBook<L>,
-    networks: &Networks,
+    shared: &'a SharedBook<L>,
+    networks: &'a Networks,
     seat: Seat<L>,
     reader: R,
 ) -> FedFile<L, R>
     requires fresh { R.has_failed reader ≡ false }
     requires new { count_of seat ≡ 0 }
+    requires over { networks.now ≡ L.networks }
     ensures { IsFedFile networks.now R.remaining R.has_failed reader result }
 {
     let mut reader = reader;

@@ -1,12 +1,17 @@
 //! What a file's lines do at the file's seat.
-ghost use Rattle.std.specs.Prelude.{◌≡◌, [], IfSome, Ok};
+ghost use Rattle.std.specs.Prelude.{◌≡◌, [], All, IfSome, Ok};
+ghost use Rattle.commit_book.specs.Made.{IsMadeAmong};
+ghost use Rattle.price_checker.specs.Snap.{IsInRange};
 ghost use Rattle.line_fields.specs.declared.command.Command.TheVariants as command;
 ghost use Rattle.move_messages.specs.declared.event.Event.TheVariants as event;
 ghost use Rattle.sessions.specs.FedLines.{IsPlannedIn, IsPlansCommit, IsSubmitted, IsTakenIn, counted_by, is_refused, is_repeated};
+ghost use Rattle.sessions.specs.PlannersCommit.{IsCommitOf};
 ghost use Rattle.sessions.specs.inner.FeedLines.{Adds, AreEventsFed, IsEventFed, IsFedBehind, IsLineBrought, IsReadBrought, IsReadFed};
 
-use crate::{Seat, SharedBook, work};
-use commit_book::{Refusal, Reply, Snap};
+use crate::file_seat::FileSeat;
+use crate::planning::{Worked, work_with_table};
+use crate::{BookLedger, Seat, SharedBook};
+use commit_book::{MadeProblem, Refusal, Reply, Snap};
 use line_engine::{Handler, Outcome, ReplyText};
 use line_fields::{Command, read_line};
 use line_network::Networks;
@@ -15,17 +20,7 @@ use rail_codes::Moment;
 use std::alloc::{AllocError, Global};
 use std::collections::VecDeque;
 use std::marker::Model;
-use std::sync::Wait;
-use std::sync::ledger::Ledger;
-
-/// A file's seat, how many of its lines were answered without an entry, and the networks over which its plans are made.
-#[derive(Drop)]
-pub(crate) struct FileSeat<'a, L: Ledger> {
-    pub(crate) networks: &'a Networks,
-    pub(crate) seat: Seat<L>,
-    pub(crate) repeated: u64,
-    pub(crate) refused: u64,
-}
+use std::sync::{Arc, Wait};
 
 /// The most messages of a file that wait to be submitted. A thread that submits many in a row mostly keeps the lock, and the
 /// book in its processor's cache.
@@ -50,7 +45,7 @@ impl Model for Waiting {
 
 /// A file's seat and counts, and its messages that wait to be submitted, in the order of their lines.
 #[derive(Drop)]
-pub(crate) struct FileLines<'a, L: Ledger> {
+pub(crate) struct FileLines<'a, L: BookLedger> {
     pub(crate) file: FileSeat<'a, L>,
     pub(crate) pending: VecDeque<Waiting>,
 }
@@ -64,7 +59,7 @@ pub(crate) enum Counted {
     Nowhere,
 }
 
-impl<'a, L: Ledger> FileSeat<'a, L> {
+impl<'a, L: BookLedger> FileSeat<'a, L> {
     /// Counts a line. One that is accepted is on the seat's own count.
     fn count(&mut self, counted: Counted)
         ensures repeated { Adds (is_repeated counted) self.old.repeated self.new.repeated }
@@ -92,18 +87,18 @@ fn counted_as(answer: Result<Reply, Refusal>) -> Counted
 }
 
 /// Brings the lines of a file to a shared book that several files share. It gives no replies.
-pub(crate) struct FeedLines<'a, W: Wait, L: Ledger> {
+pub(crate) struct FeedLines<'a, W: Wait, L: BookLedger> {
     pub(crate) rt: &'a W,
     pub(crate) shared: &'a SharedBook<L>,
 }
 
-impl<'a, W: Wait, L: Ledger> Drop for FeedLines<'a, W, L> {
+impl<'a, W: Wait, L: BookLedger> Drop for FeedLines<'a, W, L> {
     fn drop(self) {
         let FeedLines { rt: _, shared: _ } = self;
     }
 }
 
-impl<'a, W: Wait, L: Ledger> FeedLines<'a, W, L> {
+impl<'a, W: Wait, L: BookLedger> FeedLines<'a, W, L> {
     /// Does what a line asks for, behind what waits; a message may wait where more lines have been read. A line that isn't
     /// read counts as refused.
     fn bring_line(&self, alloc: Global, lines: &mut FileLines<'a, L>, line: &[u8], more: bool)
@@ -200,6 +195,7 @@ impl<'a, W: Wait, L: Ledger> FeedLines<'a, W, L> {
         seat: &mut Seat<L>,
         command: Command,
     ) -> Counted
+        requires { networks.now ≡ L.networks }
         ensures { IsTakenIn networks.now seat.old seat.new command result }
     {
         match command {
@@ -223,29 +219,75 @@ impl<'a, W: Wait, L: Ledger> FeedLines<'a, W, L> {
     /// Begins at a moment, plans with no lock held, and commits what was planned. It counts as the commit's answer, or as
     /// refused where the begin or the planning was.
     fn plan(&self, alloc: Global, networks: &Networks, seat: &mut Seat<L>, at: Moment) -> Counted
+        requires { networks.now ≡ L.networks }
         ensures { IsPlannedIn networks.now seat.old seat.new at result }
     {
         let Ok(snap) = self.shared.begin(self.rt, alloc, seat, at) else {
             return Counted::Refused;
         };
         match planned_commit(alloc, &snap, networks) {
-            Some(commit) => self.submit(alloc, seat, Event::Commit(commit)),
+            Some(planned) => self.commit(alloc, seat, planned),
             None => Counted::Refused,
         }
     }
+
+    /// Submits the commit of a plan at a seat. Its table comes along, so that none is made while the lock is held.
+    fn commit(&self, alloc: Global, seat: &mut Seat<L>, planned: Planned) -> Counted
+        requires { IsMadeAmong L.networks planned.made.value }
+        ensures { IsSubmitted seat.old seat.new (event.Commit planned.commit) result }
+    {
+        let Planned { commit, made } = planned;
+        let event = Event::Commit(commit);
+        let answer = self
+            .shared
+            .submit_other(self.rt, alloc, seat, event, Some(made));
+        counted_as(answer)
+    }
+}
+
+/// The commit of a plan, and what has the table of its problem.
+#[derive(Drop)]
+struct Planned {
+    commit: CommitText,
+    made: Arc<MadeProblem>,
 }
 
 /// The commit of what is planned for a snapshot; none where planning is refused.
-fn planned_commit(alloc: Global, snap: &Snap, networks: &Networks) -> Option<CommitText>
-    ensures { IfSome result (IsPlansCommit networks.now snap.now) }
+fn planned_commit(alloc: Global, snap: &Snap, networks: &Networks) -> Option<Planned>
+    ensures commit { IfSome result (λ planned. IsPlansCommit networks.now snap.now planned.commit) }
+    ensures made { IfSome result (λ planned. IsMadeAmong networks.now planned.made.value) }
 {
-    match work(alloc, snap, networks) {
-        Ok((plan, prices)) => snap.commit_text(alloc, &plan, &prices).ok(),
+    match work_with_table(alloc, snap, networks) {
+        Ok(worked) => commit_of(alloc, snap, worked),
         Err(_) => None,
     }
 }
 
-impl<'a, W: Wait, L: Ledger> Handler for FeedLines<'a, W, L> {
+/// The commit of a plan for a snapshot, with what has the table; none where memory is refused.
+fn commit_of(alloc: Global, snap: &Snap, worked: Worked) -> Option<Planned>
+    requires { All (IsInRange snap.now.problem) worked.plan }
+    ensures commit { IfSome result (λ planned. IsCommitOf snap.now worked.plan worked.prices.u.items worked.prices.v.items planned.commit) }
+    ensures made { IfSome result (λ planned. planned.made.value ≡ worked.made) }
+{
+    let Worked { plan, prices, made } = worked;
+    match snap.commit_text(alloc, &plan, &prices) {
+        Ok(commit) => shared_with(alloc, commit, made),
+        Err(_) => None,
+    }
+}
+
+/// A commit with what has its table, to be shared; none where memory is refused.
+fn shared_with(alloc: Global, commit: CommitText, made: MadeProblem) -> Option<Planned>
+    ensures commit { IfSome result (λ planned. planned.commit ≡ commit) }
+    ensures made { IfSome result (λ planned. planned.made.value ≡ made) }
+{
+    match Arc::new(alloc, made) {
+        Ok(made) => Some(Planned { commit, made }),
+        Err(_) => None,
+    }
+}
+
+impl<'a, W: Wait, L: BookLedger> Handler for FeedLines<'a, W, L> {
     type State = FileLines<'a, L>;
 
     ghost answers = { λ old line _ _ new. IsLineBrought old line new };

@@ -9,15 +9,15 @@ ghost use Rattle.sessions.specs.inner.Fed.{AreFed, AreToStart, HasRoom, IsFedFil
 
 use crate::closing::close_by_threads;
 use crate::fed_file::{FedFile, FileOf, fed_file};
-use crate::{CloseFault, FeedFault, FeedReport, FileCount, Seat, SharedBook, open};
+use crate::{BookLedger, CloseFault, FeedFault, FeedReport, FileCount, Seat, SharedBook, open};
 use commit_book::Book;
 use line_engine::Source;
 use line_network::Networks;
 use std::alloc::{AllocError, Global};
 use std::marker::Brand;
 use std::snapshot::Snapshot;
-use std::sync::Wait;
-use std::sync::ledger::{Blank, Ledger};
+use std::sync::ledger::Blank;
+use std::sync::{Arc, Wait};
 use std::thread;
 use std::thread::{PromisedHandle, Scope, Threads};
 
@@ -26,14 +26,14 @@ type Running<L, R> = PromisedHandle<FedFile<L, R>, FileOf<R>>;
 
 /// Memory for what comes of the files, allocated before any thread is started.
 #[derive(Drop)]
-struct Room<L: Ledger, R: Source> {
+struct Room<L: BookLedger, R: Source> {
     running: Vec<Running<L, R>>,
     files: Vec<FileCount<R>>,
     seats: Vec<Seat<L>>,
 }
 
 /// What a thread brings lines to, and with what.
-struct Feeding<'e, L: Ledger, T> {
+struct Feeding<'e, L: BookLedger, T> {
     rt: &'e T,
     alloc: Global,
     shared: &'e SharedBook<L>,
@@ -42,7 +42,7 @@ struct Feeding<'e, L: Ledger, T> {
 
 /// What came of the files: their counts, and their seats.
 #[derive(Drop)]
-struct Fed<L: Ledger, R> {
+struct Fed<L: BookLedger, R> {
     files: Vec<FileCount<R>>,
     seats: Vec<Seat<L>>,
 }
@@ -67,17 +67,19 @@ pub fn feed<T: Threads + Wait + Sync, R: Source + Send + Drop>(
     alloc: Global,
     readers: Vec<R>,
     book: Book,
-    networks: &Networks,
 ) -> Result<FeedReport<R>, FeedFault>
     requires given { MayBeFed R.has_failed readers book }
-    ensures report { IfOk result (IsFeedReport networks.now R.remaining R.has_failed readers.items) }
+    ensures report { IfOk result (IsFeedReport book.setting.networks R.remaining R.has_failed readers.items) }
 {
+    let Ok(networks) = Arc::try_clone(book.networks()) else {
+        return Err(FeedFault::OutOfMemory);
+    };
     let blank = Blank::new(readers.len() as u64);
-    feed_by::<Brand, T, R>(rt, alloc, blank, readers, book, networks)
+    feed_by::<Brand, T, R>(rt, alloc, blank, readers, book, &networks)
 }
 
-/// The same, over a ledger with a part for each file.
-fn feed_by<L: Ledger + Send + Sync, T: Threads + Wait + Sync, R: Source + Send + Drop>(
+/// The same, over a ledger with a part for each file. The networks are the book's.
+fn feed_by<L: BookLedger + Send + Sync, T: Threads + Wait + Sync, R: Source + Send + Drop>(
     rt: &T,
     alloc: Global,
     blank: Blank,
@@ -89,6 +91,8 @@ fn feed_by<L: Ledger + Send + Sync, T: Threads + Wait + Sync, R: Source + Send +
     requires parts { blank.parts ≡ L.parts }
     requires one_each { blank.parts ≡ vec_len readers }
     requires given { MayBeFed R.has_failed readers book }
+    requires own { networks.now ≡ book.setting.networks }
+    requires over { networks.now ≡ L.networks }
     ensures report { IfOk result (IsFeedReport networks.now R.remaining R.has_failed readers.items) }
 {
     let count = readers.len();
@@ -110,7 +114,7 @@ fn feed_by<L: Ledger + Send + Sync, T: Threads + Wait + Sync, R: Source + Send +
     }
 }
 
-impl<L: Ledger, R: Source + Drop> Room<L, R> {
+impl<L: BookLedger, R: Source + Drop> Room<L, R> {
     /// Memory for so many files.
     fn new(alloc: Global, count: usize) -> Result<Room<L, R>, AllocError>
         ensures running { IfOk result (λ room. (room.running.items ≡ []) × (count ≤ vec_capacity room.running)) }
@@ -128,7 +132,7 @@ impl<L: Ledger, R: Source + Drop> Room<L, R> {
 }
 
 /// What came of all files, each brought to its seat by a thread of its own.
-fn fed_in_threads<L: Ledger + Send + Sync, T: Threads + Wait + Sync, R: Source + Send + Drop>(
+fn fed_in_threads<L: BookLedger + Send + Sync, T: Threads + Wait + Sync, R: Source + Send + Drop>(
     feeding: Feeding<'_, L, T>,
     readers: Vec<R>,
     seats: Vec<Seat<L>>,
@@ -136,6 +140,7 @@ fn fed_in_threads<L: Ledger + Send + Sync, T: Threads + Wait + Sync, R: Source +
 ) -> Result<Fed<L, R>, FeedFault>
     requires ready { AreToStart R.has_failed readers seats room.running }
     requires room { HasRoom (vec_len readers) room.files room.seats }
+    requires over { feeding.networks.now ≡ L.networks }
     ensures { IfOk result (λ fed. AreFed R.remaining R.has_failed (map (given_with feeding.entry.networks.now) readers.items) fed.files.items fed.seats.items) }
 {
     let Feeding {
@@ -150,6 +155,7 @@ fn fed_in_threads<L: Ledger + Send + Sync, T: Threads + Wait + Sync, R: Source +
         |scope| -> Result<Fed<L, R>, FeedFault>
             requires ready { AreToStart R.has_failed readers seats room.running }
             requires room { HasRoom (vec_len readers) room.files room.seats }
+            requires over { networks.now ≡ L.networks }
             ensures { IfOk result (λ fed. AreFed R.remaining R.has_failed (map (given_with networks.entry.now) readers.items) fed.files.items fed.seats.items) }
         {
             let Room {
@@ -178,7 +184,7 @@ fn fed_in_threads<L: Ledger + Send + Sync, T: Threads + Wait + Sync, R: Source +
 fn started<
     's,
     'e: 's,
-    L: Ledger + Send + Sync + 'e,
+    L: BookLedger + Send + Sync + 'e,
     T: Threads + Wait + Sync,
     R: Source + Send + Drop + 'e,
 >(
@@ -188,7 +194,8 @@ fn started<
     seats: Vec<Seat<L>>,
     running: Vec<Running<L, R>>,
 ) -> Result<Vec<Running<L, R>>, Vec<Running<L, R>>>
-    requires { AreToStart R.has_failed readers seats running }
+    requires ready { AreToStart R.has_failed readers seats running }
+    requires over { feeding.networks.now ≡ L.networks }
     ensures { IfOk result (λ running. map (λ handle. handed_to handle.promise) running.items ≡ map (given_with feeding.entry.networks.now) readers.items) }
 {
     let Feeding {
@@ -210,6 +217,7 @@ fn started<
         let work = move || -> FedFile<L, R>
             requires fresh { R.has_failed reader ≡ false }
             requires new { count_of seat ≡ 0 }
+            requires over { networks.now ≡ L.networks }
             ensures { IsFedFile networks.entry.now R.remaining R.has_failed reader result }
         { fed_file(rt, alloc, shared, networks, seat, reader) };
         match scope.spawn_with(before, work) {
@@ -221,7 +229,7 @@ fn started<
 }
 
 /// What came of the files, each of whose threads has ended.
-fn gathered<L: Ledger, T: Threads, R: Source + Drop>(
+fn gathered<L: BookLedger, T: Threads, R: Source + Drop>(
     rt: &T,
     running: Vec<Running<L, R>>,
     files: Vec<FileCount<R>>,
@@ -254,14 +262,14 @@ fn gathered<L: Ledger, T: Threads, R: Source + Drop>(
 }
 
 /// Waits for threads whose files are no longer needed.
-fn drop_all<L: Ledger, T: Threads, R: Source + Drop>(rt: &T, running: Vec<Running<L, R>>) {
+fn drop_all<L: BookLedger, T: Threads, R: Source + Drop>(rt: &T, running: Vec<Running<L, R>>) {
     for handle in running {
         drop(handle.join(rt));
     }
 }
 
 /// The report, once the shared book is closed.
-fn closed<L: Ledger, T: Threads, R: Drop>(
+fn closed<L: BookLedger, T: Threads, R: Drop>(
     rt: &T,
     shared: SharedBook<L>,
     fed: Fed<L, R>,

@@ -3,6 +3,7 @@
 //! them.
 #![tactic(auto)]
 
+mod book_ledger;
 mod close_fault;
 mod closing;
 mod counted_book;
@@ -10,6 +11,7 @@ mod fed_file;
 mod feed_lines;
 mod feed_report;
 mod feeding;
+mod file_seat;
 mod laws;
 mod open_fault;
 mod opening;
@@ -18,6 +20,7 @@ mod receipt;
 mod seat;
 mod shared_book;
 
+pub use book_ledger::BookLedger;
 pub use close_fault::CloseFault;
 pub use closing::close;
 pub use faults::{FeedFault, PlanFault};

@@ -3,7 +3,7 @@ ghost use Rattle.std.specs.Prelude.{◌≡◌, ◌≤◌, [], IfErr, IfOk, vec_c
 ghost use Rattle.sessions.specs.Seat.{IsSeatCount, new_seats};
 
 use crate::counted_book::CountedBook;
-use crate::{OpenFault, Seat, SharedBook};
+use crate::{BookLedger, OpenFault, Seat, SharedBook};
 use commit_book::Book;
 use rail_codes::WagonNumber;
 use std::alloc::{AllocError, Global};
@@ -18,8 +18,9 @@ pub const MAX_SEATS: u32 = 64;
 const _: () = prove!(MAX_SEATS == 64);
 
 /// Opens a shared book over a book without entries, with so many seats, 1 to 64, numbered from 1. The blank is that of the
-/// ledger `L`, made with one part for each seat. Where memory is refused, blank and book are handed back.
-pub fn open<L: Ledger>(
+/// ledger `L`, made with one part for each seat; the ledger stands for the book's networks. Where memory is refused, blank and
+/// book are handed back.
+pub fn open<L: BookLedger>(
     alloc: Global,
     blank: Blank,
     book: Book,
@@ -30,6 +31,7 @@ pub fn open<L: Ledger>(
     requires one_each { blank.parts ≡ count }
     requires count { IsSeatCount count }
     requires no_entry { book.state.history ≡ [] }
+    requires networks { book.setting.networks ≡ L.networks }
     ensures shared { IfOk result (λ opened. opened.0.seats ≡ count) }
     ensures seats { IfOk result (λ opened. opened.1.items ≡ new_seats count) }
     ensures handed_back { IfErr result (λ fault. (fault.blank ≡ blank) × (fault.book ≡ book)) }

@@ -1,20 +1,20 @@
 //! The shared book: one lock round the book that several seats share.
-ghost use Rattle.std.specs.Prelude.{◌≡◌, ◌≤◌, ◌<◌, IfOk, OnOk, vec_len, vec_capacity};
+ghost use Rattle.std.specs.Prelude.{◌≡◌, ◌≤◌, ◌<◌, IfOk, IfSome, OnOk, vec_len, vec_capacity};
+ghost use Rattle.commit_book.specs.Made.{IsMadeAmong};
 ghost use Rattle.move_messages.specs.declared.event.Event.TheVariants as event;
 ghost use Rattle.sessions.specs.AnyBook.{IsSnapAt};
 ghost use Rattle.sessions.specs.Seat.{count_of, noted};
 ghost use Rattle.sessions.specs.Submitted.{IsSubmitted};
 
 use crate::counted_book::CountedBook;
-use crate::{Receipt, Seat};
-use commit_book::{Entry, Refusal, Reply, Snap};
+use crate::{BookLedger, Receipt, Seat};
+use commit_book::{Entry, MadeProblem, Refusal, Reply, Snap};
 use move_messages::{CommitText, Event, Message, OrderText};
 use rail_codes::{Moment, OrderId, WagonNumber};
 use std::alloc::{AllocError, Global};
 use std::hint::spin_loop;
 use std::marker::Model;
-use std::sync::ledger::Ledger;
-use std::sync::{Mutex, MutexGuard, Wait};
+use std::sync::{Arc, Mutex, MutexGuard, Wait};
 use std::thread::yield_now;
 
 /// How often a call tries to take the lock before it waits in turn. With a yield after each try that is longer than most
@@ -34,14 +34,14 @@ const PAUSES: u32 = 100;
 /// says that the answer is one that some book gives to this call, which was given what a book can be given, and whose
 /// history is as the headline says and has at least as many entries as the seat has receipts.
 #[derive(Drop)]
-pub struct SharedBook<L: Ledger> {
+pub struct SharedBook<L: BookLedger> {
     pub(crate) book: Mutex<CountedBook<L>>,
     pub(crate) seats: u32,
     /// The numbers of the book's wagons, ascending.
     pub(crate) wagons: Vec<WagonNumber>,
 }
 
-impl<L: Ledger> Model for SharedBook<L> {
+impl<L: BookLedger> Model for SharedBook<L> {
     ghost use Rattle.sessions.specs.Seat.{SharedBookValue};
 
     ghost Value = { SharedBookValue };
@@ -49,7 +49,7 @@ impl<L: Ledger> Model for SharedBook<L> {
     ghost view = { λ shared. record { seats = shared.seats } };
 }
 
-impl<L: Ledger> SharedBook<L> {
+impl<L: BookLedger> SharedBook<L> {
     /// Sends a movement message. One that is accepted gives the seat a receipt; one that is an entry already is answered
     /// with `Repeated` and gives none. Refused, with book and seat unchanged: as `Book::message` refuses it, where
     /// `OutOfMemory` (1) comes only of a message that would be accepted. May wait.
@@ -185,18 +185,21 @@ impl<L: Ledger> SharedBook<L> {
     {
         match event {
             Event::Message(message) => self.send(rt, alloc, seat, &message),
-            other => self.submit_other(rt, alloc, seat, other),
+            other => self.submit_other(rt, alloc, seat, other, None),
         }
     }
 
-    /// The same of an event that may want memory for its receipt.
-    fn submit_other(
+    /// The same of an event that may want memory for its receipt. With a commit may come what was made of a problem over the
+    /// book's networks: where the commit is of that problem, the table is not made while the lock is held.
+    pub(crate) fn submit_other(
         &self,
         rt: &impl Wait,
         alloc: Global,
         seat: &mut Seat<L>,
         event: Event,
+        made: Option<Arc<MadeProblem>>,
     ) -> Result<Reply, Refusal>
+        requires { IfSome made (λ made. IsMadeAmong L.networks made.value) }
         ensures { IsSubmitted seat.old seat.new event result }
     {
         // As in `send`, with the receipt's entry too before the call. An answer that gives no receipt needs none of that
@@ -205,7 +208,7 @@ impl<L: Ledger> SharedBook<L> {
             let mut book = self.locked(rt);
             return book.answer_without_memory(&mut seat.share, &event);
         };
-        let reply = match self.locked(rt).enter(alloc, &mut seat.share, event) {
+        let reply = match self.locked(rt).enter(alloc, &mut seat.share, event, made) {
             Ok(reply) => reply,
             Err(refusal) => return Err(refusal),
         };

@@ -32,13 +32,13 @@ where
             return Err(stopped);
         }
     };
-    let NewBook { book, networks } = new_book(rt, &options.office, first, &networks)?;
+    let NewBook { book, networks: _ } = new_book(rt, &options.office, first, &networks)?;
     // The command line lets 1 to 16 files through.
     if readers.is_empty() || readers.len() > MAX_FILES {
         leave_book(book);
         return Err(Stopped::from(Stop::OpenFailed));
     }
-    match sessions::feed(rt, rt.alloc(), readers, book, &networks) {
+    match sessions::feed(rt, rt.alloc(), readers, book) {
         Ok(report) => {
             let status = print_report(rt, &report);
             leave_book(report.book);

@@ -1,10 +1,8 @@
 -- What the tests of a commit say, before it is entered.
-use Rattle.std.specs.Prelude.{◌≡◌, ◌+◌, ◌⊎◌, true, false, length, Option}
+use Rattle.std.specs.Prelude.{◌≡◌, ◌+◌, ◌⊎◌, true, false, length}
 use Rattle.move_messages.specs.declared.commit_text.CommitText.{CommitText}
 use Rattle.operating_db.specs.Commits.{CanPromise}
-use Rattle.operating_db.specs.Office.{Office}
-use Rattle.commit_book.specs.BookStep.{BookState, IsCommitAnswer, is_kept, is_full, refusal_in}
-use Rattle.commit_book.specs.declared.made_problem.MadeProblem.{MadeProblem}
+use Rattle.commit_book.specs.BookStep.{BookState, IsCommitAnswer, is_kept, is_full}
 use Rattle.commit_book.specs.History.{IsLeast, replay}
 use Rattle.commit_book.specs.Setting.{Setting}
 use Rattle.commit_book.specs.declared.answer.Answer.TheVariants.{Done, Refused}
@@ -29,7 +27,3 @@ abbrev pub IsRefused : Setting → BookState → CommitText → Refusal → Type
 IsRefused setting book commit refusal =
     IsCommitAnswer (is_kept book.kept (commit.version, commit.at)) (is_full setting book.history) setting book.history commit (Refused refusal)
     ⊎ ((refusal ≡ OutOfMemory) × IsTestable setting book commit)
-
--- why a commit of a kept problem is refused in the office as it is now
-abbrev pub refusal_over : MadeProblem → (now : Office) → CommitText → Option Refusal
-refusal_over made now commit = refusal_in made.problem now commit made.timed.cells

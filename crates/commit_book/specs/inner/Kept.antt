@@ -1,14 +1,13 @@
 -- What a book keeps beside its history.
-use Rattle.std.specs.Prelude.{◌≡◌, ◌≤◌, ◌==◌, ◌&&◌, nat_le, nat_lt, ℕ, Bool, if◌then◌else◌, List, [], ◌∷◌, ◌++◌, Some, length, drop, map, true, All, slice_get}
+use Rattle.std.specs.Prelude.{◌≡◌, ◌≤◌, ◌==◌, ◌&&◌, nat_le, nat_lt, ℕ, Bool, if◌then◌else◌, List, [], ◌∷◌, ◌++◌, Option, Some, None, IfSome, IsSome, option_map, length, drop, map, true, false, All, slice_get}
 use Rattle.line_network.specs.Network.{NetworkValue}
 use Rattle.line_network.specs.Networks.{network_at}
-use Rattle.problem_table.specs.Allowed.{IsTableOf}
 use Rattle.problem_table.specs.Lasting.{IsLastingTable}
 use Rattle.cost_table.specs.Problem.{ProblemValue}
 use Rattle.move_messages.specs.declared.event.Event.{Event}
 use Rattle.commit_book.specs.BookStep.{BookState, is_kept, kept_after}
 use Rattle.commit_book.specs.Books.{BookValue, setting_with}
-use Rattle.commit_book.specs.History.{IsLegal, IsTableAt, problem_at}
+use Rattle.commit_book.specs.History.{IsLegal, IsTableAt, problem_at, version}
 use Rattle.commit_book.specs.inner.Ledger.{LedgerValue}
 use Rattle.price_checker.specs.Limits.{LimitNumbers}
 use Rattle.commit_book.specs.Setting.{Setting}
@@ -17,7 +16,7 @@ use Rattle.commit_book.specs.declared.made_problem.MadeProblem.{MadeProblem}
 
 -- the version and the moment of a kept problem
 abbrev pub which_of : KeptProblem → ℕ × ℕ
-which_of kept = (kept.version, kept.at)
+which_of kept = (kept.version, kept.problem.at)
 
 -- one more, as the last; the first makes room where there are as many as may be
 abbrev pub with_kept : ℕ → List KeptProblem → KeptProblem → List KeptProblem
@@ -27,9 +26,25 @@ with_kept most kept one = if nat_lt (length kept) most then kept ++ one ∷ [] e
 abbrev pub covers : MadeProblem → ℕ → Bool
 covers made at = nat_le made.problem.at at && nat_le at made.timed.until
 
--- whether a kept problem is of a version, and its table is that of this moment too
+-- what has a kept problem's table, where it was made
+abbrev pub made_of : KeptProblem → Option MadeProblem
+made_of kept = option_map (λ made. made.value) kept.made
+
+-- whether something was made whose table is that of this moment too
+abbrev pub is_covered : (at : ℕ) → Option MadeProblem → Bool
+is_covered at None = false
+is_covered at (Some made) = covers made at
+
+-- whether a kept problem is of a version, and its table was made and is that of this moment too
 abbrev pub is_covering : (version at : ℕ) → KeptProblem → Bool
-is_covering version at kept = kept.version == version && covers kept.made.value at
+is_covering version at kept = kept.version == version && is_covered at (made_of kept)
+
+-- something was made of one of the kept problems
+pub record IsMadeIn (kept : List KeptProblem) (made : MadeProblem) : Type 0 where
+  pub one : KeptProblem
+  pub index : ℕ
+  pub there : slice_get kept index ≡ Some one
+  pub has : made_of one ≡ Some made
 
 -- a moment is within the span: it is the problem's or a later one, up to the last
 pub record IsInSpan (made : MadeProblem) (at : ℕ) : Type 0 where
@@ -39,14 +54,6 @@ pub record IsInSpan (made : MadeProblem) (at : ℕ) : Type 0 where
 -- over the network of its number, the table has the wagons' cells up to their last moments
 abbrev pub IsLasting : Setting → MadeProblem → Type 0
 IsLasting setting made = (network : NetworkValue) → network_at setting.networks made.network ≡ Some network → IsLastingTable network made.problem made.timed.cells made.timed.lasts.items
-
--- what is made of a problem over a network of this number
-pub record IsMadeOf (network : NetworkValue) (number : ℕ) (problem : ProblemValue) (made : MadeProblem) : Type 0 where
-  pub problem_is : made.problem ≡ problem
-  pub number_is : made.network ≡ number
-  pub within : problem.at ≤ made.timed.until
-  pub lasts : (m : ℕ) → problem.at ≤ m → m ≤ made.timed.until → IsTableOf network (record problem { at = m }) made.timed.cells
-  pub by_wagon : IsLastingTable network problem made.timed.cells made.timed.lasts.items
 
 -- whether the table of a problem can be made by changing another's: it is of the same moment or a later one
 abbrev pub IsChangeable : MadeProblem → ProblemValue → Type 0
@@ -59,11 +66,22 @@ pub record IsMade (setting : Setting) (history : List Event) (version : ℕ) (ma
   pub is_table : (m : ℕ) → IsInSpan made m → IsTableAt setting history version m made.timed.cells
   pub lasting : IsLasting setting made
 
--- the problem is that of a version that the book has had, at a moment of the span
+-- what has the table of the problem of a version at a moment
+pub record IsTabled (setting : Setting) (history : List Event) (version at : ℕ) (made : MadeProblem) : Type 0 where
+  pub is_made : IsMade setting history version made
+  pub in_span : IsInSpan made at
+
+-- this is the number of the network in force in a version, and of one of the networks
+pub record IsNetworkOf (setting : Setting) (history : List Event) (n number : ℕ) : Type 0 where
+  pub in_force : (version setting history n).network ≡ number
+  pub known : IsSome (network_at setting.networks number)
+
+-- the problem is that of a version that the book has had, and so is its table, where one was made
 pub record IsKeptAt (setting : Setting) (history : List Event) (kept : KeptProblem) : Type 0 where
   pub had : kept.version ≤ length history
-  pub made : IsMade setting history kept.version kept.made.value
-  pub span : IsInSpan kept.made.value kept.at
+  pub is_problem : kept.problem ≡ problem_at setting history kept.version kept.problem.at
+  pub network : IsNetworkOf setting history kept.version kept.network
+  pub made : IfSome (made_of kept) (IsTabled setting history kept.version kept.problem.at)
 
 -- What every book keeps: its history is legal, and each kept problem is that of its version.
 pub record IsBook (setting : Setting) (history : List Event) (kept : List KeptProblem) : Type 0 where

@@ -4,3 +4,4 @@ mod entries;
 mod limits;
 mod runs;
 mod states;
+mod tables;

@@ -2,13 +2,12 @@
 ghost use Rattle.std.specs.Prelude.{◌≡◌, IfOk, IfSome};
 
 use commit_book::Book;
-use sessions::{CloseFault, Seat, SharedBook, close};
+use sessions::{BookLedger, CloseFault, Seat, SharedBook, close};
 use std::alloc::Global;
-use std::sync::ledger::Ledger;
 use std::test::Fail;
 
 /// Closes a shared book that lacks seats, and takes what is handed back.
-fn handed_back<L: Ledger>(
+fn handed_back<L: BookLedger>(
     shared: SharedBook<L>,
     seats: Vec<Seat<L>>,
 ) -> Option<(SharedBook<L>, Vec<Seat<L>>)>
@@ -22,7 +21,10 @@ fn handed_back<L: Ledger>(
 }
 
 /// The shared book, which is not closed with no seat.
-fn open_with_none<L: Ledger>(alloc: Global, shared: SharedBook<L>) -> Result<SharedBook<L>, Fail>
+fn open_with_none<L: BookLedger>(
+    alloc: Global,
+    shared: SharedBook<L>,
+) -> Result<SharedBook<L>, Fail>
     requires { shared.seats ≡ L.parts }
     ensures { IfOk result (λ back. back ≡ shared) }
 {
@@ -33,7 +35,7 @@ fn open_with_none<L: Ledger>(alloc: Global, shared: SharedBook<L>) -> Result<Sha
 }
 
 /// The shared book and its seats; it is not closed with all but one.
-fn open_without_last<L: Ledger>(
+fn open_without_last<L: BookLedger>(
     shared: SharedBook<L>,
     seats: Vec<Seat<L>>,
 ) -> Result<(SharedBook<L>, Vec<Seat<L>>), Fail>
@@ -54,7 +56,7 @@ fn open_without_last<L: Ledger>(
 }
 
 /// The book of a shared book that is closed with no seat, with all but one, and with all: the last of these closes it.
-pub(crate) fn closed<L: Ledger>(
+pub(crate) fn closed<L: BookLedger>(
     alloc: Global,
     shared: SharedBook<L>,
     seats: Vec<Seat<L>>,

@@ -5,10 +5,9 @@ use super::scenes::{Action, played};
 use commit_book::Reply;
 use move_messages::{Message, MessageKind};
 use rail_codes::{Company, MessageId, Moment, Place, WagonNumber};
-use sessions::{Seat, SharedBook};
+use sessions::{BookLedger, Seat, SharedBook};
 use std::alloc::Global;
 use std::sync::Wait;
-use std::sync::ledger::Ledger;
 use std::test::Fail;
 use std::thread::{Threads, map_vec};
 use test_samples::{NEAR, SAMPLE, UNKNOWN, company, moment, place, wagon};
@@ -54,7 +53,7 @@ fn hold(codes: &Codes, number: u32, wagon: WagonNumber) -> Message {
 }
 
 /// Whether a begin answers a version not below the seat's count.
-fn begins<L: Ledger, R: Wait>(desk: &Desk<'_, L, R>, seat: &mut Seat<L>, at: Moment) -> bool {
+fn begins<L: BookLedger, R: Wait>(desk: &Desk<'_, L, R>, seat: &mut Seat<L>, at: Moment) -> bool {
     let count = seat.count();
     match desk.shared.begin(desk.rt, desk.alloc, seat, at) {
         Ok(snap) => snap.version() >= count,
@@ -64,7 +63,7 @@ fn begins<L: Ledger, R: Wait>(desk: &Desk<'_, L, R>, seat: &mut Seat<L>, at: Mom
 
 /// Whether one of a seat's calls is answered as it must be, whatever other seats call: a new message, the same again, a
 /// begin, and a message of a wagon that the roster doesn't have, in turn.
-fn calls<L: Ledger, R: Wait>(
+fn calls<L: BookLedger, R: Wait>(
     desk: &Desk<'_, L, R>,
     seat: &mut Seat<L>,
     codes: &Codes,
@@ -87,7 +86,7 @@ fn calls<L: Ledger, R: Wait>(
 }
 
 /// The calls of some seats, one seat after the other; whether all were answered as they must be.
-fn all_calls<L: Ledger, R: Wait>(
+fn all_calls<L: BookLedger, R: Wait>(
     rt: &R,
     alloc: Global,
     shared: &SharedBook<L>,
@@ -106,7 +105,7 @@ fn all_calls<L: Ledger, R: Wait>(
 }
 
 /// Deals the seats out, the same number to each thread.
-fn dealt<L: Ledger>(alloc: Global, seats: &mut Vec<Seat<L>>) -> Option<Vec<Vec<Seat<L>>>> {
+fn dealt<L: BookLedger>(alloc: Global, seats: &mut Vec<Seat<L>>) -> Option<Vec<Vec<Seat<L>>>> {
     let mut groups = Vec::new(alloc);
     for _ in 0..SEATS {
         let mut group = Vec::new(alloc);
@@ -119,7 +118,10 @@ fn dealt<L: Ledger>(alloc: Global, seats: &mut Vec<Seat<L>>) -> Option<Vec<Vec<S
 }
 
 /// Gathers the seats, and answers the sum of their counts; none where a call was answered otherwise.
-fn gathered<L: Ledger>(seats: &mut Vec<Seat<L>>, done: Vec<(Vec<Seat<L>>, bool)>) -> Option<u64> {
+fn gathered<L: BookLedger>(
+    seats: &mut Vec<Seat<L>>,
+    done: Vec<(Vec<Seat<L>>, bool)>,
+) -> Option<u64> {
     let mut count = 0u64;
     for (group, are_right) in done {
         if !are_right {
@@ -134,7 +136,7 @@ fn gathered<L: Ledger>(seats: &mut Vec<Seat<L>>, done: Vec<(Vec<Seat<L>>, bool)>
 }
 
 /// Whether the counts of all seats add up to 64 times 13 entries.
-pub(crate) fn add_up<L: Ledger + Send + Sync, R: Threads + Wait + Sync>(
+pub(crate) fn add_up<L: BookLedger + Send + Sync, R: Threads + Wait + Sync>(
     desk: &Desk<'_, L, R>,
     seats: &mut Vec<Seat<L>>,
 ) -> Result<bool, Fail> {

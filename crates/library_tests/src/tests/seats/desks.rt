@@ -2,27 +2,26 @@
 
 use commit_book::{Call, Refusal, Reply};
 use move_messages::Event;
-use sessions::{Seat, SharedBook};
+use sessions::{BookLedger, Seat, SharedBook};
 use std::alloc::{AllocError, Global};
 use std::sync::Wait;
-use std::sync::ledger::Ledger;
 use std::test::Fail;
 use test_samples::{Line, call, reply_text};
 
 /// An open shared book, and what the calls of its seats need.
-pub(crate) struct Desk<'a, L: Ledger, R: Wait> {
+pub(crate) struct Desk<'a, L: BookLedger, R: Wait> {
     pub(crate) rt: &'a R,
     pub(crate) alloc: Global,
     pub(crate) shared: &'a SharedBook<L>,
 }
 
-impl<'a, L: Ledger, R: Wait> Drop for Desk<'a, L, R> {
+impl<'a, L: BookLedger, R: Wait> Drop for Desk<'a, L, R> {
     fn drop(self) {
         let Self { rt, alloc, shared } = self;
     }
 }
 
-impl<'a, L: Ledger, R: Wait> Desk<'a, L, R> {
+impl<'a, L: BookLedger, R: Wait> Desk<'a, L, R> {
     /// What a seat is told on a line's call.
     pub(crate) fn told(&self, seat: &mut Seat<L>, line: Line<'_>) -> Result<String, Fail> {
         let call = call(self.alloc, line)?;

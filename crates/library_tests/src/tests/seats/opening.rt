@@ -2,14 +2,13 @@
 
 use super::desks::Desk;
 use super::scenes::{Action, played};
-use sessions::Seat;
+use sessions::{BookLedger, Seat};
 use std::sync::Wait;
-use std::sync::ledger::Ledger;
 use std::test::Fail;
 use test_samples::{Line, SAMPLE, WITHDRAWAL};
 
 /// Whether a seat is told this when it places an order of this name for so many wagons.
-fn places<L: Ledger, R: Wait>(
+fn places<L: BookLedger, R: Wait>(
     desk: &Desk<'_, L, R>,
     seat: &mut Seat<L>,
     name: &str,
@@ -21,7 +20,7 @@ fn places<L: Ledger, R: Wait>(
 }
 
 /// Whether a seat places so many orders, O1 and so on, for 20 wagons each, which become the first entries.
-fn places_all<L: Ledger, R: Wait>(
+fn places_all<L: BookLedger, R: Wait>(
     desk: &Desk<'_, L, R>,
     seat: &mut Seat<L>,
     orders: u32,
@@ -38,7 +37,7 @@ fn places_all<L: Ledger, R: Wait>(
 }
 
 /// Whether 25 orders for 20 wagons each are all that may be open, until one is withdrawn.
-fn fills<L: Ledger, R: Wait>(desk: &Desk<'_, L, R>, seat: &mut Seat<L>) -> Result<bool, Fail> {
+fn fills<L: BookLedger, R: Wait>(desk: &Desk<'_, L, R>, seat: &mut Seat<L>) -> Result<bool, Fail> {
     let all = places_all(desk, seat, 25)?;
     let refused = places(desk, seat, "O26", 1, "refused 75")?;
     let withdrawn = desk.told(seat, WITHDRAWAL)?;
@@ -47,7 +46,7 @@ fn fills<L: Ledger, R: Wait>(desk: &Desk<'_, L, R>, seat: &mut Seat<L>) -> Resul
 }
 
 /// Whether three seats have the numbers 1 to 3 and no receipt, and the third can place all orders that may be open.
-pub(crate) fn opens<L: Ledger, R: Wait>(
+pub(crate) fn opens<L: BookLedger, R: Wait>(
     desk: &Desk<'_, L, R>,
     seats: &mut [Seat<L>],
 ) -> Result<bool, Fail> {

@@ -8,10 +8,9 @@ use line_network::Networks;
 use move_messages::CommitText;
 use price_checker::{Prices, check};
 use problem_table::cells;
-use sessions::{PlanFault, Seat, work};
+use sessions::{BookLedger, PlanFault, Seat, work};
 use std::alloc::Global;
 use std::sync::Wait;
-use std::sync::ledger::Ledger;
 use std::test::Fail;
 use std::thread::Threads;
 use test_samples::{
@@ -39,7 +38,7 @@ fn is_nearest(commit: &CommitText) -> Result<bool, Fail> {
 }
 
 /// Begins at one o'clock.
-fn begun<L: Ledger, R: Wait>(desk: &Desk<'_, L, R>, seat: &mut Seat<L>) -> Result<Snap, Fail> {
+fn begun<L: BookLedger, R: Wait>(desk: &Desk<'_, L, R>, seat: &mut Seat<L>) -> Result<Snap, Fail> {
     let at = time(desk.alloc, "01:00")?;
     Ok(desk.shared.begin(desk.rt, desk.alloc, seat, at)?)
 }
@@ -64,7 +63,7 @@ fn planned(alloc: Global, snap: &Snap, networks: &Networks) -> Result<(CommitTex
 }
 
 /// Whether a seat has the nearer wagon planned for the sample's order, and commits that as the second entry.
-fn commits<L: Ledger, R: Wait>(
+fn commits<L: BookLedger, R: Wait>(
     desk: &Desk<'_, L, R>,
     seat: &mut Seat<L>,
     snap: &Snap,
@@ -78,7 +77,7 @@ fn commits<L: Ledger, R: Wait>(
 }
 
 /// Whether a seat begins, has the nearer wagon planned for the sample's order, and commits that.
-pub(crate) fn plans<L: Ledger, R: Wait>(
+pub(crate) fn plans<L: BookLedger, R: Wait>(
     desk: &Desk<'_, L, R>,
     seats: &mut [Seat<L>],
 ) -> Result<bool, Fail> {
@@ -106,7 +105,7 @@ fn is_empty(alloc: Global, snap: &Snap) -> Result<bool, Fail> {
 }
 
 /// Whether a seat revises to the second network, so that a plan wants more than the first.
-pub(crate) fn revises<L: Ledger, R: Wait>(
+pub(crate) fn revises<L: BookLedger, R: Wait>(
     desk: &Desk<'_, L, R>,
     seats: &mut [Seat<L>],
 ) -> Result<bool, Fail> {

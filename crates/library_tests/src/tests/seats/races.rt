@@ -3,16 +3,15 @@
 use super::desks::Desk;
 use super::scenes::{Action, played};
 use commit_book::Call;
-use sessions::{Seat, SharedBook};
+use sessions::{BookLedger, Seat, SharedBook};
 use std::alloc::Global;
 use std::sync::Wait;
-use std::sync::ledger::Ledger;
 use std::test::Fail;
 use std::thread::{Threads, join};
 use test_samples::{BEGIN, COMMIT, Line, ORDER, SAMPLE, call};
 
 /// A seat's call, as a thread makes it: the seat, and what it is told, unless memory is out.
-fn calls<L: Ledger, R: Wait>(
+fn calls<L: BookLedger, R: Wait>(
     rt: &R,
     alloc: Global,
     shared: &SharedBook<L>,
@@ -26,14 +25,14 @@ fn calls<L: Ledger, R: Wait>(
 }
 
 /// The last two seats.
-fn last_two<L: Ledger>(seats: &mut Vec<Seat<L>>) -> Option<(Seat<L>, Seat<L>)> {
+fn last_two<L: BookLedger>(seats: &mut Vec<Seat<L>>) -> Option<(Seat<L>, Seat<L>)> {
     let second = seats.pop()?;
     let first = seats.pop()?;
     Some((first, second))
 }
 
 /// Makes a line's call on two seats, a thread for each.
-fn call_at_once<L: Ledger + Send + Sync, R: Threads + Wait + Sync>(
+fn call_at_once<L: BookLedger + Send + Sync, R: Threads + Wait + Sync>(
     desk: &Desk<'_, L, R>,
     (first, second): (Seat<L>, Seat<L>),
     (one, other): (Call, Call),
@@ -47,7 +46,7 @@ fn call_at_once<L: Ledger + Send + Sync, R: Threads + Wait + Sync>(
 }
 
 /// Makes a line's call on two seats, a thread for each: what they are told.
-fn call_twice<L: Ledger + Send + Sync, R: Threads + Wait + Sync>(
+fn call_twice<L: BookLedger + Send + Sync, R: Threads + Wait + Sync>(
     desk: &Desk<'_, L, R>,
     seats: &mut Vec<Seat<L>>,
     line: Line<'_>,
@@ -59,7 +58,7 @@ fn call_twice<L: Ledger + Send + Sync, R: Threads + Wait + Sync>(
 }
 
 /// What two seats were told, which go back behind the others.
-fn told_to_both<L: Ledger>(
+fn told_to_both<L: BookLedger>(
     seats: &mut Vec<Seat<L>>,
     (first, told): (Seat<L>, Option<String>),
     (second, other_told): (Seat<L>, Option<String>),
@@ -74,7 +73,7 @@ fn told_to_both<L: Ledger>(
 }
 
 /// Whether two seats are told these two texts on a line, whichever of them gets the first.
-fn are_told<L: Ledger + Send + Sync, R: Threads + Wait + Sync>(
+fn are_told<L: BookLedger + Send + Sync, R: Threads + Wait + Sync>(
     desk: &Desk<'_, L, R>,
     seats: &mut Vec<Seat<L>>,
     line: Line<'_>,
@@ -89,7 +88,7 @@ fn are_told<L: Ledger + Send + Sync, R: Threads + Wait + Sync>(
 }
 
 /// Whether the first seat's order is the first entry.
-fn is_placed<L: Ledger, R: Wait>(
+fn is_placed<L: BookLedger, R: Wait>(
     desk: &Desk<'_, L, R>,
     seats: &mut [Seat<L>],
 ) -> Result<bool, Fail> {
@@ -99,7 +98,7 @@ fn is_placed<L: Ledger, R: Wait>(
 }
 
 /// How many calls of all seats were accepted.
-fn count_of<L: Ledger>(seats: &[Seat<L>]) -> u64 {
+fn count_of<L: BookLedger>(seats: &[Seat<L>]) -> u64 {
     let mut count = 0u64;
     for seat in seats {
         count = count.saturating_add(seat.count());
@@ -109,7 +108,7 @@ fn count_of<L: Ledger>(seats: &[Seat<L>]) -> u64 {
 
 /// Whether two threads begin at version 1, and one of them commits the plan as entry 2, while the other is refused for its
 /// wagon.
-pub(crate) fn races<L: Ledger + Send + Sync, R: Threads + Wait + Sync>(
+pub(crate) fn races<L: BookLedger + Send + Sync, R: Threads + Wait + Sync>(
     desk: &Desk<'_, L, R>,
     seats: &mut Vec<Seat<L>>,
 ) -> Result<bool, Fail> {

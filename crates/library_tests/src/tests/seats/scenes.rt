@@ -1,5 +1,5 @@
 //! Scenes of a shared book: what happens between its opening and its closing.
-ghost use Rattle.std.specs.Prelude.{◌≡◌};
+ghost use Rattle.std.specs.Prelude.{◌≡◌, []};
 ghost use Rattle.sessions.specs.Seat.{IsSeatCount};
 
 use super::closing::closed;
@@ -10,11 +10,11 @@ use super::planning::{plans, revises};
 use super::races::races;
 use super::turns::{Turn, take_turns};
 use commit_book::Book;
-use sessions::{MAX_SEATS, Seat, open};
+use sessions::{BookLedger, MAX_SEATS, Seat, open};
 use std::alloc::Global;
 use std::marker::Brand;
 use std::sync::Wait;
-use std::sync::ledger::{Blank, Ledger};
+use std::sync::ledger::Blank;
 use std::test::Fail;
 use std::thread::Threads;
 use test_samples::{Start, book_of};
@@ -37,7 +37,7 @@ pub(crate) enum Action {
 }
 
 /// Whether it happens so.
-fn happens<L: Ledger + Send + Sync, R: Threads + Wait + Sync>(
+fn happens<L: BookLedger + Send + Sync, R: Threads + Wait + Sync>(
     desk: &Desk<'_, L, R>,
     seats: &mut Vec<Seat<L>>,
     action: Action,
@@ -52,12 +52,12 @@ fn happens<L: Ledger + Send + Sync, R: Threads + Wait + Sync>(
     }
 }
 
-/// The book of a shared book that is opened so and closed when an action has gone as it must.
-fn book_after<L: Ledger + Send + Sync, R: Threads + Wait + Sync>(
+/// What becomes of a book that is shared by so many seats, and handed back when an action has gone as it must.
+fn book_after<L: BookLedger + Send + Sync, R: Threads + Wait + Sync>(
     rt: &R,
     alloc: Global,
     blank: Blank,
-    start: Start<'_>,
+    book: Book,
     seats: u32,
     action: Action,
 ) -> Result<Book, Fail>
@@ -65,8 +65,9 @@ fn book_after<L: Ledger + Send + Sync, R: Threads + Wait + Sync>(
     requires parts { blank.parts ≡ L.parts }
     requires one_each { blank.parts ≡ seats }
     requires count { IsSeatCount seats }
+    requires no_entry { book.state.history ≡ [] }
+    requires networks { book.setting.networks ≡ L.networks }
 {
-    let book = book_of(alloc, start)?;
     let Ok((shared, mut seats)) = open::<L>(alloc, blank, book, seats) else {
         return Err(Fail::new("no shared"));
     };
@@ -92,12 +93,7 @@ pub(crate) fn played<R: Threads + Wait + Sync>(
     if seats < 1 || MAX_SEATS < seats {
         return Err(Fail::new("too few seats or too many"));
     }
-    book_after::<Brand, R>(
-        rt,
-        alloc,
-        Blank::new(u64::from(seats)),
-        start,
-        seats,
-        action,
-    )
+    let book = book_of(alloc, start)?;
+    let blank = Blank::new(u64::from(seats));
+    book_after::<Brand, R>(rt, alloc, blank, book, seats, action)
 }

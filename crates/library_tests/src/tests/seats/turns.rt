@@ -3,10 +3,9 @@
 use super::desks::Desk;
 use super::scenes::{Action, played};
 use commit_book::{Book, Call, Entry};
-use sessions::Seat;
+use sessions::{BookLedger, Seat};
 use std::alloc::Global;
 use std::sync::Wait;
-use std::sync::ledger::Ledger;
 use std::test::Fail;
 use std::thread::Threads;
 use test_samples::{Line, Start, call};
@@ -32,7 +31,7 @@ fn is_of(alloc: Global, entry: &Entry, line: Line<'_>) -> Result<bool, Fail> {
 }
 
 /// Whether a seat is told this on a line's call, and has a receipt more where that is accepted.
-fn is_told<L: Ledger, R: Wait>(
+fn is_told<L: BookLedger, R: Wait>(
     desk: &Desk<'_, L, R>,
     seat: &mut Seat<L>,
     line: Line<'_>,
@@ -51,7 +50,7 @@ fn is_told<L: Ledger, R: Wait>(
 }
 
 /// Whether a turn of the case of this name goes so.
-fn goes<L: Ledger, R: Wait>(
+fn goes<L: BookLedger, R: Wait>(
     desk: &Desk<'_, L, R>,
     seats: &mut [Seat<L>],
     name: &str,
@@ -69,7 +68,7 @@ fn goes<L: Ledger, R: Wait>(
 }
 
 /// Whether all turns of the case of this name go so, one after the other.
-pub(crate) fn take_turns<L: Ledger, R: Wait>(
+pub(crate) fn take_turns<L: BookLedger, R: Wait>(
     desk: &Desk<'_, L, R>,
     seats: &mut [Seat<L>],
     name: &str,

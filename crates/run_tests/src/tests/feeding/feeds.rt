@@ -33,8 +33,7 @@ pub(crate) fn fed<T: Threads + Wait + Sync, R: Source + Send + Drop>(
     requires fresh { All (λ reader. R.has_failed reader ≡ false) readers.items }
 {
     let book = sample_book(alloc)?;
-    let networks = networks_of(alloc, SAMPLE.networks)?;
-    Ok(feed(rt, alloc, readers, book, &networks)?)
+    Ok(feed(rt, alloc, readers, book)?)
 }
 
 /// Readers of these texts, each in one piece.

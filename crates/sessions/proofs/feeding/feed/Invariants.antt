@@ -1,4 +1,8 @@
 use Rattle.sessions.proofs.feeding.feed.Given as goal
 
-abbrev pub ghosts-feed_by : goal.ghosts-feed_by
-ghosts-feed_by g a = record { name = a.blank.name; parts = a.blank.parts }
+abbrev pub ghosts-feed_by-L-Ledger : goal.ghosts-feed_by-L-Ledger
+ghosts-feed_by-L-Ledger g a = record { name = a.blank.name; parts = a.blank.parts }
+
+-- the ledger stands for the networks of the book
+abbrev pub ghosts-feed_by-L-BookLedger : goal.ghosts-feed_by-L-BookLedger
+ghosts-feed_by-L-BookLedger g a = record { networks = a.networks.now }

@@ -8,7 +8,7 @@ use Rattle.sessions.proofs.feeding.started.Goals as goal
 pub spawn_with-requires-clause-runs : goal.spawn_with-requires-clause-runs
 spawn_with-requires-clause-runs g c κs within = (
   head_of_all (λ reader. g.R.Source.has_failed reader ≡ false) c.in-Some.reader _ _ c.in-Some.ensures.steps.0 c.loop-reader.invariant.fresh,
-  head_of_all (λ seat. count_of seat ≡ 0) c.in-Some-next.seat _ _ c.in-Some-next.ensures.items c.loop-reader.invariant.new,
+  (head_of_all (λ seat. count_of seat ≡ 0) c.in-Some-next.seat _ _ c.in-Some-next.ensures.items c.loop-reader.invariant.new, c.requires.over),
 )
 
 pub loop-reader-preserved : goal.loop-reader-preserved

@@ -1,4 +1,8 @@
 use Rattle.library_tests.proofs.tests.seats.scenes.played.Given as goal
 
-abbrev pub ghosts-book_after : goal.ghosts-book_after
-ghosts-book_after g a = record { name = a.blank.name; parts = a.blank.parts }
+abbrev pub ghosts-book_after-L-Ledger : goal.ghosts-book_after-L-Ledger
+ghosts-book_after-L-Ledger g a = record { name = a.blank.name; parts = a.blank.parts }
+
+-- the ledger stands for the networks of the book
+abbrev pub ghosts-book_after-L-BookLedger : goal.ghosts-book_after-L-BookLedger
+ghosts-book_after-L-BookLedger g a = record { networks = a.book.setting.networks }

@@ -9,9 +9,11 @@ use Rattle.cost_table.specs.Plan.{AllAllowed}
 use Rattle.cost_table.specs.Problem.{ProblemValue}
 use Rattle.cost_table.specs.Table.{Table}
 use Rattle.price_checker.specs.Snap.{IsInRange}
+use Rattle.commit_book.specs.Made.{IsMadeOf}
+use Rattle.commit_book.specs.declared.made_problem.MadeProblem.{MadeProblem}
 use Rattle.sessions.specs.Planning.{IsUnknownNetwork}
 use Rattle.sessions.proofs.SameTables.{columns}
-use Rattle.sessions.proofs.planning.work.Goals as goal
+use Rattle.sessions.proofs.planning.work_with_table.Goals as goal
 
 -- a network that is there has a known number
 known : (networks : List NetworkValue) (number : ℕ) (network : NetworkValue) → Some network ≡ network_at networks number → IsUnknownNetwork networks number → ⊥
@@ -25,10 +27,28 @@ in_range net problem t is [] allowed = All-nil (IsInRange problem)
 in_range net problem t is (p ∷ pairs) allowed =
     All-cons (IsInRange problem) p pairs (omega (arith, allowed.0.0, is.wagons), omega (arith, allowed.0.1, columns net problem t is)) (in_range net problem t is pairs allowed.1)
 
-pub returns-clause-in_range : goal.returns-clause-in_range
-returns-clause-in_range c =
-    in_range c.in-Some.tables.now c.args.snap.now.problem c.in_ok-cells.cells (rw (← c.problem.ensures) c.in_ok-cells.ensures.table) _ c.in_ok-plan.ensures.certificate.plan.allowed
+-- what is made of a problem has its table
+made_table : (net : NetworkValue) (number : ℕ) (problem : ProblemValue) (made : MadeProblem) → IsMadeOf net number problem made → IsTableOf net problem made.timed.cells
+made_table net number problem made h = h.lasts problem.at (omega arith) h.within
 
-pub returns-clause-network : goal.returns-clause-network
-returns-clause-network c =
+pub returns-in-Ok-clause-planned : goal.returns-in-Ok-clause-planned
+returns-in-Ok-clause-planned c = record {
+  network = c.in-Some.tables.now;
+  in_force = rw (← c.network.ensures) (sym c.in-Some.ensures);
+  table = c.in_ok-made.made.timed.cells;
+  is_table = rw (← c.problem.ensures) (made_table c.in-Some.tables.now _ c.problem.result.now c.in_ok-made.made c.in_ok-made.ensures);
+  certificate = rw c.cells.ensures at c.in-Ok.ensures.certificate;
+  optimal = rw c.cells.ensures at c.in-Ok.ensures.optimal;
+}
+
+pub returns-in-Ok-clause-in_range : goal.returns-in-Ok-clause-in_range
+returns-in-Ok-clause-in_range c =
+    in_range c.in-Some.tables.now c.args.snap.now.problem c.in_ok-made.made.timed.cells (rw (← c.problem.ensures) (made_table c.in-Some.tables.now _ c.problem.result.now c.in_ok-made.made c.in_ok-made.ensures)) _ (rw c.cells.ensures at c.in-Ok.ensures.certificate).plan.allowed
+
+pub returns-in-Ok-clause-network : goal.returns-in-Ok-clause-network
+returns-in-Ok-clause-network c =
+    (λ e. cc e, λ unknown. absurd (known c.args.networks.now c.network.result c.in-Some.tables.now c.in-Some.ensures (rw c.network.ensures unknown)))
+
+pub returns-in-Err-clause-network : goal.returns-in-Err-clause-network
+returns-in-Err-clause-network c =
     (λ e. cc e, λ unknown. absurd (known c.args.networks.now c.network.result c.in-Some.tables.now c.in-Some.ensures (rw c.network.ensures unknown)))
