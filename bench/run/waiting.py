@@ -62,7 +62,7 @@ def table(folder, orders):
 
 
 def ask(kind, k):
-    return line({"type": kind, "at": f"2026-03-03T00:00:{k % 60:02}Z"})
+    return line({"type": kind, "at": f"2026-03-03T00:{k // 60:02}:{k % 60:02}Z"})
 
 
 def asks(kind, lines):
