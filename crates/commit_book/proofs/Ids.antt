@@ -1,6 +1,7 @@
 -- What the index of the messages finds.
-use Rattle.std.proofs.Common.{◌≡◌, ◌∙◌, ℕ, zero, suc, ◌+◌, Bool, true, false, cond, List, [], ◌∷◌, ◌++◌, length, Option, Some, None, refl, sym, ap, arith, position, true≢false}
-use Rattle.std.specs.Prelude.{◌&&◌, IfNone, IfSome, nat_eq, slice_get}
+use Rattle.std.proofs.Common.{◌≡◌, ◌∙◌, ℕ, zero, suc, ◌+◌, Bool, true, false, cond, List, [], ◌∷◌, ◌++◌, length, Option, Some, None, Result, Ok, Err, refl, sym, ap, arith, position, true≢false}
+use Rattle.std.specs.Prelude.{◌&&◌, IfNone, IfOk, IfSome, OnErr, nat_eq, slice_get}
+use Rattle.std.specs.declared.alloc.AllocError.{AllocError}
 use Rattle.std.specs.Cmp.Lexicographic.{pointwise, bytes_decides}
 use Rattle.std.specs.List.{position_from}
 use Rattle.std.specs.Ordering.{is_eq}
@@ -13,7 +14,8 @@ use Rattle.move_messages.specs.declared.event.Event.{Event}
 use Rattle.move_messages.specs.declared.event.Event.TheVariants.{Message, Place, Withdraw, Commit, Revise}
 use Rattle.commit_book.specs.History.{IsFresh}
 use Rattle.commit_book.specs.inner.IdKey.{ids_tie}
-use Rattle.commit_book.specs.inner.Ledger.{HasNoted, IsIndexOf, IsMessageAt, IsNoMessage, compare_ids, is_id, is_message_of}
+use Rattle.commit_book.specs.inner.Ledger.{HasNoted, IsIndexOf, IsMessageAt, IsNoMessage, IsNoted, compare_ids, is_id, is_message_of}
+use Rattle.commit_book.specs.inner.MessageIds.{IsNotedUnless}
 
 -- ---- ids compared
 
@@ -172,3 +174,10 @@ is_found id events None h = tt
 pub is_new : (id : MessageId) (events : List Event) (o : Option ℕ) → o ≡ position (is_message_of id) events → IfNone o (IsFresh id events)
 is_new id events None h = fresh_by id events (sym h)
 is_new id events (Some index) h = tt
+
+-- what came of noting the index behind the events for an id
+pub noted_by : (events : List Event) (id : MessageId) (old new : MessageId → Option ℕ) (index : ℕ) (result : Result (Option ℕ) AllocError) → IsIndexOf events old → index ≡ length events
+    → IfOk result (λ known. IsNotedUnless known old new id index) → OnErr result (old id ≡ None) → OnErr result ((q : MessageId) → new q ≡ old q) → IsNoted events id result new
+noted_by events id old new index (Ok None) h behind noted fresh refused = index_noted events id old new h noted.0 (λ q. noted.1 q ∙ ap (λ (k : ℕ). cond (is_eq (compare_ids id q)) (Some k) (old q)) behind)
+noted_by events id old new index (Ok (Some known)) h behind noted fresh refused = (message_found id events known (sym (h id) ∙ noted.0), λ q. noted.1 q ∙ h q)
+noted_by events id old new index (Err error) h behind noted fresh refused = (fresh_by id events (sym (h id) ∙ fresh), λ q. refused q ∙ h q)

@@ -7,4 +7,5 @@ pub mod Kept
 pub mod Ledger
 pub mod MessageIds
 pub mod Noted
+pub mod NoteEntry
 pub mod KeptEvent

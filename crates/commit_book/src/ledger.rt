@@ -1,17 +1,17 @@
 //! The accepted events, and the office after them.
-ghost use Rattle.std.specs.Prelude.{◌≡◌, ◌<◌, ◌++◌, ◌∷◌, [], IfErr, IfNone, IfOk, IfSome, IsOk, IsSome, OnErr, OnOk, cond, length, option_map, slice_get, vec_capacity, vec_len};
+ghost use Rattle.std.specs.Prelude.{◌≡◌, ◌<◌, ◌++◌, ◌∷◌, [], IfErr, IfNone, Err, IfOk, IfSome, IsOk, None, OnErr, OnOk, Some, length, option_map, slice_get, vec_capacity, vec_len};
 ghost use Rattle.operating_db.specs.After.{after_call};
 ghost use Rattle.operating_db.specs.ApplyFault.{IsRefusal};
 ghost use Rattle.operating_db.specs.Steps.{IsPromised};
 ghost use Rattle.commit_book.specs.History.{IsFresh};
-ghost use Rattle.commit_book.specs.inner.Ledger.{IsAdmitted, IsIndexOf, IsMessageAt, IsMessageEntry, IsNoMessage, IsNoted, OnNoted, message_after, office_of, state_of};
+ghost use Rattle.commit_book.specs.inner.Ledger.{IsIndexOf, IsMessageAt, IsMessageEntry, IsNoMessage, IsNoted, message_after, office_of, state_of};
 ghost use Rattle.commit_book.specs.inner.MessageIds.{index_of};
 ghost use Rattle.rail_codes.specs.declared.message_id.MessageId.{MessageId};
 
 use crate::entry::{Entry, boxed};
 use crate::message_ids::MessageIds;
 use move_messages::{Event, Message};
-use operating_db::{ApplyFault, MessageChange, OfficeState};
+use operating_db::{ApplyFault, OfficeState};
 use rail_codes::MessageId;
 use std::alloc::{AllocError, Global};
 use std::marker::Model;
@@ -21,15 +21,6 @@ use std::marker::Model;
 pub(crate) enum MessageEntry {
     /// It is the last event now.
     Entered,
-    /// The event at this index is a message of its id.
-    Known(usize),
-}
-
-/// What came of a message that was to be noted.
-#[derive(Clone, Copy)]
-enum Admission {
-    /// It is noted behind the events, and this is what it changes.
-    Noted(MessageChange),
     /// The event at this index is a message of its id.
     Known(usize),
 }
@@ -115,14 +106,34 @@ impl Ledger {
     ) -> Result<MessageEntry, ApplyFault>
         ensures { IsMessageEntry self.old message.now result self.new }
     {
-        let found = match admit(&self.state, &mut self.ids, &mut self.events, message, index) {
-            Ok(Admission::Noted(found)) => found,
-            Ok(Admission::Known(index)) => return Ok(MessageEntry::Known(index)),
-            Err(fault) => return Err(fault),
+        // What it changes is some 150 bytes long, so it stays where it was made.
+        let found = match self.state.change_by(message, index) {
+            Ok(found) => found,
+            Err(fault) => return self.known_or_refused(message, fault),
         };
+        match note(&mut self.ids, &mut self.events, &message.id) {
+            Ok(None) => {}
+            Ok(Some(known)) => return Ok(MessageEntry::Known(known)),
+            Err(_) => return Err(ApplyFault::OutOfMemory),
+        }
         self.state.accept_change(message, &found);
         self.events.push_reserved(Entry::of_message(message));
         Ok(MessageEntry::Entered)
+    }
+
+    /// What comes of a message that the office refuses. No memory is asked for.
+    fn known_or_refused(
+        &self,
+        message: &Message,
+        fault: ApplyFault,
+    ) -> Result<MessageEntry, ApplyFault>
+        requires { message_after (state_of self.now) message.now ≡ Err fault }
+        ensures { IsMessageEntry self.now message.now result self.now }
+    {
+        match self.ids.index_of(&message.id) {
+            Some(known) => Ok(MessageEntry::Known(known)),
+            None => Err(fault),
+        }
     }
 
     /// Lets an event that is no message happen, as the last one; a commit must be possible. Refused as the office
@@ -172,38 +183,6 @@ fn make_room(state: &OfficeState, events: &mut Vec<Entry>, event: &Event) -> Res
     Ok(())
 }
 
-/// Notes a message that is possible, and whose id no event has, behind the events, and makes room for it there. Else gives
-/// the index of the event of its id, or refuses it as the office refuses it. Where the office does, no memory is asked
-/// for: map and list stay as they were. Where memory is refused, nothing is noted.
-fn admit(
-    state: &OfficeState,
-    ids: &mut MessageIds,
-    events: &mut Vec<Entry>,
-    message: &Message,
-    index: Option<usize>,
-) -> Result<Admission, ApplyFault>
-    requires { IsIndexOf events.old.items (index_of ids.old) }
-    ensures admitted { IsAdmitted state.now events.old.items message.now result (index_of ids.new) }
-    ensures events { events.new.items ≡ events.old.items }
-    ensures room { IfOk result (OnNoted (vec_len events.new < vec_capacity events.new)) }
-    ensures unasked { OnErr (message_after state.now message.now) ((ids.new ≡ ids.old) × (events.new ≡ events.old)) }
-{
-    let found = match state.change_by(message, index) {
-        Ok(found) => found,
-        Err(fault) => {
-            return match ids.index_of(&message.id) {
-                Some(known) => Ok(Admission::Known(known)),
-                None => Err(fault),
-            };
-        }
-    };
-    match note(ids, events, &message.id) {
-        Ok(None) => Ok(Admission::Noted(found)),
-        Ok(Some(known)) => Ok(Admission::Known(known)),
-        Err(_) => Err(ApplyFault::OutOfMemory),
-    }
-}
-
 /// Notes the index behind the events by the id of a message, and makes room for the message there; or, where an event
 /// is a message of this id, gives its index and notes nothing. Where memory is refused, no event is, and nothing is
 /// noted.
@@ -217,10 +196,30 @@ fn note(
     ensures events { events.new.items ≡ events.old.items }
     ensures room { IfOk result (λ known. IfNone known (vec_len events.new < vec_capacity events.new)) }
 {
+    if let Some(known) = known_where_full(ids, events, id)? {
+        return Ok(Some(known));
+    }
+    ids.note(*events.allocator(), id, events.len())
+}
+
+/// Makes room behind the events. Where there is none yet, and an event is a message of this id, gives its index, and asks for
+/// no memory. Where memory is refused, no event is.
+fn known_where_full(
+    ids: &MessageIds,
+    events: &mut Vec<Entry>,
+    id: &MessageId,
+) -> Result<Option<usize>, AllocError>
+    ensures known { IfOk result (λ known. IfSome known (λ index. index_of ids.now id.now ≡ Some index)) }
+    ensures refused { OnErr result (index_of ids.now id.now ≡ None) }
+    ensures events { events.new.items ≡ events.old.items }
+    ensures room { IfOk result (λ known. IfNone known (vec_len events.new < vec_capacity events.new)) }
+{
+    if events.len() < events.capacity() {
+        return Ok(None);
+    }
     if let Some(known) = ids.index_of(id) {
         return Ok(Some(known));
     }
     events.reserve(1)?;
-    ids.note(*events.allocator(), id, events.len())?;
     Ok(None)
 }

@@ -1,13 +1,12 @@
 //! For which event each id of a message is noted.
-ghost use Rattle.std.specs.Prelude.{◌≡◌, ◌&&◌, IfOk, None, OnErr, OnOk, Some, cond};
+ghost use Rattle.std.specs.Prelude.{◌≡◌, IfOk, None, OnErr};
 ghost use Rattle.std.specs.BTreeMap.{get};
-ghost use Rattle.std.specs.Ordering.{is_eq};
 ghost use Rattle.rail_codes.specs.declared.message_id.MessageId.{MessageId};
 ghost use Rattle.commit_book.specs.inner.Ledger.{compare_ids};
-ghost use Rattle.commit_book.specs.inner.MessageIds.{IsNotedFor, company_id, index_among, index_of, with_note};
+ghost use Rattle.commit_book.specs.inner.MessageIds.{AreEntered, IsNotedUnless, company_id, index_among, index_of};
 
 use crate::id_key::IdKey;
-use crate::rising_ids::{Noted, RisingIds};
+use crate::rising_ids::{NoteEntry, Noted, RisingIds};
 use rail_codes::MessageId;
 use std::alloc::{AllocError, Global};
 use std::collections::BTreeMap;
@@ -42,18 +41,45 @@ impl MessageIds {
         }
     }
 
-    /// Notes an index for an id for which none is noted. Where memory is refused, nothing is noted.
-    pub fn note(&mut self, alloc: Global, id: &MessageId, index: usize) -> Result<(), AllocError>
-        requires { index_of self.old id.now ≡ None }
-        ensures noted { OnOk result (IsNotedFor (index_of self.old) (index_of self.new) id.now index) }
+    /// Notes an index for an id, unless one is noted for it already: then that one is answered. Where memory is refused, none is
+    /// noted for it.
+    pub fn note(
+        &mut self,
+        alloc: Global,
+        id: &MessageId,
+        index: usize,
+    ) -> Result<Option<usize>, AllocError>
+        ensures noted { IfOk result (λ known. IsNotedUnless known (index_of self.old) (index_of self.new) id.now index) }
+        ensures fresh { OnErr result (index_of self.old id.now ≡ None) }
+        ensures refused { OnErr result ((other : MessageId) → index_of self.new other ≡ index_of self.old other) }
+    {
+        if self.others.get(&IdKey::of(*id)).is_some() {
+            return Ok(self.index_of(id));
+        }
+        self.note_other(alloc, id, index)
+    }
+
+    /// The same of an id that isn't among those out of order.
+    fn note_other(
+        &mut self,
+        alloc: Global,
+        id: &MessageId,
+        index: usize,
+    ) -> Result<Option<usize>, AllocError>
+        requires { get compare_ids self.old.others id.now ≡ None }
+        ensures noted { IfOk result (λ known. IsNotedUnless known (index_of self.old) (index_of self.new) id.now index) }
+        ensures fresh { OnErr result (index_of self.old id.now ≡ None) }
         ensures refused { OnErr result ((other : MessageId) → index_of self.new other ≡ index_of self.old other) }
     {
         let number = id.number;
-        if push(&mut self.rising, alloc, id, Noted { number, index })? {
-            return Ok(());
+        match enter(&mut self.rising, alloc, id, Noted { number, index })? {
+            NoteEntry::Entered => Ok(None),
+            NoteEntry::Within(Some(known)) => Ok(Some(known)),
+            NoteEntry::Within(None) => {
+                self.others.insert(IdKey::of(*id), index)?;
+                Ok(None)
+            }
         }
-        self.others.insert(IdKey::of(*id), index)?;
-        Ok(())
     }
 }
 
@@ -64,22 +90,23 @@ fn index_rising(rising: &BTreeMap<IdKey, RisingIds>, id: &MessageId) -> Option<u
     rising.get(&company_key(id))?.index_of(id.number)
 }
 
-/// Adds a note to those of an id's company, where its number is above theirs, and says whether it is.
-fn push(
+/// Enters a note of an id among those of its company, where its number is above theirs; else says what is noted for the id.
+fn enter(
     rising: &mut BTreeMap<IdKey, RisingIds>,
     alloc: Global,
     id: &MessageId,
     note: Noted,
-) -> Result<bool, AllocError>
-    ensures pushed { IfOk result (λ pushed. (other : MessageId) → get compare_ids rising.new other ≡ cond (pushed && is_eq (compare_ids (company_id id.now) other)) (Some (with_note (get compare_ids rising.old (company_id id.now)) note)) (get compare_ids rising.old other)) }
+) -> Result<NoteEntry, AllocError>
+    ensures entered { IfOk result (AreEntered (get compare_ids rising.old) (get compare_ids rising.new) id.now note) }
+    ensures fresh { OnErr result (index_among (get compare_ids rising.old (company_id id.now)) note.number ≡ None) }
     ensures refused { OnErr result ((other : MessageId) → get compare_ids rising.new other ≡ get compare_ids rising.old other) }
 {
     if let Some(of_company) = rising.get_mut(&company_key(id)) {
-        return of_company.push(note);
+        return of_company.enter(note);
     }
     let first = RisingIds::of(alloc, note)?;
     rising.insert(company_key(id), first)?;
-    Ok(true)
+    Ok(NoteEntry::Entered)
 }
 
 /// The id that stands for the company of one.

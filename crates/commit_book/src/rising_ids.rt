@@ -1,6 +1,7 @@
 //! The ids of one company's messages that came in ascending order.
-ghost use Rattle.std.specs.Prelude.{◌≡◌, ◌<◌, ◌++◌, ◌∷◌, [], All, IfOk, IsTrue, OnErr, if◌then◌else◌};
+ghost use Rattle.std.specs.Prelude.{◌≡◌, ◌<◌, ◌∷◌, [], All, IfOk, IsTrue, None, OnErr};
 ghost use Rattle.commit_book.specs.inner.Noted.{Ascend, index_at, index_in};
+ghost use Rattle.commit_book.specs.inner.NoteEntry.{IsNoteEntry};
 
 use std::alloc::{AllocError, Global};
 use std::marker::Model;
@@ -10,6 +11,15 @@ use std::marker::Model;
 pub(crate) struct Noted {
     pub(crate) number: u32,
     pub(crate) index: usize,
+}
+
+/// What came of a note that was to be entered.
+#[derive(Clone, Copy)]
+pub(crate) enum NoteEntry {
+    /// It is the last one now.
+    Entered,
+    /// Its number isn't above all others, and this is what is noted for it, if anything is.
+    Within(Option<usize>),
 }
 
 /// What is noted of one company's messages, ascending by the company's numbers for them. A contract sees the notes.
@@ -44,23 +54,20 @@ impl RisingIds {
     pub fn index_of(&self, number: u32) -> Option<usize>
         ensures { result ≡ index_in self.now number }
     {
-        // Mostly it is a new one.
-        if are_below(&self.notes, number) {
-            return None;
-        }
         index_at(&self.notes, place_of(&self.notes, number))
     }
 
-    /// Adds a note where its number is above all others, and says whether it is.
-    pub fn push(&mut self, note: Noted) -> Result<bool, AllocError>
-        ensures pushed { IfOk result (λ pushed. self.new ≡ (if pushed then self.old ++ note ∷ [] else self.old)) }
+    /// Enters a note, as the last one, where its number is above all others; else says what is noted for that number.
+    pub fn enter(&mut self, note: Noted) -> Result<NoteEntry, AllocError>
+        ensures entered { IfOk result (λ entry. IsNoteEntry self.old note entry self.new) }
+        ensures fresh { OnErr result (index_in self.old note.number ≡ None) }
         ensures refused { OnErr result (self.new ≡ self.old) }
     {
         if !are_below(&self.notes, note.number) {
-            return Ok(false);
+            return Ok(NoteEntry::Within(self.index_of(note.number)));
         }
         self.notes.push(note)?;
-        Ok(true)
+        Ok(NoteEntry::Entered)
     }
 }
 

@@ -8,15 +8,12 @@ use Rattle.rail_codes.specs.declared.message_id.MessageId.{MessageId}
 use Rattle.move_messages.specs.declared.message.Message as movement
 use Rattle.operating_db.specs.After.{after_call}
 use Rattle.operating_db.specs.ApplyFault.{IsRefusal}
-use Rattle.operating_db.specs.MessageChange.{IsChangeOf}
 use Rattle.operating_db.specs.Office.{Office}
 use Rattle.operating_db.specs.State.{StateValue}
 use Rattle.faults.specs.declared.faults.ApplyFault.{ApplyFault}
 use Rattle.move_messages.specs.declared.event.Event.{Event}
 use Rattle.move_messages.specs.declared.event.Event.TheVariants.{Message, Place, Withdraw, Commit, Revise}
 use Rattle.commit_book.specs.History.{IsFresh, after_all}
-use Rattle.commit_book.specs.declared.ledger.Admission.{Admission}
-use Rattle.commit_book.specs.declared.ledger.Admission.TheVariants as admission
 use Rattle.commit_book.specs.declared.ledger.MessageEntry.{MessageEntry}
 use Rattle.commit_book.specs.declared.ledger.MessageEntry.TheVariants.{Entered, Known}
 
@@ -89,19 +86,6 @@ abbrev pub IsNoted : List Event → MessageId → Result (Option ℕ) AllocError
 IsNoted events id (Ok None) ids = HasNoted events id ids
 IsNoted events id (Ok (Some index)) ids = IsMessageAt events id index × IsIndexOf events ids
 IsNoted events id (Err error) ids = IsFresh id events × IsIndexOf events ids
-
--- What came of noting a message in a state: it is possible and noted behind the events, and this is what it changes; or an
--- event is a message of its id; or it is refused. In the last two the map of ids is that of the events.
-abbrev pub IsAdmitted : StateValue → List Event → movement.Message → Result Admission ApplyFault → (ids : MessageId → Option ℕ) → Type 0
-IsAdmitted state events message (Ok (admission.Noted found)) ids =
-    IsOk (message_after state message) × IsChangeOf state.office message found × HasNoted events message.id ids
-IsAdmitted state events message (Ok (admission.Known index)) ids = IsMessageAt events message.id index × IsIndexOf events ids
-IsAdmitted state events message (Err fault) ids = IsFresh message.id events × IsIndexOf events ids × IsRefusal (message_after state message) fault
-
--- it holds where a message is noted
-abbrev pub OnNoted : Type 0 → Admission → Type 0
-OnNoted Holds (admission.Noted found) = Holds
-OnNoted Holds (admission.Known index) = Unit {0}
 
 -- what came of entering a message: it is the last event; or an event is a message of its id; or it is refused
 abbrev pub IsMessageEntry : (old : LedgerValue) → movement.Message → Result MessageEntry ApplyFault → (new : LedgerValue) → Type 0
