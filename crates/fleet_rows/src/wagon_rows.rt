@@ -116,10 +116,10 @@ impl WagonRows {
     }
 
     /// Puts a row in place of the one that its wagon has, which stands at this index.
-    pub fn put(&mut self, index: usize, row: WagonRow)
-        requires its_index { (old : WagonRow) × (slice_get self.old index ≡ Some old) × (old.number ≡ row.number) }
-        requires few_kg { row.load_limit ≤ max_load }
-        ensures { self.new ≡ at_wagon row.number (λ _. row) self.old }
+    pub fn put(&mut self, index: usize, row: &WagonRow)
+        requires its_index { (old : WagonRow) × (slice_get self.old index ≡ Some old) × (old.number ≡ row.now.number) }
+        requires few_kg { row.now.load_limit ≤ max_load }
+        ensures { self.new ≡ at_wagon row.now.number (λ _. row.now) self.old }
     {
         self.for_the_prover();
         self.set(index, row);
@@ -134,18 +134,18 @@ impl WagonRows {
                 promise,
                 ..self.rows[index]
             };
-            self.set(index, row);
+            self.set(index, &row);
         }
     }
 
     /// Sets the row at an index, with which the rows are still some that an office may have.
-    fn set(&mut self, index: usize, row: WagonRow)
+    fn set(&mut self, index: usize, row: &WagonRow)
         requires within { index < length self.old }
-        requires valid { IsWagonRows (slice_set self.old index row) }
-        ensures { self.new ≡ slice_set self.old index row }
+        requires valid { IsWagonRows (slice_set self.old index row.now) }
+        ensures { self.new ≡ slice_set self.old index row.now }
     {
-        let (was_free, now_free) = (is_free(&self.rows[index]), is_free(&row));
-        self.rows[index] = row;
+        let (was_free, now_free) = (is_free(&self.rows[index]), is_free(row));
+        self.rows[index] = *row;
         // Not even read where it stays: its neighbours are those of other wagons, which other processors may have changed.
         if was_free != now_free {
             self.are_free[index] = now_free;

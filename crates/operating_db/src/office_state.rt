@@ -361,7 +361,7 @@ impl OfficeState {
         ensures done { after_call self.old.networks self.old.office (event.Message message.now) ≡ Ok self.new.office }
         ensures networks { self.new.networks ≡ self.old.networks }
     {
-        self.wagons.put(found.index, found.change.row);
+        self.wagons.put(found.index, &found.change.row);
         let effect = found.change.effect;
         settle(&mut self.orders, effect, found.promise, message.wagon);
     }

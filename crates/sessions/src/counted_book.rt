@@ -79,14 +79,14 @@ impl<L: BookLedger> CountedBook<L> {
             total,
             rest: _,
         } = self;
-        let answer = book.message_near(message, index);
-        book.for_the_prover();
-        let reply = match answer {
-            Ok(reply) => reply,
-            Err(refusal) => return Err(refusal),
-        };
-        count(total, share, reply);
-        Ok(reply)
+        match book.message_near(message, index) {
+            Ok(reply) => {
+                book.for_the_prover();
+                count(total, share, reply);
+                Ok(reply)
+            }
+            Err(refusal) => Err(refusal),
+        }
     }
 
     /// What the call for an event is answered where no memory is to be had, which changes nothing.
