@@ -4,9 +4,9 @@
 committed.py PROGRAM FOLDER ROUNDS reads roster.csv and network.csv in FOLDER, and writes into it committed.jsonl: 270 orders
 that no plan serves, since a wagon that misses them costs less than the nearest one, and then so many rounds of 30 orders
 that are served, a plan line and a commit of that plan. Behind it the 30 orders are withdrawn, and a message of each of their
-wagons makes it ready at another moment. twice.jsonl is the same with each commit a second time, which is judged and then
-refused; uncommitted.jsonl is the same without plans and commits. last.jsonl has the lines before the last plan line, and
-standard output gets its moment: `wagons table` makes its table of them.
+wagons makes it ready at another moment. planned.jsonl is the same without commits: what changes between two plan lines is
+the same. uncommitted.jsonl has no plans either. last.jsonl has the lines before the last plan line, and standard output gets
+its moment: `wagons table` makes its table of them.
 """
 
 import csv
@@ -65,7 +65,7 @@ def main():
     places = {wagon["wagon"]: wagon["place"] for wagon in wagons}
     words = [program, "run", "--roster", f"{folder}/roster.csv", "--network", f"{folder}/network.csv"]
     office = subprocess.Popen(words, stdin=subprocess.PIPE, stdout=subprocess.PIPE, text=True)
-    scripts = {name: open(f"{folder}/{name}.jsonl", "w") for name in ("committed", "twice", "uncommitted")}
+    scripts = {name: open(f"{folder}/{name}.jsonl", "w") for name in ("committed", "planned", "uncommitted")}
 
     def write(lines, names=tuple(scripts)):
         for name in names:
@@ -89,8 +89,8 @@ def main():
             told += 1
             lines.append(freed(number, places[number], told))
         write(came)
-        write([plan, certificate], ("committed", "twice"))
-        write([certificate], ("twice",))
+        write([plan], ("committed", "planned"))
+        write([certificate], ("committed",))
         write(lines)
         before += [plan, certificate, *lines]
         lines = [certificate, *lines]
