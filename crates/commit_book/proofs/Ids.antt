@@ -163,10 +163,6 @@ index_noted events id old new h none noted =
     let fresh = fresh_by id events (sym (h id) ∙ none) in
     record { fresh = fresh; behind = λ m same. index_push events m old new (rw same fresh) h (λ q. rw same (noted q)) }
 
-pub none_by : (o : Option ℕ) → ((index : ℕ) → o ≡ Some index → ⊥) → o ≡ None
-none_by None h = refl
-none_by (Some index) h = absurd (h index refl)
-
 pub is_found : (id : MessageId) (events : List Event) (o : Option ℕ) → o ≡ position (is_message_of id) events → IfSome o (λ index. IsMessageAt events id index)
 is_found id events (Some index) h = message_found id events index (sym h)
 is_found id events None h = tt

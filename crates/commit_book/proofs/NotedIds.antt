@@ -153,10 +153,6 @@ or_there : (b : Bool) (index : ℕ) (was others : Option ℕ) → option_or (con
 or_there true index was others = refl
 or_there false index was others = refl
 
-pub none_of_both : (one other : Option ℕ) → one ≡ None → other ≡ None → option_or one other ≡ None
-none_of_both None other h g = g
-none_of_both (Some index) other h g = absurd cc
-
 -- an id whose note is pushed behind those of its company
 pub noted_rising : (rising now : MessageId → Option (List Noted)) (others : MessageId → Option ℕ) (id : MessageId) (note : Noted) → note.number ≡ id.number → index_by rising others id ≡ None
     → ((q : MessageId) → now q ≡ cond (is_eq (compare_ids (company_id id) q)) (Some (with_note (rising (company_id id)) note)) (rising q))
