@@ -211,6 +211,7 @@ fn known_where_full(
 ) -> Result<Option<usize>, AllocError>
     ensures known { IfOk result (λ known. IfSome known (λ index. index_of ids.now id.now ≡ Some index)) }
     ensures refused { OnErr result (index_of ids.now id.now ≡ None) }
+    ensures unasked { IfSome (index_of ids.now id.now) (λ _. events.new ≡ events.old) }
     ensures events { events.new.items ≡ events.old.items }
     ensures room { IfOk result (λ known. IfNone known (vec_len events.new < vec_capacity events.new)) }
 {
