@@ -10,4 +10,5 @@ pub mod Relaxing
 pub mod Searching
 pub mod Sharing
 pub mod Totals
+pub mod Turning
 pub mod Walks

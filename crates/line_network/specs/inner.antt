@@ -5,4 +5,5 @@ pub mod Search
 pub mod Shares
 pub mod Starts
 pub mod Steps
+pub mod Turned
 pub mod Turns

@@ -11,7 +11,8 @@ use std::marker::Model;
 /// The distances between the places of a network, which is kept with them. A contract sees the network.
 pub struct Tables {
     pub(crate) network: Network,
-    // by the number of the place where a walk begins, then by that of the place where it ends
+    // by the number of the place where a walk ends, then by that of the place where it begins: what many wagons have to one
+    // order lies side by side
     pub(crate) rows: Vec<Vec<Length>>,
 }
 
@@ -30,12 +31,13 @@ impl Model for Tables {
     ghost use Rattle.line_network.specs.Network.{NetworkValue};
     ghost use Rattle.line_network.specs.NetworkLimits.{max_places};
     ghost use Rattle.line_network.specs.inner.Rows.{AreRows};
+    ghost use Rattle.line_network.specs.inner.Turned.{turned_lines};
 
     ghost Value = { NetworkValue };
 
     ghost view = { λ tables. tables.network };
 
-    ghost invariant = { λ tables. (length tables.network.places ≤ max_places) × AreRows tables.network.lines (length tables.network.places) tables.rows.items };
+    ghost invariant = { λ tables. (length tables.network.places ≤ max_places) × AreRows (turned_lines tables.network.lines) (length tables.network.places) tables.rows.items };
 }
 
 impl Tables {
@@ -66,6 +68,6 @@ impl Tables {
         ensures meaning { AreNumbersAnswered self.now from to result }
         ensures limit { IfSome result (λ d. (d.0 ≤ max_distance) × (d.1 ≤ max_distance)) }
     {
-        self.rows[from][to].pair()
+        self.rows[to][from].pair()
     }
 }

@@ -1,8 +1,8 @@
-//! What each origin passes before its work.
+//! What a worker passes before the work of each place.
 
-/// What a worker passes before the work of each origin, once for each.
+/// What a worker passes before it searches the walks to each place, once for each.
 pub trait Gate {
-    /// Is called with the origin's number, in the worker's thread.
+    /// Is called with the place's number, in the worker's thread.
     fn enter(&self, origin: usize);
 }
 

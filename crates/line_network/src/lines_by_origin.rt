@@ -3,12 +3,13 @@ ghost use Rattle.std.specs.Prelude.{◌≡◌, ◌+◌, ◌^◌, ◌<◌, IfOk, 
 ghost use Rattle.std.specs.List.Sorted.{IsPermutation, IsNonDecreasingBy};
 ghost use Rattle.line_network.specs.inner.Starts.{AreStarts};
 ghost use Rattle.line_network.specs.inner.Steps.{step_along, IsStepFrom};
+ghost use Rattle.line_network.specs.inner.Turned.{turned_lines};
 
 use crate::Line;
 use crate::step::Step;
 use std::alloc::{AllocError, Global};
 
-/// The lines of a network in one list, those from each place side by side.
+/// Lines in one list, those from each place side by side.
 #[derive(Drop)]
 pub(crate) struct LinesByOrigin {
     lines: Vec<Line>,
@@ -24,14 +25,13 @@ impl LinesByOrigin {
     /// Puts the lines in the order of their origins.
     pub(crate) fn new(
         alloc: Global,
-        lines: &[Line],
+        mut lines: Vec<Line>,
         places: usize,
     ) -> Result<LinesByOrigin, AllocError>
         requires { places < 2 ^ 32 }
-        ensures lines { IfOk result (λ by. IsPermutation lines.now by.lines.items) }
+        ensures lines { IfOk result (λ by. IsPermutation lines.items by.lines.items) }
         ensures places { IfOk result (λ by. vec_len by.starts ≡ places + 1) }
     {
-        let mut lines = Vec::from_slice(alloc, lines)?;
         lines.sort_by_key(|line| line.from)?;
         let starts = starts_of(alloc, &lines, places)?;
         let steps = steps_of(alloc, &lines)?;
@@ -52,6 +52,17 @@ impl LinesByOrigin {
         let end = self.starts[place + 1];
         &self.steps[start..end]
     }
+}
+
+/// The lines turned round.
+pub(crate) fn turned_lines(alloc: Global, lines: &[Line]) -> Result<Vec<Line>, AllocError>
+    ensures { IfOk result (λ turned. turned.items ≡ turned_lines lines.now) }
+{
+    let mut turned = Vec::with_capacity(alloc, lines.len())?;
+    for line in lines {
+        turned.push(line.back())?;
+    }
+    Ok(turned)
 }
 
 /// For each place and for the number behind the last, how many lines begin at an earlier place.

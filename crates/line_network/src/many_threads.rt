@@ -5,7 +5,7 @@ ghost use Rattle.line_network.specs.inner.Rows.{AreRows};
 ghost use Rattle.line_network.specs.inner.Shares.{AreShares, IsShare, IsWork, put_rows, share_of};
 
 use crate::length::Length;
-use crate::lines_by_origin::LinesByOrigin;
+use crate::lines_by_origin::{LinesByOrigin, turned_lines};
 use crate::share::{Answer, OriginRow, Share, Work};
 use crate::{Gate, Network, Tables, WorkFault};
 use std::alloc::{AllocError, Global};
@@ -20,7 +20,7 @@ pub const MAX_WORKERS: usize = 64;
 type Running<'a> = PromisedHandle<Answer, Share<'a>>;
 
 /// The distances between the places of a network, made by 1 to 64 workers, each in a thread of its own: the
-/// tables that `tables` makes. The origin of number k goes to worker k mod `workers`, which calls
+/// tables that `tables` makes. The walks to the place of number k go to worker k mod `workers`, which calls
 /// `gate.enter(k)` once before its work.
 ///
 /// Refused with `BadWorkerCount` (45) exactly where `workers` is not 1 to 64; else with `NoThread` (46) where no
@@ -40,7 +40,7 @@ pub fn tables_by_workers<R: Threads + Wait, G: Gate + Sync>(
         return Err(WorkFault::BadWorkerCount);
     }
     let places = net.places();
-    let lines = LinesByOrigin::new(alloc, net.lines(), places)?;
+    let lines = LinesByOrigin::new(alloc, turned_lines(alloc, net.lines())?, places)?;
     let answers = answers_of_workers(rt, alloc, &lines, places, workers, gate)?;
     let work = Work {
         lines: &lines,

@@ -4,17 +4,18 @@ ghost use Rattle.line_network.specs.NetworkLimits.{IsLine, max_places};
 ghost use Rattle.line_network.specs.inner.Rows.{AreRows};
 
 use crate::length::Length;
-use crate::lines_by_origin::LinesByOrigin;
+use crate::lines_by_origin::{LinesByOrigin, turned_lines};
 use crate::search::row_of_origin;
 use crate::{Network, Tables};
 use std::alloc::{AllocError, Global};
 
-/// The distances between the places of a network.
+/// The distances between the places of a network. The lines are turned round, since the tables have the walks to
+/// a place side by side.
 pub fn tables(alloc: Global, net: &Network) -> Result<Tables, AllocError>
     ensures { IfOk result (λ tables. tables ≡ net.now) }
 {
     let places = net.places();
-    let lines = LinesByOrigin::new(alloc, net.lines(), places)?;
+    let lines = LinesByOrigin::new(alloc, turned_lines(alloc, net.lines())?, places)?;
     let rows = rows_of_origins(alloc, &lines, places)?;
     let network = net.copy(alloc)?;
     Ok(Tables { network, rows })

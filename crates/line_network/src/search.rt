@@ -1,4 +1,4 @@
-//! The search for the distances from one place.
+//! The search for the distances from one place. Over lines that are turned round they are the distances to it.
 //!
 //! A place waits each time its label falls, and one whose turn comes has its lines relaxed if its label is
 //! still the one that it waited with. No order of the turns is needed for the answer; the heap's order makes

@@ -9,14 +9,14 @@ use crate::search::row_of_origin;
 use std::alloc::{AllocError, Global};
 use std::thread::Promise;
 
-/// The labels of the distances from one place, with its number.
+/// The labels of the distances from one place over the lines of the work, with its number.
 #[derive(Drop)]
 pub(crate) struct OriginRow {
     pub(crate) origin: usize,
     pub(crate) row: Vec<Length>,
 }
 
-/// What all workers do together: the lines, between so many places, and how many workers there are.
+/// What all workers do together: the lines that they search, between so many places, and how many workers there are.
 #[derive(Clone, Copy)]
 pub(crate) struct Work<'a> {
     pub(crate) lines: &'a LinesByOrigin,
