@@ -6,7 +6,7 @@ ghost use Rattle.assignment.specs.inner.Costs.{AreColumns, AreColumnsOf, AreFull
 ghost use Rattle.assignment.specs.inner.Groups.{AreGroups, AreFirst, group_table};
 
 use crate::groups::Groups;
-use cost_table::Cells;
+use cost_table::{Cells, room_for};
 use std::alloc::{AllocError, Global};
 
 /// Stands for a cell that isn't there. With a group's price and a distance, each at most 1,000,000,000, it stays below
@@ -30,7 +30,8 @@ impl Columns {
     {
         let first = &groups.first;
         let (orders, count) = (cells.orders(), first.len());
-        let mut costs = Vec::from_elem(alloc, NO_CELL, orders * count)?;
+        let mut costs = Vec::with_capacity(alloc, room_for(orders * count))?;
+        costs.resize(orders * count, NO_CELL)?;
         let mut v = penalties(alloc, cells)?;
         let mut nearest = Vec::from_elem(alloc, 0, orders)?;
         let mut g = 0;

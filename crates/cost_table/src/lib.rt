@@ -20,6 +20,6 @@ pub use pair_names::PairNames;
 pub use plan::Plan;
 pub use plan_cost::cost;
 pub use problem::Problem;
-pub use row_block::RowBlock;
+pub use row_block::{RowBlock, room_for};
 pub use table_cells::Cells;
 pub use table_rows::TableRows;

@@ -70,8 +70,24 @@ impl RowBlock {
         ensures pushed { OnOk result (self.new ≡ self.old ++ row.now ∷ []) }
         ensures kept { OnErr result (self.new ≡ self.old) }
     {
+        self.push_parts(row, &[])
+    }
+
+    /// Appends one row, whose first cells and other cells stand in two places. `Err` only when out of memory; then there are
+    /// the same rows.
+    pub(crate) fn push_parts(
+        &mut self,
+        first: &[(u32, u32)],
+        rest: &[(u32, u32)],
+    ) -> Result<(), AllocError>
+        ensures pushed { OnOk result (self.new ≡ self.old ++ (first.now ++ rest.now) ∷ []) }
+        ensures kept { OnErr result (self.new ≡ self.old) }
+    {
         self.ends.reserve(1)?;
-        self.entries.extend_from_slice(row)?;
+        self.entries
+            .reserve(first.len().saturating_add(rest.len()))?;
+        self.entries.extend_from_slice(first)?;
+        self.entries.extend_from_slice(rest)?;
         self.ends.push_reserved(self.entries.len());
         Ok(())
     }
@@ -96,6 +112,17 @@ impl RowBlock {
     {
         row_of(&self.entries, &self.ends, i)
     }
+}
+
+/// How many elements one room has.
+const ROOM: usize = 8_192;
+
+/// Whole rooms for so many elements. So lists of nearly one length take as much memory, and what one of them leaves is
+/// found for the next.
+pub fn room_for(count: usize) -> usize
+    ensures { count ≤ result }
+{
+    (count / ROOM).saturating_add(1).saturating_mul(ROOM)
 }
 
 /// Where row `i` begins.

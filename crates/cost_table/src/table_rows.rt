@@ -1,8 +1,8 @@
 //! The rows of a table, some of which it may share with other tables.
-ghost use Rattle.std.specs.Prelude.{◌≡◌, ◌+◌, ◌<◌, [], IfOk, IsTrue, OnErr, OnOk, length, replicate, slice_index_or};
+ghost use Rattle.std.specs.Prelude.{◌≡◌, ◌+◌, ◌<◌, ◌++◌, [], IfOk, IsTrue, OnErr, OnOk, length, replicate, slice_index_or};
 ghost use Rattle.cost_table.specs.SharedRows.{HasIndices, AreIndices, HasRowMore, HasSameRows, are_scattered, row_among, rows_among, rows_in};
 
-use crate::row_block::RowBlock;
+use crate::row_block::{RowBlock, room_for};
 use std::alloc::{AllocError, Global};
 use std::sync::Arc;
 
@@ -70,7 +70,7 @@ impl TableRows {
         let cells = other.shared.cells().saturating_add(other.own.cells());
         Ok(TableRows {
             shared: Arc::new(alloc, RowBlock::new(alloc))?,
-            own: RowBlock::with_room(alloc, count, cells.saturating_add(cells / 8))?,
+            own: RowBlock::with_room(alloc, count, room_for(cells.saturating_add(cells / 8)))?,
             indices: Vec::with_capacity(alloc, count)?,
         })
     }
@@ -119,9 +119,23 @@ impl TableRows {
         ensures pushed { OnOk result (HasRowMore self.old self.new row.now) }
         ensures kept { OnErr result (HasSameRows self.old self.new) }
     {
+        self.push_parts(row, &[])
+    }
+
+    /// Appends one row, whose first cells and other cells stand in two places. `Err` only when out of memory; then there are
+    /// the same rows.
+    pub fn push_parts(
+        &mut self,
+        first: &[(u32, u32)],
+        rest: &[(u32, u32)],
+    ) -> Result<(), AllocError>
+        requires { HasIndices self.old }
+        ensures pushed { OnOk result (HasRowMore self.old self.new (first.now ++ rest.now)) }
+        ensures kept { OnErr result (HasSameRows self.old self.new) }
+    {
         let index = self.shared.len() + self.own.len();
         self.indices.reserve(1)?;
-        self.own.push(row)?;
+        self.own.push_parts(first, rest)?;
         self.indices.push_reserved(index);
         Ok(())
     }
