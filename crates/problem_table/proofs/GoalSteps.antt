@@ -1,10 +1,8 @@
 -- How the row of a wagon grows, goal by goal.
-use Rattle.std.proofs.Common.{◌≡◌, ◌∙◌, ◌+◌, ◌≤◌, ◌<◌, ℕ, Option, Some, None, List, [], ◌∷◌, ◌++◌, length, get_or, drop, refl, sym, ap, subst, inl, inr, arith, append-nil, append_assoc}
-use Rattle.std.specs.Prelude.{◌↔◌, All, IfSome}
+use Rattle.std.proofs.Common.{◌≡◌, ◌∙◌, ◌+◌, ◌≤◌, ◌<◌, ℕ, Option, Some, None, List, [], ◌∷◌, ◌++◌, length, get_or, drop, refl, sym, ap, subst, arith, append-nil, append_assoc}
+use Rattle.std.specs.Prelude.{◌↔◌, IfSome}
 use Rattle.std.specs.Option.{option_to_list}
-use Rattle.std.proofs.lemmas.Bool.{cases_lt}
-use Rattle.std.proofs.lemmas.List.Elements.{All-cons, All-nil}
-use Rattle.std.proofs.lemmas.List.{drop_more, get_or_append_left, get_or_default, get_or_push, length-append}
+use Rattle.std.proofs.lemmas.List.{drop_more, length-append}
 use Rattle.wagons_and_orders.specs.declared.free_wagon.FreeWagon.{FreeWagon}
 use Rattle.wagons_and_orders.specs.Wanted.{WantedOrder}
 use Rattle.line_network.specs.Network.{NetworkValue}
@@ -12,7 +10,7 @@ use Rattle.cost_table.specs.TableLimits.{max_cost}
 use Rattle.problem_table.specs.Allowed.{Reaches}
 use Rattle.problem_table.specs.declared.goals.Goal.{Goal}
 use Rattle.problem_table.specs.inner.AllowedRows.{AddsRow}
-use Rattle.problem_table.specs.inner.Goals.{IsReadFrom, goal_of, goals_from, goals_of}
+use Rattle.problem_table.specs.inner.Goals.{goal_of, goals_from, goals_of}
 use Rattle.problem_table.specs.inner.RowsSoFar.{RowSoFar}
 use Rattle.problem_table.proofs.AllowedLemmas.{AddsRow-start, AddsRow-next, cell_of}
 use Rattle.problem_table.proofs.GoalLemmas.{next_goal, goal_within, unreached}
@@ -64,28 +62,3 @@ module _ (net : NetworkValue) (at : ℕ) (wagon : FreeWagon) where
   row_end orders left old now none h =
       subst (λ (os : List WantedOrder). AddsRow (λ wanted. Reaches net at wagon wanted.order) os old now) h.all
       (over_gap h.before h.later old now (sym h.left_is ∙ none) h.row)
-
--- the goals of some orders are at places of the network
-goals_within : (net : NetworkValue) (wagon : FreeWagon) (j : ℕ) (orders : List WantedOrder) → All (λ (goal : Goal). goal.place < length net.places) (goals_from net wagon.class j orders)
-goals_within net wagon j [] = All-nil (λ (goal : Goal). goal.place < length net.places)
-goals_within net wagon j (w ∷ ws) = by (goal_of net wagon.class j w) refl (goals_within net wagon (j + 1) ws) where
-  by : (o : Option Goal) → goal_of net wagon.class j w ≡ o → All (λ (goal : Goal). goal.place < length net.places) (goals_from net wagon.class (j + 1) ws) → All (λ (goal : Goal). goal.place < length net.places) (option_to_list o ++ goals_from net wagon.class (j + 1) ws)
-  by None e rest = rest
-  by (Some goal) e rest = All-cons (λ (one : Goal). one.place < length net.places) goal (goals_from net wagon.class (j + 1) ws) (goal_within net 0 wagon j w goal (sym e)) rest
-
--- the goals that are left are at places of the network
-pub left_within : (net : NetworkValue) (at : ℕ) (wagon : FreeWagon) (orders : List WantedOrder) (left : List Goal) (old now : List (ℕ × ℕ)) → RowSoFar net at wagon orders left old now → All (λ (goal : Goal). goal.place < length net.places) left
-left_within net at wagon orders left old now h = subst (All (λ (goal : Goal). goal.place < length net.places)) (sym h.left_is) (goals_within net wagon (length h.before) h.later)
-
--- one distance more is read
-pub read_more : (net : NetworkValue) (from : Option ℕ) (goals : List Goal) (k : ℕ) (goal : Goal) (read : Option (ℕ × ℕ)) (distances new : List (Option (ℕ × ℕ))) → k < length goals → goal ≡ get_or goals k goal → IsReadFrom net from goal read
-    → length distances ≡ k → ((i : ℕ) (one : Goal) → i < k → one ≡ get_or goals i one → IsReadFrom net from one (get_or distances i None)) → new ≡ distances ++ read ∷ []
-    → (i : ℕ) (one : Goal) → i < k + 1 → one ≡ get_or goals i one → IsReadFrom net from one (get_or new i None)
-read_more net from goals k goal read distances new within is here count each added i one l at = elim (cases_lt i k) [
-  | inl before ↦ subst (λ (d : Option (ℕ × ℕ)). IsReadFrom net from one d) (sym (ap (λ (ds : List (Option (ℕ × ℕ))). get_or ds i None) added ∙ get_or_append_left distances (read ∷ []) None i (omega (arith, before, count)))) (each i one before at)
-  | inr not_before ↦
-      let last : i ≡ k = omega (arith, l, not_before) in
-      let same : one ≡ goal = at ∙ (get_or_default goals i one goal (omega (arith, last, within)) ∙ (ap (λ (n : ℕ). get_or goals n goal) last ∙ sym is)) in
-      subst (λ (d : Option (ℕ × ℕ)). IsReadFrom net from one d) (sym (ap (λ (ds : List (Option (ℕ × ℕ))). get_or ds i None) added ∙ get_or_push distances read None i (omega (arith, last, count))))
-      (subst (λ (g : Goal). IsReadFrom net from g read) (sym same) here)
-]

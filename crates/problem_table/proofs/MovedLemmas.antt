@@ -1,7 +1,7 @@
 -- Rows whose cells go along with their orders.
 use Rattle.std.proofs.Common.{◌≡◌, ◌+◌, ◌<◌, ◌≤◌, ◌∙◌, ℕ, Bool, true, false, cond, Option, Some, inl, inr, List, [], ◌∷◌, ◌++◌, length, get_or, take, drop, refl, sym, ap, subst, arith, append_assoc, length-drop, length-take-le, ◌-◌, zero, suc}
 use Rattle.std.specs.Prelude.{◌↔◌, ◌==◌, nat_lt, All, slice_get}
-use Rattle.std.proofs.lemmas.List.{take-append-drop, take_all}
+use Rattle.std.proofs.lemmas.List.{drop_all, drop_more, take-append-drop, take_all}
 use Rattle.std.proofs.lemmas.List.Elements.{All-cons, All-drop, All-head, All-nil, All-tail, filter_map-append}
 use Rattle.std.proofs.lemmas.Bool.{cases_lt}
 use Rattle.std.proofs.lemmas.Bool.Decides.{nat_tests}
@@ -118,11 +118,43 @@ cells_within count low [] h k d l = absurd (omega arith)
 cells_within count low (cell ∷ row) h zero d l = h.1
 cells_within count low (cell ∷ row) h (suc k) d l = cells_within count (cell.0 + 1) row h.3 k d (omega arith)
 
-rest_of : (first : ℕ) (row : List (ℕ × ℕ)) → take (length row - first) (drop first row) ≡ drop first row
+pub rest_of : (first : ℕ) (row : List (ℕ × ℕ)) → take (length row - first) (drop first row) ≡ drop first row
 rest_of first row = take_all (length row - first) (drop first row) (omega (arith, length-drop first row))
 
 pub later_within : (count : ℕ) (row : List (ℕ × ℕ)) (first : ℕ) → IsRow count 0 row → All (λ (cell : ℕ × ℕ). cell.0 < count) (take (length row - first) (drop first row))
 later_within count row first h = rw (rest_of first row) (All-drop (λ (cell : ℕ × ℕ). cell.0 < count) first row (cells_within count 0 row h))
+
+-- the cells behind the last one, and one cell more before those that are behind
+pub behind_none : (steady : ℕ) (row : List (ℕ × ℕ)) (k : ℕ) → length row ≤ k → All (λ (cell : ℕ × ℕ). steady ≤ cell.0) (drop k row)
+behind_none steady row k past = subst (All (λ (cell : ℕ × ℕ). steady ≤ cell.0)) (sym (drop_all k row past)) (All-nil (λ (cell : ℕ × ℕ). steady ≤ cell.0))
+
+pub one_behind : (steady : ℕ) (row : List (ℕ × ℕ)) (later : ℕ) (d : ℕ × ℕ) → later < length row → steady ≤ (get_or row (length row - later - 1) d).0 → All (λ (cell : ℕ × ℕ). steady ≤ cell.0) (drop (length row - later) row) → All (λ (cell : ℕ × ℕ). steady ≤ cell.0) (drop (length row - (later + 1)) row)
+one_behind steady row later d within here h =
+    let k = length row - later - 1 in
+    let next : k + 1 ≡ length row - later = omega (arith, within) in
+    let same : length row - (later + 1) ≡ k = omega (arith, within) in
+    subst (λ (n : ℕ). All (λ (cell : ℕ × ℕ). steady ≤ cell.0) (drop n row)) (sym same)
+    (subst (All (λ (cell : ℕ × ℕ). steady ≤ cell.0)) (sym (drop_more row k d (omega (arith, within))))
+    (All-cons (λ (cell : ℕ × ℕ). steady ≤ cell.0) (get_or row k d) (drop (k + 1) row) here (subst (λ (n : ℕ). All (λ (cell : ℕ × ℕ). steady ≤ cell.0) (drop n row)) (sym next) h)))
+
+-- where each order that stays stands where it stood, no order behind those stays
+none_stays : (earlier orders : List WantedOrder) (positions : List ℕ) (kept steady : ℕ) → AreMoved earlier orders positions kept → AreSteady positions kept steady → kept ≤ steady → (i : ℕ) → steady ≤ i → i < length positions → kept ≤ get_or positions i 0
+none_stays earlier orders positions kept steady are h all i behind within = elim (cases_lt (get_or positions i 0) kept) [
+  | inl stays ↦
+      let place = get_or positions i 0 in
+      let at = h place (omega (arith, stays, all)) in
+      let less = are.ascend place i (omega (arith, stays, all, behind)) (omega (arith, within, are.count)) (omega (arith, at.0, stays)) stays in
+      absurd (omega (arith, less, at.0))
+  | inr gone ↦ gone
+]
+
+-- then no cell of theirs stays either
+pub none_later : (earlier orders : List WantedOrder) (positions : List ℕ) (kept steady : ℕ) → AreMoved earlier orders positions kept → AreSteady positions kept steady → kept ≤ steady → (row : List (ℕ × ℕ))
+    → All (λ (cell : ℕ × ℕ). steady ≤ cell.0) row → All (λ (cell : ℕ × ℕ). cell.0 < length positions) row → moved_cells positions kept row ≡ []
+none_later earlier orders positions kept steady are h all [] behind within = refl
+none_later earlier orders positions kept steady are h all (cell ∷ row) behind within =
+    let here = none_stays earlier orders positions kept steady are h all cell.0 (All-head (λ (one : ℕ × ℕ). steady ≤ one.0) cell row behind) (All-head (λ (one : ℕ × ℕ). one.0 < length positions) cell row within) in
+    goes positions kept cell row here ∙ none_later earlier orders positions kept steady are h all row (All-tail (λ (one : ℕ × ℕ). steady ≤ one.0) cell row behind) (All-tail (λ (one : ℕ × ℕ). one.0 < length positions) cell row within)
 
 -- a row whose first cells stay as they are
 pub steady_first : (positions : List ℕ) (kept steady : ℕ) (row : List (ℕ × ℕ)) (first : ℕ) (old now new : List (ℕ × ℕ)) → AreSteady positions kept steady → All (λ (cell : ℕ × ℕ). cell.0 < steady) (take first row)

@@ -1,10 +1,10 @@
 //! The table of a problem over a network.
-ghost use Rattle.std.specs.Prelude.{◌≡◌, ◌+◌, ◌*◌, ◌<◌, ◌≤◌, [], ℕ, All, IfNone, IfOk, IfSome, OnOk, Option, Some, length, max};
+ghost use Rattle.std.specs.Prelude.{◌≡◌, ◌+◌, ◌*◌, ◌<◌, ◌≤◌, ◌++◌, [], ℕ, IfNone, IfOk, IfSome, length, max};
 ghost use Rattle.line_network.specs.Network.{place_index};
 ghost use Rattle.problem_table.specs.Allowed.{IsTableOf};
 ghost use Rattle.problem_table.specs.Lasting.{IsLastingTable, IsTableUntil};
 ghost use Rattle.problem_table.specs.inner.AllowedRows.{AreLastingRows, IsLastingRow};
-ghost use Rattle.problem_table.specs.inner.Goals.{AreReadFrom, IsReadFrom, IsWayTo, goals_of};
+ghost use Rattle.problem_table.specs.inner.Goals.{IsWayTo, goals_of};
 ghost use Rattle.problem_table.specs.inner.RowsSoFar.{RowSoFar};
 ghost use Rattle.cost_table.specs.SharedRows.{HasIndices, rows_in};
 ghost use Rattle.cost_table.specs.TableLimits.{max_cost};
@@ -67,10 +67,9 @@ fn rows(
 }
 
 /// Adds the row of one wagon to no entries, by the goals of its class, and says up to which moment it is that row. The
-/// number of the wagon's place is handed in, and room for distances.
+/// number of the wagon's place is handed in.
 pub(crate) fn push_row(
     entries: &mut Vec<(u32, u32)>,
-    distances: &mut Vec<Option<(u32, u32)>>,
     problem: &Problem,
     wagon: &FreeWagon,
     from: Option<usize>,
@@ -85,23 +84,14 @@ pub(crate) fn push_row(
 {
     // A moment is below the greatest number.
     problem.at().for_the_prover();
-    push_goals(
-        entries,
-        distances,
-        problem,
-        wagon,
-        from,
-        goals,
-        tables,
-        u64::MAX,
-    )
+    push_goals(&[], entries, problem, wagon, from, goals, tables, u64::MAX)
 }
 
 /// Goes on with the row of one wagon, which is known up to a last moment, by the goals of later orders, and says up to which
-/// moment it is that row.
+/// moment it is that row. The row begins with cells that stand elsewhere; they are for the prover alone.
 pub(crate) fn push_goals(
+    _first: &[(u32, u32)],
     entries: &mut Vec<(u32, u32)>,
-    distances: &mut Vec<Option<(u32, u32)>>,
     problem: &Problem,
     wagon: &FreeWagon,
     from: Option<usize>,
@@ -111,50 +101,20 @@ pub(crate) fn push_goals(
 ) -> Result<u64, AllocError>
     requires from { from ≡ place_index tables.now.places wagon.now.place }
     requires within { problem.now.at ≤ until }
-    requires so_far { (m : ℕ) → problem.now.at ≤ m → m ≤ until → RowSoFar tables.now m wagon.now problem.now.orders goals.now [] entries.old.items }
-    ensures row { IfOk result (λ last. IsLastingRow tables.now problem.now.at wagon.now problem.now.orders entries.new.items last) }
+    requires so_far { (m : ℕ) → problem.now.at ≤ m → m ≤ until → RowSoFar tables.now m wagon.now problem.now.orders goals.now [] (_first.now ++ entries.old.items) }
+    ensures row { IfOk result (λ last. IsLastingRow tables.now problem.now.at wagon.now problem.now.orders (_first.now ++ entries.new.items) last) }
     ensures within { IfOk result (λ last. problem.now.at ≤ last) }
 {
     let at = problem.at();
     let mut last = until;
-    read_distances(distances, tables, from, goals)?;
     entries.reserve(goals.len())?;
-    for (k, goal) in goals.iter().enumerate() {
-        if let Some(way) = way_to(tables, from, distances[k], *goal, at, wagon) {
+    for goal in goals {
+        if let Some(way) = way_to(tables, from, *goal, at, wagon) {
             entries.push_reserved((goal.order, way.km));
             last = last.min(way.last_start);
         }
     }
     Ok(last)
-}
-
-/// Reads the distances from the place of a number to the goals. They are read before any is used, so that the processor waits
-/// for several at once: a table of distances is mostly too large for its caches.
-fn read_distances(
-    distances: &mut Vec<Option<(u32, u32)>>,
-    tables: &Tables,
-    from: Option<usize>,
-    goals: &[Goal],
-) -> Result<(), AllocError>
-    requires from { IfSome from (λ number. number < length tables.now.places) }
-    requires goals { All (λ goal. goal.place < length tables.now.places) goals.now }
-    ensures { OnOk result (AreReadFrom tables.now from goals.now distances.new.items) }
-{
-    distances.clear();
-    distances.reserve(goals.len())?;
-    for goal in goals {
-        distances.push_reserved(distance_to(tables, from, *goal));
-    }
-    Ok(())
-}
-
-/// The distance from the place of a number to a goal.
-fn distance_to(tables: &Tables, from: Option<usize>, goal: Goal) -> Option<(u32, u32)>
-    requires from { IfSome from (λ number. number < length tables.now.places) }
-    requires goal { goal.place < length tables.now.places }
-    ensures { IsReadFrom tables.now from goal result }
-{
-    tables.between_numbers(from?, goal.place)
 }
 
 /// The way of a wagon to a goal that it reaches in time: the kilometres, and the last moment at which it may start, in
@@ -166,17 +126,16 @@ struct Way {
 }
 
 /// The way of a wagon to a goal of its class, if its load is within the wagon's limit and it is reached in time. The
-/// number of the wagon's place is handed in, and the distance that was read; the tables are for the prover alone.
+/// number of the wagon's place is handed in.
 fn way_to(
     tables: &Tables,
     from: Option<usize>,
-    distance: Option<(u32, u32)>,
     goal: Goal,
     at: Moment,
     wagon: &FreeWagon,
 ) -> Option<Way>
     requires from { from ≡ place_index tables.now.places wagon.now.place }
-    requires distance { IsReadFrom tables.now from goal distance }
+    requires goal { goal.place < length tables.now.places }
     ensures meaning { IsWayTo tables.now at wagon.now goal result }
     ensures within { IfSome result (λ way. at ≤ way.last_start) }
     ensures limit { IfSome result (λ way. way.km ≤ max_cost) }
@@ -184,8 +143,8 @@ fn way_to(
     if !carries(wagon, goal.load) {
         return None;
     }
-    from?;
-    let (km, minutes) = distance?;
+    let number = from?;
+    let (km, minutes) = tables.between_numbers(number, goal.place)?;
     let last_start = last_start(wagon.ready, at, minutes, goal.latest)?;
     Some(Way { km, last_start })
 }

@@ -1,5 +1,5 @@
 //! The table of a problem, changed from that of an earlier one.
-ghost use Rattle.std.specs.Prelude.{◌≡◌, ◌+◌, ◌<◌, ◌≤◌, ◌↔◌, [], ℕ, IfOk, IfSome, IsTrue, OnOk, Some, length, slice_get, slice_index_or};
+ghost use Rattle.std.specs.Prelude.{◌≡◌, ◌+◌, ◌<◌, ◌≤◌, ◌++◌, ◌↔◌, [], ℕ, IfOk, IfSome, IsTrue, OnOk, Some, length, slice_get, slice_index_or};
 ghost use Rattle.problem_table.specs.Allowed.{IsTableOf};
 ghost use Rattle.problem_table.specs.Lasting.{IsLastingTable, IsTableUntil};
 ghost use Rattle.problem_table.specs.inner.AllowedRows.{AreLastingRows, IsLastingRow};
@@ -15,7 +15,7 @@ use crate::allowed::push_goals;
 use crate::goals::{ClassGoals, Goal, class_position};
 use crate::lasting::{TimedCells, timed_table};
 use crate::making::{Making, make, repeat};
-use crate::moved::{Moved, have_same_texts, move_cells};
+use crate::moved::{Moved, have_same_texts, move_later_cells, steady_cells};
 use crate::unwanted::unwanted_rows;
 use cost_table::{Problem, TableRows};
 use line_network::Tables;
@@ -297,28 +297,30 @@ fn move_row(
         kept,
         &problem.orders()[kept..],
     )?;
+    let steady = steady_cells(row, &moving.moved);
+    let first = &row[..steady];
     making.found.clear();
-    move_cells(&mut making.found, row, &moving.moved)?;
+    move_later_cells(&mut making.found, &row[steady..], &moving.moved)?;
     let goals = &moving.came[class].goals;
     let last = go_on(
+        first,
         &mut making.found,
-        &mut making.distances,
         problem,
         wagon,
         goals,
         tables,
         last,
     )?;
-    making.rows.push(&making.found)?;
+    making.rows.push_parts(first, &making.found)?;
     making.lasts.push(last)?;
     Ok(())
 }
 
 /// Goes on with the row of a wagon, which is known up to a last moment, by the goals of later orders, and says up to which
-/// moment it is that row.
+/// moment it is that row. The row begins with cells that stand elsewhere; they are for the prover alone.
 fn go_on(
+    first: &[(u32, u32)],
     entries: &mut Vec<(u32, u32)>,
-    distances: &mut Vec<Option<(u32, u32)>>,
     problem: &Problem,
     wagon: &FreeWagon,
     goals: &[Goal],
@@ -326,15 +328,13 @@ fn go_on(
     last: u64,
 ) -> Result<u64, AllocError>
     requires within { problem.now.at ≤ last }
-    requires so_far { (m : ℕ) → problem.now.at ≤ m → m ≤ last → RowSoFar tables.now m wagon.now problem.now.orders goals.now [] entries.old.items }
-    ensures row { IfOk result (λ last. IsLastingRow tables.now problem.now.at wagon.now problem.now.orders entries.new.items last) }
+    requires so_far { (m : ℕ) → problem.now.at ≤ m → m ≤ last → RowSoFar tables.now m wagon.now problem.now.orders goals.now [] (first.now ++ entries.old.items) }
+    ensures row { IfOk result (λ last. IsLastingRow tables.now problem.now.at wagon.now problem.now.orders (first.now ++ entries.new.items) last) }
     ensures within { IfOk result (λ last. problem.now.at ≤ last) }
 {
     if goals.is_empty() {
         return Ok(last);
     }
     let from = tables.network().index_of(wagon.place);
-    push_goals(
-        entries, distances, problem, wagon, from, goals, tables, last,
-    )
+    push_goals(first, entries, problem, wagon, from, goals, tables, last)
 }

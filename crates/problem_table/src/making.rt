@@ -22,10 +22,8 @@ pub(crate) struct Making {
     pub(crate) lasts: Vec<u64>,
     /// The goals of the classes of the wagons whose rows were found.
     pub(crate) classes: Vec<ClassGoals>,
-    /// The row that was found last.
+    /// The cells that were found last.
     pub(crate) found: Vec<(u32, u32)>,
-    /// The distances that were read for it.
-    pub(crate) distances: Vec<Option<(u32, u32)>>,
     /// The wagons whose rows were found, by class and place.
     seen: Seen,
 }
@@ -46,7 +44,6 @@ impl Making {
             lasts: Vec::with_capacity(alloc, count)?,
             classes: Vec::new(alloc),
             found: Vec::new(alloc),
-            distances: Vec::new(alloc),
             seen: Seen::none(alloc)?,
         })
     }
@@ -164,15 +161,7 @@ fn find(
 {
     making.found.clear();
     let goals = &making.classes[class].goals;
-    let last = push_row(
-        &mut making.found,
-        &mut making.distances,
-        problem,
-        wagon,
-        from,
-        goals,
-        tables,
-    )?;
+    let last = push_row(&mut making.found, problem, wagon, from, goals, tables)?;
     making.rows.push(&making.found)?;
     making.lasts.push(last)?;
     Ok(())

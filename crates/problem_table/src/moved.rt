@@ -1,5 +1,5 @@
 //! The orders of an earlier problem in a later one, and rows whose cells go along with them.
-ghost use Rattle.std.specs.Prelude.{◌≡◌, ◌+◌, ◌<◌, ◌≤◌, ◌++◌, All, IfOk, IsTrue, OnOk, Some, drop, length, slice_get, take};
+ghost use Rattle.std.specs.Prelude.{◌≡◌, ◌+◌, ◌<◌, ◌≤◌, ◌++◌, [], All, IfOk, IsTrue, OnOk, Some, drop, length, slice_get, take};
 ghost use Rattle.wagons_and_orders.specs.Wanted.{WantedOrder};
 ghost use Rattle.cost_table.specs.TableLimits.{IsRow, max_table_orders};
 ghost use Rattle.problem_table.specs.inner.Moved.{AreMoved, AreSteady, HaveSameTexts, moved_cells};
@@ -92,27 +92,12 @@ pub(crate) fn have_same_texts(one: &[Wanted], other: &[Wanted]) -> bool
     true
 }
 
-/// Adds the cells of a row whose orders stay, at their new positions. Those of the first orders, which stand where they
-/// stood, are copied as they are.
-pub(crate) fn move_cells(
-    entries: &mut Vec<(u32, u32)>,
-    row: &[(u32, u32)],
-    moved: &Moved,
-) -> Result<(), AllocError>
-    requires ascends { IsRow (length moved.now.positions.items) 0 row.now }
-    requires steady { AreSteady moved.now.positions.items moved.now.kept moved.now.steady }
-    ensures { OnOk result (entries.new.items ≡ entries.old.items ++ moved_cells moved.now.positions.items moved.now.kept row.now) }
-{
-    let first = steady_cells(row, moved);
-    entries.extend_from_slice(&row[..first])?;
-    move_later_cells(entries, &row[first..], moved)
-}
-
-/// How many of the first cells of a row are those of the first orders, which stand where they stood.
-fn steady_cells(row: &[(u32, u32)], moved: &Moved) -> usize
+/// How many of the first cells of a row are those of the first orders, which stand where they stood: they stay as they are.
+pub(crate) fn steady_cells(row: &[(u32, u32)], moved: &Moved) -> usize
     requires { IsRow (length moved.now.positions.items) 0 row.now }
     ensures within { result ≤ length row.now }
     ensures before { All (λ cell. cell.0 < moved.now.steady) (take result row.now) }
+    ensures behind { All (λ cell. moved.now.steady ≤ cell.0) (drop result row.now) }
 {
     // Cells of later orders are mostly few, so they are passed from the end.
     for later in 0..row.len() {
@@ -124,15 +109,20 @@ fn steady_cells(row: &[(u32, u32)], moved: &Moved) -> usize
     0
 }
 
-/// Adds the cells whose orders stay, one by one.
-fn move_later_cells(
+/// Adds the cells of a row whose orders stay, at their new positions, one by one. Where each order that stays stands where
+/// it stood, behind the first orders there are none.
+pub(crate) fn move_later_cells(
     entries: &mut Vec<(u32, u32)>,
     row: &[(u32, u32)],
     moved: &Moved,
 ) -> Result<(), AllocError>
-    requires { All (λ cell. cell.0 < length moved.now.positions.items) row.now }
+    requires within { All (λ cell. cell.0 < length moved.now.positions.items) row.now }
+    requires none { moved.now.kept ≤ moved.now.steady → moved_cells moved.now.positions.items moved.now.kept row.now ≡ [] }
     ensures { OnOk result (entries.new.items ≡ entries.old.items ++ moved_cells moved.now.positions.items moved.now.kept row.now) }
 {
+    if moved.kept <= moved.steady {
+        return Ok(());
+    }
     entries.reserve(row.len())?;
     for cell in row {
         let position = moved.positions[cell.0 as usize];

@@ -1,11 +1,10 @@
 -- What a wagon's way to an order depends on, for the wagons of one class.
-use Rattle.std.specs.Prelude.{◌≡◌, ◌+◌, ◌<◌, ◌≤◌, ◌↔◌, ℕ, if◌then◌else◌, List, [], ◌∷◌, ◌++◌, length, Option, None, Some, IfSome, slice_index_or}
+use Rattle.std.specs.Prelude.{◌≡◌, ◌+◌, ◌≤◌, ◌↔◌, ℕ, if◌then◌else◌, List, [], ◌∷◌, ◌++◌, Option, None, Some, IfSome}
 use Rattle.std.specs.Option.{option_map, option_to_list}
 use Rattle.move_messages.specs.Order.{Order}
 use Rattle.wagons_and_orders.specs.declared.free_wagon.FreeWagon.{FreeWagon}
 use Rattle.wagons_and_orders.specs.Listed.{is_listed}
 use Rattle.wagons_and_orders.specs.Wanted.{WantedOrder}
-use Rattle.line_network.specs.DistanceAnswers.{AreNumbersAnswered, max_distance}
 use Rattle.line_network.specs.Network.{NetworkValue, place_index}
 use Rattle.problem_table.specs.Allowed.{Reaches}
 use Rattle.problem_table.specs.declared.allowed.Way.{Way}
@@ -33,16 +32,6 @@ goals_of network class orders = goals_from network class 0 orders
 -- whether goals that are kept with a class are those of that class, where the first of these orders has a position
 abbrev pub AreGoalsOf : NetworkValue → (first : ℕ) → List WantedOrder → ClassGoals → Type 0
 AreGoalsOf network first orders kept = kept.goals.items ≡ goals_from network kept.class first orders
-
--- what is read of the distance to a goal from the place of a number, if there is one: what is to be answered of the two places
-pub record IsReadFrom (net : NetworkValue) (from : Option ℕ) (goal : Goal) (distance : Option (ℕ × ℕ)) : Type 0 where
-  pub answer : (number : ℕ) → from ≡ Some number → AreNumbersAnswered net number goal.place distance
-  pub limit : IfSome distance (λ d. (d.0 ≤ max_distance) × (d.1 ≤ max_distance))
-
--- one of each goal
-pub record AreReadFrom (net : NetworkValue) (from : Option ℕ) (goals : List Goal) (distances : List (Option (ℕ × ℕ))) : Type 0 where
-  pub count : length distances ≡ length goals
-  pub each : (k : ℕ) (goal : Goal) → k < length goals → goal ≡ slice_index_or goals k goal → IsReadFrom net from goal (slice_index_or distances k None)
 
 -- the way of a wagon to a goal: at each moment up to its last start the wagon reaches an order of this goal by its
 -- kilometres; where there is no way, at none

@@ -1,4 +1,4 @@
-use Rattle.std.proofs.Common.{◌∙◌, get_or, sym, arith}
+use Rattle.std.proofs.Common.{◌∙◌, ◌++◌, ℕ, List, append-nil, ap, get_or, sym, arith}
 use Rattle.std.proofs.lemmas.List.{get_or_default}
 use Rattle.problem_table.proofs.MovedSteps.{cell_gone, cell_kept}
 use Rattle.problem_table.proofs.moved.move_later_cells.Goals as goal
@@ -15,7 +15,7 @@ loop-cell-preserved c =
     let within = c.loop-cell-test.true in
     let is_at = get_or_default row k (0, 0) cell within in
     let position = c.index-position.result.now in
-    let is = get_or_default positions cell.0 0 position (c.requires k (0, 0) within) ∙ sym c.index-position.ensures in
+    let is = get_or_default positions cell.0 0 position (c.requires.within k (0, 0) within) ∙ sym c.index-position.ensures in
     elim c.if-position-moved.branch [
       | then-position-moved w ↦ record {
         cells = rw w.entries-is (cell_kept positions kept row k cell within is_at c.reserve.new.self.items c.loop-cell.entries.items position _ inv.cells is w.if-position-moved.true w.push_reserved.ensures.items);
@@ -26,3 +26,6 @@ loop-cell-preserved c =
         room = rw w.entries-is (omega (arith, inv.room));
       }
     ]
+
+pub returns-then-moved : goal.returns-then-moved
+returns-then-moved c = sym (ap (λ (more : List (ℕ × ℕ)). c.args.entries.now.items ++ more) (c.requires.none c.if-moved.true) ∙ append-nil c.args.entries.now.items)
