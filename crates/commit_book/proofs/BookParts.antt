@@ -35,7 +35,7 @@ use Rattle.commit_book.specs.declared.made_problem.MadeProblem.{MadeProblem}
 use Rattle.commit_book.proofs.Books.{book_keep, book_push, kept_as, kept_is_found, kept_which}
 use Rattle.commit_book.proofs.Runs.{IsLegalEntry, room_of}
 
-abbrev shown : Setting → List Event → List (ℕ × ℕ) → BookValue
+abbrev pub shown : Setting → List Event → List (ℕ × ℕ) → BookValue
 shown setting history kept = record { setting = setting; state = record { history = history; kept = kept } }
 
 -- the office of a ledger is the replay

@@ -7,6 +7,7 @@ pub mod Histories
 pub mod Ids
 pub mod IdKeys
 pub mod Judging
+pub mod KeptTables
 pub mod NotedIds
 pub mod Placed
 pub mod Replays

@@ -22,7 +22,9 @@ ghost use Rattle.commit_book.specs.declared.call.Call.TheVariants as call;
 use crate::ascending_problem::AscendingProblem;
 use crate::commits::judge;
 use crate::entry::Entry;
-use crate::kept_problems::{KeptProblem, find_covering, index_of_kept, keep, last_made};
+use crate::kept_problems::{
+    KeptProblem, find_covering, forget_tables, index_of_kept, keep, last_made,
+};
 use crate::ledger::{Ledger, MessageEntry};
 use crate::made_problem::MadeProblem;
 use crate::same_problem::is_same_problem;
@@ -566,13 +568,14 @@ impl Book {
         self.made_for(alloc, kept.version, kept.network, kept.problem.problem())
     }
 
-    /// Keeps what has the table of the kept problem at an index.
+    /// Keeps what has the table of the kept problem at an index. Of the others one table stays, that of the last one.
     fn put(&mut self, index: usize, made: Arc<MadeProblem>)
         requires kept { IsSome (slice_get self.old.state.kept index) }
         requires table { IfSome (slice_get self.old.state.kept index) (λ which. IsTabled self.old.setting self.old.state.history which.0 which.1 made.value) }
         ensures { self.new ≡ self.old }
     {
         self.kept[index].made = Some(made);
+        forget_tables(&mut self.kept, index);
     }
 
     /// Keeps what was made of a problem over one of the networks, where an event is a commit of that problem, and it is kept

@@ -2,7 +2,7 @@
 ghost use Rattle.std.specs.Prelude.{◌≡◌, ◌≤◌, IfOk, IfSome, OnErr, OnOk, Some, length, option_map, position, slice_get};
 ghost use Rattle.std.specs.List.{find};
 ghost use Rattle.commit_book.specs.BookStep.{is_this};
-ghost use Rattle.commit_book.specs.inner.Kept.{IsMadeIn, is_covering, which_of, with_kept};
+ghost use Rattle.commit_book.specs.inner.Kept.{HaveFewerTables, HaveTwoTables, IsLastOther, IsMadeIn, is_covering, which_of, with_kept};
 
 use crate::ascending_problem::AscendingProblem;
 use crate::made_problem::MadeProblem;
@@ -64,6 +64,33 @@ pub(crate) fn last_made(kept: &[KeptProblem]) -> Option<&Arc<MadeProblem>>
         }
     }
     None
+}
+
+/// The index of the last kept problem that has a table, but for one index; that index where no other has one.
+fn last_other(kept: &[KeptProblem], index: usize) -> usize
+    ensures { IsLastOther kept.now index result }
+{
+    for behind in 0..kept.len() {
+        let k = kept.len() - 1 - behind;
+        if k != index && kept[k].made.is_some() {
+            return k;
+        }
+    }
+    index
+}
+
+/// Forgets the tables of kept problems, but that of the problem at an index and the last one of the others. A table takes up
+/// to 4 MB, and is made again where a commit asks for it.
+pub(crate) fn forget_tables(kept: &mut [KeptProblem], index: usize)
+    ensures fewer { HaveFewerTables kept.old kept.new }
+    ensures few { HaveTwoTables kept.old kept.new index }
+{
+    let other = last_other(kept, index);
+    for k in 0..kept.len() {
+        if k != index && k != other {
+            kept[k].made = None;
+        }
+    }
 }
 
 /// Keeps one more problem, as the last one, and gives its index. Where there are as many as may be, the first makes room.

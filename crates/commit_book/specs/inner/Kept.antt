@@ -1,5 +1,6 @@
 -- What a book keeps beside its history.
-use Rattle.std.specs.Prelude.{◌≡◌, ◌≤◌, ◌==◌, ◌&&◌, nat_le, nat_lt, ℕ, Bool, if◌then◌else◌, List, [], ◌∷◌, ◌++◌, Option, Some, None, IfSome, IsSome, option_map, length, drop, map, true, false, All, slice_get}
+use Rattle.std.specs.Prelude.{◌≡◌, ◌≢◌, ◌<◌, ◌≤◌, ◌==◌, ◌&&◌, nat_le, nat_lt, ℕ, Bool, if◌then◌else◌, List, [], ◌∷◌, ◌++◌, Option, Some, None, IfSome, IsSome, option_map, length, drop, map, true, false, All, slice_get}
+use Rattle.std.specs.List.{AllZip}
 use Rattle.line_network.specs.Network.{NetworkValue}
 use Rattle.line_network.specs.Networks.{network_at}
 use Rattle.problem_table.specs.Lasting.{IsLastingTable}
@@ -38,6 +39,32 @@ is_covered at (Some made) = covers made at
 -- whether a kept problem is of a version, and its table was made and is that of this moment too
 abbrev pub is_covering : (version at : ℕ) → KeptProblem → Bool
 is_covering version at kept = kept.version == version && is_covered at (made_of kept)
+
+-- a kept problem is the same as before, with the table that it had or without one
+pub record IsKeptStill (old new : KeptProblem) : Type 0 where
+  pub version : new.version ≡ old.version
+  pub network : new.network ≡ old.network
+  pub problem : new.problem ≡ old.problem
+  pub made : IfSome (made_of new) (λ made. made_of old ≡ Some made)
+
+-- the same problems are kept as before, in their order, each with the table that it had or without one
+abbrev pub HaveFewerTables : (old new : List KeptProblem) → Type 0
+HaveFewerTables old new = AllZip IsKeptStill old new
+
+-- Of the kept problems but that at an index, this is where the last one with a table stands: none behind it has one. It is
+-- that index itself where no other has one.
+pub record IsLastOther (kept : List KeptProblem) (index other : ℕ) : Type 0 where
+  pub has : other ≢ index → (one : KeptProblem) × (slice_get kept other ≡ Some one) × IsSome (made_of one)
+  pub last : (k : ℕ) (one : KeptProblem) → slice_get kept k ≡ Some one → k ≢ index → other < k → made_of one ≡ None
+  pub none : (k : ℕ) (one : KeptProblem) → slice_get kept k ≡ Some one → k ≢ index → other ≡ index → made_of one ≡ None
+
+-- The problem at an index is kept with the table that it had, and so is the last other one with a table. No third has one.
+pub record HaveTwoTables (old new : List KeptProblem) (index : ℕ) : Type 0 where
+  pub other : ℕ
+  pub last : IsLastOther old index other
+  pub few : (k : ℕ) (one : KeptProblem) → slice_get new k ≡ Some one → k ≢ index → k ≢ other → made_of one ≡ None
+  pub keeps : slice_get new index ≡ slice_get old index
+  pub keeps_other : slice_get new other ≡ slice_get old other
 
 -- something was made of one of the kept problems
 pub record IsMadeIn (kept : List KeptProblem) (made : MadeProblem) : Type 0 where
