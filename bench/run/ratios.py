@@ -2,7 +2,7 @@
 """Prints how two times compare over some turns: by the least of each, and by the median of the turns' own ratios.
 
 ratios.py FILE A B C D reads a line of times for each turn, and compares A - B to C - D, the numbers of columns; "-" stands for
-nothing to take off. The machine's pace changes within a run, but hardly within a turn.
+nothing to take off. The machine's pace changes within a run, and less within a turn.
 """
 
 import statistics
@@ -25,7 +25,7 @@ def main() -> None:
     columns = sys.argv[2:6]
     least = ratio([min(column) for column in zip(*rows)], columns)
     turns = [found for found in (ratio(row, columns) for row in rows) if found == found]
-    print(f"{least:.2f} of it by the least of the turns, {statistics.median(turns):.2f} by their median")
+    print(f"{least:.2f} by the least of the turns, {statistics.median(turns):.2f} by their median")
 
 
 if __name__ == "__main__":
