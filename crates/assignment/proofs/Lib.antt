@@ -39,3 +39,4 @@ pub mod Joining
 pub mod FirstState
 pub mod Spans
 pub mod Regrouped
+pub mod RowCells

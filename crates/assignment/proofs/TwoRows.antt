@@ -1,4 +1,4 @@
-use Rattle.std.proofs.Common.{◌≡◌, ◌≢◌, ◌+◌, ◌*◌, ◌<◌, ◌≤◌, ℕ, zero, suc, List, [], ◌∷◌, Some, length, get_or, set, refl, sym, ◌∙◌, ap, arith, inl, inr}
+use Rattle.std.proofs.Common.{◌≡◌, ◌≢◌, ◌+◌, ◌*◌, ◌<◌, ◌≤◌, ℕ, zero, suc, List, [], ◌∷◌, ◌++◌, append-nil, length-append, Some, length, get_or, set, refl, sym, ◌∙◌, ap, arith, inl, inr}
 use Rattle.std.proofs.lemmas.Bool.{cases_eq, cases_lt}
 use Rattle.std.proofs.lemmas.Bool.Decides.{nat_tests}
 use Rattle.std.proofs.lemmas.Nat.{mul-add-lt}
@@ -15,6 +15,21 @@ row_length orders low (cell ∷ row) h l =
     let rest = row_length orders (cell.0 + 1) row h.3 (let b = h.1 in omega arith) in
     let a = h.0 in
     omega (arith, rest)
+
+-- cells that are as many as there are orders are the whole row
+pub full_first : (orders : ℕ) (first rest : List (ℕ × ℕ)) → IsRow orders 0 (first ++ rest) → length first ≡ orders → first ≡ first ++ rest
+full_first orders first [] h full = sym (append-nil first)
+full_first orders first (cell ∷ rest) h full =
+    let long = row_length orders 0 (first ++ cell ∷ rest) h (omega arith) in
+    let count = length-append first (cell ∷ rest) in
+    absurd (omega (arith, long, count, full))
+
+pub full_rest : (orders : ℕ) (first rest : List (ℕ × ℕ)) → IsRow orders 0 (first ++ rest) → length rest ≡ orders → rest ≡ first ++ rest
+full_rest orders [] rest h full = refl
+full_rest orders (cell ∷ first) rest h full =
+    let long = row_length orders 0 (cell ∷ first ++ rest) h (omega arith) in
+    let count = length-append (cell ∷ first) rest in
+    absurd (omega (arith, long, count, full))
 
 first_order : (orders low : ℕ) (cell : ℕ × ℕ) (row : List (ℕ × ℕ)) → IsRow orders low (cell ∷ row) → orders ≤ low + length (cell ∷ row) → cell.0 ≡ low
 first_order orders low cell row h full =

@@ -1,6 +1,6 @@
 //! The costs of a table by order, one of each group, in one flat array, and what is found while they are placed.
-ghost use Rattle.std.specs.Prelude.{◌≡◌, ◌<◌, ◌+◌, ℕ, true, min, IfOk, length, slice_index, slice_set};
-ghost use Rattle.cost_table.specs.TableLimits.{IsTable};
+ghost use Rattle.std.specs.Prelude.{◌≡◌, ◌<◌, ◌+◌, ◌*◌, ℕ, true, false, min, IfOk, IfSome, length, slice_index, slice_set};
+ghost use Rattle.cost_table.specs.TableLimits.{IsTable, IsRow};
 ghost use Rattle.cost_table.specs.Table.{cost_at, row_at, penalty_at, order_count};
 ghost use Rattle.assignment.specs.inner.Costs.{AreColumns, AreColumnsOf, AreFullRows, cost_before};
 ghost use Rattle.assignment.specs.inner.Groups.{AreGroups, AreFirst, group_table};
@@ -36,8 +36,7 @@ impl Columns {
         let mut nearest = Vec::from_elem(alloc, 0, orders)?;
         let mut g = 0;
         'groups: while g < count {
-            if g + 1 < count && is_full(cells, first, g) && is_full(cells, first, g + 1) {
-                place_full_rows(&mut costs, &mut v, &mut nearest, cells, first, g);
+            if place_full_rows(&mut costs, &mut v, &mut nearest, cells, first, g) {
                 g += 2;
             } else {
                 place_row(&mut costs, &mut v, &mut nearest, cells, first, g);
@@ -60,17 +59,50 @@ fn penalties(alloc: Global, cells: &Cells) -> Result<Vec<u32>, AllocError>
     Ok(penalties)
 }
 
-/// Whether the wagons of a group have a cost for every order.
-fn is_full(cells: &Cells, first: &[u32], g: usize) -> bool
+/// The cells of a group whose wagons each have one for every order, all of them in one place.
+fn full_row<'a>(cells: &'a Cells, first: &[u32], g: usize) -> Option<&'a [(u32, u32)]>
     requires first { AreFirst cells.now first.now }
     requires group { g < length first.now }
-    ensures { result ≡ true → length (row_at (group_table cells.now first.now) g) ≡ order_count cells.now }
+    ensures row { IfSome result (λ row. row.now ≡ row_at (group_table cells.now first.now) g) }
+    ensures cells { IfSome result (λ row. IsRow (order_count cells.now) 0 row.now) }
+    ensures full { IfSome result (λ row. length row.now ≡ order_count cells.now) }
 {
-    cells.row(first[g] as usize).len() == cells.orders()
+    let row = cells.row(first[g] as usize);
+    let orders = cells.orders();
+    if row.first.len() == orders {
+        Some(row.first)
+    } else if row.rest.len() == orders {
+        Some(row.rest)
+    } else {
+        None
+    }
 }
 
-/// Places the costs of two groups more whose wagons each have one for every order. Both go to an order at once, since
-/// each visit to an order's costs takes longer than what is written there.
+/// The cells of two groups more, where both are full rows.
+fn two_full_rows<'a>(
+    cells: &'a Cells,
+    first: &[u32],
+    g: usize,
+) -> Option<(&'a [(u32, u32)], &'a [(u32, u32)])>
+    requires first { AreFirst cells.now first.now }
+    requires group { g < length first.now }
+    ensures within { IfSome result (λ rows. g + 1 < length first.now) }
+    ensures row { IfSome result (λ rows. rows.0.now ≡ row_at (group_table cells.now first.now) g) }
+    ensures next_row { IfSome result (λ rows. rows.1.now ≡ row_at (group_table cells.now first.now) (g + 1)) }
+    ensures cells { IfSome result (λ rows. IsRow (order_count cells.now) 0 rows.0.now) }
+    ensures next_cells { IfSome result (λ rows. IsRow (order_count cells.now) 0 rows.1.now) }
+    ensures full { IfSome result (λ rows. AreFullRows (group_table cells.now first.now) g) }
+{
+    if g + 1 >= first.len() {
+        return None;
+    }
+    let row = full_row(cells, first, g)?;
+    let next_row = full_row(cells, first, g + 1)?;
+    Some((row, next_row))
+}
+
+/// Places the costs of two groups more, if the wagons of both have one for every order, and tells whether it did. Both
+/// go to an order at once, since each visit to an order's costs takes longer than what is written there.
 fn place_full_rows(
     costs: &mut [u32],
     v: &mut [u32],
@@ -78,17 +110,20 @@ fn place_full_rows(
     cells: &Cells,
     first: &[u32],
     g: usize,
-)
+) -> bool
     requires table { IsTable cells.now }
     requires first { AreFirst cells.now first.now }
-    requires groups { g + 1 < length first.now }
-    requires full { AreFullRows (group_table cells.now first.now) g }
+    requires group { g < length first.now }
     requires columns { AreColumnsOf (group_table cells.now first.now) (cost_before (group_table cells.now first.now) g) costs.old v.old nearest.old }
-    ensures { AreColumnsOf (group_table cells.now first.now) (cost_before (group_table cells.now first.now) (g + 2)) costs.new v.new nearest.new }
+    ensures within { result ≡ true → g + 1 < length first.now }
+    ensures placed { result ≡ true → AreColumnsOf (group_table cells.now first.now) (cost_before (group_table cells.now first.now) (g + 2)) costs.new v.new nearest.new }
+    ensures kept { result ≡ false → AreColumnsOf (group_table cells.now first.now) (cost_before (group_table cells.now first.now) g) costs.new v.new nearest.new }
 {
     let groups = first.len();
-    let row = cells.row(first[g] as usize);
-    let next_row = cells.row(first[g + 1] as usize);
+    let (row, next_row) = match two_full_rows(cells, first, g) {
+        Some(rows) => rows,
+        None => return false,
+    };
     'orders: for j in 0..row.len() {
         let (cost, next_cost) = (row[j].1, next_row[j].1);
         let index = j * groups + g;
@@ -97,6 +132,7 @@ fn place_full_rows(
         let nearer = if next_cost < cost { g + 1 } else { g };
         lower(v, nearest, j, cost.min(next_cost), nearer);
     }
+    true
 }
 
 /// Places the costs of one group more.
@@ -115,11 +151,41 @@ fn place_row(
     ensures { AreColumnsOf (group_table cells.now first.now) (cost_before (group_table cells.now first.now) (g + 1)) costs.new v.new nearest.new }
 {
     let groups = first.len();
-    for cell in cells.row(first[g] as usize) {
-        let j = cell.0 as usize;
-        costs[j * groups + g] = cell.1;
-        lower(v, nearest, j, cell.1, g);
+    let row = cells.row(first[g] as usize);
+    for cell in row.first {
+        place_cell(costs, v, nearest, cell.0 as usize, cell.1, groups, g);
     }
+    for next_cell in row.rest {
+        place_cell(
+            costs,
+            v,
+            nearest,
+            next_cell.0 as usize,
+            next_cell.1,
+            groups,
+            g,
+        );
+    }
+}
+
+/// Places the cost that one group more, `g` of so many, has for order `j`.
+fn place_cell(
+    costs: &mut [u32],
+    v: &mut [u32],
+    nearest: &mut [usize],
+    j: usize,
+    cost: u32,
+    groups: usize,
+    g: usize,
+)
+    requires place { j * groups + g < length costs.old }
+    requires order { j < length v.old }
+    requires hints { length nearest.old ≡ length v.old }
+    ensures costs { costs.new ≡ slice_set costs.old (j * groups + g) cost }
+    ensures prices { v.new ≡ slice_set v.old j (min (slice_index v.old j) cost) }
+{
+    costs[j * groups + g] = cost;
+    lower(v, nearest, j, cost, g);
 }
 
 /// Lowers the price of order `j` to a cost in kilometres of a group, where that is less.

@@ -1,10 +1,11 @@
 //! Groups of wagons that have the same row.
 ghost use Rattle.std.specs.Prelude.{◌≡◌, ◌<◌, ◌≤◌, ◌+◌, ℕ, IfOk, length, true, slice_index, slice_index_or};
 ghost use Rattle.cost_table.specs.Table.{row_at, wagon_count};
+ghost use Rattle.cost_table.specs.RowParts.{cells_in};
 ghost use Rattle.cost_table.specs.TableLimits.{IsTable};
 ghost use Rattle.assignment.specs.inner.Groups.{AreGroups, AreGrouped, HasRoomFor};
 
-use cost_table::Cells;
+use cost_table::{Cells, Row};
 use std::alloc::{AllocError, Global};
 
 /// Stands for a wagon where there is none.
@@ -101,14 +102,34 @@ fn have_same_row(cells: &Cells, i: usize, k: usize) -> bool
     cells.share_row(i, k) || is_same(cells.row(i), cells.row(k))
 }
 
-/// The same number for rows that are the same. It reads three cells, as rows that differ do so nearly everywhere.
-fn sample(row: &[(u32, u32)]) -> usize {
+/// The same number for rows that are the same, wherever each is split. It reads three cells, as rows that differ do so
+/// nearly everywhere.
+fn sample(row: Row<'_>) -> usize {
+    if row.rest.is_empty() {
+        return sample_of_cells(row.first);
+    }
+    let last = row.len() - 1;
+    let (first, middle, end) = (cell_at(row, 0), cell_at(row, last / 2), cell_at(row, last));
+    mixed(row.len(), first, middle, end)
+}
+
+/// The same of cells that stand in one place.
+fn sample_of_cells(row: &[(u32, u32)]) -> usize {
     if row.is_empty() {
         return 0;
     }
     let last = row.len() - 1;
-    let (first, middle, end) = (row[0], row[last / 2], row[last]);
-    mix(mix(mix(row.len() as u64, first), middle), end) as usize
+    mixed(row.len(), row[0], row[last / 2], row[last])
+}
+
+/// The cell of a row at an index.
+fn cell_at(row: Row<'_>, x: usize) -> (u32, u32) {
+    row.get(x).unwrap_or((0, 0))
+}
+
+/// A number of the length and three cells of a row.
+fn mixed(len: usize, first: (u32, u32), middle: (u32, u32), end: (u32, u32)) -> usize {
+    mix(mix(mix(len as u64, first), middle), end) as usize
 }
 
 /// A number mixed with a cell.
@@ -120,8 +141,40 @@ fn mix(number: u64, cell: (u32, u32)) -> u64 {
 /// How many cells are compared together.
 const PART: usize = 16;
 
-/// Whether two rows are the same.
-fn is_same(row: &[(u32, u32)], other: &[(u32, u32)]) -> bool
+/// Whether two rows are the same, wherever each is split. Mostly they are split at one place.
+fn is_same(row: Row<'_>, other: Row<'_>) -> bool
+    ensures { result ≡ true → cells_in row.entry ≡ cells_in other.entry }
+{
+    if row.len() != other.len() {
+        return false;
+    }
+    if row.first.len() == other.first.len() {
+        are_same_cells(row.first, other.first) && are_same_cells(row.rest, other.rest)
+    } else if row.first.len() < other.first.len() {
+        is_same_as_later(row, other)
+    } else {
+        is_same_as_later(other, row)
+    }
+}
+
+/// Whether a row is the same as another that is split later. Three pieces are compared: what is before both splits,
+/// what is between them, and what is behind both.
+fn is_same_as_later(row: Row<'_>, later: Row<'_>) -> bool
+    requires { length row.first.now ≤ length later.first.now }
+    ensures { result ≡ true → cells_in row.entry ≡ cells_in later.entry }
+{
+    let (front, between) = later.first.split_at(row.first.len());
+    if row.rest.len() < between.len() {
+        return false;
+    }
+    let (middle, end) = row.rest.split_at(between.len());
+    are_same_cells(row.first, front)
+        && are_same_cells(middle, between)
+        && are_same_cells(end, later.rest)
+}
+
+/// Whether two lists of cells are the same.
+fn are_same_cells(row: &[(u32, u32)], other: &[(u32, u32)]) -> bool
     ensures { result ≡ true → row.now ≡ other.now }
 {
     let len = row.len();

@@ -1,62 +1,89 @@
--- Rows that stand in two blocks.
-use Rattle.std.proofs.Common.{◌≡◌, ◌∙◌, ◌+◌, ◌<◌, ℕ, List, [], ◌∷◌, ◌++◌, length, get_or, take, replicate, zero, suc, refl, sym, ap, arith, append-nil, append_assoc}
-use Rattle.std.proofs.lemmas.List.{get_or_append_left, get_or_push, get_or-map, length-append, take_more, map-append}
+-- Rows whose cells stand in two blocks.
+use Rattle.std.proofs.Common.{◌≡◌, ◌∙◌, ◌+◌, ◌-◌, ◌<◌, ◌≤◌, ℕ, List, [], ◌∷◌, ◌++◌, length, get_or, take, drop, replicate, zero, suc, refl, sym, ap, arith, append-nil}
+use Rattle.std.proofs.lemmas.List.{get_or_append_left, get_or_push, get_or-map, length-map, take_all, take_more, take-append-drop, take-append-le, map-append}
 use Rattle.std.proofs.lemmas.List.Elements.{All-head, All-push, All-tail, All-weaker}
-use Rattle.cost_table.specs.SharedRows.{AreIndices, row_among, rows_among}
+use Rattle.cost_table.specs.declared.table_rows.RowPlace.{RowPlace}
+use Rattle.cost_table.specs.SharedRows.{ArePlaces, own_cells, row_among, rows_among, shared_cells}
 
--- the row of a index
-pub row_of_index : (shared own : List (List (ℕ × ℕ))) (indices : List ℕ) (i : ℕ) → i < length indices → get_or (rows_among shared own indices) i [] ≡ row_among shared own (get_or indices i 0)
-row_of_index shared own indices i l = get_or-map (row_among shared own) indices i 0 [] l
+-- one own row more: those before stay
+own_kept : (own : List (List (ℕ × ℕ))) (row : List (ℕ × ℕ)) (place : RowPlace) → place.own ≤ length own → own_cells (own ++ row ∷ []) place ≡ own_cells own place
+own_kept own row place l = get_or_append_left ([] ∷ own) (row ∷ []) [] place.own (omega (arith, l))
 
--- a row of the shared block is the same beside any others
-pub row_shared : (shared own other : List (List (ℕ × ℕ))) (k : ℕ) → k < length shared → row_among shared own k ≡ row_among shared other k
-row_shared shared own other k l = get_or_append_left shared own [] k l ∙ sym (get_or_append_left shared other [] k l)
-
--- one own row more: the rows before stay
-row_kept : (shared own : List (List (ℕ × ℕ))) (row : List (ℕ × ℕ)) (k : ℕ) → k < length shared + length own → row_among shared (own ++ row ∷ []) k ≡ row_among shared own k
-row_kept shared own row k l =
-    ap (λ rows. get_or rows k []) (sym (append_assoc shared own (row ∷ []))) ∙ get_or_append_left (shared ++ own) (row ∷ []) [] k (omega (arith, l, length-append shared own))
-
-rows_kept : (shared own : List (List (ℕ × ℕ))) (row : List (ℕ × ℕ)) (indices : List ℕ) → AreIndices shared own indices → rows_among shared (own ++ row ∷ []) indices ≡ rows_among shared own indices
+rows_kept : (shared own : List (List (ℕ × ℕ))) (row : List (ℕ × ℕ)) (places : List RowPlace) → ArePlaces own places → rows_among shared (own ++ row ∷ []) places ≡ rows_among shared own places
 rows_kept shared own row [] all = refl
-rows_kept shared own row (k ∷ indices) all =
-    let here = row_kept shared own row k (All-head (λ k. k < length shared + length own) k indices all) in
-    let rest = rows_kept shared own row indices (All-tail (λ k. k < length shared + length own) k indices all) in
+rows_kept shared own row (place ∷ places) all =
+    let here = own_kept own row place (All-head (λ place. place.own ≤ length own) place places all) in
+    let rest = rows_kept shared own row places (All-tail (λ place. place.own ≤ length own) place places all) in
     cc
 
 -- and it stands last
-pub row_last : (shared own : List (List (ℕ × ℕ))) (row : List (ℕ × ℕ)) → row_among shared (own ++ row ∷ []) (length shared + length own) ≡ row
-row_last shared own row =
-    ap (λ rows. get_or rows (length shared + length own) []) (sym (append_assoc shared own (row ∷ []))) ∙ get_or_push (shared ++ own) row [] (length shared + length own) (length-append shared own)
+own_last : (own : List (List (ℕ × ℕ))) (row : List (ℕ × ℕ)) (place : RowPlace) → place.own ≡ length own + 1 → own_cells (own ++ row ∷ []) place ≡ row
+own_last own row place at = get_or_push ([] ∷ own) row [] place.own (omega (arith, at))
 
-pub rows_pushed : (shared own : List (List (ℕ × ℕ))) (row : List (ℕ × ℕ)) (indices : List ℕ) (index : ℕ) → AreIndices shared own indices → index ≡ length shared + length own → rows_among shared (own ++ row ∷ []) (indices ++ index ∷ []) ≡ rows_among shared own indices ++ row ∷ []
-rows_pushed shared own row indices index all at =
-    map-append (row_among shared (own ++ row ∷ [])) indices (index ∷ [])
-    ∙ (ap (λ rows. rows ++ row_among shared (own ++ row ∷ []) index ∷ []) (rows_kept shared own row indices all)
-    ∙ ap (λ last. rows_among shared own indices ++ last ∷ []) (ap (row_among shared (own ++ row ∷ [])) at ∙ row_last shared own row))
+pub rows_taken : (shared own : List (List (ℕ × ℕ))) (places : List RowPlace) (place : RowPlace) → rows_among shared own (places ++ place ∷ []) ≡ rows_among shared own places ++ row_among shared own place ∷ []
+rows_taken shared own places place = map-append (row_among shared own) places (place ∷ [])
 
-pub indices_pushed : (shared own : List (List (ℕ × ℕ))) (row : List (ℕ × ℕ)) (indices : List ℕ) (index : ℕ) → AreIndices shared own indices → index ≡ length shared + length own → AreIndices shared (own ++ row ∷ []) (indices ++ index ∷ [])
-indices_pushed shared own row indices index all at =
-    let longer : length (own ++ row ∷ []) ≡ length own + 1 = length-append own (row ∷ []) in
-    All-push (λ k. k < length shared + length (own ++ row ∷ [])) indices index
-    (All-weaker (λ k. k < length shared + length own) (λ k. k < length shared + length (own ++ row ∷ [])) (λ k l. omega (arith, l, longer)) indices all)
-    (omega (arith, at, longer))
+pub rows_pushed : (shared own : List (List (ℕ × ℕ))) (row : List (ℕ × ℕ)) (places : List RowPlace) (place : RowPlace) → ArePlaces own places → place.own ≡ length own + 1 → rows_among shared (own ++ row ∷ []) (places ++ place ∷ []) ≡ rows_among shared own places ++ (shared_cells shared place ++ row) ∷ []
+rows_pushed shared own row places place all at =
+    rows_taken shared (own ++ row ∷ []) places place
+    ∙ (ap (λ rows. rows ++ row_among shared (own ++ row ∷ []) place ∷ []) (rows_kept shared own row places all)
+    ∙ ap (λ last. rows_among shared own places ++ (shared_cells shared place ++ last) ∷ []) (own_last own row place at))
 
--- a row that is there once more
-pub rows_taken : (shared own : List (List (ℕ × ℕ))) (indices : List ℕ) (index : ℕ) → rows_among shared own (indices ++ index ∷ []) ≡ rows_among shared own indices ++ row_among shared own index ∷ []
-rows_taken shared own indices index = map-append (row_among shared own) indices (index ∷ [])
+pub places_pushed : (own own' : List (List (ℕ × ℕ))) (places : List RowPlace) (place : RowPlace) → ArePlaces own places → length own ≤ length own' → place.own ≤ length own' → ArePlaces own' (places ++ place ∷ [])
+places_pushed own own' places place all more within =
+    All-push (λ place. place.own ≤ length own') places place
+    (All-weaker (λ place. place.own ≤ length own) (λ place. place.own ≤ length own') (λ place l. omega (arith, l, more)) places all)
+    within
 
--- the indices of all rows of a block, one more
-pub block_more : (block : List (List (ℕ × ℕ))) (indices : List ℕ) (k : ℕ) → k < length block → rows_among block [] indices ≡ take k block → rows_among block [] (indices ++ k ∷ []) ≡ take (k + 1) block
-block_more block indices k l h =
-    rows_taken block [] indices k
-    ∙ (ap (λ rows. rows ++ row_among block [] k ∷ []) h
-    ∙ (ap (λ row. take k block ++ row ∷ []) (ap (λ rows. get_or rows k []) (append-nil block)) ∙ sym (take_more block k [] l)))
+-- two parts without a cell
+pub no_cells : (first rest : List (ℕ × ℕ)) → length first ≡ 0 → length rest ≡ 0 → first ++ rest ≡ []
+no_cells [] [] none nothing = refl
+no_cells [] (cell ∷ rest) none nothing = absurd (omega (arith, nothing))
+no_cells (cell ∷ first) rest none nothing = absurd (omega (arith, none))
 
--- ---- one empty row, and no other
+-- ---- own rows whose block is one to share
 
-pub rows_empty : (shared : List (List (ℕ × ℕ))) (n : ℕ) → shared ≡ [] ∷ [] → rows_among shared [] (replicate n 0) ≡ replicate n []
-rows_empty shared zero is = refl
-rows_empty shared (suc n) is =
-    let first : row_among shared [] 0 ≡ [] = rw is refl in
-    ap (λ rows. row_among shared [] 0 ∷ rows) (rows_empty shared n is) ∙ ap (λ row. row ∷ replicate n []) first
+-- where an own row stands then
+pub shared_at : (block : List (List (ℕ × ℕ))) (number : ℕ) → take (length (get_or ([] ∷ block) number [])) (get_or block (number - 1) []) ++ [] ≡ get_or ([] ∷ block) number []
+shared_at block zero = refl
+shared_at block (suc k) =
+    let before : suc k - 1 ≡ k = omega arith in
+    append-nil _ ∙ (ap (λ n. take (length (get_or block k [])) (get_or block n [])) before ∙ take_all (length (get_or block k [])) (get_or block k []) (omega arith))
+
+take_none : (n : ℕ) (row : List (ℕ × ℕ)) → row ≡ [] → take n row ≡ []
+take_none zero row none = refl
+take_none (suc n) row none = rw none refl
+
+-- one row more, none of whose cells is shared
+pub own_more : (block : List (List (ℕ × ℕ))) (shared places : List RowPlace) (there place : RowPlace) → rows_among block [] shared ≡ rows_among [] block places → row_among block [] there ≡ own_cells block place → rows_among block [] (shared ++ there ∷ []) ≡ rows_among [] block (places ++ place ∷ [])
+own_more block shared places there place h is =
+    let own : row_among [] block place ≡ own_cells block place = ap (λ none. none ++ own_cells block place) (take_none place.count _ refl) in
+    let more : rows_among block [] shared ++ row_among block [] there ∷ [] ≡ rows_among [] block places ++ row_among [] block place ∷ [] = cc in
+    rows_taken block [] shared there ∙ (more ∙ sym (rows_taken [] block places place))
+
+-- all rows of a block, one more
+pub block_more : (block : List (List (ℕ × ℕ))) (places : List RowPlace) (there : RowPlace) (k : ℕ) → k < length block → rows_among block [] places ≡ take k block → row_among block [] there ≡ get_or ([] ∷ block) (k + 1) [] → rows_among block [] (places ++ there ∷ []) ≡ take (k + 1) block
+block_more block places there k l h is =
+    let one : k + 1 ≡ suc k = omega arith in
+    let row : row_among block [] there ≡ get_or block k [] = is ∙ ap (λ n. get_or ([] ∷ block) n []) one in
+    rows_taken block [] places there
+    ∙ (ap (λ rows. rows ++ row_among block [] there ∷ []) h
+    ∙ (ap (λ row. take k block ++ row ∷ []) row ∙ sym (take_more block k [] l)))
+
+-- ---- a row that goes along
+
+-- a list's first elements are those of more of its first
+pub prefix_of : (n m : ℕ) (xs : List (ℕ × ℕ)) → n ≤ length (take m xs) → take n xs ≡ take n (take m xs)
+prefix_of n m xs l = ap (take n) (sym (take-append-drop m xs)) ∙ take-append-le n (take m xs) (drop m xs) l
+
+-- the row of a place
+pub row_of_place : (shared own : List (List (ℕ × ℕ))) (places : List RowPlace) (i : ℕ) (place : RowPlace) → i < length (rows_among shared own places) → get_or (rows_among shared own places) i [] ≡ row_among shared own (get_or places i place)
+row_of_place shared own places i place l = get_or-map (row_among shared own) places i place [] (omega (arith, l, length-map places (row_among shared own)))
+
+-- ---- rows without a cell
+
+pub rows_empty : (n : ℕ) (place : RowPlace) → place.count ≡ 0 → place.own ≡ 0 → rows_among [] [] (replicate n place) ≡ replicate n []
+rows_empty zero place none own = refl
+rows_empty (suc n) place none own =
+    let first : row_among [] [] place ≡ [] = rw (none, own) refl in
+    ap (λ rows. row_among [] [] place ∷ rows) (rows_empty n place none own) ∙ ap (λ row. row ∷ replicate n []) first

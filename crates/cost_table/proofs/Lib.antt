@@ -6,3 +6,4 @@ pub mod NameLemmas
 pub mod Search
 pub mod ProblemLemmas
 pub mod AmongLemmas
+pub mod PartLemmas

@@ -1,11 +1,12 @@
-use Rattle.std.proofs.Common.{◌≡◌, ◌-◌, ◌<◌, ◌≤◌, ℕ, zero, suc, true, List, [], ◌∷◌, ◌++◌, length, get_or, refl, sym, arith, slice_range, ap, drop, length-append, length-drop}
+use Rattle.std.proofs.Common.{◌≡◌, ◌-◌, ◌+◌, ◌<◌, ◌≤◌, ℕ, zero, suc, true, List, [], ◌∷◌, ◌++◌, length, get_or, refl, sym, arith, slice_range, ap, drop, length-append, length-drop, map, ◌∙◌}
 use Rattle.std.specs.Prelude.{All, sum}
 use Rattle.std.specs.List.{AllByRecursion}
-use Rattle.std.proofs.lemmas.List.{take-append-le, drop-append-le, drop_at, take_all}
+use Rattle.std.proofs.lemmas.List.{take-append-le, drop-append-le, drop_at, length-take-le, take_all}
 use Rattle.std.proofs.lemmas.List.Sums.{sum_by-cons}
 use Rattle.std.proofs.lemmas.List.Elements.{recursion_from_All}
 use Rattle.std.proofs.lemmas.Bool.Decides.{nat_tests}
 use Rattle.cost_table.specs.RowBlocks.{rows_of, AreEnds, last_end, HoldRows}
+use Rattle.cost_table.specs.SharedRows.{cell_count}
 use Rattle.wagons_and_orders.specs.WantedLimits.{IsLack}
 use Rattle.cost_table.specs.TableLimits.{max_table_lack, max_table_orders}
 use Rattle.cost_table.specs.Rows.{Rows, is_too_large}
@@ -72,6 +73,20 @@ HoldRows-more entries entries' more ends ends' rows rows' e d r h =
 -- rows that are held are those that lie there
 pub held : (entries : List (ℕ × ℕ)) (ends : List ℕ) (rows : List (List (ℕ × ℕ))) → HoldRows entries ends rows → HoldRows entries ends (rows_of entries 0 ends)
 held entries ends rows h = record { rows_are = refl; ends_ascend = h.ends_ascend; last = h.last }
+
+-- the cells of rows that lie one after another
+count_from : (entries : List (ℕ × ℕ)) (start : ℕ) (ends : List ℕ) → AreEnds (length entries) start ends → start + cell_count (rows_of entries start ends) ≡ last_end start ends
+count_from entries start [] ascend = omega arith
+count_from entries start (end ∷ ends) ascend =
+    let left : end - start ≤ length (drop start entries) = omega (arith, length-drop start entries, ascend.1) in
+    let here : length (slice_range entries start end) ≡ end - start = length-take-le (end - start) (drop start entries) left in
+    let later = count_from entries end ends ascend.2 in
+    omega (arith, here, later, ascend.0, sum_by-cons (λ (x : ℕ). x) (length (slice_range entries start end)) (map length (rows_of entries end ends)))
+
+pub cells_held : (entries : List (ℕ × ℕ)) (ends : List ℕ) (rows : List (List (ℕ × ℕ))) → HoldRows entries ends rows → cell_count rows ≡ length entries
+cells_held entries ends rows h =
+    let count : cell_count (rows_of entries 0 ends) ≡ length entries = omega (arith, count_from entries 0 ends h.ends_ascend, h.last) in
+    ap cell_count (sym h.rows_are) ∙ count
 
 -- each lacks one wagon or more
 length-le-lacks : (lacks : List ℕ) → AllByRecursion IsLack lacks → length lacks ≤ sum lacks

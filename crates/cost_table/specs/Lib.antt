@@ -3,6 +3,7 @@ pub mod Table
 pub mod Plan
 pub mod PlanList
 pub mod Rows
+pub mod RowParts
 pub mod SharedRows
 pub mod RowBlocks
 pub mod Names

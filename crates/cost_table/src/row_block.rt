@@ -1,7 +1,10 @@
 //! Rows of cells that lie one after another in one list.
 ghost use Rattle.std.specs.Prelude.{◌≡◌, ◌<◌, ◌≤◌, ◌^◌, [], ◌∷◌, ◌++◌, IfOk, OnErr, OnOk, length, slice_index, slice_index_or};
 ghost use Rattle.cost_table.specs.RowBlocks.{rows_of, AreEnds, HoldRows};
+ghost use Rattle.cost_table.specs.RowParts.{cells_in};
+ghost use Rattle.cost_table.specs.SharedRows.{cell_count};
 
+use crate::row::Row;
 use std::alloc::{AllocError, Global};
 use std::marker::Model;
 
@@ -65,28 +68,17 @@ impl RowBlock {
         RowBlock { entries, ends }
     }
 
-    /// Appends a row. `Err` only when out of memory; then there are the same rows.
-    pub(crate) fn push(&mut self, row: &[(u32, u32)]) -> Result<(), AllocError>
-        ensures pushed { OnOk result (self.new ≡ self.old ++ row.now ∷ []) }
-        ensures kept { OnErr result (self.new ≡ self.old) }
-    {
-        self.push_parts(row, &[])
-    }
-
-    /// Appends one row, whose first cells and other cells stand in two places. `Err` only when out of memory; then there are
+    /// Appends one row, which begins with a row's cells and goes on with others. `Err` only when out of memory; then there are
     /// the same rows.
-    pub(crate) fn push_parts(
-        &mut self,
-        first: &[(u32, u32)],
-        rest: &[(u32, u32)],
-    ) -> Result<(), AllocError>
-        ensures pushed { OnOk result (self.new ≡ self.old ++ (first.now ++ rest.now) ∷ []) }
+    pub(crate) fn push(&mut self, first: Row<'_>, rest: &[(u32, u32)]) -> Result<(), AllocError>
+        ensures pushed { OnOk result (self.new ≡ self.old ++ (cells_in first.entry ++ rest.now) ∷ []) }
         ensures kept { OnErr result (self.new ≡ self.old) }
     {
         self.ends.reserve(1)?;
         self.entries
             .reserve(first.len().saturating_add(rest.len()))?;
-        self.entries.extend_from_slice(first)?;
+        self.entries.extend_from_slice(first.first)?;
+        self.entries.extend_from_slice(first.rest)?;
         self.entries.extend_from_slice(rest)?;
         self.ends.push_reserved(self.entries.len());
         Ok(())
@@ -101,7 +93,9 @@ impl RowBlock {
     }
 
     /// How many cells the rows have in all.
-    pub(crate) fn cells(&self) -> usize {
+    pub(crate) fn cells(&self) -> usize
+        ensures { result ≡ cell_count self.now }
+    {
         self.entries.len()
     }
 

@@ -7,8 +7,10 @@ ghost use Rattle.faults.specs.declared.faults.TableFault.TheVariants.{OutOfMemor
 ghost use Rattle.cost_table.specs.Table.{row_at, cost_in, cost_at, penalty_at, lack_at, wagon_count, order_count};
 ghost use Rattle.wagons_and_orders.specs.WantedLimits.{IsLack};
 ghost use Rattle.cost_table.specs.inner.Searched.{IsAscendingRow};
-ghost use Rattle.cost_table.specs.SharedRows.{HasIndices, rows_in};
+ghost use Rattle.cost_table.specs.RowParts.{cells_in};
+ghost use Rattle.cost_table.specs.SharedRows.{HasPlaces, rows_in};
 
+use crate::row::Row;
 use crate::rows::{are_even, are_too_large, flatten};
 use crate::table_rows::TableRows;
 use faults::TableFault;
@@ -38,19 +40,19 @@ impl Drop for Cells {
 impl Model for Cells {
     ghost use Rattle.cost_table.specs.Table.{Table};
     ghost use Rattle.cost_table.specs.TableLimits.{IsTable};
-    ghost use Rattle.cost_table.specs.SharedRows.{HasIndices, rows_in};
+    ghost use Rattle.cost_table.specs.SharedRows.{HasPlaces, rows_in};
 
     ghost Value = { Table };
 
     ghost view = { λ c. record { rows = rows_in c.rows; penalties = c.penalties.items; lacks = c.lacks.items } };
 
-    ghost invariant = { λ c. HasIndices c.rows × IsTable (record { rows = rows_in c.rows; penalties = c.penalties.items; lacks = c.lacks.items }) };
+    ghost invariant = { λ c. HasPlaces c.rows × IsTable (record { rows = rows_in c.rows; penalties = c.penalties.items; lacks = c.lacks.items }) };
 }
 
 impl Cells {
     /// The table of rows that are found.
     pub fn of_rows(rows: TableRows, penalties: Vec<u64>, lacks: Vec<u32>) -> Cells
-        requires indexed { HasIndices rows }
+        requires placed { HasPlaces rows }
         requires table { IsTable (record { rows = rows_in rows; penalties = penalties.items; lacks = lacks.items }) }
         ensures { result ≡ record { rows = rows_in rows; penalties = penalties.items; lacks = lacks.items } }
     {
@@ -64,7 +66,7 @@ impl Cells {
     /// The rows.
     pub fn rows(&self) -> &TableRows
         ensures rows { rows_in result.now ≡ self.now.rows }
-        ensures indexed { HasIndices result.now }
+        ensures placed { HasPlaces result.now }
         ensures table { IsTable self.now }
     {
         &self.rows
@@ -155,15 +157,15 @@ impl Cells {
     }
 
     /// The orders that wagon `i` may serve, ascending, each with its cost in kilometres.
-    pub fn row(&self, i: usize) -> &[(u32, u32)]
+    pub fn row(&self, i: usize) -> Row<'_>
         requires { i < wagon_count self.now }
-        ensures row { result.now ≡ row_at self.now i }
-        ensures cells { IsRow (order_count self.now) 0 result.now }
+        ensures row { cells_in result ≡ row_at self.now i }
+        ensures cells { IsRow (order_count self.now) 0 (cells_in result) }
     {
         self.rows.row(i)
     }
 
-    /// Whether two wagons share one row. The rows of others may still have the same cells.
+    /// Whether the rows of two wagons stand in one place. Those of others may still have the same cells.
     pub fn share_row(&self, i: usize, k: usize) -> bool
         requires wagon { i < wagon_count self.now }
         requires other { k < wagon_count self.now }
@@ -181,7 +183,7 @@ impl Cells {
         if i >= self.wagons() {
             return None;
         }
-        find_cost(self.row(i), j)
+        cost_of(self.row(i), j)
     }
 }
 
@@ -221,6 +223,18 @@ fn of_lists(
 }
 
 /// The cost that a row has for an order.
+fn cost_of(row: Row<'_>, order: usize) -> Option<u64>
+    requires first { IsAscendingRow row.first.now }
+    requires rest { IsAscendingRow row.rest.now }
+    ensures { result ≡ cost_in (cells_in row.entry) order }
+{
+    match find_cost(row.first, order) {
+        Some(cost) => Some(cost),
+        None => find_cost(row.rest, order),
+    }
+}
+
+/// The cost that cells which stand in one place have for an order.
 fn find_cost(row: &[(u32, u32)], order: usize) -> Option<u64>
     requires { IsAscendingRow row.now }
     ensures { result ≡ cost_in row.now order }

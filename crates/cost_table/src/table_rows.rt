@@ -1,58 +1,72 @@
-//! The rows of a table, some of which it may share with other tables.
-ghost use Rattle.std.specs.Prelude.{◌≡◌, ◌+◌, ◌<◌, ◌++◌, [], IfOk, IsTrue, OnErr, OnOk, length, replicate, slice_index_or};
-ghost use Rattle.cost_table.specs.SharedRows.{HasIndices, AreIndices, HasRowMore, HasSameRows, are_scattered, row_among, rows_among, rows_in};
+//! The rows of a table, whose first cells it may share with other tables.
+ghost use Rattle.std.specs.Prelude.{◌≡◌, ◌<◌, ◌≤◌, ◌++◌, [], ◌∷◌, IfOk, IsTrue, OnErr, OnOk, length, replicate, slice_index_or, take};
+ghost use Rattle.cost_table.specs.RowParts.{cells_in};
+ghost use Rattle.cost_table.specs.SharedRows.{ArePlaces, HasPlaces, HasRowMore, HasSameRows, are_scattered, own_cells, row_among, rows_among, rows_in, shared_cells};
 
+use crate::row::Row;
 use crate::row_block::{RowBlock, room_for};
 use std::alloc::{AllocError, Global};
 use std::sync::Arc;
 
-/// The rows of a table: each stands in a block that tables share, or in the table's own.
+/// Where a row stands: its first cells are so many of a row of the shared block; those behind them are an own row, counted
+/// from 1, or none where that number is 0.
+#[derive(Clone, Copy, PartialEq, Eq)]
+pub struct RowPlace {
+    pub shared: usize,
+    pub count: usize,
+    pub own: usize,
+}
+
+/// The rows of a table. The first cells of each stand in a block that tables share, the others in the table's own.
 #[derive(Drop)]
 pub struct TableRows {
     pub shared: Arc<RowBlock>,
     pub own: RowBlock,
-    /// For each wagon where its row stands among those of the shared block, then of the own one.
-    pub indices: Vec<usize>,
+    /// For each wagon where its row stands.
+    pub places: Vec<RowPlace>,
 }
 
 impl TableRows {
     /// The rows of a block, which other tables may share.
     pub fn of_block(alloc: Global, block: RowBlock) -> Result<TableRows, AllocError>
         ensures rows { IfOk result (λ rows. rows_in rows ≡ block) }
-        ensures indexed { IfOk result HasIndices }
+        ensures placed { IfOk result HasPlaces }
     {
-        let indices = all_indices(alloc, &block)?;
+        let places = all_places(alloc, &block)?;
         Ok(TableRows {
             shared: Arc::new(alloc, block)?,
             own: RowBlock::new(alloc),
-            indices,
+            places,
         })
     }
 
-    /// So many rows without a cell: they are one.
+    /// So many rows without a cell.
     pub fn all_empty(alloc: Global, count: usize) -> Result<TableRows, AllocError>
         ensures rows { IfOk result (λ rows. rows_in rows ≡ replicate count []) }
-        ensures indexed { IfOk result HasIndices }
+        ensures placed { IfOk result HasPlaces }
     {
-        let mut block = RowBlock::new(alloc);
-        block.push(&[])?;
+        let nowhere = RowPlace {
+            shared: 0,
+            count: 0,
+            own: 0,
+        };
         Ok(TableRows {
-            shared: Arc::new(alloc, block)?,
+            shared: Arc::new(alloc, RowBlock::new(alloc))?,
             own: RowBlock::new(alloc),
-            indices: Vec::from_elem(alloc, 0, count)?,
+            places: Vec::from_elem(alloc, nowhere, count)?,
         })
     }
 
-    /// No row yet, with room for the indices of so many, and none to share.
+    /// No row yet, with room for the places of so many, and none to share.
     pub fn empty(alloc: Global, count: usize) -> Result<TableRows, AllocError>
         ensures shared { IfOk result (λ rows. rows.shared.value ≡ []) }
         ensures rows { IfOk result (λ rows. rows_in rows ≡ []) }
-        ensures indexed { IfOk result HasIndices }
+        ensures placed { IfOk result HasPlaces }
     {
         Ok(TableRows {
             shared: Arc::new(alloc, RowBlock::new(alloc))?,
             own: RowBlock::new(alloc),
-            indices: Vec::with_capacity(alloc, count)?,
+            places: Vec::with_capacity(alloc, count)?,
         })
     }
 
@@ -65,26 +79,26 @@ impl TableRows {
     ) -> Result<TableRows, AllocError>
         ensures shared { IfOk result (λ rows. rows.shared.value ≡ []) }
         ensures rows { IfOk result (λ rows. rows_in rows ≡ []) }
-        ensures indexed { IfOk result HasIndices }
+        ensures placed { IfOk result HasPlaces }
     {
         let cells = other.shared.cells().saturating_add(other.own.cells());
         Ok(TableRows {
             shared: Arc::new(alloc, RowBlock::new(alloc))?,
             own: RowBlock::with_room(alloc, count, room_for(cells.saturating_add(cells / 8)))?,
-            indices: Vec::with_capacity(alloc, count)?,
+            places: Vec::with_capacity(alloc, count)?,
         })
     }
 
-    /// No row yet, with room for the indices of so many; it shares the block of another table's rows.
+    /// No row yet, with room for the places of so many; it shares the block of another table's rows.
     pub fn sharing(alloc: Global, other: &TableRows, count: usize) -> Result<TableRows, AllocError>
         ensures shared { IfOk result (λ rows. rows.shared.value ≡ other.now.shared.value) }
         ensures rows { IfOk result (λ rows. rows_in rows ≡ []) }
-        ensures indexed { IfOk result HasIndices }
+        ensures placed { IfOk result HasPlaces }
     {
         Ok(TableRows {
             shared: Arc::try_clone(&other.shared)?,
             own: RowBlock::new(alloc),
-            indices: Vec::with_capacity(alloc, count)?,
+            places: Vec::with_capacity(alloc, count)?,
         })
     }
 
@@ -92,130 +106,230 @@ impl TableRows {
     pub fn len(&self) -> usize
         ensures { result ≡ length (rows_in self.now) }
     {
-        self.indices.len()
+        self.places.len()
     }
 
     /// The row of wagon `i`.
-    pub fn row(&self, i: usize) -> &[(u32, u32)]
-        requires indexed { HasIndices self.now }
+    pub fn row(&self, i: usize) -> Row<'_>
+        requires placed { HasPlaces self.now }
         requires wagon { i < length (rows_in self.now) }
-        ensures { result.now ≡ slice_index_or (rows_in self.now) i [] }
+        ensures { cells_in result ≡ slice_index_or (rows_in self.now) i [] }
     {
-        row_at(&self.shared, &self.own, self.indices[i])
+        self.row_at(self.places[i])
     }
 
-    /// Whether two wagons share one row. The rows of others may still have the same cells.
+    /// The row of a place.
+    fn row_at(&self, place: RowPlace) -> Row<'_>
+        requires { place.own ≤ length self.now.own }
+        ensures first { result.first.now ≡ shared_cells self.now.shared.value place }
+        ensures rest { result.rest.now ≡ own_cells self.now.own place }
+    {
+        Row {
+            first: first_cells(&self.shared, place.shared, place.count),
+            rest: own_row(&self.own, place.own),
+        }
+    }
+
+    /// Whether the rows of two wagons stand in one place. Those of others may still have the same cells.
     pub fn share_row(&self, i: usize, k: usize) -> bool
         requires wagon { i < length (rows_in self.now) }
         requires other { k < length (rows_in self.now) }
         ensures { IsTrue result → slice_index_or (rows_in self.now) i [] ≡ slice_index_or (rows_in self.now) k [] }
     {
-        self.indices[i] == self.indices[k]
+        self.places[i] == self.places[k]
     }
 
     /// Appends a row. `Err` only when out of memory; then there are the same rows.
     pub fn push(&mut self, row: &[(u32, u32)]) -> Result<(), AllocError>
-        requires { HasIndices self.old }
+        requires { HasPlaces self.old }
         ensures pushed { OnOk result (HasRowMore self.old self.new row.now) }
         ensures kept { OnErr result (HasSameRows self.old self.new) }
     {
-        self.push_parts(row, &[])
+        let none = Row {
+            first: &[],
+            rest: &[],
+        };
+        self.push_behind(0, 0, none, row)
     }
 
-    /// Appends one row, whose first cells and other cells stand in two places. `Err` only when out of memory; then there are
-    /// the same rows.
-    pub fn push_parts(
-        &mut self,
-        first: &[(u32, u32)],
-        rest: &[(u32, u32)],
-    ) -> Result<(), AllocError>
-        requires { HasIndices self.old }
-        ensures pushed { OnOk result (HasRowMore self.old self.new (first.now ++ rest.now)) }
+    /// Appends one row, which begins with a row's cells and goes on with others: all are copied. `Err` only when out of
+    /// memory; then there are the same rows.
+    pub fn push_parts(&mut self, first: Row<'_>, rest: &[(u32, u32)]) -> Result<(), AllocError>
+        requires { HasPlaces self.old }
+        ensures pushed { OnOk result (HasRowMore self.old self.new (cells_in first.entry ++ rest.now)) }
         ensures kept { OnErr result (HasSameRows self.old self.new) }
     {
-        let index = self.shared.len() + self.own.len();
-        self.indices.reserve(1)?;
-        self.own.push_parts(first, rest)?;
-        self.indices.push_reserved(index);
-        Ok(())
+        self.push_behind(0, 0, first, rest)
     }
 
-    /// Appends row `i` of another table, whose shared block is this one's too: a row of that block isn't copied. `Err` only
+    /// Appends one row, which begins with so many cells of row `i` of another table, whose shared block is this one's too,
+    /// and goes on with others: cells of that block aren't copied. `Err` only when out of memory; then there are the same
+    /// rows.
+    pub fn push_along(
+        &mut self,
+        other: &TableRows,
+        i: usize,
+        count: usize,
+        rest: &[(u32, u32)],
+    ) -> Result<(), AllocError>
+        requires placed { HasPlaces self.old }
+        requires shared { self.old.shared.value ≡ other.now.shared.value }
+        requires others { HasPlaces other.now }
+        requires wagon { i < length (rows_in other.now) }
+        requires count { count ≤ length (slice_index_or (rows_in other.now) i []) }
+        ensures pushed { OnOk result (HasRowMore self.old self.new (take count (slice_index_or (rows_in other.now) i []) ++ rest.now)) }
+        ensures kept { OnErr result (HasSameRows self.old self.new) }
+    {
+        let place = other.places[i];
+        let (front, _) = other.row_at(place).split_at(count);
+        let own = Row {
+            first: front.rest,
+            rest: &[],
+        };
+        self.push_behind(place.shared, front.first.len(), own, rest)
+    }
+
+    /// Appends row `i` of another table, whose shared block is this one's too: cells of that block aren't copied. `Err` only
     /// when out of memory; then there are the same rows.
     pub fn take_over(&mut self, other: &TableRows, i: usize) -> Result<(), AllocError>
-        requires indexed { HasIndices self.old }
+        requires placed { HasPlaces self.old }
         requires shared { self.old.shared.value ≡ other.now.shared.value }
-        requires others { HasIndices other.now }
+        requires others { HasPlaces other.now }
         requires wagon { i < length (rows_in other.now) }
         ensures pushed { OnOk result (HasRowMore self.old self.new (slice_index_or (rows_in other.now) i [])) }
         ensures kept { OnErr result (HasSameRows self.old self.new) }
     {
-        let index = other.indices[i];
-        if index < self.shared.len() {
-            self.indices.push(index)?;
+        let place = other.places[i];
+        let own = Row {
+            first: own_row(&other.own, place.own),
+            rest: &[],
+        };
+        self.push_behind(place.shared, place.count, own, &[])
+    }
+
+    /// Appends a row whose first cells are so many of a row of the shared block, and whose other cells are copied.
+    fn push_behind(
+        &mut self,
+        shared: usize,
+        count: usize,
+        first: Row<'_>,
+        rest: &[(u32, u32)],
+    ) -> Result<(), AllocError>
+        requires { HasPlaces self.old }
+        ensures pushed { OnOk result (HasRowMore self.old self.new (take count (slice_index_or self.old.shared.value shared []) ++ (cells_in first.entry ++ rest.now))) }
+        ensures kept { OnErr result (HasSameRows self.old self.new) }
+    {
+        self.places.reserve(1)?;
+        if first.len() == 0 && rest.is_empty() {
+            let own = 0;
+            self.places.push_reserved(RowPlace { shared, count, own });
             return Ok(());
         }
-        self.push(other.row(i))
+        self.own.push(first, rest)?;
+        let own = self.own.len();
+        self.places.push_reserved(RowPlace { shared, count, own });
+        Ok(())
     }
 
     /// Appends row `i` of this table once more, which isn't copied. `Err` only when out of memory; then there are the same
     /// rows.
     pub fn repeat(&mut self, i: usize) -> Result<(), AllocError>
-        requires indexed { HasIndices self.old }
+        requires placed { HasPlaces self.old }
         requires wagon { i < length (rows_in self.old) }
         ensures pushed { OnOk result (HasRowMore self.old self.new (slice_index_or (rows_in self.old) i [])) }
         ensures kept { OnErr result (HasSameRows self.old self.new) }
     {
-        let index = self.indices[i];
-        self.indices.push(index)?;
+        let place = self.places[i];
+        self.places.push(place)?;
         Ok(())
     }
 
-    /// The same rows, where all are the table's own: other tables may share them now.
+    /// The same rows, where none of their cells is shared: other tables may share them now.
     pub fn to_share(self, alloc: Global) -> Result<TableRows, AllocError>
-        requires indexed { HasIndices self }
+        requires placed { HasPlaces self }
         requires own { self.shared.value ≡ [] }
         ensures rows { IfOk result (λ rows. rows_in rows ≡ rows_in self) }
-        ensures indexed { IfOk result HasIndices }
+        ensures placed { IfOk result HasPlaces }
     {
-        let TableRows { own, indices, .. } = self;
+        let TableRows { own, places, .. } = self;
+        let places = shared_places(alloc, &own, &places)?;
         Ok(TableRows {
             shared: Arc::new(alloc, own)?,
             own: RowBlock::new(alloc),
-            indices,
+            places,
         })
     }
 
-    /// Whether so many rows are the table's own that a table made again would serve better as one to share: over a quarter
-    /// of those that it shares.
+    /// Whether so many cells are the table's own that a table made again would serve better as one to share: over a quarter
+    /// of those of the shared block.
     pub fn are_scattered(&self) -> bool
         ensures { result ≡ are_scattered self.now }
     {
-        self.own.len() > self.shared.len() / 4
+        self.own.cells() > self.shared.cells() / 4
     }
 }
 
-/// The row at an index among those of two blocks.
-fn row_at<'a>(shared: &'a RowBlock, own: &'a RowBlock, index: usize) -> &'a [(u32, u32)]
-    requires { index < length shared.now + length own.now }
-    ensures { result.now ≡ row_among shared.now own.now index }
+/// So many of the first cells of row `k` of a block; none where it isn't there.
+fn first_cells(block: &RowBlock, k: usize, count: usize) -> &[(u32, u32)]
+    ensures { result.now ≡ take count (slice_index_or block.now k []) }
 {
-    let before = shared.len();
-    if index < before {
-        shared.row(index)
-    } else {
-        own.row(index - before)
+    if k >= block.len() {
+        return &[];
+    }
+    let row = block.row(k);
+    &row[..count.min(row.len())]
+}
+
+/// The cells of an own row, counted from 1; none for number 0.
+fn own_row(own: &RowBlock, number: usize) -> &[(u32, u32)]
+    requires { number ≤ length own.now }
+    ensures { result.now ≡ slice_index_or ([] ∷ own.now) number [] }
+{
+    match number.checked_sub(1) {
+        Some(k) => own.row(k),
+        None => &[],
     }
 }
 
-/// The indices of all rows of a block.
-fn all_indices(alloc: Global, block: &RowBlock) -> Result<Vec<usize>, AllocError>
-    ensures rows { IfOk result (λ indices. rows_among block.now [] indices.items ≡ block.now) }
-    ensures indexed { IfOk result (λ indices. AreIndices block.now [] indices.items) }
+/// Where an own row, counted from 1, stands once its block is one to share; nowhere for number 0.
+fn shared_place(block: &RowBlock, number: usize) -> RowPlace
+    requires { number ≤ length block.now }
+    ensures row { row_among block.now [] result ≡ slice_index_or ([] ∷ block.now) number [] }
+    ensures own { result.own ≡ 0 }
 {
-    let mut indices = Vec::with_capacity(alloc, block.len())?;
+    let cells = own_row(block, number);
+    RowPlace {
+        shared: number.saturating_sub(1),
+        count: cells.len(),
+        own: 0,
+    }
+}
+
+/// Where own rows stand once their block is one to share.
+fn shared_places(
+    alloc: Global,
+    block: &RowBlock,
+    places: &[RowPlace],
+) -> Result<Vec<RowPlace>, AllocError>
+    requires { ArePlaces block.now places.now }
+    ensures rows { IfOk result (λ shared. rows_among block.now [] shared.items ≡ rows_among [] block.now places.now) }
+    ensures placed { IfOk result (λ shared. ArePlaces [] shared.items) }
+{
+    let mut shared = Vec::with_capacity(alloc, places.len())?;
+    for place in places {
+        shared.push(shared_place(block, place.own))?;
+    }
+    Ok(shared)
+}
+
+/// The places of all rows of a block that is one to share.
+fn all_places(alloc: Global, block: &RowBlock) -> Result<Vec<RowPlace>, AllocError>
+    ensures rows { IfOk result (λ places. rows_among block.now [] places.items ≡ block.now) }
+    ensures placed { IfOk result (λ places. ArePlaces [] places.items) }
+{
+    let mut places = Vec::with_capacity(alloc, block.len())?;
     for k in 0..block.len() {
-        indices.push(k)?;
+        places.push(shared_place(block, k + 1))?;
     }
-    Ok(indices)
+    Ok(places)
 }

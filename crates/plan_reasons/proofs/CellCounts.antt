@@ -1,9 +1,10 @@
 -- Numbers of orders that grow one by one, and the cells of an order in a row.
-use Rattle.std.proofs.Common.{◌≡◌, ◌≢◌, ◌+◌, ◌<◌, ◌≤◌, ℕ, zero, suc, Bool, false, cond, Option, Some, None, List, [], ◌∷◌, ◌++◌, length, set, get_or, take, drop, replicate, length-take-le, get_or-set_same, get_or-set_other, refl, sym, ap, ap₂, ◌∙◌, inl, inr, subst, arith}
+use Rattle.std.proofs.Common.{◌≡◌, ◌≢◌, ◌+◌, ◌<◌, ◌≤◌, ℕ, zero, suc, Bool, true, false, cond, Option, Some, None, List, [], ◌∷◌, ◌++◌, length, set, get_or, take, drop, replicate, length-take-le, get_or-set_same, get_or-set_other, refl, sym, ap, ap₂, ◌∙◌, inl, inr, subst, arith}
 use Rattle.std.specs.Prelude.{◌==◌, All, is_some, nat_lt, slice_index}
 use Rattle.std.specs.List.{count_by, sum_by}
 use Rattle.std.proofs.lemmas.Bool.{cases_eq}
 use Rattle.std.proofs.lemmas.Bool.Decides.{nat_tests}
+use Rattle.std.proofs.lemmas.Grind.{get_or_default_zero}
 use Rattle.std.proofs.lemmas.List.{get_or-replicate, length-set, take-append-le, take_all, take_more}
 use Rattle.std.proofs.lemmas.List.Elements.{All-take}
 use Rattle.std.proofs.lemmas.List.Sums.{count_by-le-length, sum_by-append, sum_by-cons}
@@ -12,7 +13,7 @@ use Rattle.cost_table.specs.TableLimits.{IsRow, IsTable}
 use Rattle.cost_table.proofs.TableLemmas.{cost_in_within, cost_there}
 use Rattle.plan_reasons.specs.Laws.{cells_of_order}
 use Rattle.plan_reasons.specs.PairLists.{is_below}
-use Rattle.plan_reasons.specs.inner.Tallied.{AreNumbers, below_in_row, cells_below, cheaper_cells, is_cell_below}
+use Rattle.plan_reasons.specs.inner.Tallied.{AreMore, AreNumbers, below_in_row, cells_below, cheaper_cells, is_cell_below}
 
 -- ---- one number more
 
@@ -77,6 +78,26 @@ one_cell n low (cell ∷ row) limits j is =
           let rest = one_cell n (cell.0 + 1) row limits j is.3 in
           omega (arith, split, rest, ap as_number (cell_elsewhere limits j cell apart), ap below (cost_apart cell.0 j cell.1 (cost_in row j) apart))
     ]
+
+-- so it counts once at most
+most_one : (n : ℕ) (row : List (ℕ × ℕ)) (limits : List ℕ) (j : ℕ) → IsRow n 0 row → below_in_row row limits j ≤ 1
+most_one n row limits j is = at (is_below (cost_in row j) (slice_index limits j)) (one_cell n 0 row limits j is) where
+  at : (b : Bool) → below_in_row row limits j ≡ cond b 1 0 → below_in_row row limits j ≤ 1
+  at true e = omega (arith, e)
+  at false e = omega (arith, e)
+
+-- ---- the cells of one row in two places
+
+pub few_after : (n : ℕ) (first : List (ℕ × ℕ)) (limits old new : List ℕ) → IsRow n 0 first → All (λ count. count ≤ 1_000) old → AreMore (below_in_row first limits) old new → All (λ count. count ≤ 1_001) new
+few_after n first limits old new is few more = λ k d lt.
+    let here : k < length old = omega (arith, lt, more.0) in
+    omega (arith, get_or_default_zero new k d lt, more.1 k here, few k 0 here, most_one n first limits k is)
+
+pub more_twice : (first rest : List (ℕ × ℕ)) (limits old between new : List ℕ) → AreMore (below_in_row first limits) old between → AreMore (below_in_row rest limits) between new → AreMore (below_in_row (first ++ rest) limits) old new
+more_twice first rest limits old between new one other = (
+  omega (arith, one.0, other.0),
+  λ j less. omega (arith, one.1 j less, other.1 j (omega (arith, less, one.0)), sum_by-append (λ (c : ℕ × ℕ). cond (is_cell_below limits j c) 1 0) first rest),
+)
 
 -- ---- the cells of all rows
 

@@ -1,12 +1,13 @@
 //! For each order how many cells of a table, or pairs of a plan, are its own.
 ghost use Rattle.std.specs.Prelude.{◌≡◌, ◌<◌, ◌≤◌, All, IfOk, length};
 ghost use Rattle.cost_table.specs.Plan.{serves};
+ghost use Rattle.cost_table.specs.RowParts.{cells_in};
 ghost use Rattle.cost_table.specs.Table.{order_count};
 ghost use Rattle.cost_table.specs.TableLimits.{IsRow};
 ghost use Rattle.plan_reasons.specs.Laws.{cells_of_order};
 ghost use Rattle.plan_reasons.specs.inner.Tallied.{AreMore, AreNumbers, below_in_row, cells_below, cheaper_cells};
 
-use cost_table::Cells;
+use cost_table::{Cells, Row};
 use std::alloc::{AllocError, Global};
 
 /// For each order, how many wagons may serve it.
@@ -41,10 +42,21 @@ fn cells_below(alloc: Global, cells: &Cells, limits: &[u64]) -> Result<Vec<u64>,
 }
 
 /// Counts the cells of one row.
-fn count_row(counts: &mut [u64], row: &[(u32, u32)], limits: &[u64])
-    requires row { IsRow (length limits.now) 0 row.now }
+fn count_row(counts: &mut [u64], row: Row<'_>, limits: &[u64])
+    requires row { IsRow (length limits.now) 0 (cells_in row) }
     requires counts { length counts.old ≡ length limits.now }
     requires limit { All (λ count. count ≤ 1_000) counts.old }
+    ensures { AreMore (below_in_row (cells_in row.entry) limits.now) counts.old counts.new }
+{
+    count_cells(counts, row.first, limits);
+    count_cells(counts, row.rest, limits);
+}
+
+/// Counts cells that stand in one place.
+fn count_cells(counts: &mut [u64], row: &[(u32, u32)], limits: &[u64])
+    requires row { IsRow (length limits.now) 0 row.now }
+    requires counts { length counts.old ≡ length limits.now }
+    requires limit { All (λ count. count ≤ 1_001) counts.old }
     ensures { AreMore (below_in_row row.now limits.now) counts.old counts.new }
 {
     for cell in row {

@@ -1,4 +1,4 @@
-use Rattle.std.proofs.Common.{◌≡◌, ◌+◌, ◌<◌, ◌≤◌, ℕ, zero, suc, Bool, true, false, cond, Option, Some, None, List, [], ◌∷◌, refl, sym, ◌∙◌, ap, arith, subst, inl, inr}
+use Rattle.std.proofs.Common.{◌≡◌, ◌+◌, ◌<◌, ◌≤◌, ℕ, zero, suc, Bool, true, false, cond, Option, Some, None, List, [], ◌∷◌, ◌++◌, length, refl, sym, ◌∙◌, ap, arith, subst, inl, inr, length-append, get_or-append-add}
 use Rattle.std.specs.Prelude.{nat_lt, slice_index, All}
 use Rattle.std.specs.Option.{option_or}
 use Rattle.std.specs.List.{AllByRecursion}
@@ -84,3 +84,19 @@ row_orders n low (cell ∷ row) h = (h.1, row_orders n (cell.0 + 1) row h.3)
 -- each order of a row is one of the table's
 pub orders_of_row : (n m : ℕ) (row : List (ℕ × ℕ)) → IsRow n 0 row → m ≡ n → All (λ (cell : ℕ × ℕ). cell.0 < m) row
 orders_of_row n m row h e = rw e (All-from_recursion (λ (cell : ℕ × ℕ). cell.0 < n) row (row_orders n 0 row h))
+
+else_or : {A : Type 0} (b : Bool) (x : A) (o rest : Option A) → cond b (Some x) (option_or o rest) ≡ option_or (cond b (Some x) o) rest
+else_or true x o rest = refl
+else_or false x o rest = refl
+
+-- a row in two parts has the gap of the first part, or else that of the rest
+pub gap_of_parts : (i : ℕ) (first rest : List (ℕ × ℕ)) (u : ℕ) (v : List ℕ) → gap_of_row i (first ++ rest) u v ≡ option_or (gap_of_row i first u v) (gap_of_row i rest u v)
+gap_of_parts i [] rest u v = refl
+gap_of_parts i (cell ∷ first) rest u v =
+    ap (λ o. cond (nat_lt (cell.1 + u) (slice_index v cell.0)) (Some (PriceGap i cell.0)) o) (gap_of_parts i first rest u v) ∙ else_or (nat_lt (cell.1 + u) (slice_index v cell.0)) (PriceGap i cell.0) (gap_of_row i first u v) (gap_of_row i rest u v)
+
+-- what holds of all cells of a row holds of those behind the first ones
+pub rest_all : (P : ℕ × ℕ → Type 0) (first rest : List (ℕ × ℕ)) → All P (first ++ rest) → All P rest
+rest_all P first rest h k d l =
+    let count : length (first ++ rest) ≡ length first + length rest = length-append first rest in
+    subst P (get_or-append-add first rest k d) (h (length first + k) d (omega (arith, l, count)))

@@ -1,6 +1,7 @@
 //! The checker: each test in its order.
 ghost use Rattle.std.specs.Prelude.{◌≡◌, ◌<◌, ◌≤◌, ◌+◌, ◌*◌, ◌^◌, ◌==◌, ◌↔◌, [], length, sum, All, IsOk, OnOk, IfOk};
 ghost use Rattle.std.specs.Result.{result_err};
+ghost use Rattle.cost_table.specs.RowParts.{cells_in};
 ghost use Rattle.cost_table.specs.TableLimits.{IsTable, max_table_wagons};
 ghost use Rattle.cost_table.specs.Table.{lack_at, wagon_count, order_count};
 ghost use Rattle.cost_table.specs.Plan.{IsPlan, IsOptimal, cost_of, uses, serves};
@@ -9,7 +10,7 @@ ghost use Rattle.price_checker.specs.inner.RowWalk.{gap_of_row};
 ghost use Rattle.price_checker.specs.Faults.{first_fault, wrong_lengths, not_allowed, used_twice, price_gap, over_penalty, sums_differ, paid_by_orders};
 
 use crate::{Certified, CheckFault, Prices};
-use cost_table::{Cells, cost};
+use cost_table::{Cells, Row, cost};
 
 /// Checks that the pairs are a plan of the table and that the prices, in kilometres, show it to be an optimal one.
 /// Allocates nothing.
@@ -102,19 +103,28 @@ fn check_used(cells: &Cells, pairs: &[(usize, usize)]) -> Result<(), CheckFault>
     Ok(())
 }
 
-/// No price of an order in a wagon's row passes the cost and the wagon's price. (Less the wagon's price it is
+/// No price of an order passes the cost of one of these cells and the wagon's price. (Less the wagon's price it is
 /// compared with the cost, since the sum of those two may not fit.)
-fn check_row(i: usize, row: &[(u32, u32)], u: u64, v: &[u64]) -> Result<(), CheckFault>
-    requires { All (λ cell. cell.0 < length v.now) row.now }
-    ensures { result_err result ≡ gap_of_row i row.now u v.now }
+fn check_cells(i: usize, cells: &[(u32, u32)], u: u64, v: &[u64]) -> Result<(), CheckFault>
+    requires { All (λ cell. cell.0 < length v.now) cells.now }
+    ensures { result_err result ≡ gap_of_row i cells.now u v.now }
 {
-    for cell in row {
+    for cell in cells {
         let j = cell.0 as usize;
         if v[j].saturating_sub(u) > u64::from(cell.1) {
             return Err(CheckFault::PriceGap(i, j));
         }
     }
     Ok(())
+}
+
+/// No price of an order in a wagon's row passes the cost and the wagon's price.
+fn check_row(i: usize, row: Row<'_>, u: u64, v: &[u64]) -> Result<(), CheckFault>
+    requires { All (λ cell. cell.0 < length v.now) (cells_in row) }
+    ensures { result_err result ≡ gap_of_row i (cells_in row.entry) u v.now }
+{
+    check_cells(i, row.first, u, v)?;
+    check_cells(i, row.rest, u, v)
 }
 
 /// No order's price passes the cost of a pair and its wagon's price.

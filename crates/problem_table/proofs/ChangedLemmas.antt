@@ -1,5 +1,5 @@
 -- Rows that are taken over.
-use Rattle.std.proofs.Common.{◌≡◌, ◌≤◌, ◌<◌, ℕ, List, [], Some, get_or, length, arith}
+use Rattle.std.proofs.Common.{◌≡◌, ◌∙◌, ◌≤◌, ◌<◌, Bool, true, false, ℕ, List, [], Some, get_or, length, arith}
 use Rattle.std.specs.Prelude.{slice_get}
 use Rattle.std.proofs.lemmas.Option.{get_or_from_slice_get}
 use Rattle.line_network.specs.Network.{NetworkValue}
@@ -37,3 +37,7 @@ same_rows net at wagons earlier orders rows lasts same h = record {
   within = h.within;
   each = λ i wagon there. same_lasting_row net at wagon earlier orders (get_or rows i []) (get_or lasts i 0) same (h.each i wagon there);
 }
+
+-- rows beside the same block
+pub same_block : (shares : Bool) (earlier old new : List (List (ℕ × ℕ))) → new ≡ old → (shares ≡ true → old ≡ earlier) × (shares ≡ false → old ≡ []) → (shares ≡ true → new ≡ earlier) × (shares ≡ false → new ≡ [])
+same_block shares earlier old new same h = (λ yes. same ∙ h.0 yes, λ no. same ∙ h.1 no)

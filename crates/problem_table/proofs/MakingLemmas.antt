@@ -4,7 +4,7 @@ use Rattle.std.specs.Prelude.{All, OnOk, slice_get}
 use Rattle.std.proofs.lemmas.Option.{get_or_from_slice_get, slice_get_within}
 use Rattle.line_network.specs.Network.{NetworkValue}
 use Rattle.cost_table.specs.Problem.{ProblemValue}
-use Rattle.cost_table.specs.SharedRows.{HasIndices, rows_in}
+use Rattle.cost_table.specs.SharedRows.{HasPlaces, rows_in}
 use Rattle.wagons_and_orders.specs.declared.free_wagon.FreeWagon.{FreeWagon}
 use Rattle.problem_table.specs.declared.making.Making.{Making}
 use Rattle.problem_table.specs.inner.Alike.{AreAlike}
@@ -23,7 +23,7 @@ module _ (net : NetworkValue) (problem : ProblemValue) (k : ℕ) (wagon : FreeWa
   -- the row of the next wagon
   pub made_next : (new : Making) → AddsWagon net problem wagon old new → All (AreGoalsOf net 0 problem.orders) new.classes.items → AreMade net problem (k + 1) new
   made_next new adds classes = record {
-    indexed = adds.more.indexed;
+    placed = adds.more.placed;
     rows = lasting_next net problem.at problem.wagons problem.orders k wagon (rows_in old.rows) (rows_in new.rows) old.lasts.items new.lasts.items (slice_get_within problem.wagons k wagon here) (sym (get_or_from_slice_get problem.wagons k wagon wagon here)) made.rows
         (record { row = adds.row; last = adds.last; rows = adds.more.rows; moments = adds.more.moments; within = adds.within; is = adds.is });
     classes = classes;
@@ -59,9 +59,9 @@ module _ (net : NetworkValue) (problem : ProblemValue) (k : ℕ) (wagon : FreeWa
 
 module _ (net : NetworkValue) (problem : ProblemValue) where
   -- before the first wagon
-  pub made_start : (making : Making) → HasIndices making.rows → rows_in making.rows ≡ [] → making.lasts.items ≡ [] → making.classes.items ≡ [] → AreMade net problem 0 making
-  made_start making indexed rows lasts classes = record {
-    indexed = indexed;
+  pub made_start : (making : Making) → HasPlaces making.rows → rows_in making.rows ≡ [] → making.lasts.items ≡ [] → making.classes.items ≡ [] → AreMade net problem 0 making
+  made_start making placed rows lasts classes = record {
+    placed = placed;
     rows = rw (rows, lasts) (lasting_start net problem.at problem.orders);
     classes = rw classes none;
   } where

@@ -1,8 +1,9 @@
 -- Rows whose cells go along with their orders.
-use Rattle.std.proofs.Common.{◌≡◌, ◌+◌, ◌<◌, ◌≤◌, ◌∙◌, ℕ, Bool, true, false, cond, Option, Some, inl, inr, List, [], ◌∷◌, ◌++◌, length, get_or, take, drop, refl, sym, ap, subst, arith, append_assoc, length-drop, length-take-le, ◌-◌, zero, suc}
+use Rattle.std.proofs.Common.{◌≡◌, ◌+◌, ◌<◌, ◌≤◌, ◌∙◌, ℕ, Bool, true, false, cond, Option, Some, inl, inr, List, [], ◌∷◌, ◌++◌, length, get_or, take, drop, refl, sym, ap, subst, arith, length-drop, length-take-le, ◌-◌, zero, suc}
 use Rattle.std.specs.Prelude.{◌↔◌, ◌==◌, nat_lt, All, slice_get}
-use Rattle.std.proofs.lemmas.List.{drop_all, drop_more, take-append-drop, take_all}
-use Rattle.std.proofs.lemmas.List.Elements.{All-cons, All-drop, All-head, All-nil, All-tail, filter_map-append}
+use Rattle.std.proofs.Math.Seq.{drop-append-add, drop-append_seam, take-append_seam}
+use Rattle.std.proofs.lemmas.List.{get_or-append_right, get_or-take, drop-append-le, drop_all, drop_more, length-append, take-append-drop, take_all}
+use Rattle.std.proofs.lemmas.List.Elements.{All-append, All-cons, All-drop, All-head, All-nil, All-tail, All-take, filter_map-append}
 use Rattle.std.proofs.lemmas.Bool.{cases_lt}
 use Rattle.std.proofs.lemmas.Bool.Decides.{nat_tests}
 use Rattle.std.proofs.lemmas.Option.{slice_get_within}
@@ -118,11 +119,8 @@ cells_within count low [] h k d l = absurd (omega arith)
 cells_within count low (cell ∷ row) h zero d l = h.1
 cells_within count low (cell ∷ row) h (suc k) d l = cells_within count (cell.0 + 1) row h.3 k d (omega arith)
 
-pub rest_of : (first : ℕ) (row : List (ℕ × ℕ)) → take (length row - first) (drop first row) ≡ drop first row
-rest_of first row = take_all (length row - first) (drop first row) (omega (arith, length-drop first row))
-
-pub later_within : (count : ℕ) (row : List (ℕ × ℕ)) (first : ℕ) → IsRow count 0 row → All (λ (cell : ℕ × ℕ). cell.0 < count) (take (length row - first) (drop first row))
-later_within count row first h = rw (rest_of first row) (All-drop (λ (cell : ℕ × ℕ). cell.0 < count) first row (cells_within count 0 row h))
+pub later_within : (count : ℕ) (row : List (ℕ × ℕ)) (first : ℕ) → IsRow count 0 row → All (λ (cell : ℕ × ℕ). cell.0 < count) (drop first row)
+later_within count row first h = All-drop (λ (cell : ℕ × ℕ). cell.0 < count) first row (cells_within count 0 row h)
 
 -- the cells behind the last one, and one cell more before those that are behind
 pub behind_none : (steady : ℕ) (row : List (ℕ × ℕ)) (k : ℕ) → length row ≤ k → All (λ (cell : ℕ × ℕ). steady ≤ cell.0) (drop k row)
@@ -157,15 +155,40 @@ none_later earlier orders positions kept steady are h all (cell ∷ row) behind 
     goes positions kept cell row here ∙ none_later earlier orders positions kept steady are h all row (All-tail (λ (one : ℕ × ℕ). steady ≤ one.0) cell row behind) (All-tail (λ (one : ℕ × ℕ). one.0 < length positions) cell row within)
 
 -- a row whose first cells stay as they are
-pub steady_first : (positions : List ℕ) (kept steady : ℕ) (row : List (ℕ × ℕ)) (first : ℕ) (old now new : List (ℕ × ℕ)) → AreSteady positions kept steady → All (λ (cell : ℕ × ℕ). cell.0 < steady) (take first row)
-    → now ≡ old ++ take first row → new ≡ now ++ moved_cells positions kept (take (length row - first) (drop first row)) → new ≡ old ++ moved_cells positions kept row
-steady_first positions kept steady row first old now new h all is more =
-    let rest = moved_cells positions kept (drop first row) in
-    more ∙ (ap (λ (cells : List (ℕ × ℕ)). now ++ moved_cells positions kept cells) (rest_of first row)
-    ∙ (ap (λ (cells : List (ℕ × ℕ)). cells ++ rest) is
-    ∙ (append_assoc old (take first row) rest
-    ∙ ap (λ (cells : List (ℕ × ℕ)). old ++ cells) (ap (λ (cells : List (ℕ × ℕ)). cells ++ rest) (sym (steady_same positions kept steady h (take first row) all))
-    ∙ (sym (filter_map-append (moved_cell positions kept) (take first row) (drop first row)) ∙ ap (moved_cells positions kept) (take-append-drop first row))))))
+pub steady_first : (positions : List ℕ) (kept steady : ℕ) (row : List (ℕ × ℕ)) (first : ℕ) → AreSteady positions kept steady → All (λ (cell : ℕ × ℕ). cell.0 < steady) (take first row) → take first row ++ moved_cells positions kept (drop first row) ≡ moved_cells positions kept row
+steady_first positions kept steady row first h all =
+    ap (λ (cells : List (ℕ × ℕ)). cells ++ moved_cells positions kept (drop first row)) (sym (steady_same positions kept steady h (take first row) all))
+    ∙ (sym (filter_map-append (moved_cell positions kept) (take first row) (drop first row)) ∙ ap (moved_cells positions kept) (take-append-drop first row))
+
+-- ---- cells that stand in two places
+
+-- none of the others is of the first orders
+pub behind_first : (steady : ℕ) (first rest : List (ℕ × ℕ)) (count : ℕ) → count ≤ length first → All (λ (cell : ℕ × ℕ). steady ≤ cell.0) (drop count first) → All (λ (cell : ℕ × ℕ). steady ≤ cell.0) (drop 0 rest) → All (λ (cell : ℕ × ℕ). steady ≤ cell.0) (drop count (first ++ rest))
+behind_first steady first rest count within all others =
+    subst (All (λ (cell : ℕ × ℕ). steady ≤ cell.0)) (sym (drop-append-le count first rest within)) (All-append (λ (cell : ℕ × ℕ). steady ≤ cell.0) (drop count first) rest all others)
+
+-- some of the others are
+pub before_rest : (orders steady : ℕ) (first rest : List (ℕ × ℕ)) (count : ℕ) → IsRow orders 0 (first ++ rest) → 1 ≤ count → count ≤ length rest → All (λ (cell : ℕ × ℕ). cell.0 < steady) (take count rest)
+    → All (λ (cell : ℕ × ℕ). cell.0 < steady) (take (length first + count) (first ++ rest))
+before_rest orders steady first rest count is some within all =
+    let d : ℕ × ℕ = (0, 0) in
+    let n = length first + count in
+    let last : get_or (take count rest) (count - 1) d ≡ get_or rest (count - 1) d = get_or-take count rest (count - 1) d (omega (arith, some)) in
+    let back : n - 1 - length first ≡ count - 1 = omega (arith, some) in
+    let there : get_or (first ++ rest) (n - 1) d ≡ get_or rest (count - 1) d = get_or-append_right first rest (length first) (n - 1) d refl (omega (arith, some)) ∙ ap (λ (k : ℕ). get_or rest k d) back in
+    let below : (get_or (take count rest) (count - 1) d).0 < steady = all (count - 1) d (omega (arith, some, within, length-take-le count rest within)) in
+    let here : (get_or (first ++ rest) (n - 1) d).0 < steady = subst (λ (cell : ℕ × ℕ). cell.0 < steady) (last ∙ sym there) below in
+    first_before orders steady (first ++ rest) is n (omega (arith, some)) (omega (arith, within, length-append first rest)) d here
+
+pub behind_rest : (steady : ℕ) (first rest : List (ℕ × ℕ)) (count : ℕ) → All (λ (cell : ℕ × ℕ). steady ≤ cell.0) (drop count rest) → All (λ (cell : ℕ × ℕ). steady ≤ cell.0) (drop (length first + count) (first ++ rest))
+behind_rest steady first rest count all = subst (All (λ (cell : ℕ × ℕ). steady ≤ cell.0)) (sym (drop-append-add first rest count)) all
+
+-- what holds of all holds of the first and of the others
+pub within_first : (count : ℕ) (first rest : List (ℕ × ℕ)) → All (λ (cell : ℕ × ℕ). cell.0 < count) (first ++ rest) → All (λ (cell : ℕ × ℕ). cell.0 < count) first
+within_first count first rest all = subst (All (λ (cell : ℕ × ℕ). cell.0 < count)) (take-append_seam first rest) (All-take (λ (cell : ℕ × ℕ). cell.0 < count) (length first) (first ++ rest) all)
+
+pub within_rest : (count : ℕ) (first rest : List (ℕ × ℕ)) → All (λ (cell : ℕ × ℕ). cell.0 < count) (first ++ rest) → All (λ (cell : ℕ × ℕ). cell.0 < count) rest
+within_rest count first rest all = subst (All (λ (cell : ℕ × ℕ). cell.0 < count)) (drop-append_seam first rest) (All-drop (λ (cell : ℕ × ℕ). cell.0 < count) (length first) (first ++ rest) all)
 
 module _ (R : WantedOrder → ℕ → Type 0) (same : (one other : WantedOrder) (km : ℕ) → other.order ≡ one.order → R one km ≡ R other km) where
   -- a row goes along with its orders

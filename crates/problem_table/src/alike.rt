@@ -4,40 +4,10 @@ ghost use Rattle.wagons_and_orders.specs.declared.free_wagon.FreeWagon.{FreeWago
 ghost use Rattle.problem_table.specs.inner.Alike.{AreAlike};
 
 use rail_codes::Moment;
-use std::alloc::{AllocError, Global};
 use wagons_and_orders::FreeWagon;
 
-/// How many wagons are remembered.
-const SLOTS: usize = 2_048;
-
-/// Wagons that were seen, of a table's at most 1,000. They are hints, on which nothing rests: what is remembered is looked
-/// at before it is used.
-#[derive(Drop)]
-pub(crate) struct Seen {
-    wagons: Vec<u16>,
-}
-
-impl Seen {
-    /// None.
-    pub(crate) fn none(alloc: Global) -> Result<Seen, AllocError> {
-        Ok(Seen {
-            wagons: Vec::from_elem(alloc, u16::MAX, SLOTS)?,
-        })
-    }
-
-    /// The wagon that was noted last under a number, or one under which another was.
-    pub(crate) fn at(&self, number: usize) -> usize {
-        let wagon = self.wagons.get(number % SLOTS);
-        usize::from(wagon.copied().unwrap_or(u16::MAX))
-    }
-
-    /// Notes a wagon under a number.
-    pub(crate) fn note(&mut self, number: usize, wagon: usize) {
-        if let Some(at) = self.wagons.get_mut(number % SLOTS) {
-            *at = u16::try_from(wagon).unwrap_or(u16::MAX);
-        }
-    }
-}
+/// Slots for hints at a table's at most 1,000 wagons.
+pub(crate) const HINT_SLOTS: usize = 2_048;
 
 /// Whether wagon `i` is one of the first `count`, and alike to this one from a moment on.
 pub(crate) fn is_alike_before(

@@ -6,14 +6,15 @@ ghost use Rattle.problem_table.specs.Lasting.{IsLastingTable, IsTableUntil};
 ghost use Rattle.problem_table.specs.inner.AllowedRows.{AreLastingRows, IsLastingRow};
 ghost use Rattle.problem_table.specs.inner.Goals.{IsWayTo, goals_of};
 ghost use Rattle.problem_table.specs.inner.RowsSoFar.{RowSoFar};
-ghost use Rattle.cost_table.specs.SharedRows.{HasIndices, rows_in};
+ghost use Rattle.cost_table.specs.RowParts.{cells_in};
+ghost use Rattle.cost_table.specs.SharedRows.{HasPlaces, rows_in};
 ghost use Rattle.cost_table.specs.TableLimits.{max_cost};
 
 use crate::goals::Goal;
 use crate::lasting::{TimedCells, timed_table};
 use crate::making::{Making, make};
 use crate::unwanted::unwanted_rows;
-use cost_table::{Cells, Problem, TableRows};
+use cost_table::{Cells, Problem, Row, TableRows};
 use line_network::Tables;
 use rail_codes::Moment;
 use std::alloc::{AllocError, Global};
@@ -50,7 +51,7 @@ fn rows(
     problem: &Problem,
     tables: &Tables,
 ) -> Result<(TableRows, Vec<u64>), AllocError>
-    ensures indexed { IfOk result (λ r. HasIndices r.0) }
+    ensures placed { IfOk result (λ r. HasPlaces r.0) }
     ensures rows { IfOk result (λ r. AreLastingRows tables.now problem.now.at problem.now.wagons problem.now.orders (rows_in r.0) r.1.items) }
 {
     if problem.orders().is_empty() {
@@ -84,13 +85,17 @@ pub(crate) fn push_row(
 {
     // A moment is below the greatest number.
     problem.at().for_the_prover();
-    push_goals(&[], entries, problem, wagon, from, goals, tables, u64::MAX)
+    let none = Row {
+        first: &[],
+        rest: &[],
+    };
+    push_goals(none, entries, problem, wagon, from, goals, tables, u64::MAX)
 }
 
 /// Goes on with the row of one wagon, which is known up to a last moment, by the goals of later orders, and says up to which
 /// moment it is that row. The row begins with cells that stand elsewhere; they are for the prover alone.
 pub(crate) fn push_goals(
-    _first: &[(u32, u32)],
+    _first: Row<'_>,
     entries: &mut Vec<(u32, u32)>,
     problem: &Problem,
     wagon: &FreeWagon,
@@ -101,8 +106,8 @@ pub(crate) fn push_goals(
 ) -> Result<u64, AllocError>
     requires from { from ≡ place_index tables.now.places wagon.now.place }
     requires within { problem.now.at ≤ until }
-    requires so_far { (m : ℕ) → problem.now.at ≤ m → m ≤ until → RowSoFar tables.now m wagon.now problem.now.orders goals.now [] (_first.now ++ entries.old.items) }
-    ensures row { IfOk result (λ last. IsLastingRow tables.now problem.now.at wagon.now problem.now.orders (_first.now ++ entries.new.items) last) }
+    requires so_far { (m : ℕ) → problem.now.at ≤ m → m ≤ until → RowSoFar tables.now m wagon.now problem.now.orders goals.now [] (cells_in _first ++ entries.old.items) }
+    ensures row { IfOk result (λ last. IsLastingRow tables.now problem.now.at wagon.now problem.now.orders (cells_in _first.entry ++ entries.new.items) last) }
     ensures within { IfOk result (λ last. problem.now.at ≤ last) }
 {
     let at = problem.at();

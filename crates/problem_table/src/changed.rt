@@ -1,27 +1,28 @@
 //! The table of a problem, changed from that of an earlier one.
-ghost use Rattle.std.specs.Prelude.{◌≡◌, ◌+◌, ◌<◌, ◌≤◌, ◌++◌, ◌↔◌, [], ℕ, IfOk, IfSome, IsTrue, OnOk, Some, length, slice_get, slice_index_or};
+ghost use Rattle.std.specs.Prelude.{◌≡◌, ◌+◌, ◌<◌, ◌≤◌, ◌++◌, ◌↔◌, [], ℕ, IfOk, IfSome, IsTrue, OnOk, Some, false, length, slice_get, slice_index_or, take, true};
 ghost use Rattle.problem_table.specs.Allowed.{IsTableOf};
 ghost use Rattle.problem_table.specs.Lasting.{IsLastingTable, IsTableUntil};
 ghost use Rattle.problem_table.specs.inner.AllowedRows.{AreLastingRows, IsLastingRow};
 ghost use Rattle.problem_table.specs.inner.Making.{AddsRowUntil, AddsWagon, AreMade};
 ghost use Rattle.problem_table.specs.inner.Alike.{AreAlike};
-ghost use Rattle.problem_table.specs.inner.Moved.{AreCome, AreMoved, AreSteady, GoesAlong, HaveSameTexts};
+ghost use Rattle.problem_table.specs.inner.Moved.{AreCome, AreMoved, AreSteady, GoesAlong, HaveBlock, HaveSameTexts};
 ghost use Rattle.problem_table.specs.inner.RowsSoFar.{RowSoFar};
-ghost use Rattle.cost_table.specs.SharedRows.{HasIndices, rows_in};
+ghost use Rattle.cost_table.specs.RowParts.{cells_in};
+ghost use Rattle.cost_table.specs.SharedRows.{HasPlaces, HasRowMore, rows_in};
 ghost use Rattle.wagons_and_orders.specs.declared.free_wagon.FreeWagon.{FreeWagon};
 
-use crate::alike::{Seen, are_alike, is_alike_before};
+use crate::alike::{HINT_SLOTS, are_alike, is_alike_before};
 use crate::allowed::push_goals;
 use crate::goals::{ClassGoals, Goal, class_position};
 use crate::lasting::{TimedCells, timed_table};
 use crate::making::{Making, make, repeat};
 use crate::moved::{Moved, have_same_texts, move_later_cells, steady_cells};
 use crate::unwanted::unwanted_rows;
-use cost_table::{Problem, TableRows};
+use cost_table::{Problem, Row, RowPlace, TableRows};
 use line_network::Tables;
 use rail_codes::{Moment, WagonNumber};
 use std::alloc::{AllocError, Global};
-use wagons_and_orders::FreeWagon;
+use wagons_and_orders::{FreeWagon, WagonHints};
 
 /// What `timed_cells` answers, made out of the table of an earlier problem: the cells of a wagon that has the ways that it had
 /// then, and whose last moment isn't past, are taken over for the orders that stay, and those of the others are found.
@@ -53,7 +54,7 @@ fn rows_after(
 ) -> Result<(TableRows, Vec<u64>), AllocError>
     requires earlier { earlier.now.at ≤ problem.now.at }
     requires made { IsLastingTable tables.now earlier.now made.now.cells made.now.lasts.items }
-    ensures indexed { IfOk result (λ r. HasIndices r.0) }
+    ensures placed { IfOk result (λ r. HasPlaces r.0) }
     ensures rows { IfOk result (λ r. AreLastingRows tables.now problem.now.at problem.now.wagons problem.now.orders (rows_in r.0) r.1.items) }
 {
     if problem.orders().is_empty() {
@@ -83,9 +84,9 @@ fn shared_rows(
     lasts: &[u64],
 ) -> Result<(TableRows, Vec<u64>), AllocError>
     requires earlier { earlier.now.at ≤ problem.now.at }
-    requires indexed { HasIndices rows.now }
+    requires placed { HasPlaces rows.now }
     requires rows { AreLastingRows tables.now earlier.now.at earlier.now.wagons problem.now.orders (rows_in rows.now) lasts.now }
-    ensures indexed { IfOk result (λ r. HasIndices r.0) }
+    ensures placed { IfOk result (λ r. HasPlaces r.0) }
     ensures rows { IfOk result (λ r. AreLastingRows tables.now problem.now.at problem.now.wagons problem.now.orders (rows_in r.0) r.1.items) }
 {
     let wagons = problem.wagons();
@@ -102,7 +103,7 @@ fn shared_rows(
     Ok((making.rows, making.lasts))
 }
 
-/// The same in a block of their own.
+/// The same where orders have come or gone, or most cells are to be in one block again.
 fn moved_rows(
     alloc: Global,
     problem: &Problem,
@@ -112,15 +113,15 @@ fn moved_rows(
     lasts: &[u64],
 ) -> Result<(TableRows, Vec<u64>), AllocError>
     requires earlier { earlier.now.at ≤ problem.now.at }
-    requires indexed { HasIndices rows.now }
+    requires placed { HasPlaces rows.now }
     requires rows { AreLastingRows tables.now earlier.now.at earlier.now.wagons earlier.now.orders (rows_in rows.now) lasts.now }
-    ensures indexed { IfOk result (λ r. HasIndices r.0) }
+    ensures placed { IfOk result (λ r. HasPlaces r.0) }
     ensures rows { IfOk result (λ r. AreLastingRows tables.now problem.now.at problem.now.wagons problem.now.orders (rows_in r.0) r.1.items) }
 {
     let wagons = problem.wagons();
-    let none = TableRows::empty_like(alloc, rows, wagons.len())?;
-    let mut making = Making::beginning(alloc, none, wagons.len())?;
-    let mut moving = Moving::beginning(alloc, earlier, problem)?;
+    let mut moving = Moving::beginning(alloc, earlier, problem, rows)?;
+    let begun = begin_rows(alloc, rows, moving.shares, wagons.len())?;
+    let mut making = Making::beginning(alloc, begun, wagons.len())?;
     let mut at = 0;
     for (k, wagon) in wagons.iter().enumerate() {
         at = index_from(earlier.wagons(), at, wagon.number);
@@ -140,8 +141,40 @@ fn moved_rows(
             None => make(alloc, &mut making, problem, tables, k, wagon)?,
         }
     }
-    let rows = making.rows.to_share(alloc)?;
+    let rows = end_rows(alloc, making.rows, moving.shares)?;
     Ok((rows, making.lasts))
+}
+
+/// No row yet: beside the block of earlier rows, or to be in a block of their own.
+fn begin_rows(
+    alloc: Global,
+    rows: &TableRows,
+    shares: bool,
+    count: usize,
+) -> Result<TableRows, AllocError>
+    ensures block { IfOk result (λ begun. HaveBlock shares rows.now begun) }
+    ensures rows { IfOk result (λ begun. rows_in begun ≡ []) }
+    ensures placed { IfOk result HasPlaces }
+{
+    if shares {
+        TableRows::sharing(alloc, rows, count)
+    } else {
+        TableRows::empty_like(alloc, rows, count)
+    }
+}
+
+/// The same rows; where none of their cells is shared, other tables may share them now.
+fn end_rows(alloc: Global, rows: TableRows, shares: bool) -> Result<TableRows, AllocError>
+    requires placed { HasPlaces rows }
+    requires own { shares ≡ false → rows.shared.value ≡ [] }
+    ensures rows { IfOk result (λ ended. rows_in ended ≡ rows_in rows) }
+    ensures placed { IfOk result HasPlaces }
+{
+    if shares {
+        Ok(rows)
+    } else {
+        rows.to_share(alloc)
+    }
 }
 
 /// From an index on, the first index of a wagon whose number isn't below this one. Where wagons ascend by number, that is
@@ -187,9 +220,9 @@ fn last_at(lasts: &[u64], k: usize) -> Option<u64>
 
 /// Takes over the row at an index of the earlier table, which lasts up to this moment.
 fn take_over(making: &mut Making, rows: &TableRows, at: usize, last: u64) -> Result<(), AllocError>
-    requires indexed { HasIndices making.old.rows }
+    requires placed { HasPlaces making.old.rows }
     requires shared { making.old.rows.shared.value ≡ rows.now.shared.value }
-    requires rows { HasIndices rows.now }
+    requires rows { HasPlaces rows.now }
     requires wagon { at < length (rows_in rows.now) }
     ensures row { OnOk result (AddsRowUntil making.old making.new (slice_index_or (rows_in rows.now) at []) last) }
     ensures classes { making.new.classes ≡ making.old.classes }
@@ -206,20 +239,31 @@ pub(crate) struct Moving {
     /// The goals of orders that came, by the class of wagons whose rows went along.
     pub(crate) came: Vec<ClassGoals>,
     /// The wagons whose rows went along, by where the earlier rows stand.
-    seen: Seen,
+    seen: WagonHints,
+    /// Whether the rows share the block of the earlier ones, where their first cells then stay. It serves where most orders
+    /// stand where they stood.
+    pub(crate) shares: bool,
 }
 
 impl Moving {
     /// No row has gone along from an earlier problem to a later one.
-    fn beginning(alloc: Global, earlier: &Problem, problem: &Problem) -> Result<Moving, AllocError>
+    fn beginning(
+        alloc: Global,
+        earlier: &Problem,
+        problem: &Problem,
+        rows: &TableRows,
+    ) -> Result<Moving, AllocError>
         ensures moved { IfOk result (λ moving. AreMoved earlier.now.orders problem.now.orders moving.moved.positions.items moving.moved.kept) }
         ensures steady { IfOk result (λ moving. AreSteady moving.moved.positions.items moving.moved.kept moving.moved.steady) }
         ensures came { IfOk result (λ moving. moving.came.items ≡ []) }
     {
+        let moved = Moved::between(alloc, earlier.orders(), problem.orders())?;
+        let shares = !rows.are_scattered() && moved.steady > problem.orders().len() / 4 * 3;
         Ok(Moving {
-            moved: Moved::between(alloc, earlier.orders(), problem.orders())?,
+            moved,
             came: Vec::new(alloc),
-            seen: Seen::none(alloc)?,
+            seen: WagonHints::none(alloc, HINT_SLOTS)?,
+            shares,
         })
     }
 }
@@ -240,7 +284,8 @@ fn take_along(
 ) -> Result<(), AllocError>
     requires wagon { slice_get problem.now.wagons k ≡ Some wagon.now }
     requires made { AreMade tables.now problem.now k making.old }
-    requires rows { HasIndices rows.now }
+    requires block { HaveBlock moving.old.shares rows.now making.old.rows }
+    requires rows { HasPlaces rows.now }
     requires row { at < length (rows_in rows.now) }
     requires along { GoesAlong problem.now tables.now wagon.now moving.old.moved (slice_index_or (rows_in rows.now) at []) last }
     requires within { problem.now.at ≤ last }
@@ -248,24 +293,23 @@ fn take_along(
     ensures made { OnOk result (AreMade tables.now problem.now (k + 1) making.new) }
     ensures shared { OnOk result (making.new.rows.shared.value ≡ making.old.rows.shared.value) }
     ensures moved { moving.new.moved ≡ moving.old.moved }
+    ensures shares { moving.new.shares ≡ moving.old.shares }
     ensures came { OnOk result (AreCome tables.now problem.now.orders moving.new) }
 {
-    let index = rows.indices[at];
-    let i = moving.seen.at(index);
+    let number = number_of(rows.places[at]);
+    let i = moving.seen.at(number);
     if is_alike_before(problem.wagons(), i, k, wagon, problem.at()) {
         return repeat(making, i);
     }
-    moving.seen.note(index, k);
+    moving.seen.note(number, k);
     move_row(
-        alloc,
-        making,
-        moving,
-        problem,
-        tables,
-        rows.row(at),
-        last,
-        wagon,
+        alloc, making, moving, problem, tables, rows, at, last, wagon,
     )
+}
+
+/// A number that few other places have.
+fn number_of(place: RowPlace) -> usize {
+    place.shared.wrapping_mul(683).wrapping_add(place.own)
 }
 
 /// Has an earlier row of a wagon, which lasts up to this moment, go along with its orders, and goes on with it.
@@ -275,17 +319,22 @@ fn move_row(
     moving: &mut Moving,
     problem: &Problem,
     tables: &Tables,
-    row: &[(u32, u32)],
+    rows: &TableRows,
+    at: usize,
     last: u64,
     wagon: &FreeWagon,
 ) -> Result<(), AllocError>
-    requires indexed { HasIndices making.old.rows }
-    requires along { GoesAlong problem.now tables.now wagon.now moving.old.moved row.now last }
+    requires placed { HasPlaces making.old.rows }
+    requires block { HaveBlock moving.old.shares rows.now making.old.rows }
+    requires rows { HasPlaces rows.now }
+    requires row { at < length (rows_in rows.now) }
+    requires along { GoesAlong problem.now tables.now wagon.now moving.old.moved (slice_index_or (rows_in rows.now) at []) last }
     requires within { problem.now.at ≤ last }
     requires came { AreCome tables.now problem.now.orders moving.old }
     ensures row { OnOk result (AddsWagon tables.now problem.now wagon.now making.old making.new) }
     ensures classes { making.new.classes ≡ making.old.classes }
     ensures moved { moving.new.moved ≡ moving.old.moved }
+    ensures shares { moving.new.shares ≡ moving.old.shares }
     ensures came { OnOk result (AreCome tables.now problem.now.orders moving.new) }
 {
     let kept = moving.moved.kept;
@@ -297,10 +346,11 @@ fn move_row(
         kept,
         &problem.orders()[kept..],
     )?;
+    let row = rows.row(at);
     let steady = steady_cells(row, &moving.moved);
-    let first = &row[..steady];
+    let (first, later) = row.split_at(steady);
     making.found.clear();
-    move_later_cells(&mut making.found, &row[steady..], &moving.moved)?;
+    move_later_cells(&mut making.found, later, &moving.moved)?;
     let goals = &moving.came[class].goals;
     let last = go_on(
         first,
@@ -311,15 +361,39 @@ fn move_row(
         tables,
         last,
     )?;
-    making.rows.push_parts(first, &making.found)?;
+    let shares = moving.shares;
+    push_moved(&mut making.rows, rows, at, steady, &making.found, shares)?;
     making.lasts.push(last)?;
     Ok(())
+}
+
+/// Appends one row, which begins with so many cells of an earlier row and goes on with others.
+fn push_moved(
+    new: &mut TableRows,
+    rows: &TableRows,
+    at: usize,
+    count: usize,
+    found: &[(u32, u32)],
+    shares: bool,
+) -> Result<(), AllocError>
+    requires placed { HasPlaces new.old }
+    requires shared { shares ≡ true → new.old.shared.value ≡ rows.now.shared.value }
+    requires rows { HasPlaces rows.now }
+    requires row { at < length (rows_in rows.now) }
+    requires count { count ≤ length (slice_index_or (rows_in rows.now) at []) }
+    ensures { OnOk result (HasRowMore new.old new.new (take count (slice_index_or (rows_in rows.now) at []) ++ found.now)) }
+{
+    if shares {
+        return new.push_along(rows, at, count, found);
+    }
+    let (front, _) = rows.row(at).split_at(count);
+    new.push_parts(front, found)
 }
 
 /// Goes on with the row of a wagon, which is known up to a last moment, by the goals of later orders, and says up to which
 /// moment it is that row. The row begins with cells that stand elsewhere; they are for the prover alone.
 fn go_on(
-    first: &[(u32, u32)],
+    first: Row<'_>,
     entries: &mut Vec<(u32, u32)>,
     problem: &Problem,
     wagon: &FreeWagon,
@@ -328,8 +402,8 @@ fn go_on(
     last: u64,
 ) -> Result<u64, AllocError>
     requires within { problem.now.at ≤ last }
-    requires so_far { (m : ℕ) → problem.now.at ≤ m → m ≤ last → RowSoFar tables.now m wagon.now problem.now.orders goals.now [] (first.now ++ entries.old.items) }
-    ensures row { IfOk result (λ last. IsLastingRow tables.now problem.now.at wagon.now problem.now.orders (first.now ++ entries.new.items) last) }
+    requires so_far { (m : ℕ) → problem.now.at ≤ m → m ≤ last → RowSoFar tables.now m wagon.now problem.now.orders goals.now [] (cells_in first ++ entries.old.items) }
+    ensures row { IfOk result (λ last. IsLastingRow tables.now problem.now.at wagon.now problem.now.orders (cells_in first.entry ++ entries.new.items) last) }
     ensures within { IfOk result (λ last. problem.now.at ≤ last) }
 {
     if goals.is_empty() {

@@ -2,7 +2,7 @@
 ghost use Rattle.std.specs.Prelude.{◌≡◌, ◌<◌, ◌≤◌, ◌^◌, ℕ, All, IfOk, length};
 ghost use Rattle.cost_table.specs.Problem.{penalties_of, lacks_of};
 ghost use Rattle.cost_table.specs.TableLimits.{IsRow, max_cost};
-ghost use Rattle.cost_table.specs.SharedRows.{HasIndices, rows_in};
+ghost use Rattle.cost_table.specs.SharedRows.{HasPlaces, rows_in};
 ghost use Rattle.problem_table.specs.Allowed.{IsTableOf};
 ghost use Rattle.problem_table.specs.Lasting.{IsLastingTable, IsTableUntil};
 ghost use Rattle.problem_table.specs.inner.AllowedRows.{AreLastingRows, table_of_rows};
@@ -31,7 +31,7 @@ fn timed(
     rows: TableRows,
     lasts: Vec<u64>,
 ) -> Result<TimedCells, AllocError>
-    requires indexed { HasIndices rows }
+    requires placed { HasPlaces rows }
     requires count { length (rows_in rows) ≡ length problem.now.wagons }
     requires ascend { All (IsRow (length problem.now.orders) 0) (rows_in rows) }
     requires within { All (λ last. problem.now.at ≤ last) lasts.items }
@@ -63,7 +63,7 @@ pub(crate) fn timed_table(
     rows: TableRows,
     lasts: Vec<u64>,
 ) -> Result<TimedCells, AllocError>
-    requires indexed { HasIndices rows }
+    requires placed { HasPlaces rows }
     requires rows { AreLastingRows tables.now problem.now.at problem.now.wagons problem.now.orders (rows_in rows) lasts.items }
     ensures table { IfOk result (λ made. IsTableOf tables.now problem.now made.cells) }
     ensures within { IfOk result (λ made. problem.now.at ≤ made.until) }

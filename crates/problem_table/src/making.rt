@@ -1,18 +1,18 @@
 //! The rows of a problem's table while they are made, wagon by wagon.
 ghost use Rattle.std.specs.Prelude.{◌≡◌, ◌+◌, ◌<◌, [], All, IfOk, OnOk, length, slice_get, slice_index, slice_index_or, Some};
-ghost use Rattle.cost_table.specs.SharedRows.{HasIndices, rows_in};
+ghost use Rattle.cost_table.specs.SharedRows.{HasPlaces, rows_in};
 ghost use Rattle.line_network.specs.Network.{place_index};
 ghost use Rattle.problem_table.specs.declared.goals.ClassGoals.{ClassGoals};
 ghost use Rattle.problem_table.specs.inner.Goals.{AreGoalsOf, goals_of};
 ghost use Rattle.problem_table.specs.inner.Making.{AddsRowUntil, AddsWagon, AreMade};
 
-use crate::alike::{Seen, is_alike_before};
+use crate::alike::{HINT_SLOTS, is_alike_before};
 use crate::allowed::push_row;
 use crate::goals::{ClassGoals, class_position};
 use cost_table::{Problem, TableRows};
 use line_network::Tables;
 use std::alloc::{AllocError, Global};
-use wagons_and_orders::FreeWagon;
+use wagons_and_orders::{FreeWagon, WagonHints};
 
 /// The rows so far, and what is kept to make more of them.
 #[derive(Drop)]
@@ -25,7 +25,7 @@ pub(crate) struct Making {
     /// The cells that were found last.
     pub(crate) found: Vec<(u32, u32)>,
     /// The wagons whose rows were found, by class and place.
-    seen: Seen,
+    seen: WagonHints,
 }
 
 impl Making {
@@ -44,7 +44,7 @@ impl Making {
             lasts: Vec::with_capacity(alloc, count)?,
             classes: Vec::new(alloc),
             found: Vec::new(alloc),
-            seen: Seen::none(alloc)?,
+            seen: WagonHints::none(alloc, HINT_SLOTS)?,
         })
     }
 }
@@ -111,7 +111,7 @@ fn add_unwanted(
     _tables: &Tables,
     wagon: &FreeWagon,
 ) -> Result<(), AllocError>
-    requires indexed { HasIndices making.old.rows }
+    requires placed { HasPlaces making.old.rows }
     requires unwanted { goals_of _tables.now wagon.now.class problem.now.orders ≡ [] }
     ensures row { OnOk result (AddsWagon _tables.now problem.now wagon.now making.old making.new) }
     ensures classes { making.new.classes ≡ making.old.classes }
@@ -130,7 +130,7 @@ fn number_of(class: usize, place: Option<usize>) -> usize {
 
 /// Takes the row of wagon `i` once more.
 pub(crate) fn repeat(making: &mut Making, i: usize) -> Result<(), AllocError>
-    requires indexed { HasIndices making.old.rows }
+    requires placed { HasPlaces making.old.rows }
     requires row { i < length (rows_in making.old.rows) }
     requires moment { i < length making.old.lasts.items }
     ensures row { OnOk result (AddsRowUntil making.old making.new (slice_index_or (rows_in making.old.rows) i []) (slice_index making.old.lasts.items i)) }
@@ -151,7 +151,7 @@ fn find(
     from: Option<usize>,
     class: usize,
 ) -> Result<(), AllocError>
-    requires indexed { HasIndices making.old.rows }
+    requires placed { HasPlaces making.old.rows }
     requires classes { All (AreGoalsOf tables.now 0 problem.now.orders) making.old.classes.items }
     requires within { class < length making.old.classes.items }
     requires class { (d : ClassGoals) → (slice_index_or making.old.classes.items class d).class ≡ wagon.now.class }

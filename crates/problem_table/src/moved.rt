@@ -1,9 +1,11 @@
 //! The orders of an earlier problem in a later one, and rows whose cells go along with them.
 ghost use Rattle.std.specs.Prelude.{◌≡◌, ◌+◌, ◌<◌, ◌≤◌, ◌++◌, [], All, IfOk, IsTrue, OnOk, Some, drop, length, slice_get, take};
 ghost use Rattle.wagons_and_orders.specs.Wanted.{WantedOrder};
+ghost use Rattle.cost_table.specs.RowParts.{cells_in};
 ghost use Rattle.cost_table.specs.TableLimits.{IsRow, max_table_orders};
 ghost use Rattle.problem_table.specs.inner.Moved.{AreMoved, AreSteady, HaveSameTexts, moved_cells};
 
+use cost_table::Row;
 use move_messages::is_same_order;
 use std::alloc::{AllocError, Global};
 use wagons_and_orders::Wanted;
@@ -93,7 +95,20 @@ pub(crate) fn have_same_texts(one: &[Wanted], other: &[Wanted]) -> bool
 }
 
 /// How many of the first cells of a row are those of the first orders, which stand where they stood: they stay as they are.
-pub(crate) fn steady_cells(row: &[(u32, u32)], moved: &Moved) -> usize
+pub(crate) fn steady_cells(row: Row<'_>, moved: &Moved) -> usize
+    requires { IsRow (length moved.now.positions.items) 0 (cells_in row) }
+    ensures within { result ≤ length (cells_in row.entry) }
+    ensures before { All (λ cell. cell.0 < moved.now.steady) (take result (cells_in row.entry)) }
+    ensures behind { All (λ cell. moved.now.steady ≤ cell.0) (drop result (cells_in row.entry)) }
+{
+    match steady_part(row.rest, moved) {
+        0 => steady_part(row.first, moved),
+        count => row.first.len() + count,
+    }
+}
+
+/// The same of cells that stand in one place.
+fn steady_part(row: &[(u32, u32)], moved: &Moved) -> usize
     requires { IsRow (length moved.now.positions.items) 0 row.now }
     ensures within { result ≤ length row.now }
     ensures before { All (λ cell. cell.0 < moved.now.steady) (take result row.now) }
@@ -109,20 +124,33 @@ pub(crate) fn steady_cells(row: &[(u32, u32)], moved: &Moved) -> usize
     0
 }
 
-/// Adds the cells of a row whose orders stay, at their new positions, one by one. Where each order that stays stands where
-/// it stood, behind the first orders there are none.
+/// Adds the cells of a row whose orders stay, at their new positions. Where each order that stays stands where it stood,
+/// behind the first orders there are none.
 pub(crate) fn move_later_cells(
     entries: &mut Vec<(u32, u32)>,
-    row: &[(u32, u32)],
+    later: Row<'_>,
     moved: &Moved,
 ) -> Result<(), AllocError>
-    requires within { All (λ cell. cell.0 < length moved.now.positions.items) row.now }
-    requires none { moved.now.kept ≤ moved.now.steady → moved_cells moved.now.positions.items moved.now.kept row.now ≡ [] }
-    ensures { OnOk result (entries.new.items ≡ entries.old.items ++ moved_cells moved.now.positions.items moved.now.kept row.now) }
+    requires within { All (λ cell. cell.0 < length moved.now.positions.items) (cells_in later) }
+    requires none { moved.now.kept ≤ moved.now.steady → moved_cells moved.now.positions.items moved.now.kept (cells_in later) ≡ [] }
+    ensures { OnOk result (entries.new.items ≡ entries.old.items ++ moved_cells moved.now.positions.items moved.now.kept (cells_in later.entry)) }
 {
     if moved.kept <= moved.steady {
         return Ok(());
     }
+    move_cells(entries, later.first, moved)?;
+    move_cells(entries, later.rest, moved)
+}
+
+/// The same of cells that stand in one place, one by one.
+fn move_cells(
+    entries: &mut Vec<(u32, u32)>,
+    row: &[(u32, u32)],
+    moved: &Moved,
+) -> Result<(), AllocError>
+    requires { All (λ cell. cell.0 < length moved.now.positions.items) row.now }
+    ensures { OnOk result (entries.new.items ≡ entries.old.items ++ moved_cells moved.now.positions.items moved.now.kept row.now) }
+{
     entries.reserve(row.len())?;
     for cell in row {
         let position = moved.positions[cell.0 as usize];

@@ -1,6 +1,6 @@
 //! The rows of a problem in which no order waits.
 ghost use Rattle.std.specs.Prelude.{◌≡◌, [], IfOk};
-ghost use Rattle.cost_table.specs.SharedRows.{HasIndices, rows_in};
+ghost use Rattle.cost_table.specs.SharedRows.{HasPlaces, rows_in};
 ghost use Rattle.problem_table.specs.inner.AllowedRows.{AreLastingRows};
 
 use cost_table::{Problem, TableRows};
@@ -14,7 +14,7 @@ pub(crate) fn unwanted_rows(
     _tables: &Tables,
 ) -> Result<(TableRows, Vec<u64>), AllocError>
     requires { problem.now.orders ≡ [] }
-    ensures indexed { IfOk result (λ r. HasIndices r.0) }
+    ensures placed { IfOk result (λ r. HasPlaces r.0) }
     ensures rows { IfOk result (λ r. AreLastingRows _tables.now problem.now.at problem.now.wagons problem.now.orders (rows_in r.0) r.1.items) }
 {
     // A moment is below the greatest number.

@@ -11,6 +11,7 @@ mod order_state;
 mod status;
 mod status_table;
 mod suitability;
+mod wagon_hints;
 mod wagon_row;
 mod wanted;
 
@@ -23,5 +24,6 @@ pub use order_state::OrderState;
 pub use status::Status;
 pub use status_table::step;
 pub use suitability::{accepts, carries, suits};
+pub use wagon_hints::WagonHints;
 pub use wagon_row::WagonRow;
 pub use wanted::Wanted;

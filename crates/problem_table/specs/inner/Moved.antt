@@ -1,10 +1,11 @@
 -- The orders of an earlier problem in a later one.
-use Rattle.std.specs.Prelude.{◌≡◌, ◌<◌, ◌≤◌, ℕ, if◌then◌else◌, nat_lt, List, length, drop, All, Option, Some, None, slice_get, slice_index}
+use Rattle.std.specs.Prelude.{◌≡◌, ◌<◌, ◌≤◌, ℕ, Bool, true, false, [], if◌then◌else◌, nat_lt, List, length, drop, All, Option, Some, None, slice_get, slice_index}
 use Rattle.std.specs.List.{filter_map}
 use Rattle.wagons_and_orders.specs.declared.free_wagon.FreeWagon.{FreeWagon}
 use Rattle.wagons_and_orders.specs.Wanted.{WantedOrder}
 use Rattle.line_network.specs.Network.{NetworkValue}
 use Rattle.cost_table.specs.Problem.{ProblemValue}
+use Rattle.cost_table.specs.declared.table_rows.TableRows.{TableRows}
 use Rattle.problem_table.specs.declared.changed.Moving.{Moving}
 use Rattle.problem_table.specs.declared.moved.Moved.{Moved}
 use Rattle.problem_table.specs.inner.AllowedRows.{IsLastingRow}
@@ -24,6 +25,10 @@ pub record AreMoved (earlier orders : List WantedOrder) (positions : List ℕ) (
   pub from : (k : ℕ) → k < kept → (i : ℕ) × (i < length earlier) × (slice_index positions i ≡ k)
   pub gone : (i : ℕ) → i < length earlier → kept ≤ slice_index positions i → length orders < slice_index positions i
   pub ascend : (i j : ℕ) → i < j → j < length earlier → slice_index positions i < kept → slice_index positions j < kept → slice_index positions i < slice_index positions j
+
+-- rows beside the block of earlier ones, or with no block yet to share
+abbrev pub HaveBlock : Bool → (earlier rows : TableRows) → Type 0
+HaveBlock shares earlier rows = (shares ≡ true → rows.shared.value ≡ earlier.shared.value) × (shares ≡ false → rows.shared.value ≡ [])
 
 -- the first orders stand where they stood
 abbrev pub AreSteady : (positions : List ℕ) → (kept steady : ℕ) → Type 0

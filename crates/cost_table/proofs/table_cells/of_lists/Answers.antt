@@ -8,7 +8,7 @@ invariant_of-result c =
     let penalties = c.args.penalties.items in
     let lacks = c.args.lacks.items in
     let fit = unfaulted rows penalties lacks c.requires.fit in (
-      c.in_ok-rows.ensures.indexed,
+      c.in_ok-rows.ensures.placed,
       fields_kept _ rows penalties lacks (c.in_ok-rows.ensures.rows ∙ c.in_ok-flatten.ensures)
           (table_kept rows penalties lacks (passes rows penalties lacks fit.0 fit.1) c.requires.numbers c.requires.penalties c.requires.lacks),
     )

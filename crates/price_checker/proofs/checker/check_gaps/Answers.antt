@@ -1,6 +1,7 @@
 use Rattle.std.proofs.Common.{◌≡◌, ◌<◌, Some, arith, rules}
 use Rattle.std.specs.Prelude.{slice_index}
 use Rattle.cost_table.specs.Table.{wagon_count}
+use Rattle.cost_table.specs.RowParts.{cells_in}
 use Rattle.price_checker.specs.Faults.{gap_of_wagon, price_gap}
 use Rattle.price_checker.proofs.RowWalk.{gap_of_wagon-walked, orders_of_row}
 use Rattle.price_checker.proofs.FirstBelow.{first_below_some, first_below_more}
@@ -15,7 +16,7 @@ returns-in_err-check_row c =
     let u = c.args.u.now in
     let v = c.args.v.now in
     let i = c.loop-i.i in
-    let gap = gap_of_wagon-walked t i (slice_index u i) c.row.result.now v _ c.row.ensures.cells c.row.ensures.row c.in_err-check_row.ensures in
+    let gap = gap_of_wagon-walked t i (slice_index u i) (cells_in c.row.result) v _ c.row.ensures.cells c.row.ensures.row c.in_err-check_row.ensures in
     let below : i < wagon_count t = omega arith in
     let found : price_gap t u v ≡ Some c.in_err-check_row.field-0.0 = first_below_some (wagon_count t) i (λ i. gap_of_wagon t i (slice_index u i) v) c.in_err-check_row.field-0.0 below c.loop-i.invariant gap in
     search (rules, found)
@@ -23,4 +24,4 @@ returns-in_err-check_row c =
 pub loop-i-preserved : goal.loop-i-preserved
 loop-i-preserved c =
     first_below_more c.loop-i.i (λ i. gap_of_wagon c.args.cells.now i (slice_index c.args.u.now i) c.args.v.now) c.loop-i.invariant
-    (gap_of_wagon-walked c.args.cells.now c.loop-i.i (slice_index c.args.u.now c.loop-i.i) c.row.result.now c.args.v.now _ c.row.ensures.cells c.row.ensures.row c.in_ok-check_row.ensures)
+    (gap_of_wagon-walked c.args.cells.now c.loop-i.i (slice_index c.args.u.now c.loop-i.i) (cells_in c.row.result) c.args.v.now _ c.row.ensures.cells c.row.ensures.row c.in_ok-check_row.ensures)

@@ -1,5 +1,6 @@
 use Rattle.std.proofs.Common.{◌∙◌, ℕ, ◌++◌, List, Some, None, [], rules, refl, sym, ap, append-nil, append_assoc, arith}
 use Rattle.std.proofs.lemmas.List.{drop_all}
+use Rattle.cost_table.specs.RowParts.{cells_in}
 use Rattle.problem_table.proofs.AllowedLemmas.{added_first}
 use Rattle.problem_table.proofs.GoalSteps.{left_first, next_within, row_step, row_end}
 use Rattle.problem_table.proofs.allowed.push_goals.Goals as goal
@@ -25,7 +26,7 @@ loop-goal-preserved c =
         row = λ m l u.
             row_step c.args.tables.now m c.args.wagon.now c.args.problem.now.orders c.goal-item.result _ _ (Some w.in-Some.way.km) _ _ _ first (c.loop-goal.invariant.row m l (omega (arith, u, w.last-is, w.min-last.ensures)))
             (w.in-Some.ensures.meaning m (omega (arith, l, c.at-at.ensures)) (omega (arith, u, w.last-is, w.min-last.ensures))) w.in-Some.ensures.limit
-            (rw w.entries-is (ap (λ (more : List (ℕ × ℕ)). c.args._first.now ++ more) w.push_reserved.ensures.items ∙ sym (append_assoc c.args._first.now _ _)));
+            (rw w.entries-is (ap (λ (more : List (ℕ × ℕ)). cells_in c.args._first ++ more) w.push_reserved.ensures.items ∙ sym (append_assoc (cells_in c.args._first) _ _)));
         within = omega (arith, c.loop-goal.invariant.within, w.last-is, w.min-last.ensures, w.in-Some.ensures.within, c.at-at.ensures);
         room = rw w.entries-is (omega (arith, w.push_reserved.ensures.len, w.push_reserved.ensures.capacity, c.loop-goal.invariant.room));
       }

@@ -1,5 +1,4 @@
-use Rattle.std.proofs.Common.{◌∙◌}
-use Rattle.problem_table.proofs.ChangedLemmas.{alike_earlier_row}
+use Rattle.problem_table.proofs.ChangedLemmas.{alike_earlier_row, same_block}
 use Rattle.problem_table.proofs.MakingLemmas.{stands_at}
 use Rattle.problem_table.proofs.changed.moved_rows.Goals as goal
 use Rattle.problem_table.proofs.changed.moved_rows.Goals.{in-Some+in_ok-take_along-in-Some, in-None+in_ok-make-in-None}
@@ -24,14 +23,14 @@ loop-k-preserved c =
     elim c.match-lasting_row.branch [
       | in-Some+in_ok-take_along-in-Some w ↦ rw (w.making-is, w.moving-is) (record {
         made = w.in_ok-take_along-in-Some.ensures.made;
-        own = w.in_ok-take_along-in-Some.ensures.shared ∙ inv.own;
+        block = rw w.in_ok-take_along-in-Some.ensures.shares (same_block c.loop-k.moving.shares c.args.rows.now.shared.value _ _ w.in_ok-take_along-in-Some.ensures.shared inv.block);
         moved = rw w.in_ok-take_along-in-Some.ensures.moved inv.moved;
         steady = rw w.in_ok-take_along-in-Some.ensures.moved inv.steady;
         came = w.in_ok-take_along-in-Some.ensures.came;
       })
       | in-None+in_ok-make-in-None w ↦ rw (w.making-is, w.moving-is) (record {
         made = w.in_ok-make-in-None.ensures.made;
-        own = w.in_ok-make-in-None.ensures.shared ∙ inv.own;
+        block = same_block c.loop-k.moving.shares c.args.rows.now.shared.value _ _ w.in_ok-make-in-None.ensures.shared inv.block;
         moved = inv.moved;
         steady = inv.steady;
         came = inv.came;

@@ -9,7 +9,7 @@ returns-clause-row c =
     record {
       row = [];
       last = 18446744073709551615;
-      more = record { shared = search rules; indexed = search rules; rows = search rules; moments = search rules };
+      more = record { shared = search rules; placed = search rules; rows = search rules; moments = search rules };
       within = within;
       is = added_first c.args._tables.now c.args.problem.now.at c.args.wagon.now c.args.problem.now.orders [] [] 18446744073709551615 refl within (λ m l u.
           row_end c.args._tables.now m c.args.wagon.now c.args.problem.now.orders [] [] [] refl (row_start c.args._tables.now m c.args.wagon.now c.args.problem.now.orders [] [] (sym c.requires.unwanted)));

@@ -1,31 +1,20 @@
-use Rattle.std.proofs.Common.{◌∙◌, ◌++◌, ℕ, List, append-nil, ap, get_or, sym, arith}
-use Rattle.std.proofs.lemmas.List.{get_or_default}
-use Rattle.problem_table.proofs.MovedSteps.{cell_gone, cell_kept}
+use Rattle.std.proofs.Common.{◌∙◌, ◌++◌, ℕ, List, append-nil, append_assoc, ap, sym}
+use Rattle.std.proofs.lemmas.List.Elements.{filter_map-append}
+use Rattle.problem_table.specs.inner.Moved.{moved_cell, moved_cells}
+use Rattle.problem_table.proofs.MovedLemmas.{within_first, within_rest}
 use Rattle.problem_table.proofs.moved.move_later_cells.Goals as goal
-use Rattle.problem_table.proofs.moved.move_later_cells.Goals.{then-position-moved, else-position-moved}
-
-pub loop-cell-preserved : goal.loop-cell-preserved
-loop-cell-preserved c =
-    let inv = c.loop-cell.invariant in
-    let positions = c.args.moved.now.positions.items in
-    let kept = c.args.moved.now.kept in
-    let row = c.args.row.now in
-    let k = c.loop-cell.cell-index in
-    let cell = get_or row k (0, 0) in
-    let within = c.loop-cell-test.true in
-    let is_at = get_or_default row k (0, 0) cell within in
-    let position = c.index-position.result.now in
-    let is = get_or_default positions cell.0 0 position (c.requires.within k (0, 0) within) ∙ sym c.index-position.ensures in
-    elim c.if-position-moved.branch [
-      | then-position-moved w ↦ record {
-        cells = rw w.entries-is (cell_kept positions kept row k cell within is_at c.reserve.new.self.items c.loop-cell.entries.items position _ inv.cells is w.if-position-moved.true w.push_reserved.ensures.items);
-        room = rw w.entries-is (omega (arith, w.push_reserved.ensures.len, w.push_reserved.ensures.capacity, inv.room));
-      }
-      | else-position-moved w ↦ record {
-        cells = rw w.entries-is (cell_gone positions kept row k cell within is_at c.reserve.new.self.items c.loop-cell.entries.items position inv.cells is w.if-position-moved.false);
-        room = rw w.entries-is (omega (arith, inv.room));
-      }
-    ]
 
 pub returns-then-moved : goal.returns-then-moved
 returns-then-moved c = sym (ap (λ (more : List (ℕ × ℕ)). c.args.entries.now.items ++ more) (c.requires.none c.if-moved.true) ∙ append-nil c.args.entries.now.items)
+
+pub move_cells-requires : goal.move_cells-requires
+move_cells-requires c = within_first _ c.args.later.first.now c.args.later.rest.now c.requires.within
+
+pub move_cells-requires-2 : goal.move_cells-requires-2
+move_cells-requires-2 c = within_rest _ c.args.later.first.now c.args.later.rest.now c.requires.within
+
+pub returns : goal.returns
+returns c =
+    let moved = moved_cells c.args.moved.now.positions.items c.args.moved.now.kept in
+    let all = filter_map-append (moved_cell c.args.moved.now.positions.items c.args.moved.now.kept) c.args.later.first.now c.args.later.rest.now in
+    rw (all, ← append_assoc c.args.entries.now.items (moved c.args.later.first.now) (moved c.args.later.rest.now), ← c.in_ok-move_cells.ensures) c.move_cells-2.ensures

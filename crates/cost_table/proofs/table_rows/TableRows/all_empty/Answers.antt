@@ -1,10 +1,11 @@
-use Rattle.std.proofs.Common.{◌≡◌, ◌∷◌, [], ◌∙◌, replicate, rules}
+use Rattle.std.proofs.Common.{◌≡◌, ◌∙◌, [], replicate, refl, rules}
+use Rattle.cost_table.specs.declared.table_rows.RowPlace.{RowPlace}
 use Rattle.cost_table.proofs.AmongLemmas.{rows_empty}
 use Rattle.cost_table.proofs.table_rows.TableRows.all_empty.Goals as goal
 
 pub returns-clause-rows : goal.returns-clause-rows
 returns-clause-rows c =
-    let block : c.push.new.self ≡ [] ∷ [] = rw c.new-block.ensures at c.in_ok-push.ensures.pushed in
-    let shared : c.in_ok-new.field-0.value ≡ [] ∷ [] = c.in_ok-new.ensures.ok ∙ block in
-    let indices : c.in_ok-from_elem.field-0.items ≡ replicate c.args.count 0 = search rules in
-    rw (c.new-2.ensures, indices) (rows_empty c.in_ok-new.field-0.value c.args.count shared)
+    let shared : c.in_ok-new.field-0.value ≡ [] = c.in_ok-new.ensures.ok ∙ c.new.ensures in
+    let nowhere : RowPlace = record { shared = 0; count = 0; own = 0 } in
+    let places : c.in_ok-from_elem.field-0.items ≡ replicate c.args.count nowhere = search rules in
+    rw (c.new-3.ensures, shared, places) (rows_empty c.args.count nowhere refl refl)

@@ -1,5 +1,5 @@
 use Rattle.std.proofs.Common.{◌≡◌, ◌<◌, ◌≤◌, ◌-◌, ℕ, get_or, length}
-use Rattle.assignment.proofs.groups.is_same.Given as goal
+use Rattle.assignment.proofs.groups.are_same_cells.Given as goal
 
 abbrev pub invariant-parts : goal.invariant-parts
 invariant-parts l = record {

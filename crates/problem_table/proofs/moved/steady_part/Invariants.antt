@@ -1,6 +1,6 @@
 use Rattle.std.proofs.Common.{◌≤◌, ◌-◌, ℕ, drop, length}
 use Rattle.std.specs.Prelude.{All}
-use Rattle.problem_table.proofs.moved.steady_cells.Given as goal
+use Rattle.problem_table.proofs.moved.steady_part.Given as goal
 
 -- The cells passed so far are of later orders.
 abbrev pub invariant-loop-later : goal.invariant-loop-later

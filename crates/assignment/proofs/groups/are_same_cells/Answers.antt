@@ -1,7 +1,7 @@
 use Rattle.std.proofs.Common.{◌+◌, length, refl, arith}
 use Rattle.std.proofs.lemmas.List.{ext_get_or}
 use Rattle.assignment.proofs.Comparing.{part_compared}
-use Rattle.assignment.proofs.groups.is_same.Goals as goal
+use Rattle.assignment.proofs.groups.are_same_cells.Goals as goal
 
 pub parts-preserved : goal.parts-preserved
 parts-preserved c = record {

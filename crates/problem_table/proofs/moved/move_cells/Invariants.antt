@@ -1,7 +1,7 @@
 use Rattle.std.proofs.Common.{◌≡◌, ◌≤◌, ◌+◌, ◌++◌, length, take}
 use Rattle.std.specs.Prelude.{vec_len, vec_capacity}
 use Rattle.problem_table.specs.inner.Moved.{moved_cells}
-use Rattle.problem_table.proofs.moved.move_later_cells.Given as goal
+use Rattle.problem_table.proofs.moved.move_cells.Given as goal
 
 -- The cells so far are moved; there is room for the rest.
 abbrev pub invariant-loop-cell : goal.invariant-loop-cell
