@@ -200,6 +200,10 @@ impl TableRows {
         ensures kept { OnErr result (HasSameRows self.old self.new) }
     {
         let place = other.places[i];
+        if place.own == 0 {
+            self.places.push(place)?;
+            return Ok(());
+        }
         let own = Row {
             first: own_row(&other.own, place.own),
             rest: &[],
