@@ -183,7 +183,7 @@ impl Cells {
         if i >= self.wagons() {
             return None;
         }
-        cost_of(self.row(i), j)
+        cost_in_row(self.row(i), j)
     }
 }
 
@@ -223,7 +223,7 @@ fn of_lists(
 }
 
 /// The cost that a row has for an order.
-fn cost_of(row: Row<'_>, order: usize) -> Option<u64>
+fn cost_in_row(row: Row<'_>, order: usize) -> Option<u64>
     requires first { IsAscendingRow row.first.now }
     requires rest { IsAscendingRow row.rest.now }
     ensures { result ≡ cost_in (cells_in row.entry) order }

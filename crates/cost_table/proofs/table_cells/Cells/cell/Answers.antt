@@ -5,18 +5,18 @@ use Rattle.cost_table.proofs.TableLemmas.{look_up_within}
 use Rattle.cost_table.proofs.Search.{row_ascends}
 use Rattle.cost_table.proofs.table_cells.Cells.cell.Goals as goal
 
-pub cost_of-requires-clause-first : goal.cost_of-requires-clause-first
-cost_of-requires-clause-first c = row_ascends _ 0 c.row.result.first.now (first_is_row _ 0 c.row.result.first.now c.row.result.rest.now c.row.ensures.cells)
+pub cost_in_row-requires-clause-first : goal.cost_in_row-requires-clause-first
+cost_in_row-requires-clause-first c = row_ascends _ 0 c.row.result.first.now (first_is_row _ 0 c.row.result.first.now c.row.result.rest.now c.row.ensures.cells)
 
-pub cost_of-requires-clause-rest : goal.cost_of-requires-clause-rest
-cost_of-requires-clause-rest c = row_ascends _ 0 c.row.result.rest.now (rest_is_row _ 0 c.row.result.first.now c.row.result.rest.now c.row.ensures.cells)
+pub cost_in_row-requires-clause-rest : goal.cost_in_row-requires-clause-rest
+cost_in_row-requires-clause-rest c = row_ascends _ 0 c.row.result.rest.now (rest_is_row _ 0 c.row.result.first.now c.row.result.rest.now c.row.ensures.cells)
 
 pub returns-clause-in_range : goal.returns-clause-in_range
 returns-clause-in_range c =
-    let is : c.cost_of.result ≡ cost_at c.args.self.now c.args.i c.args.j = c.cost_of.ensures ∙ ap (λ row. cost_in row c.args.j) c.row.ensures.row in
-    (look_up_within c.args.self.now c.args.i c.args.j c.cost_of.result c.wagons.ensures.table is).0
+    let is : c.cost_in_row.result ≡ cost_at c.args.self.now c.args.i c.args.j = c.cost_in_row.ensures ∙ ap (λ row. cost_in row c.args.j) c.row.ensures.row in
+    (look_up_within c.args.self.now c.args.i c.args.j c.cost_in_row.result c.wagons.ensures.table is).0
 
 pub returns-clause-limit : goal.returns-clause-limit
 returns-clause-limit c =
-    let is : c.cost_of.result ≡ cost_at c.args.self.now c.args.i c.args.j = c.cost_of.ensures ∙ ap (λ row. cost_in row c.args.j) c.row.ensures.row in
-    (look_up_within c.args.self.now c.args.i c.args.j c.cost_of.result c.wagons.ensures.table is).1
+    let is : c.cost_in_row.result ≡ cost_at c.args.self.now c.args.i c.args.j = c.cost_in_row.ensures ∙ ap (λ row. cost_in row c.args.j) c.row.ensures.row in
+    (look_up_within c.args.self.now c.args.i c.args.j c.cost_in_row.result c.wagons.ensures.table is).1
