@@ -1,6 +1,9 @@
 -- Rows whose cells stand in two places.
-use Rattle.std.proofs.Common.{◌≡◌, ◌+◌, ◌≤◌, ℕ, List, [], ◌∷◌, ◌++◌, Some, None, refl, arith}
+use Rattle.std.proofs.Common.{◌≡◌, ◌+◌, ◌≤◌, ℕ, List, [], ◌∷◌, ◌++◌, Some, None, length, refl, subst, arith}
+use Rattle.std.specs.Prelude.{All}
+use Rattle.std.proofs.Math.Seq.{drop-append_seam, take-append_seam}
 use Rattle.std.proofs.lemmas.Bool.Decides.{nat_tests}
+use Rattle.std.proofs.lemmas.List.Elements.{All-drop, All-take}
 use Rattle.cost_table.specs.TableLimits.{IsRow}
 use Rattle.cost_table.specs.Table.{cost_in}
 
@@ -24,3 +27,10 @@ cost_first (cell ∷ first) rest j cost is = grind (arith, nat_tests, is, cost_f
 pub cost_rest : (first rest : List (ℕ × ℕ)) (j : ℕ) → cost_in first j ≡ None → cost_in (first ++ rest) j ≡ cost_in rest j
 cost_rest [] rest j is = refl
 cost_rest (cell ∷ first) rest j is = grind (arith, nat_tests, is, cost_rest first rest j)
+
+-- what holds of all cells of a row holds of the first ones, and of the rest
+pub first_all : (P : ℕ × ℕ → Type 0) (first rest : List (ℕ × ℕ)) → All P (first ++ rest) → All P first
+first_all P first rest all = subst (All P) (take-append_seam first rest) (All-take P (length first) (first ++ rest) all)
+
+pub rest_all : (P : ℕ × ℕ → Type 0) (first rest : List (ℕ × ℕ)) → All P (first ++ rest) → All P rest
+rest_all P first rest all = subst (All P) (drop-append_seam first rest) (All-drop P (length first) (first ++ rest) all)

@@ -89,15 +89,18 @@ impl TableRows {
         })
     }
 
-    /// No row yet, with room for the places of so many; it shares the block of another table's rows.
+    /// No row yet, with room for the places of so many; it shares the block of another table's rows, and has room for as many
+    /// cells of its own, and an eighth more.
     pub fn sharing(alloc: Global, other: &TableRows, count: usize) -> Result<TableRows, AllocError>
         ensures shared { IfOk result (λ rows. rows.shared.value ≡ other.now.shared.value) }
         ensures rows { IfOk result (λ rows. rows_in rows ≡ []) }
         ensures placed { IfOk result HasPlaces }
     {
+        let cells = other.own.cells();
+        let room = cells.saturating_add(cells / 8);
         Ok(TableRows {
             shared: Arc::try_clone(&other.shared)?,
-            own: RowBlock::new(alloc),
+            own: RowBlock::with_room(alloc, other.own.len(), room)?,
             places: Vec::with_capacity(alloc, count)?,
         })
     }
@@ -253,6 +256,7 @@ impl TableRows {
         requires placed { HasPlaces self }
         requires own { self.shared.value ≡ [] }
         ensures rows { IfOk result (λ rows. rows_in rows ≡ rows_in self) }
+        ensures none_own { IfOk result (λ rows. rows.own ≡ []) }
         ensures placed { IfOk result HasPlaces }
     {
         let TableRows { own, places, .. } = self;

@@ -1,4 +1,4 @@
-use Rattle.std.proofs.Common.{◌≡◌, ◌+◌, ◌<◌, ◌≤◌, ℕ, zero, suc, Bool, true, false, cond, Option, Some, None, List, [], ◌∷◌, ◌++◌, length, refl, sym, ◌∙◌, ap, arith, subst, inl, inr, length-append, get_or-append-add}
+use Rattle.std.proofs.Common.{◌≡◌, ◌+◌, ◌<◌, ◌≤◌, ℕ, zero, suc, Bool, true, false, cond, Option, Some, None, List, [], ◌∷◌, ◌++◌, refl, sym, ◌∙◌, ap, arith, subst, inl, inr}
 use Rattle.std.specs.Prelude.{nat_lt, slice_index, All}
 use Rattle.std.specs.Option.{option_or}
 use Rattle.std.specs.List.{AllByRecursion}
@@ -94,9 +94,3 @@ pub gap_of_parts : (i : ℕ) (first rest : List (ℕ × ℕ)) (u : ℕ) (v : Lis
 gap_of_parts i [] rest u v = refl
 gap_of_parts i (cell ∷ first) rest u v =
     ap (λ o. cond (nat_lt (cell.1 + u) (slice_index v cell.0)) (Some (PriceGap i cell.0)) o) (gap_of_parts i first rest u v) ∙ else_or (nat_lt (cell.1 + u) (slice_index v cell.0)) (PriceGap i cell.0) (gap_of_row i first u v) (gap_of_row i rest u v)
-
--- what holds of all cells of a row holds of those behind the first ones
-pub rest_all : (P : ℕ × ℕ → Type 0) (first rest : List (ℕ × ℕ)) → All P (first ++ rest) → All P rest
-rest_all P first rest h k d l =
-    let count : length (first ++ rest) ≡ length first + length rest = length-append first rest in
-    subst P (get_or-append-add first rest k d) (h (length first + k) d (omega (arith, l, count)))

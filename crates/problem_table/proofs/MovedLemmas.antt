@@ -1,9 +1,9 @@
 -- Rows whose cells go along with their orders.
 use Rattle.std.proofs.Common.{◌≡◌, ◌+◌, ◌<◌, ◌≤◌, ◌∙◌, ℕ, Bool, true, false, cond, Option, Some, inl, inr, List, [], ◌∷◌, ◌++◌, length, get_or, take, drop, refl, sym, ap, subst, arith, length-drop, length-take-le, ◌-◌, zero, suc}
 use Rattle.std.specs.Prelude.{◌↔◌, ◌==◌, nat_lt, All, slice_get}
-use Rattle.std.proofs.Math.Seq.{drop-append-add, drop-append_seam, take-append_seam}
+use Rattle.std.proofs.Math.Seq.{drop-append-add}
 use Rattle.std.proofs.lemmas.List.{get_or-append_right, get_or-take, drop-append-le, drop_all, drop_more, length-append, take-append-drop, take_all}
-use Rattle.std.proofs.lemmas.List.Elements.{All-append, All-cons, All-drop, All-head, All-nil, All-tail, All-take, filter_map-append}
+use Rattle.std.proofs.lemmas.List.Elements.{All-append, All-cons, All-drop, All-head, All-nil, All-tail, filter_map-append}
 use Rattle.std.proofs.lemmas.Bool.{cases_lt}
 use Rattle.std.proofs.lemmas.Bool.Decides.{nat_tests}
 use Rattle.std.proofs.lemmas.Option.{slice_get_within}
@@ -182,13 +182,6 @@ before_rest orders steady first rest count is some within all =
 
 pub behind_rest : (steady : ℕ) (first rest : List (ℕ × ℕ)) (count : ℕ) → All (λ (cell : ℕ × ℕ). steady ≤ cell.0) (drop count rest) → All (λ (cell : ℕ × ℕ). steady ≤ cell.0) (drop (length first + count) (first ++ rest))
 behind_rest steady first rest count all = subst (All (λ (cell : ℕ × ℕ). steady ≤ cell.0)) (sym (drop-append-add first rest count)) all
-
--- what holds of all holds of the first and of the others
-pub within_first : (count : ℕ) (first rest : List (ℕ × ℕ)) → All (λ (cell : ℕ × ℕ). cell.0 < count) (first ++ rest) → All (λ (cell : ℕ × ℕ). cell.0 < count) first
-within_first count first rest all = subst (All (λ (cell : ℕ × ℕ). cell.0 < count)) (take-append_seam first rest) (All-take (λ (cell : ℕ × ℕ). cell.0 < count) (length first) (first ++ rest) all)
-
-pub within_rest : (count : ℕ) (first rest : List (ℕ × ℕ)) → All (λ (cell : ℕ × ℕ). cell.0 < count) (first ++ rest) → All (λ (cell : ℕ × ℕ). cell.0 < count) rest
-within_rest count first rest all = subst (All (λ (cell : ℕ × ℕ). cell.0 < count)) (drop-append_seam first rest) (All-drop (λ (cell : ℕ × ℕ). cell.0 < count) (length first) (first ++ rest) all)
 
 module _ (R : WantedOrder → ℕ → Type 0) (same : (one other : WantedOrder) (km : ℕ) → other.order ≡ one.order → R one km ≡ R other km) where
   -- a row goes along with its orders

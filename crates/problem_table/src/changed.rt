@@ -96,7 +96,7 @@ fn shared_rows(
     for (k, wagon) in wagons.iter().enumerate() {
         at = index_from(earlier.wagons(), at, wagon.number);
         match lasting_row(earlier.wagons(), lasts, at, wagon, problem.at()) {
-            Some(last) => take_over(&mut making, rows, at, last)?,
+            Some(last) => take_over(&mut making, EarlierRow { rows, at, last })?,
             None => make(alloc, &mut making, problem, tables, k, wagon)?,
         }
     }
@@ -132,9 +132,7 @@ fn moved_rows(
                 &mut moving,
                 problem,
                 tables,
-                rows,
-                at,
-                last,
+                EarlierRow { rows, at, last },
                 k,
                 wagon,
             )?,
@@ -218,17 +216,25 @@ fn last_at(lasts: &[u64], k: usize) -> Option<u64>
     lasts.get(k).copied()
 }
 
-/// Takes over the row at an index of the earlier table, which lasts up to this moment.
-fn take_over(making: &mut Making, rows: &TableRows, at: usize, last: u64) -> Result<(), AllocError>
+/// A row of the earlier table, and up to which moment it is a wagon's, in seconds since 1970.
+#[derive(Clone, Copy)]
+struct EarlierRow<'a> {
+    rows: &'a TableRows,
+    at: usize,
+    last: u64,
+}
+
+/// Takes over an earlier row.
+fn take_over(making: &mut Making, row: EarlierRow<'_>) -> Result<(), AllocError>
     requires placed { HasPlaces making.old.rows }
-    requires shared { making.old.rows.shared.value ≡ rows.now.shared.value }
-    requires rows { HasPlaces rows.now }
-    requires wagon { at < length (rows_in rows.now) }
-    ensures row { OnOk result (AddsRowUntil making.old making.new (slice_index_or (rows_in rows.now) at []) last) }
+    requires shared { making.old.rows.shared.value ≡ row.rows.now.shared.value }
+    requires rows { HasPlaces row.rows.now }
+    requires wagon { row.at < length (rows_in row.rows.now) }
+    ensures row { OnOk result (AddsRowUntil making.old making.new (slice_index_or (rows_in row.entry.rows.now) row.entry.at []) row.entry.last) }
     ensures classes { making.new.classes ≡ making.old.classes }
 {
-    making.rows.take_over(rows, at)?;
-    making.lasts.push(last)?;
+    making.rows.take_over(row.rows, row.at)?;
+    making.lasts.push(row.last)?;
     Ok(())
 }
 
@@ -258,7 +264,7 @@ impl Moving {
         ensures came { IfOk result (λ moving. moving.came.items ≡ []) }
     {
         let moved = Moved::between(alloc, earlier.orders(), problem.orders())?;
-        let shares = !rows.are_scattered() && moved.steady > problem.orders().len() / 4 * 3;
+        let shares = !rows.are_scattered() && moved.are_mostly_steady(problem.orders().len());
         Ok(Moving {
             moved,
             came: Vec::new(alloc),
@@ -268,27 +274,25 @@ impl Moving {
     }
 }
 
-/// Makes the row of wagon `k`, which is the wagon at an index of the earlier table, whose row lasts up to this moment: the
-/// row of an alike wagon before it whose row went along, else its earlier row goes along.
+/// Makes the row of wagon `k` out of its earlier row: the row of an alike wagon before it whose row went along, else its
+/// earlier row goes along.
 fn take_along(
     alloc: Global,
     making: &mut Making,
     moving: &mut Moving,
     problem: &Problem,
     tables: &Tables,
-    rows: &TableRows,
-    at: usize,
-    last: u64,
+    row: EarlierRow<'_>,
     k: usize,
     wagon: &FreeWagon,
 ) -> Result<(), AllocError>
     requires wagon { slice_get problem.now.wagons k ≡ Some wagon.now }
     requires made { AreMade tables.now problem.now k making.old }
-    requires block { HaveBlock moving.old.shares rows.now making.old.rows }
-    requires rows { HasPlaces rows.now }
-    requires row { at < length (rows_in rows.now) }
-    requires along { GoesAlong problem.now tables.now wagon.now moving.old.moved (slice_index_or (rows_in rows.now) at []) last }
-    requires within { problem.now.at ≤ last }
+    requires block { HaveBlock moving.old.shares row.rows.now making.old.rows }
+    requires rows { HasPlaces row.rows.now }
+    requires row { row.at < length (rows_in row.rows.now) }
+    requires along { GoesAlong problem.now tables.now wagon.now moving.old.moved (slice_index_or (rows_in row.rows.now) row.at []) row.last }
+    requires within { problem.now.at ≤ row.last }
     requires came { AreCome tables.now problem.now.orders moving.old }
     ensures made { OnOk result (AreMade tables.now problem.now (k + 1) making.new) }
     ensures shared { OnOk result (making.new.rows.shared.value ≡ making.old.rows.shared.value) }
@@ -296,15 +300,13 @@ fn take_along(
     ensures shares { moving.new.shares ≡ moving.old.shares }
     ensures came { OnOk result (AreCome tables.now problem.now.orders moving.new) }
 {
-    let number = number_of(rows.places[at]);
+    let number = number_of(row.rows.places[row.at]);
     let i = moving.seen.at(number);
     if is_alike_before(problem.wagons(), i, k, wagon, problem.at()) {
         return repeat(making, i);
     }
     moving.seen.note(number, k);
-    move_row(
-        alloc, making, moving, problem, tables, rows, at, last, wagon,
-    )
+    move_row(alloc, making, moving, problem, tables, row, wagon)
 }
 
 /// A number that few other places have.
@@ -312,24 +314,22 @@ fn number_of(place: RowPlace) -> usize {
     place.shared.wrapping_mul(683).wrapping_add(place.own)
 }
 
-/// Has an earlier row of a wagon, which lasts up to this moment, go along with its orders, and goes on with it.
+/// Has an earlier row of a wagon go along with its orders, and goes on with it.
 fn move_row(
     alloc: Global,
     making: &mut Making,
     moving: &mut Moving,
     problem: &Problem,
     tables: &Tables,
-    rows: &TableRows,
-    at: usize,
-    last: u64,
+    row: EarlierRow<'_>,
     wagon: &FreeWagon,
 ) -> Result<(), AllocError>
     requires placed { HasPlaces making.old.rows }
-    requires block { HaveBlock moving.old.shares rows.now making.old.rows }
-    requires rows { HasPlaces rows.now }
-    requires row { at < length (rows_in rows.now) }
-    requires along { GoesAlong problem.now tables.now wagon.now moving.old.moved (slice_index_or (rows_in rows.now) at []) last }
-    requires within { problem.now.at ≤ last }
+    requires block { HaveBlock moving.old.shares row.rows.now making.old.rows }
+    requires rows { HasPlaces row.rows.now }
+    requires row { row.at < length (rows_in row.rows.now) }
+    requires along { GoesAlong problem.now tables.now wagon.now moving.old.moved (slice_index_or (rows_in row.rows.now) row.at []) row.last }
+    requires within { problem.now.at ≤ row.last }
     requires came { AreCome tables.now problem.now.orders moving.old }
     ensures row { OnOk result (AddsWagon tables.now problem.now wagon.now making.old making.new) }
     ensures classes { making.new.classes ≡ making.old.classes }
@@ -346,9 +346,9 @@ fn move_row(
         kept,
         &problem.orders()[kept..],
     )?;
-    let row = rows.row(at);
-    let steady = steady_cells(row, &moving.moved);
-    let (first, later) = row.split_at(steady);
+    let cells = row.rows.row(row.at);
+    let steady = steady_cells(cells, &moving.moved);
+    let (first, later) = cells.split_at(steady);
     making.found.clear();
     move_later_cells(&mut making.found, later, &moving.moved)?;
     let goals = &moving.came[class].goals;
@@ -359,10 +359,10 @@ fn move_row(
         wagon,
         goals,
         tables,
-        last,
+        row.last,
     )?;
     let shares = moving.shares;
-    push_moved(&mut making.rows, rows, at, steady, &making.found, shares)?;
+    push_moved(&mut making.rows, row, steady, &making.found, shares)?;
     making.lasts.push(last)?;
     Ok(())
 }
@@ -370,23 +370,22 @@ fn move_row(
 /// Appends one row, which begins with so many cells of an earlier row and goes on with others.
 fn push_moved(
     new: &mut TableRows,
-    rows: &TableRows,
-    at: usize,
+    row: EarlierRow<'_>,
     count: usize,
     found: &[(u32, u32)],
     shares: bool,
 ) -> Result<(), AllocError>
     requires placed { HasPlaces new.old }
-    requires shared { shares ≡ true → new.old.shared.value ≡ rows.now.shared.value }
-    requires rows { HasPlaces rows.now }
-    requires row { at < length (rows_in rows.now) }
-    requires count { count ≤ length (slice_index_or (rows_in rows.now) at []) }
-    ensures { OnOk result (HasRowMore new.old new.new (take count (slice_index_or (rows_in rows.now) at []) ++ found.now)) }
+    requires shared { shares ≡ true → new.old.shared.value ≡ row.rows.now.shared.value }
+    requires rows { HasPlaces row.rows.now }
+    requires row { row.at < length (rows_in row.rows.now) }
+    requires count { count ≤ length (slice_index_or (rows_in row.rows.now) row.at []) }
+    ensures { OnOk result (HasRowMore new.old new.new (take count (slice_index_or (rows_in row.entry.rows.now) row.entry.at []) ++ found.now)) }
 {
     if shares {
-        return new.push_along(rows, at, count, found);
+        return new.push_along(row.rows, row.at, count, found);
     }
-    let (front, _) = rows.row(at).split_at(count);
+    let (front, _) = row.rows.row(row.at).split_at(count);
     new.push_parts(front, found)
 }
 

@@ -53,6 +53,11 @@ impl Moved {
             steady,
         })
     }
+
+    /// Whether most of so many later orders stand where they stood: three quarters. Then it pays to share their cells.
+    pub(crate) fn are_mostly_steady(&self, orders: usize) -> bool {
+        self.steady > orders / 4 * 3
+    }
 }
 
 /// How many of the first positions are those of the same numbers, among those that are kept.

@@ -1,7 +1,8 @@
 use Rattle.std.proofs.Common.{◌≡◌, ◌<◌, ◌++◌, ℕ, Some, None, length, ◌∙◌, ap, sym, rules}
 use Rattle.std.specs.Option.{option_or}
 use Rattle.price_checker.specs.inner.RowWalk.{gap_of_row}
-use Rattle.price_checker.proofs.RowWalk.{gap_of_parts, rest_all}
+use Rattle.cost_table.proofs.PartLemmas.{rest_all}
+use Rattle.price_checker.proofs.RowWalk.{gap_of_parts}
 use Rattle.price_checker.proofs.checker.check_row.Goals as goal
 
 pub check_cells-requires-2 : goal.check_cells-requires-2

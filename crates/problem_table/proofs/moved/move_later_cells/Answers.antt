@@ -1,17 +1,17 @@
-use Rattle.std.proofs.Common.{◌∙◌, ◌++◌, ℕ, List, append-nil, append_assoc, ap, sym}
+use Rattle.std.proofs.Common.{◌∙◌, ◌++◌, ◌<◌, ℕ, List, length, append-nil, append_assoc, ap, sym}
 use Rattle.std.proofs.lemmas.List.Elements.{filter_map-append}
+use Rattle.cost_table.proofs.PartLemmas.{first_all, rest_all}
 use Rattle.problem_table.specs.inner.Moved.{moved_cell, moved_cells}
-use Rattle.problem_table.proofs.MovedLemmas.{within_first, within_rest}
 use Rattle.problem_table.proofs.moved.move_later_cells.Goals as goal
 
 pub returns-then-moved : goal.returns-then-moved
 returns-then-moved c = sym (ap (λ (more : List (ℕ × ℕ)). c.args.entries.now.items ++ more) (c.requires.none c.if-moved.true) ∙ append-nil c.args.entries.now.items)
 
 pub move_cells-requires : goal.move_cells-requires
-move_cells-requires c = within_first _ c.args.later.first.now c.args.later.rest.now c.requires.within
+move_cells-requires c = first_all (λ (cell : ℕ × ℕ). cell.0 < length c.args.moved.now.positions.items) c.args.later.first.now c.args.later.rest.now c.requires.within
 
 pub move_cells-requires-2 : goal.move_cells-requires-2
-move_cells-requires-2 c = within_rest _ c.args.later.first.now c.args.later.rest.now c.requires.within
+move_cells-requires-2 c = rest_all (λ (cell : ℕ × ℕ). cell.0 < length c.args.moved.now.positions.items) c.args.later.first.now c.args.later.rest.now c.requires.within
 
 pub returns : goal.returns
 returns c =
