@@ -25,7 +25,7 @@ use Rattle.move_messages.specs.declared.event.Event.TheVariants.{Commit}
 use Rattle.line_fields.specs.LineType.{line_type_of, type_name}
 use Rattle.line_fields.specs.Commands.{command_of, command_of_type, commit_text_of, max_version}
 use Rattle.dispatch_sheet.specs.Certificate.{commit_data}
-use Rattle.dispatch_sheet.specs.inner.Readable.{AreReadablePrices, IsReadable, IsReadablePair}
+use Rattle.dispatch_sheet.specs.inner.Readable.{AreReadablePrices, IsReadable}
 use Rattle.line_fields.specs.WrittenTokens.{data_tokens}
 
 -- ---- it nests little

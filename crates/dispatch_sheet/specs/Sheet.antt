@@ -1,6 +1,6 @@
 -- The sheet of an office: lines for its version, for each wagon, for each order and, among several, for its network.
 -- Each line ends with a line feed, and its words are parted by one space.
-use Rattle.std.specs.Prelude.{◌≡◌, ℕ, Bool, true, false, List, [], ◌∷◌, ◌++◌, length, map, Option, Some, None, nat_lt, if◌then◌else◌, codes, decimal}
+use Rattle.std.specs.Prelude.{◌≡◌, ℕ, Bool, true, false, List, [], ◌∷◌, ◌++◌, map, Option, Some, None, nat_lt, if◌then◌else◌, codes, decimal}
 use Rattle.std.specs.List.{join_with_byte}
 use Rattle.rail_codes.specs.Moment.{IsMomentText}
 use Rattle.wagons_and_orders.specs.declared.wagon_row.WagonRow.{WagonRow}

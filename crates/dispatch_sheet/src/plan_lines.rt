@@ -1,27 +1,30 @@
 //! The lines of a plan.
 ghost use Rattle.std.specs.Prelude.{◌≡◌, ◌++◌, ◌<◌, ◌≤◌, ◌==◌, ℕ, length, replicate, IfOk, OnOk, string_bytes};
 ghost use Rattle.std.specs.List.{concat, flat_map, prefix_len};
-ghost use Rattle.cost_table.specs.Plan.{AllAllowed, IsAllowed, IsPlan};
+ghost use Rattle.cost_table.specs.Plan.{AllAllowed, IsAllowed};
 ghost use Rattle.cost_table.specs.Table.{lack_at};
+ghost use Rattle.price_checker.specs.Certificate.{IsCertificate};
+ghost use Rattle.price_checker.specs.Tight.{AreTight, IsTight};
 ghost use Rattle.dispatch_sheet.specs.PlanText.{assign_line, plan_text_of, refuse_line, FitsProblem};
 ghost use Rattle.dispatch_sheet.specs.inner.PairLines.{lines_of_pairs};
 
 use cost_table::{Cells, Plan, Problem};
-use price_checker::{Snap, order_name, wagon_name};
+use price_checker::{Prices, Snap, certified_pair_cost, order_name, wagon_name};
 use reply_texts::line_words::{push_code, push_number};
 use std::alloc::{AllocError, Global};
 
 /// The lines of a plan: order by order as placed, `assign WAGON ORDER KM` for each wagon that the plan gives it, in
 /// the plan's order, then `refuse ORDER PENALTY` for each wagon that it misses. `KM` and `PENALTY` are kilometres. The
-/// table must be one of the snapshot's problem.
+/// table must be one of the snapshot's problem, and the prices a certificate of the plan: they tell the kilometres.
 pub fn plan_text(
     alloc: Global,
     snap: &Snap,
     cells: &Cells,
     plan: &Plan,
+    prices: &Prices,
 ) -> Result<String, AllocError>
     requires fits { FitsProblem snap.now.problem cells.now }
-    requires plan { IsPlan cells.now plan.now }
+    requires certificate { IsCertificate cells.now plan.now prices.now.u.items prices.now.v.items }
     ensures { IfOk result (λ text. string_bytes text ≡ plan_text_of snap.now.problem cells.now plan.now) }
 {
     let problem = snap.problem();
@@ -29,7 +32,7 @@ pub fn plan_text(
     let mut text = String::new(alloc);
     for j in 0..problem.orders().len() {
         let (mine, later) = rest.split_at(pairs_of_order(rest, j));
-        push_lines_of_order(&mut text, problem, cells, mine, j)?;
+        push_lines_of_order(&mut text, problem, cells, prices, mine, j)?;
         rest = later;
     }
     Ok(text)
@@ -48,16 +51,18 @@ fn push_lines_of_order(
     text: &mut String,
     problem: &Problem,
     cells: &Cells,
+    prices: &Prices,
     mine: &[(usize, usize)],
     j: usize,
 ) -> Result<(), AllocError>
     requires fits { FitsProblem problem.now cells.now }
     requires allowed { AllAllowed cells.now mine.now }
+    requires tight { AreTight cells.now prices.now.u.items prices.now.v.items mine.now }
     requires order { j < length problem.now.orders }
     requires within { length mine.now ≤ lack_at cells.now j }
     ensures { OnOk result (string_bytes text.new ≡ string_bytes text.old ++ lines_of_pairs problem.now cells.now mine.now j) }
 {
-    push_assign_lines(text, problem, cells, mine)?;
+    push_assign_lines(text, problem, cells, prices, mine)?;
     push_refuse_lines(text, problem, cells, j, cells.lack(j) as usize - mine.len())
 }
 
@@ -66,14 +71,16 @@ fn push_assign_lines(
     text: &mut String,
     problem: &Problem,
     cells: &Cells,
+    prices: &Prices,
     pairs: &[(usize, usize)],
 ) -> Result<(), AllocError>
     requires fits { FitsProblem problem.now cells.now }
     requires allowed { AllAllowed cells.now pairs.now }
+    requires tight { AreTight cells.now prices.now.u.items prices.now.v.items pairs.now }
     ensures { OnOk result (string_bytes text.new ≡ string_bytes text.old ++ flat_map (assign_line problem.now cells.now) pairs.now) }
 {
     for pair in pairs {
-        push_assign_line(text, problem, cells, *pair)?;
+        push_assign_line(text, problem, cells, prices, *pair)?;
     }
     Ok(())
 }
@@ -83,17 +90,19 @@ fn push_assign_line(
     text: &mut String,
     problem: &Problem,
     cells: &Cells,
+    prices: &Prices,
     pair: (usize, usize),
 ) -> Result<(), AllocError>
     requires fits { FitsProblem problem.now cells.now }
     requires allowed { IsAllowed cells.now pair }
+    requires tight { IsTight cells.now prices.now.u.items prices.now.v.items pair }
     ensures { OnOk result (string_bytes text.new ≡ string_bytes text.old ++ assign_line problem.now cells.now pair) }
 {
     let (i, j) = pair;
     text.push_str("assign")?;
     push_code(text, wagon_name(problem, i).digits())?;
     push_code(text, order_name(problem, j).as_bytes())?;
-    push_number(text, cells.cell(i, j).unwrap_or(0))?;
+    push_number(text, certified_pair_cost(cells, pair, prices))?;
     text.push_str("\n")
 }
 

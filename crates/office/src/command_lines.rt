@@ -17,13 +17,13 @@ ghost use Rattle.office.specs.inner.OutOfMemory.{MayAnswerOutOfMemory};
 
 use assignment::plan;
 use commit_book::{Book, Refusal, Reply, Snap};
-use cost_table::{Cells, Plan, cost};
+use cost_table::{Cells, Plan};
 use dispatch_sheet::{certificate_line, plan_text, sheet_text};
 use line_engine::{
     Handler, LineLimit, Outcome, ReplyText, RunCount, RunFault, Sink, Source, run_lines,
 };
 use line_fields::{Command, LineFault, read_line};
-use price_checker::Prices;
+use price_checker::{Prices, certified_cost};
 use rail_codes::Moment;
 use reply_texts::{
     push_accepted, push_begun, push_book_refused, push_line_refused, push_planned, push_repeated,
@@ -164,9 +164,9 @@ fn push_planned_reply(
         snap.version(),
         wagons,
         orders,
-        cost(cells, plan.pairs()),
+        certified_cost(cells, plan.pairs(), prices),
     )?;
-    reply.push_str(&plan_text(alloc, snap, cells, plan)?)?;
+    reply.push_str(&plan_text(alloc, snap, cells, plan, prices)?)?;
     reply.push_str(&certificate_line(alloc, snap, plan, prices)?)?;
     reply.push_bytes(b"\n")
 }

@@ -18,8 +18,8 @@ ghost use Rattle.plan_bounds.specs.Bounds.{
 };
 ghost use Rattle.plan_bounds.specs.LeastSlack.{has_pair, least_new_slack, lesser, new_slack};
 
-use cost_table::{Cells, Plan, cost};
-use price_checker::Prices;
+use cost_table::{Cells, Plan};
+use price_checker::{Prices, certified_cost};
 use std::marker::Model;
 
 /// A plan of a table and prices that are a certificate of it. A contract sees the table, the plan's pairs and the prices.
@@ -60,7 +60,7 @@ impl<'a> Bounds<'a> {
         ensures value { result ≡ certified_cost self.now }
         ensures certified { IsCertified self.now }
     {
-        cost(self.cells, self.plan.pairs())
+        certified_cost(self.cells, self.plan.pairs(), self.prices)
     }
 
     /// The slack of a pair: what every plan that has this pair costs more, at least. `None` where the pair isn't allowed.

@@ -3,9 +3,11 @@ use Rattle.std.specs.Prelude.{slice_index, Some, unwrap_or, get_or}
 use Rattle.std.specs.List.{sum_by, sum}
 use Rattle.std.proofs.lemmas.List.Sums.{sum_by-cons, sum_by_more}
 use Rattle.std.proofs.Math.Seq.{take-length}
+use Rattle.std.proofs.lemmas.List.Elements.{All-cons, All-nil}
 use Rattle.cost_table.specs.Plan.{sum_below, IsPlan, IsOptimal, AllAllowed, cost_of, uses, serves, pair_cost, missed_cost}
 use Rattle.cost_table.specs.Table.{Table, cost_at, penalty_at, lack_at, wagon_count, order_count}
 use Rattle.price_checker.specs.Certificate.{IsCertificate}
+use Rattle.price_checker.specs.Tight.{AreTight, IsTight}
 use Rattle.cost_table.proofs.Sums.{double_count, distributes, sum_below-le, sum_below-add}
 use Rattle.cost_table.proofs.CostLemmas.{wagons_below, orders_below}
 
@@ -59,17 +61,27 @@ wagons_pay t u ps len plan =
     let all : sum_below n (slice_index u) ≡ sum u = subst (λ k. sum_below k (slice_index u) ≡ sum u) len (sum_below-all u) in
     omega (arith, count, each, all)
 
--- every plan costs at least what the orders' prices exceed the wagons'
-pub weak_duality : (t : Table) (u v : List ℕ) → length u ≡ wagon_count t → NoGap t u v → ((j : ℕ) → j < order_count t → slice_index v j ≤ penalty_at t j) → (ps : List (ℕ × ℕ)) → IsPlan t ps → sum_below (order_count t) (λ j. lack_at t j * slice_index v j) ≤ cost_of t ps + sum u
-weak_duality t u v len gap below ps plan =
+abbrev pub IsBelowPenalty : Table → List ℕ → Type 0
+IsBelowPenalty t v = (j : ℕ) → j < order_count t → slice_index v j ≤ penalty_at t j
+
+-- what the orders pay is at most the prices of those that are served and the penalties of what is missed
+pub orders_pay : (t : Table) (v : List ℕ) → IsBelowPenalty t v → (ps : List (ℕ × ℕ)) → IsPlan t ps
+    → sum_below (order_count t) (λ j. lack_at t j * slice_index v j) ≤ sum_by (λ (p : ℕ × ℕ). slice_index v p.1) ps + sum_below (order_count t) (missed_cost t ps)
+orders_pay t v below ps plan =
     let m = order_count t in
     let served = λ (j : ℕ). serves j ps * slice_index v j in
     let each = sum_below-le m (λ j. lack_at t j * slice_index v j) (λ j. serves j ps * slice_index v j + missed_cost t ps j) (λ j l. pays (lack_at t j) (serves j ps) (slice_index v j) (penalty_at t j) (plan.within j l) (below j l)) in
     let parts = sum_below-add m (λ j. serves j ps * slice_index v j) (missed_cost t ps) in
     let count = double_count (λ p. p.1) (slice_index v) m ps (orders_below t ps plan.allowed) in
+    omega (arith, each, parts, count)
+
+-- every plan costs at least what the orders' prices exceed the wagons'
+pub weak_duality : (t : Table) (u v : List ℕ) → length u ≡ wagon_count t → NoGap t u v → IsBelowPenalty t v → (ps : List (ℕ × ℕ)) → IsPlan t ps → sum_below (order_count t) (λ j. lack_at t j * slice_index v j) ≤ cost_of t ps + sum u
+weak_duality t u v len gap below ps plan =
+    let orders = orders_pay t v below ps plan in
     let pairs = pairs_pay t u v gap ps plan.allowed in
     let wagons = wagons_pay t u ps len plan in
-    omega (arith, each, parts, count, pairs, wagons)
+    omega (arith, orders, pairs, wagons)
 
 -- a certificate's plan is an optimal one, whoever made the prices
 pub certificates_optimal : (t : Table) (pairs : List (ℕ × ℕ)) (u v : List ℕ) → IsCertificate t pairs u v → IsOptimal t pairs
@@ -80,3 +92,27 @@ certificates_optimal t pairs u v c = (
       let balance = c.balance in
       omega (arith, least, balance),
 )
+
+-- pairs that cost in all no more than their prices say cost exactly that, each of them
+tight_of_sums : (t : Table) (u v : List ℕ) → length u ≡ wagon_count t → length v ≡ order_count t → NoGap t u v → (ps : List (ℕ × ℕ)) → AllAllowed t ps
+    → sum_by (pair_cost t) ps + sum_by (λ (p : ℕ × ℕ). slice_index u p.0) ps ≤ sum_by (λ (p : ℕ × ℕ). slice_index v p.1) ps → AreTight t u v ps
+tight_of_sums t u v wagons orders gap [] h le = All-nil (IsTight t u v)
+tight_of_sums t u v wagons orders gap (p ∷ ps) h le =
+    let rest = pairs_pay t u v gap ps h.1 in
+    let one : slice_index v p.1 ≤ h.0.2.0 + slice_index u p.0 = gap p.0 p.1 h.0.2.0 h.0.0 h.0.1 h.0.2.1 in
+    let cost : pair_cost t p ≡ h.0.2.0 = ap (λ o. unwrap_or o 0) h.0.2.1 in
+    let a = sum_by-cons (λ (q : ℕ × ℕ). slice_index v q.1) p ps in
+    let b = sum_by-cons (pair_cost t) p ps in
+    let c = sum_by-cons (λ (q : ℕ × ℕ). slice_index u q.0) p ps in
+    let within = h.0.0 in
+    let placed = h.0.1 in
+    let tight : IsTight t u v p = record { wagon = omega (arith, wagons, within); order = omega (arith, orders, placed); prices = omega (arith, rest, one, cost, a, b, c, le) } in
+    All-cons (IsTight t u v) p ps tight (tight_of_sums t u v wagons orders gap ps h.1 (omega (arith, one, cost, a, b, c, le)))
+
+-- each pair of a certificate's plan costs exactly what its prices say
+pub certificates_tight : (t : Table) (pairs : List (ℕ × ℕ)) (u v : List ℕ) → IsCertificate t pairs u v → AreTight t u v pairs
+certificates_tight t pairs u v c =
+    let paid = orders_pay t v c.below_penalty pairs c.plan in
+    let priced = wagons_pay t u pairs c.wagons c.plan in
+    let balance = c.balance in
+    tight_of_sums t u v c.wagons c.orders c.no_gap pairs c.plan.allowed (omega (arith, paid, priced, balance))

@@ -7,3 +7,4 @@ pub mod NamedFaults
 pub mod NamedPairs
 pub mod Snap
 pub mod CertifiedPairs
+pub mod Tight

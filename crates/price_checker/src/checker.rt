@@ -153,7 +153,7 @@ fn check_penalties(cells: &Cells, v: &[u64]) -> Result<(), CheckFault>
 }
 
 /// All numbers of a short list together.
-fn total(prices: &[u64]) -> u128
+pub(crate) fn total(prices: &[u64]) -> u128
     requires { length prices.now ≤ max_table_wagons }
     ensures value { result ≡ sum prices.now }
     ensures limit { result ≤ max_table_wagons * 2 ^ 64 }
@@ -175,7 +175,7 @@ fn paid_by_order(cells: &Cells, j: usize, price: u64) -> u128
 }
 
 /// What all orders pay.
-fn paid_by_orders(cells: &Cells, v: &[u64]) -> u128
+pub(crate) fn paid_by_orders(cells: &Cells, v: &[u64]) -> u128
     requires table { IsTable cells.now }
     requires orders { length v.now ≡ order_count cells.now }
     ensures value { result ≡ paid_by_orders cells.now v.now }

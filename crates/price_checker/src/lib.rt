@@ -9,6 +9,7 @@ mod limits;
 mod named_check;
 mod positions;
 mod prices;
+mod slackness;
 mod snap;
 
 pub use certified::Certified;
@@ -18,4 +19,5 @@ pub use limits::{Limits, MAX_ENTRIES, MAX_KEPT_PROBLEMS};
 pub use named_check::check_named;
 pub use positions::{order_name, pairs_by_name, positions_of, wagon_name};
 pub use prices::Prices;
+pub use slackness::{certified_cost, certified_pair_cost};
 pub use snap::Snap;

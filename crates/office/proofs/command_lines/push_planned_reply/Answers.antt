@@ -17,8 +17,8 @@ returns c =
     let head = planned_reply snap (cost_of c.args.cells.now c.args.plan.now) in
     let plan_lines = plan_text_of snap.problem c.args.cells.now c.args.plan.now in
     let line = string_bytes c.in_ok-certificate_line.field-0 in
-    let is_head : planned_text c.version.result (length c.wagons-wagons.result.now) (length c.orders-orders.result.now) c.cost.result ≡ head =
-    rw (c.version.ensures.value, c.wagons-wagons.ensures.wagons, c.orders-orders.ensures.orders, c.problem-problem.ensures, c.cost.ensures.value, c.pairs.ensures.pairs) refl in
+    let is_head : planned_text c.version.result (length c.wagons-wagons.result.now) (length c.orders-orders.result.now) c.certified_cost.result ≡ head =
+    rw (c.version.ensures.value, c.wagons-wagons.ensures.wagons, c.orders-orders.ensures.orders, c.problem-problem.ensures, c.certified_cost.ensures, c.pairs.ensures.pairs) refl in
     let planned : IsPlanned snap c.args.cells.now (head ++ plan_lines ++ line ++ 10 ∷ []) = record {
       pairs = c.args.plan.now;
       u = c.args.prices.now.u.items;
