@@ -4,7 +4,7 @@ use Rattle.std.specs.List.{sum_by, sum}
 use Rattle.std.proofs.lemmas.List.Sums.{sum_by-cons, sum_by_more}
 use Rattle.std.proofs.Math.Seq.{take-length}
 use Rattle.std.proofs.lemmas.List.Elements.{All-cons, All-nil}
-use Rattle.cost_table.specs.Plan.{sum_below, IsPlan, IsOptimal, AllAllowed, cost_of, uses, serves, pair_cost, missed_cost}
+use Rattle.cost_table.specs.Plan.{sum_below, IsPlan, IsOptimal, IsAllowed, AllAllowed, cost_of, uses, serves, pair_cost, missed_cost}
 use Rattle.cost_table.specs.Table.{Table, cost_at, penalty_at, lack_at, wagon_count, order_count}
 use Rattle.price_checker.specs.Certificate.{IsCertificate}
 use Rattle.price_checker.specs.Tight.{AreTight, IsTight}
@@ -24,17 +24,18 @@ pays l s v p a b =
 abbrev pub NoGap : Table → List ℕ → List ℕ → Type 0
 NoGap t u v = (i j c : ℕ) → i < wagon_count t → j < order_count t → cost_at t i j ≡ Some c → slice_index v j ≤ c + slice_index u i
 
+-- the price of a pair's order is at most its cost and its wagon's price
+pair_pays : (t : Table) (u v : List ℕ) → NoGap t u v → (p : ℕ × ℕ) → IsAllowed t p → slice_index v p.1 ≤ pair_cost t p + slice_index u p.0
+pair_pays t u v gap p h =
+    let one : slice_index v p.1 ≤ h.2.0 + slice_index u p.0 = gap p.0 p.1 h.2.0 h.0 h.1 h.2.1 in
+    let cost : pair_cost t p ≡ h.2.0 = ap (λ o. unwrap_or o 0) h.2.1 in
+    omega (arith, one, cost)
+
 -- pair by pair, the orders' prices are at most the costs and the wagons' prices
 pub pairs_pay : (t : Table) (u v : List ℕ) → NoGap t u v → (ps : List (ℕ × ℕ)) → AllAllowed t ps → sum_by (λ (p : ℕ × ℕ). slice_index v p.1) ps ≤ sum_by (pair_cost t) ps + sum_by (λ (p : ℕ × ℕ). slice_index u p.0) ps
 pairs_pay t u v gap [] h = omega arith
 pairs_pay t u v gap (p ∷ ps) h =
-    let i = pairs_pay t u v gap ps h.1 in
-    let one : slice_index v p.1 ≤ h.0.2.0 + slice_index u p.0 = gap p.0 p.1 h.0.2.0 h.0.0 h.0.1 h.0.2.1 in
-    let cost : pair_cost t p ≡ h.0.2.0 = ap (λ o. unwrap_or o 0) h.0.2.1 in
-    let a = sum_by-cons (λ (q : ℕ × ℕ). slice_index v q.1) p ps in
-    let b = sum_by-cons (pair_cost t) p ps in
-    let c = sum_by-cons (λ (q : ℕ × ℕ). slice_index u q.0) p ps in
-    omega (arith, i, one, cost, a, b, c)
+    omega (arith, pair_pays t u v gap p h.0, pairs_pay t u v gap ps h.1, sum_by-cons (λ (q : ℕ × ℕ). slice_index v q.1) p ps, sum_by-cons (pair_cost t) p ps, sum_by-cons (λ (q : ℕ × ℕ). slice_index u q.0) p ps)
 
 -- the sum of a list is that of its items by index
 pub sum_below-items : (u : List ℕ) (n : ℕ) → n ≤ length u → sum_below n (slice_index u) ≡ sum (take n u)
@@ -98,16 +99,13 @@ tight_of_sums : (t : Table) (u v : List ℕ) → length u ≡ wagon_count t → 
     → sum_by (pair_cost t) ps + sum_by (λ (p : ℕ × ℕ). slice_index u p.0) ps ≤ sum_by (λ (p : ℕ × ℕ). slice_index v p.1) ps → AreTight t u v ps
 tight_of_sums t u v wagons orders gap [] h le = All-nil (IsTight t u v)
 tight_of_sums t u v wagons orders gap (p ∷ ps) h le =
+    let front = pair_pays t u v gap p h.0 in
     let rest = pairs_pay t u v gap ps h.1 in
-    let one : slice_index v p.1 ≤ h.0.2.0 + slice_index u p.0 = gap p.0 p.1 h.0.2.0 h.0.0 h.0.1 h.0.2.1 in
-    let cost : pair_cost t p ≡ h.0.2.0 = ap (λ o. unwrap_or o 0) h.0.2.1 in
-    let a = sum_by-cons (λ (q : ℕ × ℕ). slice_index v q.1) p ps in
-    let b = sum_by-cons (pair_cost t) p ps in
-    let c = sum_by-cons (λ (q : ℕ × ℕ). slice_index u q.0) p ps in
-    let within = h.0.0 in
-    let placed = h.0.1 in
-    let tight : IsTight t u v p = record { wagon = omega (arith, wagons, within); order = omega (arith, orders, placed); prices = omega (arith, rest, one, cost, a, b, c, le) } in
-    All-cons (IsTight t u v) p ps tight (tight_of_sums t u v wagons orders gap ps h.1 (omega (arith, one, cost, a, b, c, le)))
+    let served = sum_by-cons (λ (q : ℕ × ℕ). slice_index v q.1) p ps in
+    let costs = sum_by-cons (pair_cost t) p ps in
+    let priced = sum_by-cons (λ (q : ℕ × ℕ). slice_index u q.0) p ps in
+    let tight : IsTight t u v p = record { wagon = omega (arith, wagons, h.0.0); order = omega (arith, orders, h.0.1); prices = omega (arith, front, rest, served, costs, priced, le) } in
+    All-cons (IsTight t u v) p ps tight (tight_of_sums t u v wagons orders gap ps h.1 (omega (arith, front, served, costs, priced, le)))
 
 -- each pair of a certificate's plan costs exactly what its prices say
 pub certificates_tight : (t : Table) (pairs : List (ℕ × ℕ)) (u v : List ℕ) → IsCertificate t pairs u v → AreTight t u v pairs
