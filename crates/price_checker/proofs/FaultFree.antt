@@ -1,4 +1,4 @@
-use Rattle.std.proofs.Common.{◌≡◌, ◌+◌, ◌<◌, ◌≤◌, ℕ, Bool, true, false, cond, List, [], ◌∷◌, ◌++◌, length, refl, sym, arith, subst, append_assoc, append-nil, ap}
+use Rattle.std.proofs.Common.{◌≡◌, ◌+◌, ◌<◌, ◌≤◌, ℕ, Bool, true, false, cond, List, [], ◌∷◌, ◌++◌, length, refl, sym, ◌∙◌, arith, subst, append_assoc, append-nil, ap}
 use Rattle.std.specs.Prelude.{◌==◌, ◌&&◌, nat_lt, Option, Some, None, is_some, slice_index, sum}
 use Rattle.std.specs.List.{sum_by}
 use Rattle.std.proofs.lemmas.List.Sums.{sum_by_push, sum_by-append, sum_by-cons}
@@ -10,6 +10,7 @@ use Rattle.cost_table.specs.Plan.{IsPlan, uses, serves, AllAllowed, cost_of}
 use Rattle.cost_table.proofs.TableLemmas.{cost_at_within}
 use Rattle.price_checker.specs.Certificate.{IsCertificate}
 use Rattle.price_checker.specs.Faults.{first_fault, wrong_lengths, not_allowed, is_spent, used_twice, price_gap, gap_at, gap_of_wagon, over_penalty, penalty_gap, sums_differ, paid_by_orders}
+use Rattle.price_checker.proofs.UsedPairs.{used_from, used_from-all}
 use Rattle.price_checker.proofs.FirstBelow.{none_first, none_second, none_both, none_below, first_below_none}
 
 tail_allowed : {A : Type 0} (b : Bool) (rest : Option A) (x : A) → cond b rest (Some x) ≡ None → (b ≡ true) × (rest ≡ None)
@@ -94,19 +95,19 @@ one_more t before p w h = record {
   lacked = λ j. lacked_push t before p j (p.1 == j) refl (lacked_own t before p h) (w.lacked j);
 }
 
-all_within : (t : Table) (before ps : List (ℕ × ℕ)) → Within t before → used_twice t before ps ≡ None → Within t (before ++ ps)
+all_within : (t : Table) (before ps : List (ℕ × ℕ)) → Within t before → used_from t before ps ≡ None → Within t (before ++ ps)
 all_within t before [] w h = subst (Within t) (sym (append-nil before)) w
 all_within t before (p ∷ ps) w h =
-    let f = tail_unused (is_spent t before p) (used_twice t (before ++ p ∷ []) ps) (UsedTwice p.0 p.1) h in
+    let f = tail_unused (is_spent t before p) (used_from t (before ++ p ∷ []) ps) (UsedTwice p.0 p.1) h in
     subst (Within t) (append_assoc before (p ∷ []) ps) (all_within t (before ++ p ∷ []) ps (one_more t before p w f.0) f.1)
 
 -- pairs without the first three faults are a plan
-in_range_plan : (t : Table) (ps : List (ℕ × ℕ)) → AllInRange t ps → not_allowed t ps ≡ None → used_twice t [] ps ≡ None → IsPlan t ps
+in_range_plan : (t : Table) (ps : List (ℕ × ℕ)) → AllInRange t ps → not_allowed t ps ≡ None → used_twice t ps ≡ None → IsPlan t ps
 in_range_plan t ps range h k =
-    let within = all_within t [] ps (record { once = λ i. omega arith; lacked = λ j. omega arith }) k in
+    let within = all_within t [] ps (record { once = λ i. omega arith; lacked = λ j. omega arith }) (used_from-all t ps ∙ k) in
     record { allowed = in_range_allowed t ps range h; once = within.once; within = λ j l. within.lacked j }
 
-pub plan_of_pairs : (t : Table) (ps : List (ℕ × ℕ)) → IsTable t → not_allowed t ps ≡ None → used_twice t [] ps ≡ None → IsPlan t ps
+pub plan_of_pairs : (t : Table) (ps : List (ℕ × ℕ)) → IsTable t → not_allowed t ps ≡ None → used_twice t ps ≡ None → IsPlan t ps
 plan_of_pairs t ps legal h k = in_range_plan t ps (all_in_range t ps legal h) h k
 
 count_split : (f : ℕ × ℕ → ℕ) (before ps : List (ℕ × ℕ)) (p : ℕ × ℕ) → sum_by f (before ++ p ∷ ps) ≡ sum_by f before + (f p + sum_by f ps)
@@ -124,7 +125,7 @@ not_spent t before ps p once within =
     let s = serves_split p.1 before ps p in
     grind (arith, nat_tests, u, s, once, within)
 
-used_free : (t : Table) (before ps : List (ℕ × ℕ)) → AllAllowed t ps → ((i : ℕ) → uses i (before ++ ps) ≤ 1) → ((j : ℕ) → j < order_count t → serves j (before ++ ps) ≤ lack_at t j) → used_twice t before ps ≡ None
+used_free : (t : Table) (before ps : List (ℕ × ℕ)) → AllAllowed t ps → ((i : ℕ) → uses i (before ++ ps) ≤ 1) → ((j : ℕ) → j < order_count t → serves j (before ++ ps) ≤ lack_at t j) → used_from t before ps ≡ None
 used_free t before [] allowed once within = refl
 used_free t before (p ∷ ps) allowed once within =
     let fresh = not_spent t before ps p (once p.0) (within p.1 allowed.0.1) in
@@ -132,7 +133,7 @@ used_free t before (p ∷ ps) allowed once within =
     let rest = used_free t (before ++ p ∷ []) ps allowed.1
     (λ i. subst (λ (l : List (ℕ × ℕ)). uses i l ≤ 1) (sym same) (once i))
     (λ j l. subst (λ (x : List (ℕ × ℕ)). serves j x ≤ lack_at t j) (sym same) (within j l)) in
-    none_where_false (is_spent t before p) (used_twice t (before ++ p ∷ []) ps) (UsedTwice p.0 p.1) fresh rest
+    none_where_false (is_spent t before p) (used_from t (before ++ p ∷ []) ps) (UsedTwice p.0 p.1) fresh rest
 
 no_gap_at : (i j : ℕ) (o : Option ℕ) (u v c : ℕ) → o ≡ Some c → gap_at i j o u v ≡ None → v ≤ c + u
 no_gap_at i j None u v c is h = cc
@@ -161,7 +162,7 @@ pub in_range_certified : (t : Table) (ps : List (ℕ × ℕ)) (u v : List ℕ) �
 in_range_certified t ps u v range h0 =
     let h1 = none_second (wrong_lengths t u v) _ h0 in
     let h2 = none_second (not_allowed t ps) _ h1 in
-    let h3 = none_second (used_twice t [] ps) _ h2 in
+    let h3 = none_second (used_twice t ps) _ h2 in
     let h4 = none_second (price_gap t u v) _ h3 in
     let lengths = lengths_right t u v (none_first _ _ h0) in
     record {
@@ -181,7 +182,7 @@ pub fault_free : (t : Table) (ps : List (ℕ × ℕ)) (u v : List ℕ) → IsCer
 fault_free t ps u v c =
     let lengths = lengths_free t u v c.wagons c.orders in
     let allowed = allowed_free t ps c.plan.allowed in
-    let used = used_free t [] ps c.plan.allowed c.plan.once c.plan.within in
+    let used : used_twice t ps ≡ None = sym (used_from-all t ps) ∙ used_free t [] ps c.plan.allowed c.plan.once c.plan.within in
     let gaps : price_gap t u v ≡ None = first_below_none (wagon_count t) (λ i. gap_of_wagon t i (slice_index u i) v)
     (λ i li. first_below_none (order_count t) (λ j. gap_at i j (cost_at t i j) (slice_index u i) (slice_index v j))
     (λ j lj. gap_free i j (cost_at t i j) (slice_index u i) (slice_index v j) (λ cost is. c.no_gap i j cost li lj is))) in

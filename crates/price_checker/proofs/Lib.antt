@@ -1,4 +1,5 @@
 pub mod FirstBelow
+pub mod UsedPairs
 pub mod RowWalk
 pub mod Duality
 pub mod FaultFree

@@ -9,6 +9,7 @@ use Rattle.std.proofs.lemmas.List.Quantifiers.{position-Some}
 use Rattle.price_checker.specs.Faults.{first_fault, wrong_lengths, not_allowed, used_twice, is_spent, price_gap, gap_at, over_penalty, first_below, paid_by_orders}
 use Rattle.faults.specs.declared.faults.CheckFault.{CheckFault}
 use Rattle.faults.specs.declared.faults.CheckFault.TheVariants as check
+use Rattle.price_checker.proofs.UsedPairs.{used_from, used_from-all}
 use Rattle.price_checker.specs.NamedPairs.{NamedPair, positions_of}
 use Rattle.price_checker.specs.NamesAt.{IsNamed}
 use Rattle.price_checker.specs.inner.Naming.{AreNamed}
@@ -47,9 +48,9 @@ not_allowed_named : (names : NameLists) (t : Table) (pairs : List (ℕ × ℕ)) 
 not_allowed_named names t [] all other is = absurd cc
 not_allowed_named names t (p ∷ pairs) all other is = rest_or names (is_some (cost_at t p.0 p.1)) (check.NotAllowed p.0 p.1) (not_allowed t pairs) all.0 (not_allowed_named names t pairs all.1) other is
 
-used_twice_named : (names : NameLists) (t : Table) (before pairs : List (ℕ × ℕ)) → AllNamed names pairs → FaultsNamed names (used_twice t before pairs)
+used_twice_named : (names : NameLists) (t : Table) (before pairs : List (ℕ × ℕ)) → AllNamed names pairs → FaultsNamed names (used_from t before pairs)
 used_twice_named names t before [] all other is = absurd cc
-used_twice_named names t before (p ∷ pairs) all other is = fault_or names (is_spent t before p) (check.UsedTwice p.0 p.1) (used_twice t (before ++ p ∷ []) pairs) all.0 (used_twice_named names t (before ++ p ∷ []) pairs all.1) other is
+used_twice_named names t before (p ∷ pairs) all other is = fault_or names (is_spent t before p) (check.UsedTwice p.0 p.1) (used_from t (before ++ p ∷ []) pairs) all.0 (used_twice_named names t (before ++ p ∷ []) pairs all.1) other is
 
 first_below_named : (names : NameLists) (n : ℕ) (f : ℕ → Option CheckFault) → ((k : ℕ) → k < n → FaultsNamed names (f k)) → FaultsNamed names (first_below n f)
 first_below_named names zero f h other is = absurd cc
@@ -65,7 +66,7 @@ pub fault_named : (names : NameLists) (t : Table) (pairs : List (ℕ × ℕ)) (u
 fault_named names t pairs u v wagons orders all =
     either names (wrong_lengths t u v) _ (none_or_fault names (length u == wagon_count t && (length v == order_count t)) check.WrongLengths tt)
     (either names (not_allowed t pairs) _ (not_allowed_named names t pairs all)
-    (either names (used_twice t [] pairs) _ (used_twice_named names t [] pairs all)
+    (either names (used_twice t pairs) _ (subst (FaultsNamed names) (used_from-all t pairs) (used_twice_named names t [] pairs all))
     (either names (price_gap t u v) _
     (first_below_named names (wagon_count t) _ (λ i l. first_below_named names (order_count t) _ (λ j m. gap_named names i j (cost_at t i j) (slice_index u i) (slice_index v j) (omega arith) (omega arith))))
     (either names (over_penalty t v) _

@@ -1,6 +1,6 @@
 -- The faults of pairs and prices, in the order in which they are looked for.
-use Rattle.std.specs.Prelude.{◌+◌, ◌*◌, ◌==◌, nat_lt, nat_le, ℕ, zero, suc, ◌&&◌, ◌||◌, if◌then◌else◌, Bool, List, [], ◌∷◌, ◌++◌, length, Option, Some, None, is_some, slice_index, sum}
-use Rattle.std.specs.Option.{option_or}
+use Rattle.std.specs.Prelude.{◌+◌, ◌*◌, ◌==◌, nat_lt, nat_le, ℕ, zero, suc, ◌&&◌, ◌||◌, if◌then◌else◌, Bool, List, [], ◌∷◌, length, take, Option, Some, None, is_some, slice_get, slice_index, sum}
+use Rattle.std.specs.Option.{option_or, option_and_then}
 use Rattle.cost_table.specs.Table.{Table, cost_at, lack_at, penalty_at, wagon_count, order_count}
 use Rattle.cost_table.specs.Plan.{uses, serves, cost_of, sum_below}
 use Rattle.faults.specs.declared.faults.CheckFault.{CheckFault}
@@ -24,11 +24,17 @@ not_allowed t (p ∷ pairs) = if is_some (cost_at t p.0 p.1) then not_allowed t 
 abbrev pub is_spent : Table → List (ℕ × ℕ) → ℕ × ℕ → Bool
 is_spent t before p = nat_lt 0 (uses p.0 before) || nat_le (lack_at t p.1) (serves p.1 before)
 
+-- the fault of a pair whose wagon or order is spent by those before it
+abbrev pub fault_if_spent : Table → List (ℕ × ℕ) → ℕ × ℕ → Option CheckFault
+fault_if_spent t before p = if is_spent t before p then Some (UsedTwice p.0 p.1) else None
+
+-- that of the pair at k
+abbrev pub spent_at : Table → List (ℕ × ℕ) → ℕ → Option CheckFault
+spent_at t pairs k = option_and_then (fault_if_spent t (take k pairs)) (slice_get pairs k)
+
 -- the first pair that is spent by those before it
-abbrev pub used_twice : Table → List (ℕ × ℕ) → List (ℕ × ℕ) → Option CheckFault
-used_twice t before [] = None
-used_twice t before (p ∷ pairs) =
-    if is_spent t before p then Some (UsedTwice p.0 p.1) else used_twice t (before ++ p ∷ []) pairs
+abbrev pub used_twice : Table → List (ℕ × ℕ) → Option CheckFault
+used_twice t pairs = first_below (length pairs) (spent_at t pairs)
 
 -- an order's price v that passes the cost of a pair and the wagon's price u
 abbrev pub gap_at : ℕ → ℕ → Option ℕ → ℕ → ℕ → Option CheckFault
@@ -64,7 +70,7 @@ abbrev pub first_fault : Table → List (ℕ × ℕ) → List ℕ → List ℕ �
 first_fault t pairs u v =
     option_or (wrong_lengths t u v)
     (option_or (not_allowed t pairs)
-    (option_or (used_twice t [] pairs)
+    (option_or (used_twice t pairs)
     (option_or (price_gap t u v)
     (option_or (over_penalty t v)
     (sums_differ t pairs u v)))))

@@ -92,7 +92,7 @@ fn serves(order: usize, pairs: &[(usize, usize)]) -> usize
 /// No wagon stands twice, no order more often than it lacks.
 fn check_used(cells: &Cells, pairs: &[(usize, usize)]) -> Result<(), CheckFault>
     requires { All (λ pair. pair.1 < order_count cells.now) pairs.now }
-    ensures { result_err result ≡ used_twice cells.now [] pairs.now }
+    ensures { result_err result ≡ used_twice cells.now pairs.now }
 {
     for (k, pair) in pairs.iter().enumerate() {
         let before = &pairs[..k];

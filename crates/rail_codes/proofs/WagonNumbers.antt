@@ -7,7 +7,7 @@ use Rattle.std.proofs.lemmas.List.Folds.{list_all-append}
 use Rattle.std.proofs.lemmas.List.Sums.{AllPass-from_list_all}
 use Rattle.std.specs.List.{list_all}
 use Rattle.std.specs.Char.{is_ascii_digit}
-use Rattle.rail_codes.specs.WagonNumber.{is_no_separator, kept_characters, are_twelve_digits, digit_sum, weighted_from, weighted_digit_sum}
+use Rattle.rail_codes.specs.WagonNumber.{is_no_separator, kept_characters, are_twelve_digits, value_of_digit, digit_sum, weighted_digit_sum}
 use Rattle.rail_codes.specs.inner.WagonTexts.{are_twelve_digits-cases}
 
 -- what is kept of the rest of a text, whose next character is kept
@@ -53,6 +53,17 @@ pub kept_characters-whole : (text digits : List ℕ) (i : ℕ) → length text �
 kept_characters-whole text digits i done twelve so_far =
     sym so_far ∙ rw (take_all 12 digits (omega arith), drop_all i text done) (append-nil digits)
 
+-- the weighted digit sum of what is left from a digit of this weight on
+abbrev pub weighted_from : ℕ → List ℕ → ℕ
+weighted_from weight [] = 0
+weighted_from weight (c ∷ cs) = digit_sum (weight * value_of_digit c) + weighted_from (3 - weight) cs
+
+pub weighted_from-whole : (xs : List ℕ) → weighted_from 2 xs ≡ weighted_digit_sum xs
+unfolding weighted_digit_sum
+weighted_from-whole [] = refl
+weighted_from-whole (c ∷ []) = omega arith
+weighted_from-whole (c ∷ d ∷ cs) = omega (arith, weighted_from-whole cs)
+
 -- the weighted digit sum of what is left, one digit further
 pub weighted_from-drop : (weight : ℕ) (xs : List ℕ) (i : ℕ) → i < length xs → weighted_from weight (drop i xs) ≡ digit_sum (weight * (get_or xs i 0 - 48)) + weighted_from (3 - weight) (drop (i + 1) xs)
 weighted_from-drop weight xs i within = rw (add-one, drop-cons xs i 0 within) refl
@@ -71,7 +82,7 @@ weighted_from-last weight (c ∷ cs) (suc n) h = omega (arith, weighted_from-las
 
 -- the weighted digit sum of twelve digits: that of the first eleven, and the last digit
 pub weighted_digit_sum-twelve : (xs : List ℕ) → length xs ≡ 12 → weighted_digit_sum xs ≡ weighted_digit_sum (take 11 xs) + digit_sum (1 * (get_or xs 11 0 - 48))
-weighted_digit_sum-twelve xs twelve = weighted_from-last 2 xs 11 twelve
+weighted_digit_sum-twelve xs twelve = sym (weighted_from-whole xs) ∙ weighted_from-last 2 xs 11 twelve ∙ ap (λ (n : ℕ). n + digit_sum (1 * (get_or xs 11 0 - 48))) (weighted_from-whole (take 11 xs))
 
 -- a digit of twelve, at a place of the first eleven
 pub first_eleven-digit : (xs : List ℕ) (i : ℕ) → are_twelve_digits xs ≡ true → i < 11 → (get_or (take 11 xs) i 0 ≡ get_or xs i 0) × (48 ≤ get_or xs i 0) × (get_or xs i 0 ≤ 57)
@@ -88,7 +99,7 @@ digit_sum-product weight digit light low =
     (product, omega arith)
 
 -- the sum so far and that of the rest, one digit further
-pub summed-more : (weight sum : ℕ) (xs : List ℕ) (i : ℕ) → i < length xs → sum + weighted_from weight (drop i xs) ≡ weighted_digit_sum xs → sum + digit_sum (weight * (get_or xs i 0 - 48)) + weighted_from (3 - weight) (drop (i + 1) xs) ≡ weighted_digit_sum xs
+pub summed-more : (weight sum : ℕ) (xs : List ℕ) (i : ℕ) → i < length xs → sum + weighted_from weight (drop i xs) ≡ weighted_from 2 xs → sum + digit_sum (weight * (get_or xs i 0 - 48)) + weighted_from (3 - weight) (drop (i + 1) xs) ≡ weighted_from 2 xs
 summed-more weight sum xs i within so_far = omega (arith, weighted_from-drop weight xs i within)
 
 -- the check digit completes the sum

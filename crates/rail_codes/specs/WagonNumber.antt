@@ -26,14 +26,11 @@ value_of_digit c = c - 48
 abbrev pub digit_sum : ℕ → ℕ
 digit_sum product = product / 10 + product % 10
 
--- the digits of the products of the characters with the weights, all added; the weights 2 and 1 take turns
-abbrev pub weighted_from : ℕ → List ℕ → ℕ
-weighted_from weight [] = 0
-weighted_from weight (c ∷ cs) = digit_sum (weight * value_of_digit c) + weighted_from (3 - weight) cs
-
--- the digits of 2 * d1, d2, 2 * d3, d4, .., all added
-abbrev pub weighted_digit_sum : List ℕ → ℕ
-weighted_digit_sum characters = weighted_from 2 characters
+-- the digits of 2 * d1, d2, 2 * d3, d4, .., all added: of each two digits the first is doubled
+unfoldable pub weighted_digit_sum : List ℕ → ℕ
+weighted_digit_sum [] = 0
+weighted_digit_sum (c ∷ []) = digit_sum (2 * value_of_digit c)
+weighted_digit_sum (c ∷ d ∷ cs) = digit_sum (2 * value_of_digit c) + digit_sum (value_of_digit d) + weighted_digit_sum cs
 
 -- twelve digits whose weighted digit sum is a multiple of ten
 abbrev pub IsWagonNumber : List ℕ → Type 0

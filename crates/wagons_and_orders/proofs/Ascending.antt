@@ -1,6 +1,6 @@
 -- A list in strict order stays so where one more stands behind those below it.
-use Rattle.std.proofs.Common.{◌≡◌, ◌∙◌, ℕ, ◌+◌, Bool, true, false, cond, ◌||◌, List, [], ◌∷◌, refl, ap, sym, subst, arith, count_by, zero, suc}
-use Rattle.std.specs.List.{insert, list_any, AllByRecursion}
+use Rattle.std.proofs.Common.{◌≡◌, ◌∙◌, ℕ, ◌+◌, Bool, true, false, cond, not, ◌||◌, List, [], ◌∷◌, ◌++◌, refl, ap, sym, subst, arith, count_by, zero, suc}
+use Rattle.std.specs.List.{filter, insert, list_any, AllByRecursion}
 use Rattle.std.specs.List.Sorted.{IsStrictlySortedBy}
 use Rattle.std.specs.Cmp.{IsTotalOrder}
 use Rattle.std.specs.Ordering.{is_lt, eq_by_cmp, ordering_reverse}
@@ -69,3 +69,37 @@ unfolding IsStrictlySortedBy
 sorted-insert o y [] other sorted = (tt, tt)
 sorted-insert {R = R} o y (x ∷ xs) other sorted =
     sorted_step o y x xs (R x y) refl (any_first _ _ other) sorted.0 sorted.1 (sorted-insert o y xs (any_later _ _ other) sorted.1)
+
+-- ---- an insertion parts a list
+
+-- where y is below x, all those above x stand behind y
+none_before : {K : Type 0} {R : K → K → Ordering} → IsTotalOrder R → (x y : K) (xs : List K) → R y x ≡ Less → AllByRecursion (λ z. R x z ≡ Less) xs → filter (λ z. is_lt (R z y)) xs ≡ []
+none_before o x y [] e h = refl
+none_before {R = R} o x y (z ∷ zs) e h =
+    let above : R z y ≡ Greater = reversed o y z Less (o.trans y x z e h.0) in
+    rw above (none_before o x y zs e h.1)
+
+all_behind : {K : Type 0} {R : K → K → Ordering} → IsTotalOrder R → (x y : K) (xs : List K) → R y x ≡ Less → AllByRecursion (λ z. R x z ≡ Less) xs → filter (λ z. not (is_lt (R z y))) xs ≡ xs
+all_behind o x y [] e h = refl
+all_behind {R = R} o x y (z ∷ zs) e h =
+    let above : R z y ≡ Greater = reversed o y z Less (o.trans y x z e h.0) in
+    rw above (ap (λ rest. z ∷ rest) (all_behind o x y zs e h.1))
+
+-- those below y, y, and the others
+abbrev pub parted : {K : Type 0} → (K → K → Ordering) → K → List K → List K
+parted R y xs = filter (λ x. is_lt (R x y)) xs ++ y ∷ filter (λ x. not (is_lt (R x y))) xs
+
+parted_step : {K : Type 0} {R : K → K → Ordering} → IsTotalOrder R → (y x : K) (xs : List K) (r : Ordering) → R x y ≡ r → eq_by_cmp R y x ≡ false
+    → AllByRecursion (λ z. R x z ≡ Less) xs → parted R y xs ≡ insert xs (below R y xs) y → parted R y (x ∷ xs) ≡ insert (x ∷ xs) (below R y (x ∷ xs)) y
+parted_step {R = R} o y x xs Less e other above later =
+    rw (below-cons R y x xs ∙ one_more (R x y) (below R y xs) e, e) (ap (λ rest. x ∷ rest) later)
+parted_step {R = R} o y x xs Equal e other above later = let same : R y x ≡ Equal = reversed o x y Equal e in cc (rw same at other)
+parted_step {R = R} o y x xs Greater e other above later =
+    let less : R y x ≡ Less = reversed o x y Greater e in
+    rw (below-cons R y x xs ∙ no_more (R x y) (below R y xs) e ∙ none_below o x y xs less above, e, none_before o x y xs less above, all_behind o x y xs less above) refl
+
+pub parted-insert : {K : Type 0} {R : K → K → Ordering} → IsTotalOrder R → (y : K) (xs : List K) → list_any (eq_by_cmp R y) xs ≡ false → IsStrictlySortedBy R xs → parted R y xs ≡ insert xs (below R y xs) y
+unfolding IsStrictlySortedBy
+parted-insert o y [] other sorted = refl
+parted-insert {R = R} o y (x ∷ xs) other sorted =
+    parted_step o y x xs (R x y) refl (any_first _ _ other) sorted.0 (parted-insert o y xs (any_later _ _ other) sorted.1)

@@ -1,11 +1,10 @@
--- What stands in a list after an insertion and after a filter.
-use Rattle.std.proofs.Common.{◌≡◌, ◌∙◌, ℕ, ◌<◌, Bool, true, false, not, ◌⊎◌, List, [], ◌∷◌, ◌++◌, length, take, drop, refl, ap, sym, subst, inl, inr, arith, zero, suc}
-use Rattle.std.specs.List.{filter, insert, Contains, slice_index_or}
+-- What stands in a list with one more, and after a filter.
+use Rattle.std.proofs.Common.{◌≡◌, ◌∙◌, ℕ, ◌<◌, Bool, true, false, not, ◌⊎◌, List, [], ◌∷◌, ◌++◌, length, refl, ap, sym, subst, inl, inr, arith, zero, suc}
+use Rattle.std.specs.List.{filter, Contains, slice_index_or}
 use Rattle.std.specs.Cmp.Lexicographic.{bytes_decides}
-use Rattle.std.proofs.lemmas.List.{take-append-drop}
 use Rattle.std.proofs.lemmas.List.Elements.{Contains-append_left, Contains-append_right, Contains-append_cases}
 use Rattle.wagons_and_orders.specs.NumberChanges.{HasOneMore, HasAllBut}
-use Rattle.wagons_and_orders.specs.Numbers.{is_number, with_number, without_number}
+use Rattle.wagons_and_orders.specs.Numbers.{is_below, is_number, with_number, without_number}
 
 first : {X : Type 0} (x : X) (xs : List X) → Contains (x ∷ xs) x
 first x xs = (0, omega arith, refl)
@@ -19,35 +18,6 @@ at_cases x y xs (suc k) below e = inr (k, omega arith, e)
 
 cons_cases : {X : Type 0} (x y : X) (xs : List X) → Contains (x ∷ xs) y → (x ≡ y) ⊎ Contains xs y
 cons_cases x y xs h = at_cases x y xs h.0 h.1 h.2
-
--- ---- an insertion
-
-parted : {X : Type 0} (xs : List X) (i : ℕ) (y : X) → Contains xs y → Contains (take i xs ++ drop i xs) y
-parted xs i y h = subst (λ ys. Contains ys y) (sym (take-append-drop i xs)) h
-
-joined : {X : Type 0} (xs : List X) (i : ℕ) (y : X) → Contains (take i xs ++ drop i xs) y → Contains xs y
-joined xs i y h = subst (λ ys. Contains ys y) (take-append-drop i xs) h
-
-inserted : {X : Type 0} (xs : List X) (i : ℕ) (x y : X) → (y ≡ x) ⊎ Contains xs y → Contains (insert xs i x) y
-inserted xs i x y (inl e) = Contains-append_right (take i xs) (x ∷ drop i xs) y (subst (λ z. Contains (x ∷ drop i xs) z) (sym e) (first x (drop i xs)))
-inserted xs i x y (inr h) = elim (Contains-append_cases (take i xs) (drop i xs) y (parted xs i y h)) [
-  | inl before ↦ Contains-append_left (take i xs) (x ∷ drop i xs) y before
-  | inr behind ↦ Contains-append_right (take i xs) (x ∷ drop i xs) y (later x y (drop i xs) behind)
-]
-
-behind_cases : {X : Type 0} (xs : List X) (i : ℕ) (x y : X) → (x ≡ y) ⊎ Contains (drop i xs) y → (y ≡ x) ⊎ Contains xs y
-behind_cases xs i x y (inl e) = inl (sym e)
-behind_cases xs i x y (inr h) = inr (joined xs i y (Contains-append_right (take i xs) (drop i xs) y h))
-
-insert_cases : {X : Type 0} (xs : List X) (i : ℕ) (x y : X) → Contains (insert xs i x) y → (y ≡ x) ⊎ Contains xs y
-insert_cases xs i x y h = elim (Contains-append_cases (take i xs) (x ∷ drop i xs) y h) [
-  | inl before ↦ inr (joined xs i y (Contains-append_left (take i xs) (drop i xs) y before))
-  | inr behind ↦ behind_cases xs i x y (cons_cases x y (drop i xs) behind)
-]
-
-pub has_one_more : (number : List ℕ) (numbers : List (List ℕ)) → HasOneMore number numbers (with_number number numbers)
-unfolding with_number
-has_one_more number numbers other = (insert_cases numbers _ number other, inserted numbers _ number other)
 
 -- ---- a filter
 
@@ -98,3 +68,31 @@ has_all_but number numbers other =
       (λ h. let found = filter_keeps test numbers other h in (found.0, not_that_number number other found.1)),
       (λ h. filtered test numbers other (other_number number other (is_number number other) refl h.1) h.0),
     )
+
+-- ---- one more
+
+-- an element passes a test, or its opposite
+passes : (b : Bool) → (b ≡ true) ⊎ (not b ≡ true)
+passes true = inl refl
+passes false = inr refl
+
+parted : {X : Type 0} (p : X → Bool) (x y : X) (xs : List X) → (y ≡ x) ⊎ Contains xs y → Contains (filter p xs ++ x ∷ filter (λ z. not (p z)) xs) y
+parted p x y xs (inl e) = Contains-append_right (filter p xs) (x ∷ _) y (subst (λ z. Contains (x ∷ filter (λ w. not (p w)) xs) z) (sym e) (first x _))
+parted p x y xs (inr h) = elim (passes (p y)) [
+  | inl before ↦ Contains-append_left (filter p xs) (x ∷ _) y (filtered p xs y before h)
+  | inr behind ↦ Contains-append_right (filter p xs) (x ∷ _) y (later x y _ (filtered (λ z. not (p z)) xs y behind h))
+]
+
+behind_cases : {X : Type 0} (q : X → Bool) (x y : X) (xs : List X) → (x ≡ y) ⊎ Contains (filter q xs) y → (y ≡ x) ⊎ Contains xs y
+behind_cases q x y xs (inl e) = inl (sym e)
+behind_cases q x y xs (inr h) = let found = filter_keeps q xs y h in inr found.0
+
+parted_cases : {X : Type 0} (p : X → Bool) (x y : X) (xs : List X) → Contains (filter p xs ++ x ∷ filter (λ z. not (p z)) xs) y → (y ≡ x) ⊎ Contains xs y
+parted_cases p x y xs h = elim (Contains-append_cases (filter p xs) (x ∷ filter (λ z. not (p z)) xs) y h) [
+  | inl before ↦ (let found = filter_keeps p xs y before in inr found.0)
+  | inr behind ↦ behind_cases (λ z. not (p z)) x y xs (cons_cases x y _ behind)
+]
+
+pub has_one_more : (number : List ℕ) (numbers : List (List ℕ)) → HasOneMore number numbers (with_number number numbers)
+unfolding with_number
+has_one_more number numbers other = (parted_cases (is_below number) number other numbers, parted (is_below number) number other numbers)

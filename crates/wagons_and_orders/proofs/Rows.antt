@@ -1,16 +1,15 @@
 -- What a row of an order keeps through each change.
 use Rattle.std.proofs.Common.{◌≡◌, ◌∙◌, ℕ, ◌+◌, ◌<◌, ◌≤◌, Bool, true, false, cond, not, ◌&&◌, List, [], ◌∷◌, ◌++◌, length, refl, sym, inl, inr, arith, count_by, length-append, zero, suc}
-use Rattle.std.specs.List.{filter, list_all, list_any, AllByRecursion, Contains, slice_index_or}
+use Rattle.std.specs.List.{filter, insert, list_all, list_any, AllByRecursion, Contains, slice_index_or}
 use Rattle.std.specs.List.Sorted.{IsStrictlySortedBy}
 use Rattle.std.specs.Cmp.Lexicographic.{bytes_decides, slice_cmp, nat_list_cmp_total}
 use Rattle.std.specs.Ordering.{eq_by_cmp, is_lt, nat_cmp}
 use Rattle.std.specs.declared.cmp.Ordering.{Ordering}
 use Rattle.std.specs.declared.cmp.Ordering.TheVariants.{Less, Equal, Greater}
 use Rattle.std.proofs.lemmas.Bool.{cases_Bool}
-use Rattle.std.proofs.lemmas.List.Edits.{length-insert}
 use Rattle.std.proofs.lemmas.List.Filters.{length-filter_both}
 use Rattle.std.proofs.lemmas.List.Kept.{IsStrictlySortedBy-filter}
-use Rattle.std.proofs.lemmas.List.Sums.{count_by-le-length, length-filter, sum_by-cons}
+use Rattle.std.proofs.lemmas.List.Sums.{length-filter, sum_by-cons}
 use Rattle.std.proofs.lemmas.Map.Text.{is_eq-slice_cmp}
 use Rattle.std.proofs.lemmas.Map.Views.{Contains-from_any}
 use Rattle.move_messages.specs.Order.{Order}
@@ -18,23 +17,33 @@ use Rattle.wagons_and_orders.specs.Lack.{lack_of}
 use Rattle.wagons_and_orders.specs.Numbers.{IsAscending, is_below, is_number, with_number, without_number}
 use Rattle.wagons_and_orders.specs.OrderRow.{OrderRowValue, IsOrderRow, placed_row}
 use Rattle.wagons_and_orders.specs.RowParts.{is_ascending}
-use Rattle.wagons_and_orders.proofs.Ascending.{sorted-insert}
+use Rattle.wagons_and_orders.proofs.Ascending.{parted-insert, sorted-insert}
 
 -- ---- a number more, a number less
 
 same_number : (x y : List ℕ) → eq_by_cmp (slice_cmp nat_cmp) x y ≡ true → x ≡ y
 same_number x y h = (bytes_decides x y).0 (sym (is_eq-slice_cmp x y) ∙ h)
 
-pub ascending-with : (number : List ℕ) (numbers : List (List ℕ)) → ¬ Contains numbers number → IsAscending numbers → IsAscending (with_number number numbers)
-unfolding with_number
-ascending-with number numbers other h = elim (cases_Bool (list_any (eq_by_cmp (slice_cmp nat_cmp) number) numbers)) [
+none_same : (number : List ℕ) (numbers : List (List ℕ)) → ¬ Contains numbers number → list_any (eq_by_cmp (slice_cmp nat_cmp) number) numbers ≡ false
+none_same number numbers other = elim (cases_Bool (list_any (eq_by_cmp (slice_cmp nat_cmp) number) numbers)) [
   | inl there ↦ absurd (other (Contains-from_any same_number number numbers there))
-  | inr new ↦ sorted-insert nat_list_cmp_total number numbers new h
+  | inr new ↦ new
 ]
+
+-- of ascending numbers, the one more goes in behind as many as are below it
+pub with_number-insert : (number : List ℕ) (numbers : List (List ℕ)) → ¬ Contains numbers number → IsAscending numbers → with_number number numbers ≡ insert numbers (count_by (is_below number) numbers) number
+unfolding with_number
+with_number-insert number numbers other h = parted-insert nat_list_cmp_total number numbers (none_same number numbers other) h
+
+pub ascending-with : (number : List ℕ) (numbers : List (List ℕ)) → ¬ Contains numbers number → IsAscending numbers → IsAscending (with_number number numbers)
+ascending-with number numbers other h =
+    rw (with_number-insert number numbers other h) (sorted-insert nat_list_cmp_total number numbers (none_same number numbers other) h)
 
 pub length-with : (number : List ℕ) (numbers : List (List ℕ)) → length (with_number number numbers) ≡ length numbers + 1
 unfolding with_number
-length-with number numbers = length-insert numbers (count_by (is_below number) numbers) number (count_by-le-length (is_below number) numbers)
+length-with number numbers =
+    let both = length-filter_both (is_below number) (λ other. not (is_below number other)) (λ x. refl) numbers in
+    omega (arith, length-append (filter (is_below number) numbers) (number ∷ filter (λ other. not (is_below number other)) numbers), both)
 
 pub ascending-without : (number : List ℕ) (numbers : List (List ℕ)) → IsAscending numbers → IsAscending (without_number number numbers)
 unfolding without_number

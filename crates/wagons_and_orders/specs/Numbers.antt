@@ -1,6 +1,6 @@
 -- Ascending lists of wagon numbers, each by its digits.
-use Rattle.std.specs.Prelude.{ℕ, Bool, not, nat_eq, List, count_by}
-use Rattle.std.specs.List.{filter, insert}
+use Rattle.std.specs.Prelude.{ℕ, Bool, not, nat_eq, List, ◌∷◌, ◌++◌}
+use Rattle.std.specs.List.{filter}
 use Rattle.std.specs.Ordering.{is_lt, nat_cmp}
 use Rattle.std.specs.Cmp.Lexicographic.{pointwise, slice_cmp}
 use Rattle.std.specs.List.Sorted.{IsStrictlySortedBy}
@@ -17,9 +17,9 @@ is_number number other = pointwise nat_eq other number
 abbrev pub IsAscending : List (List ℕ) → Type 0
 IsAscending numbers = IsStrictlySortedBy (slice_cmp nat_cmp) numbers
 
--- the numbers with one more, which stands behind those below it
+-- the numbers with one more: those below it, then it, then the others
 unfoldable pub with_number : List ℕ → List (List ℕ) → List (List ℕ)
-with_number number numbers = insert numbers (count_by (is_below number) numbers) number
+with_number number numbers = filter (is_below number) numbers ++ number ∷ filter (λ other. not (is_below number other)) numbers
 
 -- the numbers but this one
 unfoldable pub without_number : List ℕ → List (List ℕ) → List (List ℕ)

@@ -1,6 +1,7 @@
-use Rattle.std.proofs.Common.{◌≡◌, [], take, drop}
-use Rattle.price_checker.specs.Faults.{used_twice}
+use Rattle.std.proofs.Common.{◌≡◌, None}
+use Rattle.price_checker.specs.Faults.{first_below, spent_at}
 use Rattle.price_checker.proofs.checker.check_used.Given as goal
 
+-- none of the pairs so far is spent
 abbrev pub invariant-loop-k : goal.invariant-loop-k
-invariant-loop-k l = used_twice l.cells (take l.k l.pairs) (drop l.k l.pairs) ≡ used_twice l.cells [] l.pairs
+invariant-loop-k l = first_below l.k (spent_at l.cells l.pairs) ≡ None

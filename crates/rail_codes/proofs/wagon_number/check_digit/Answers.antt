@@ -2,7 +2,7 @@ use Rattle.std.proofs.Common.{◌≡◌, ◌-◌, arith, ap, [], length, length-
 use Rattle.std.proofs.lemmas.List.{drop_all}
 use Rattle.rail_codes.specs.WagonNumber.{weighted_digit_sum}
 use Rattle.rail_codes.specs.inner.CheckDigit.{missing_to_ten}
-use Rattle.rail_codes.proofs.WagonNumbers.{first_eleven-digit, digit_sum-product, summed-more}
+use Rattle.rail_codes.proofs.WagonNumbers.{weighted_from-whole, first_eleven-digit, digit_sum-product, summed-more}
 use Rattle.rail_codes.proofs.wagon_number.check_digit.Goals as goal
 
 pub weighted_digit-sum-requires : goal.weighted_digit-sum-requires
@@ -27,5 +27,5 @@ returns c =
     let eleven : length (take 11 c.args.digits.now) ≡ 11 = length-take-le 11 c.args.digits.now (omega arith) in
     let none : drop c.loop-digit.digit-index (take 11 c.args.digits.now) ≡ [] = drop_all c.loop-digit.digit-index (take 11 c.args.digits.now) (omega arith) in
     let summed = rw none at c.loop-digit.invariant.summed in
-    let whole : c.loop-digit.sum ≡ weighted_digit_sum (take 11 c.args.digits.now) = omega (arith, summed) in
+    let whole : c.loop-digit.sum ≡ weighted_digit_sum (take 11 c.args.digits.now) = omega (arith, summed, weighted_from-whole (take 11 c.args.digits.now)) in
     ap missing_to_ten whole
