@@ -1,3 +1,4 @@
+pub mod Entered
 pub mod Reading
 pub mod Lengths
 pub mod Rows

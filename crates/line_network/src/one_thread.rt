@@ -3,10 +3,11 @@ ghost use Rattle.std.specs.Prelude.{◌≡◌, ◌+◌, ◌≤◌, All, IfOk, ve
 ghost use Rattle.line_network.specs.NetworkLimits.{IsLine, max_places};
 ghost use Rattle.line_network.specs.inner.Rows.{AreRows};
 
+use crate::gate::Entered;
 use crate::length::Length;
 use crate::lines_by_origin::{LinesByOrigin, turned_lines};
 use crate::search::row_of_origin;
-use crate::{Network, Tables};
+use crate::{Network, OpenGate, Tables};
 use std::alloc::{AllocError, Global};
 
 /// The distances between the places of a network. The lines are turned round, since the tables have the walks to
@@ -34,7 +35,8 @@ fn rows_of_origins(
 {
     let mut rows = Vec::with_capacity(alloc, places)?;
     for origin in 0..places {
-        rows.push(row_of_origin(alloc, lines, places, origin)?)?;
+        let entered = Entered::through(&OpenGate, origin);
+        rows.push(row_of_origin(alloc, lines, places, entered)?)?;
     }
     Ok(rows)
 }

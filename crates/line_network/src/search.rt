@@ -4,12 +4,14 @@
 //! still the one that it waited with. No order of the turns is needed for the answer; the heap's order makes
 //! it fast.
 ghost use Rattle.std.specs.Prelude.{◌≡◌, ◌+◌, ◌^◌, ◌<◌, ◌≤◌, ◌↔◌, Some, None, [], All, replicate, IsTrue, IfOk, OnOk, length, vec_len};
+ghost use Rattle.line_network.specs.inner.Entered.{place_of};
 ghost use Rattle.line_network.specs.inner.Lengths.{distance_of, known};
 ghost use Rattle.line_network.specs.inner.Rows.{IsRow};
 ghost use Rattle.line_network.specs.inner.Search.{label_at, AreBounded, IsRelaxed, Improves, RelaxesFrom};
 ghost use Rattle.line_network.specs.inner.Turns.{waiting_of, waits};
 ghost use Rattle.line_network.specs.NetworkLimits.{IsLine, max_places};
 
+use crate::gate::Entered;
 use crate::length::Length;
 use crate::lines_by_origin::LinesByOrigin;
 use crate::queue::Queue;
@@ -17,19 +19,20 @@ use crate::step::Step;
 use crate::turn::Turn;
 use std::alloc::{AllocError, Global};
 
-/// The labels of the distances from one place to each place.
+/// The labels of the distances from one place to each place. The place's gate was entered before.
 pub(crate) fn row_of_origin(
     alloc: Global,
     lines: &LinesByOrigin,
     places: usize,
-    origin: usize,
+    entered: Entered,
 ) -> Result<Vec<Length>, AllocError>
-    requires origin { origin < places }
+    requires origin { place_of entered < places }
     requires few { places ≤ max_places }
     requires indexed { vec_len lines.now.starts ≡ places + 1 }
     requires lines { All (IsLine places) lines.now.lines.items }
-    ensures { IfOk result (λ row. IsRow lines.now.lines.items places origin (known row.items)) }
+    ensures { IfOk result (λ row. IsRow lines.now.lines.items places (place_of entered) (known row.items)) }
 {
+    let origin = entered.into_place();
     let mut labels = unreached(alloc, places)?;
     let mut waiting = Queue::with_capacity(alloc, places)?;
     search(&mut labels, &mut waiting, lines, origin)?;

@@ -3,6 +3,7 @@ ghost use Rattle.std.specs.Prelude.{◌≡◌, IfOk};
 ghost use Rattle.line_network.specs.inner.Shares.{IsShare, IsWork};
 
 use crate::Gate;
+use crate::gate::Entered;
 use crate::length::Length;
 use crate::lines_by_origin::LinesByOrigin;
 use crate::search::row_of_origin;
@@ -57,8 +58,7 @@ impl<'a> Share<'a> {
             if origin % workers != self.worker {
                 continue;
             }
-            gate.enter(origin);
-            let row = row_of_origin(alloc, lines, places, origin)?;
+            let row = row_of_origin(alloc, lines, places, Entered::through(gate, origin))?;
             rows.push(OriginRow { origin, row })?;
         }
         Ok(rows)
