@@ -6,3 +6,6 @@ pub mod Named
 pub mod Orders
 pub mod Waiting
 pub mod Wagons
+pub mod EmptyList
+pub mod EmptyRows
+pub mod EmptyCounts

@@ -79,7 +79,7 @@ none_at_gap rows number at gap = list_any_none (λ (r : WagonRow). is_same_numbe
 
 module _ {K : Type 0} {R : K → K → Ordering} (o : IsTotalOrder R) where
   -- one more key in its gap
-  sorted_insert : (y : K) (xs : List K) (i : ℕ) → IsStrictlySortedBy R xs → AllWithin (λ x. R x y ≡ Less) xs 0 i → AllWithin (λ x. R x y ≡ Greater) xs i (length xs)
+  pub sorted_insert : (y : K) (xs : List K) (i : ℕ) → IsStrictlySortedBy R xs → AllWithin (λ x. R x y ≡ Less) xs 0 i → AllWithin (λ x. R x y ≡ Greater) xs i (length xs)
       → IsStrictlySortedBy R (insert xs i y)
   unfolding IsStrictlySortedBy
   sorted_insert y xs zero sorted before after =

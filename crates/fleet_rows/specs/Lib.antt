@@ -3,6 +3,7 @@ pub mod Records
 pub mod Roster
 pub mod SameWagons
 pub mod RosterOf
+pub mod EmptyWagons
 pub mod FreeWagons
 pub mod Kept
 pub mod Rows

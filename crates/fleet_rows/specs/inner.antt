@@ -1,3 +1,4 @@
+pub mod EmptyList
 pub mod Gaps
 pub mod Reading
 pub mod Indexed

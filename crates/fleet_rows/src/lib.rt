@@ -2,6 +2,7 @@
 //! by number and by name.
 #![tactic(auto)]
 
+mod empty_wagons;
 mod limits;
 mod order_rows;
 mod reading;

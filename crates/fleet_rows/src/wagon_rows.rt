@@ -1,12 +1,16 @@
 //! The rows of the wagons.
-ghost use Rattle.std.specs.Prelude.{◌≡◌, ◌≤◌, ◌<◌, ◌↔◌, IfNone, IfOk, IfSome, IsTrue, None, Some, count_by, length, map, option_copied, option_map, slice_get, slice_set};
+ghost use Rattle.std.specs.Prelude.{◌≡◌, ◌≤◌, ◌<◌, ◌↔◌, IfNone, IfOk, IfSome, IsTrue, None, Some, count_by, length, map, option_copied, option_map, slice_get, slice_set, vec_capacity};
+ghost use Rattle.std.specs.List.{filter_map};
 ghost use Rattle.std.specs.List.Sorted.{IsStrictlySortedBy};
 ghost use Rattle.fleet_rows.specs.FreeWagons.{is_free, is_free_at};
 ghost use Rattle.fleet_rows.specs.Rows.{at_wagon, wagon_in, with_promise};
-ghost use Rattle.fleet_rows.specs.Kept.{by_number};
+ghost use Rattle.fleet_rows.specs.Kept.{by_number, max_roster_wagons};
+ghost use Rattle.fleet_rows.specs.inner.EmptyList.{is_unpromised};
+ghost use Rattle.fleet_rows.specs.EmptyWagons.{empty_at, empty_in, empty_wagons};
 ghost use Rattle.move_messages.specs.MaxLoad.{max_load};
 ghost use Rattle.wagons_and_orders.specs.declared.wagon_row.WagonRow.{WagonRow};
 
+use crate::empty_wagons::{Stand, empty_list, replace, standing_so};
 use rail_codes::{ClassCode, OrderId, Place, WagonNumber};
 use std::alloc::{AllocError, Global};
 use std::marker::Model;
@@ -18,6 +22,9 @@ pub struct WagonRows {
     rows: Vec<WagonRow>,
     // Whether each of them is free. Most aren't, so one that looks for the free ones reads few rows.
     are_free: Vec<bool>,
+    // Where the rows of the empty wagons are that nobody holds, by place, class and number: the map of them, in one list.
+    // It has room for all wagons, so that none of them ever wants memory.
+    empty: Vec<u16>,
     // Where each stands: a search among rows of a thousand wagons takes ten steps, which no processor foresees.
     hints: WagonHints,
 }
@@ -28,13 +35,14 @@ impl Drop for WagonRows {
         let WagonRows {
             rows: _,
             are_free: _,
+            empty: _,
             hints: _,
         } = self;
     }
 }
 
 impl Model for WagonRows {
-    ghost use Rattle.std.specs.Prelude.{List};
+    ghost use Rattle.std.specs.Prelude.{List, vec_capacity};
     ghost use Rattle.fleet_rows.specs.inner.Stored.{AreStored};
     ghost use Rattle.wagons_and_orders.specs.declared.wagon_row.WagonRow.{WagonRow};
 
@@ -42,7 +50,7 @@ impl Model for WagonRows {
 
     ghost view = { λ wagons. wagons.rows.items };
 
-    ghost invariant = { λ wagons. AreStored wagons.rows.items wagons.are_free.items };
+    ghost invariant = { λ wagons. AreStored wagons.rows.items wagons.are_free.items wagons.empty.items (vec_capacity wagons.empty) };
 }
 
 impl WagonRows {
@@ -55,10 +63,12 @@ impl WagonRows {
     {
         let rows = Vec::from_slice(alloc, rows)?;
         let are_free = are_free(alloc, &rows)?;
+        let empty = empty_list(alloc, &rows)?;
         let hints = hints(alloc, &rows)?;
         Ok(WagonRows {
             rows,
             are_free,
+            empty,
             hints,
         })
     }
@@ -122,13 +132,24 @@ impl WagonRows {
         &self.are_free
     }
 
-    /// How many free wagons of a class stand at a place.
+    /// Where the rows of the wagons of a class are that stand empty at a place, and that nobody holds: ascending, so by
+    /// number. Promised ones are among them. Takes no memory.
+    pub fn empty_at(&self, class: ClassCode, place: Place) -> &[u16]
+        ensures rows { result.now ≡ empty_at self.now class place }
+        ensures wagons { filter_map (λ index. empty_in (slice_get self.now index)) result.now ≡ empty_wagons self.now class place }
+    {
+        let stand = Stand { place, class };
+        standing_so(&self.empty, &self.rows, &stand)
+    }
+
+    /// How many free wagons of a class stand at a place. Only those that stand there empty are looked at.
     pub fn free_count(&self, class: ClassCode, place: Place) -> usize
         ensures { result ≡ count_by (is_free_at class place) self.now }
     {
-        self.rows
+        let rows = self.as_slice();
+        self.empty_at(class, place)
             .iter()
-            .filter(|row| is_free_at(row, class, place))
+            .filter(|index| is_unpromised(rows, **index))
             .count()
     }
 
@@ -162,7 +183,7 @@ impl WagonRows {
         ensures { self.new ≡ slice_set self.old index row.now }
     {
         let (was_free, now_free) = (is_free(&self.rows[index]), is_free(row));
-        self.rows[index] = *row;
+        replace(&mut self.rows, &mut self.empty, index, row);
         // Not even read where it stays: its neighbours are those of other wagons, which other processors may have changed.
         if was_free != now_free {
             self.are_free[index] = now_free;
@@ -205,12 +226,12 @@ fn is_free(row: &WagonRow) -> bool
     free(row).is_some()
 }
 
-/// Whether the wagon of a row is free, of this class, and stands at this place.
-fn is_free_at(row: &WagonRow, class: ClassCode, place: Place) -> bool
-    ensures { result ≡ is_free_at class place row.now }
+/// Whether there is a row at an index, and its wagon isn't promised.
+fn is_unpromised(rows: &[WagonRow], index: u16) -> bool
+    ensures { result ≡ is_unpromised (slice_get rows.now index) }
 {
-    match free(row) {
-        Some(wagon) => wagon.class == class && wagon.place == place,
+    match rows.get(usize::from(index)) {
+        Some(row) => row.promise.is_none(),
         None => false,
     }
 }
