@@ -43,6 +43,10 @@ commit_call setting book commit answer new ok entered = elim entered [
   | inr h ↦ inr (record { may = (ok.testable.kept, ok.testable.room); refused = h.refused; unchanged = h.unchanged })
 ]
 
+-- a commit may be answered that memory is out where it may be entered
+pub commit_wants : (setting : Setting) (book : BookState) (commit : CommitText) → IsAccepted setting book commit → IsCall setting book (call.Event (event.Commit commit)) (Refused OutOfMemory) book
+commit_wants setting book commit ok = inr (record { may = (ok.testable.kept, ok.testable.room); refused = refl; unchanged = refl })
+
 pub refused_call : (setting : Setting) (book : BookState) (commit : CommitText) (refusal : Refusal) → IsRefused setting book commit refusal → IsCall setting book (call.Event (event.Commit commit)) (Refused refusal) book
 refused_call setting book commit refusal h = elim h [
   | inl answered ↦ inl (record { answered = answered; changed = refl })

@@ -28,6 +28,7 @@ use Rattle.commit_book.specs.Books.{BookValue}
 use Rattle.commit_book.specs.Made.{IsMadeAmong, IsMadeOf}
 use Rattle.commit_book.specs.inner.Kept.{IsBook, IsBookOf, IsIndexOfKept, IsKeptAt, IsNetworkOf, IsTabled, book_of, made_of, setting_of, which_of, with_kept}
 use Rattle.commit_book.specs.inner.Ledger.{LedgerValue, office_of}
+use Rattle.operating_db.proofs.Possible.{possible_by}
 use Rattle.price_checker.specs.Limits.{LimitNumbers}
 use Rattle.commit_book.specs.Setting.{Setting}
 use Rattle.commit_book.specs.declared.kept_problems.KeptProblem.{KeptProblem}
@@ -49,7 +50,7 @@ parts_pushed ledger networks limits kept event is promised owed unfilled possibl
     let setting = setting_of ledger networks limits in
     let there : IsOk (after_call (length networks) (replay setting ledger.events) event) =
     subst (λ (o : Office). IsOk (after_call (length networks) o event)) (office_is ledger networks limits is.counted) (subst (λ (n : ℕ). IsOk (after_call n (office_of ledger) event)) is.counted possible) in
-    let entry : IsEntry setting ledger.events event = record { promised = promised; possible = there; owed = owed } in
+    let entry : IsEntry setting ledger.events event = record { possible = possible_by (length networks) (replay setting ledger.events) event promised there; owed = owed } in
     let legal : IsLegalEntry setting ledger.events event = record { room = room_of limits.entries (length ledger.events) unfilled; is_entry = entry } in
     record { counted = is.counted; book = book_push setting ledger.events event kept is.book legal }
 

@@ -1,9 +1,11 @@
 -- A commit that is not refused pays what it owes, and can be promised.
-use Rattle.std.proofs.Common.{◌≡◌, ◌≢◌, ◌∙◌, ◌+◌, ◌<◌, ◌≤◌, ℕ, Bool, true, false, cond, ◌&&◌, List, [], ◌∷◌, ◌++◌, length, refl, sym, ap, arith, subst, append_assoc, append-nil}
-use Rattle.std.specs.Prelude.{◌==◌, nat_lt, Option, Some, None, is_some, Result, Ok, Err, All, option_and_then}
+use Rattle.std.proofs.Common.{◌≡◌, ◌≢◌, ◌∙◌, ◌+◌, ◌<◌, ◌≤◌, ℕ, zero, suc, Bool, true, false, cond, ◌&&◌, List, [], ◌∷◌, ◌++◌, length, take, get_or, add-one, refl, sym, ap, arith, subst}
+use Rattle.std.specs.Prelude.{◌==◌, Option, Some, None, is_some, Result, Ok, Err, All, option_and_then, slice_get}
 use Rattle.std.proofs.lemmas.Bool.Decides.{nat_tests}
 use Rattle.std.proofs.lemmas.List.Elements.{All-cons, All-head, All-nil, All-tail}
 use Rattle.std.proofs.lemmas.List.Sums.{sum_by_push}
+use Rattle.std.proofs.lemmas.Option.{slice_get-get_or}
+use Rattle.std.proofs.Math.Seq.{take-length, take-suc}
 use Rattle.move_messages.specs.declared.commit_text.CommitText.{CommitText}
 use Rattle.wagons_and_orders.specs.declared.free_wagon.FreeWagon.{FreeWagon}
 use Rattle.wagons_and_orders.specs.declared.wagon_row.WagonRow.{WagonRow}
@@ -18,19 +20,19 @@ use Rattle.faults.specs.declared.faults.NamedFault.TheVariants as named
 use Rattle.price_checker.proofs.Checked.{passes}
 use Rattle.price_checker.proofs.Duality.{certificates_optimal}
 use Rattle.price_checker.proofs.FaultFree.{in_range_certified}
-use Rattle.price_checker.proofs.FirstBelow.{none_first, none_second}
+use Rattle.price_checker.proofs.FirstBelow.{none_below, none_first, none_second}
 use Rattle.operating_db.specs.Commits.{CanPromise, IsPromisable, Pair, is_free_row, lack_in, times_of_order, times_of_wagon}
 use Rattle.operating_db.specs.Office.{Office}
 use Rattle.move_messages.specs.declared.event.Event.{Event}
 use Rattle.operating_db.proofs.Names.{same, same_is}
 use Rattle.commit_book.specs.BookStep.{refusal_by, refusal_in}
-use Rattle.commit_book.specs.Commits.{free_in, is_same_free, is_same_wagon, order_changed, wagon_changed, wagon_of}
+use Rattle.commit_book.specs.Commits.{free_in, is_same_free, is_same_wagon, lacks_fewer, order_changed, order_changed_at, refusal_if_fewer, wagon_changed, wagon_of}
 use Rattle.commit_book.specs.History.{IsLeast, IsTableAt, IsUnchanged, problem_at, replay}
 use Rattle.faults.specs.Conversions.{refusal_of_fault}
 use Rattle.commit_book.specs.Setting.{Setting}
 use Rattle.faults.specs.declared.faults.Refusal.{Refusal}
 use Rattle.faults.specs.declared.faults.Refusal.TheVariants.{OrderChanged, OutOfMemory, WagonChanged}
-use Rattle.commit_book.proofs.Placed.{named_once, placed_in_range, positions_placed}
+use Rattle.commit_book.proofs.Placed.{named_once, placed_in_range, placed_stand, positions_placed}
 
 tail_allowed : {A : Type 0} (b : Bool) (rest : Option A) (x : A) → cond b rest (Some x) ≡ None → (b ≡ true) × (rest ≡ None)
 tail_allowed true rest x h = (refl, h)
@@ -88,12 +90,8 @@ at_most_one : (b : Bool) → cond b 1 0 ≤ 1
 at_most_one true = omega arith
 at_most_one false = omega arith
 
-given_own : (now : Office) (before : List Pair) (pair : Pair) → nat_lt (times_of_order pair.1 before) (lack_in (order_in now.orders pair.1)) ≡ true → times_of_order pair.1 (before ++ pair ∷ []) ≤ lack_in (order_in now.orders pair.1)
-given_own now before pair h =
-    let e = times_push pair.1 before pair in
-    let one = at_most_one (same pair.1 pair.1) in
-    let less : times_of_order pair.1 before < lack_in (order_in now.orders pair.1) = grind (arith, nat_tests, h) in
-    omega (arith, e, one, less)
+given_own : (now : Office) (pairs : List Pair) (id : List ℕ) → lacks_fewer now pairs id ≡ false → times_of_order id pairs ≤ lack_in (order_in now.orders id)
+given_own now pairs id h = grind (arith, nat_tests, h)
 
 given_push : (now : Office) (before : List Pair) (pair : Pair) (id : List ℕ) (b : Bool) → same id pair.1 ≡ b → times_of_order pair.1 (before ++ pair ∷ []) ≤ lack_in (order_in now.orders pair.1) → times_of_order id before ≤ lack_in (order_in now.orders id) → times_of_order id (before ++ pair ∷ []) ≤ lack_in (order_in now.orders id)
 given_push now before pair id true is own k = subst (λ (x : List ℕ). times_of_order x (before ++ pair ∷ []) ≤ lack_in (order_in now.orders x)) (sym (same_is id pair.1 is)) own
@@ -102,16 +100,26 @@ given_push now before pair id false is own k =
     let none : ◌≡◌ {A = ℕ} (cond (same id pair.1) 1 0) 0 = ap (λ b. cond b 1 0) is in
     omega (arith, e, none, k)
 
-given_by : (now : Office) (before pairs : List Pair) → GivesWithin now before → order_changed now before pairs ≡ None → GivesWithin now (before ++ pairs)
-given_by now before [] g h = subst (GivesWithin now) (sym (append-nil before)) g
-given_by now before (pair ∷ pairs) g h =
-    let f = tail_allowed (nat_lt (times_of_order pair.1 before) (lack_in (order_in now.orders pair.1))) (order_changed now (before ++ pair ∷ []) pairs) (OrderChanged pair.1) h in
-    let more : GivesWithin now (before ++ pair ∷ []) = λ id. given_push now before pair id (same id pair.1) refl (given_own now before pair f.0) (g id) in
-    subst (GivesWithin now) (append_assoc before (pair ∷ []) pairs) (given_by now (before ++ pair ∷ []) pairs more f.1)
+none_if : (b : Bool) (x : Refusal) → cond b (Some x) None ≡ None → b ≡ false
+none_if true x h = cc
+none_if false x h = refl
+
+-- the pairs before a place give no order more than it lacks
+given_before : (now : Office) (pairs : List Pair) → order_changed now pairs ≡ None → (id : List ℕ) (k : ℕ) → k ≤ length pairs → times_of_order id (take k pairs) ≤ lack_in (order_in now.orders id)
+given_before now pairs h id zero le = omega arith
+given_before now pairs h id (suc k) le =
+    let lt : k < length pairs = omega (arith, le) in
+    let pair = get_or pairs k ([], []) in
+    let there : slice_get pairs k ≡ Some pair = slice_get-get_or pairs k ([], []) lt in
+    let counted : take (k + 1) pairs ≡ take k pairs ++ pair ∷ [] = ap (λ (n : ℕ). take n pairs) (add-one k) ∙ take-suc pairs k ([], []) lt in
+    let unrefused : order_changed_at now pairs k ≡ None = none_below (length pairs) (order_changed_at now pairs) h k lt in
+    let here : refusal_if_fewer now (take (k + 1) pairs) pair ≡ None = ap (option_and_then (refusal_if_fewer now (take (k + 1) pairs))) (sym there) ∙ unrefused in
+    let own = given_own now (take (k + 1) pairs) pair.1 (none_if (lacks_fewer now (take (k + 1) pairs) pair.1) (OrderChanged pair.1) here) in
+    rw (take-suc pairs k ([], []) lt) (given_push now (take k pairs) pair id (same id pair.1) refl (rw counted at own) (given_before now pairs h id k (omega (arith, le))))
 
 -- where no order has changed, none is given more than it lacks
-pub gives_within : (now : Office) (pairs : List Pair) → order_changed now [] pairs ≡ None → GivesWithin now pairs
-gives_within now pairs h = given_by now [] pairs (λ id. omega arith) h
+pub gives_within : (now : Office) (pairs : List Pair) → order_changed now pairs ≡ None → GivesWithin now pairs
+gives_within now pairs h id = rw (take-length pairs) at (given_before now pairs h id (length pairs) (omega arith))
 
 -- ---- commits
 
@@ -132,7 +140,7 @@ pub record IsUnrefused (problem : ProblemValue) (now : Office) (commit : CommitT
   pub are_positions : positions_of (names_of_problem problem) commit.pairs ≡ Ok positions
   pub no_fault : first_fault table positions commit.u commit.v ≡ None
   pub wagons : wagon_changed problem now commit.pairs ≡ None
-  pub orders : order_changed now [] commit.pairs ≡ None
+  pub orders : order_changed now commit.pairs ≡ None
 
 unrefused_by : (problem : ProblemValue) (now : Office) (commit : CommitText) (table : Table) (answer : Result ℕ NamedFault) → checked (names_of_problem problem) table commit.pairs commit.u commit.v ≡ answer → refusal_by problem now commit.pairs answer ≡ None → IsUnrefused problem now commit table
 unrefused_by problem now commit table (Err fault) is h = cc
@@ -165,7 +173,7 @@ commit_owed setting history commit table had is_table h =
         table = table;
         is_table = is_table;
         positions = un.positions;
-        are_positions = un.are_positions;
+        are_positions = placed_stand problem commit.pairs un.positions placed;
         certificate = certificate;
         optimal = certificates_optimal table un.positions commit.u commit.v certificate;
         unchanged = unchanged;

@@ -9,6 +9,7 @@ pub mod IdKeys
 pub mod Judging
 pub mod KeptTables
 pub mod NotedIds
+pub mod Offices
 pub mod Placed
 pub mod Replays
 pub mod Runs

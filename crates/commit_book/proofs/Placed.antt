@@ -9,16 +9,18 @@ use Rattle.wagons_and_orders.specs.declared.free_wagon.FreeWagon.{FreeWagon}
 use Rattle.wagons_and_orders.specs.Wanted.{WantedOrder}
 use Rattle.line_network.specs.Network.{NetworkValue}
 use Rattle.problem_table.specs.Allowed.{IsTableOf}
-use Rattle.cost_table.specs.Names.{both, is_name}
+use Rattle.cost_table.specs.Names.{both, is_name, pair_of}
 use Rattle.cost_table.specs.Plan.{serves, uses}
 use Rattle.cost_table.specs.Problem.{ProblemValue, names_of_problem, order_names, wagon_names}
 use Rattle.cost_table.specs.Table.{Table, order_count, wagon_count}
-use Rattle.cost_table.proofs.NameLemmas.{found_at}
+use Rattle.cost_table.proofs.NameLemmas.{found_at, held_at}
 use Rattle.price_checker.proofs.FaultFree.{AllInRange}
 use Rattle.operating_db.specs.Commits.{Pair, times_of_order, times_of_wagon}
 use Rattle.operating_db.proofs.Names.{same, same_is, same_self}
-use Rattle.price_checker.specs.NamedPairs.{positions_of}
+use Rattle.price_checker.specs.NamedPairs.{before_rest, found_or, positions_of}
 use Rattle.price_checker.proofs.Checked.{first_position}
+use Rattle.commit_book.specs.History.{ArePositions}
+use Rattle.commit_book.proofs.Offices.{IsNamedOnceIn}
 
 -- where a wagon stands in a problem; an order
 abbrev pub wagon_index : ProblemValue → List ℕ → Option ℕ
@@ -53,6 +55,33 @@ positions_placed problem (pair ∷ pairs) positions h =
     let first = first_position (names_of_problem problem) pair pairs positions h in
     subst (ArePlaced problem (pair ∷ pairs)) first.same
     (placed_by problem pair first.position (wagon_index problem pair.0) (order_index problem pair.1) refl refl first.found, positions_placed problem pairs first.rest first.others)
+
+-- and they are what is looked for
+pub placed_positions : (problem : ProblemValue) (pairs : List Pair) (indexes : List (ℕ × ℕ)) → ArePlaced problem pairs indexes → positions_of (names_of_problem problem) pairs ≡ Ok indexes
+unfolding positions_of
+placed_positions problem [] [] h = refl
+placed_positions problem (pair ∷ pairs) (index ∷ indexes) h =
+    let found : pair_of (names_of_problem problem) pair.0 pair.1 ≡ Some (index.0, index.1) = rw (h.0.wagon, h.0.order) refl in
+    let rest = placed_positions problem pairs indexes h.1 in
+    λ k. before_rest (found_or pair (found k)) (rest k)
+placed_positions problem [] (index ∷ indexes) h = absurd h
+placed_positions problem (pair ∷ pairs) [] h = absurd h
+
+-- the names stand at their indexes
+pub placed_stand : (problem : ProblemValue) (pairs : List Pair) (indexes : List (ℕ × ℕ)) → ArePlaced problem pairs indexes → ArePositions problem pairs indexes
+placed_stand problem [] [] h = tt
+placed_stand problem (pair ∷ pairs) (index ∷ indexes) h =
+    ((found_at (wagon_names problem.wagons) pair.0 index.0 h.0.wagon, found_at (order_names problem.orders) pair.1 index.1 h.0.order), placed_stand problem pairs indexes h.1)
+placed_stand problem [] (index ∷ indexes) h = absurd h
+placed_stand problem (pair ∷ pairs) [] h = absurd h
+
+-- where no name stands twice, the names that stand at positions are found there
+pub stand_placed : (problem : ProblemValue) → IsNamedOnceIn problem → (pairs : List Pair) (positions : List (ℕ × ℕ)) → ArePositions problem pairs positions → ArePlaced problem pairs positions
+stand_placed problem once [] [] h = tt
+stand_placed problem once (pair ∷ pairs) (position ∷ positions) h =
+    (record { wagon = held_at (wagon_names problem.wagons) pair.0 position.0 once.wagons h.0.0; order = held_at (order_names problem.orders) pair.1 position.1 once.orders h.0.1 }, stand_placed problem once pairs positions h.1)
+stand_placed problem once [] (position ∷ positions) h = absurd h
+stand_placed problem once (pair ∷ pairs) [] h = absurd h
 
 -- ---- what stands at an index
 

@@ -17,6 +17,7 @@ use Rattle.operating_db.specs.FirstOffice.{IsFirstOffice}
 use Rattle.commit_book.specs.Headline.{Headline, IsProved}
 use Rattle.commit_book.specs.History.{IsEntry, IsLegal, IsTableAt, Owes, problem_at, replay}
 use Rattle.faults.specs.Conversions.{refusal_of}
+use Rattle.operating_db.proofs.Possible.{possible_by}
 use Rattle.commit_book.specs.Setting.{Setting}
 use Rattle.commit_book.specs.declared.answer.Answer.{Answer}
 use Rattle.commit_book.specs.declared.answer.Answer.TheVariants.{Done, Begun, Refused}
@@ -27,6 +28,7 @@ use Rattle.faults.specs.declared.faults.Refusal.TheVariants.{BookFull, IdReused,
 use Rattle.commit_book.specs.declared.reply.Reply.TheVariants.{Accepted, Repeated}
 use Rattle.commit_book.proofs.CommitLaws.{both_true, commit_owed, same_number}
 use Rattle.commit_book.proofs.Histories.{empty_legal, legal_push}
+use Rattle.commit_book.proofs.Offices.{IsNamedOnce, version_before, version_named}
 use Rattle.commit_book.proofs.Sound.{sound}
 use Rattle.commit_book.proofs.Versions.{versions_agree}
 
@@ -65,7 +67,7 @@ event_entered setting history entry n promised owed h =
     let f = with_room (is_full setting history) (entered_as (length history + 1) r) n h in
     record {
       room = room_of setting.entries (length history) f.0;
-      is_entry = record { promised = promised; possible = entered_ok (length history + 1) n r f.1; owed = owed };
+      is_entry = record { possible = possible_by (length setting.networks) (replay setting history) entry promised (entered_ok (length history + 1) n r f.1); owed = owed };
     }
 
 -- a message that is accepted
@@ -77,10 +79,9 @@ message_entered setting history message answer n (inr (inr new)) h = event_enter
 -- a commit that is not refused
 pub commit_entry : (setting : Setting) (history : List Event) (commit : CommitText) (table : Table) → commit.version ≤ length history → IsTableAt setting history commit.version commit.at table
     → refusal_in (problem_at setting history commit.version commit.at) (replay setting history) commit table ≡ None → IsEntry setting history (event.Commit commit)
-unfolding after_call
 commit_entry setting history commit table had is_table h =
     let owed = commit_owed setting history commit table had is_table h in
-    record { promised = owed.1; possible = refl; owed = owed.0 }
+    record { possible = owed.1; owed = owed.0 }
 
 no_refusal : (k n : ℕ) (refusal : Option Refusal) → accepted_unless k refusal ≡ Done (Accepted n) → refusal ≡ None
 no_refusal k n None h = refl
@@ -165,7 +166,10 @@ run_book setting book (c ∷ calls) [] new h run = absurd run
 pub proved_by : (setting : Setting) → IsFirstOffice (length setting.networks) setting.first → (history : List Event) → IsLegal setting history → IsProved setting history
 proved_by setting first history legal = record {
   legal = legal;
-  commits = λ n commit is. sound setting (take n history) commit (legal.entries n (event.Commit commit) is).owed;
+  commits = λ n commit is.
+      let least = (legal.entries n (event.Commit commit) is).owed in
+      let named = subst IsNamedOnce (sym (version_before setting history n commit.version least.had)) (version_named setting history first legal commit.version) in
+      sound setting (take n history) commit least named;
   promises = versions_agree setting first history legal;
 }
 

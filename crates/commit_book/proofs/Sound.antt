@@ -12,9 +12,10 @@ use Rattle.cost_table.specs.Table.{Table, lack_at, order_count}
 use Rattle.operating_db.specs.Commits.{Pair, times_of_order}
 use Rattle.move_messages.specs.declared.event.Event.{Event}
 use Rattle.commit_book.specs.Headline.{IsReached, IsSound}
-use Rattle.commit_book.specs.History.{IsLeast, problem_at}
+use Rattle.commit_book.specs.History.{IsLeast, problem_at, version}
 use Rattle.commit_book.specs.Setting.{Setting}
-use Rattle.commit_book.proofs.Placed.{ArePlaced, named_once, order_there, order_times, positions_placed, some_same, wagon_there}
+use Rattle.commit_book.proofs.Offices.{IsNamedOnce, problem_named}
+use Rattle.commit_book.proofs.Placed.{ArePlaced, named_once, order_there, order_times, some_same, stand_placed, wagon_there}
 
 -- what a column has at the index of an item
 index-map : {A : Type 0} (f : A → ℕ) (xs : List A) (i : ℕ) (x : A) → slice_get xs i ≡ Some x → slice_index (map f xs) i ≡ f x
@@ -53,10 +54,10 @@ reached_by net problem t all all_indexes table are_all lacks (pair ∷ pairs) (i
 reached_by net problem t all all_indexes table are_all lacks [] (index ∷ indexes) placed allowed = absurd placed
 reached_by net problem t all all_indexes table are_all lacks (pair ∷ pairs) [] placed allowed = absurd placed
 
-pub sound : (setting : Setting) (before : List Event) (commit : CommitText) → IsLeast setting before commit → IsSound setting before commit
-sound setting before commit least =
+pub sound : (setting : Setting) (before : List Event) (commit : CommitText) → IsLeast setting before commit → IsNamedOnce (version setting before commit.version) → IsSound setting before commit
+sound setting before commit least named =
     let problem = problem_at setting before commit.version commit.at in
-    let placed = positions_placed problem commit.pairs least.positions least.are_positions in
+    let placed = stand_placed problem (problem_named (version setting before commit.version) commit.at named) commit.pairs least.positions least.are_positions in
     record {
       least = least;
       distinct = named_once problem commit.pairs least.positions placed least.certificate.plan.once;

@@ -92,7 +92,7 @@ is_kept kept which = list_any (is_this which) kept
 -- changed
 abbrev pub refusal_by : ProblemValue → (now : Office) → List Pair → Result ℕ NamedFault → Option Refusal
 refusal_by problem now pairs (Err fault) = Some (refusal_of_fault fault)
-refusal_by problem now pairs (Ok cost) = option_or (wagon_changed problem now pairs) (order_changed now [] pairs)
+refusal_by problem now pairs (Ok cost) = option_or (wagon_changed problem now pairs) (order_changed now pairs)
 
 -- why a commit is refused, where this is the problem that it names, this its table, and this the office now
 abbrev pub refusal_in : ProblemValue → (now : Office) → CommitText → Table → Option Refusal

@@ -1,5 +1,5 @@
 -- What a commit is tested for in the office as it is now: that its wagons and orders have not changed.
-use Rattle.std.specs.Prelude.{ℕ, Bool, false, nat_eq, nat_lt, ◌==◌, ◌&&◌, if◌then◌else◌, List, [], ◌∷◌, ◌++◌, Option, Some, None}
+use Rattle.std.specs.Prelude.{ℕ, ◌+◌, Bool, false, nat_eq, nat_lt, ◌==◌, ◌&&◌, if◌then◌else◌, List, [], ◌∷◌, length, take, Option, Some, None, slice_get}
 use Rattle.std.specs.List.{find}
 use Rattle.std.specs.Option.{option_and_then}
 use Rattle.std.specs.Cmp.Lexicographic.{pointwise}
@@ -8,6 +8,7 @@ use Rattle.wagons_and_orders.specs.Free.{free_of}
 use Rattle.fleet_rows.specs.Rows.{wagon_in, order_in}
 use Rattle.cost_table.specs.Names.{is_name}
 use Rattle.cost_table.specs.Problem.{ProblemValue}
+use Rattle.price_checker.specs.Faults.{first_below}
 use Rattle.operating_db.specs.Commits.{Pair, times_of_order, lack_in}
 use Rattle.operating_db.specs.Office.{Office}
 use Rattle.faults.specs.declared.faults.Refusal.{Refusal}
@@ -38,9 +39,18 @@ wagon_changed problem now [] = None
 wagon_changed problem now (pair ∷ pairs) =
     if is_same_free (wagon_of problem pair.0) (free_in now pair.0) then wagon_changed problem now pairs else Some (WagonChanged pair.0)
 
+-- whether an order lacks fewer wagons now than these pairs give it
+abbrev pub lacks_fewer : (now : Office) → List Pair → (id : List ℕ) → Bool
+lacks_fewer now pairs id = nat_lt (lack_in (order_in now.orders id)) (times_of_order id pairs)
+
+-- the refusal of a pair whose order lacks fewer wagons now than these pairs give it
+abbrev pub refusal_if_fewer : (now : Office) → List Pair → Pair → Option Refusal
+refusal_if_fewer now pairs pair = if lacks_fewer now pairs pair.1 then Some (OrderChanged pair.1) else None
+
+-- that of the pair at k, where this pair and those before it are counted
+abbrev pub order_changed_at : (now : Office) → List Pair → ℕ → Option Refusal
+order_changed_at now pairs k = option_and_then (refusal_if_fewer now (take (k + 1) pairs)) (slice_get pairs k)
+
 -- the first pair whose order, this pair and those before it counted, lacks fewer wagons now
-abbrev pub order_changed : (now : Office) → (before : List Pair) → List Pair → Option Refusal
-order_changed now before [] = None
-order_changed now before (pair ∷ pairs) =
-    if nat_lt (times_of_order pair.1 before) (lack_in (order_in now.orders pair.1)) then order_changed now (before ++ pair ∷ []) pairs
-    else Some (OrderChanged pair.1)
+abbrev pub order_changed : (now : Office) → List Pair → Option Refusal
+order_changed now pairs = first_below (length pairs) (order_changed_at now pairs)

@@ -1,7 +1,7 @@
 -- Histories: the office after the entries of one, and when it is legal. Version n is the office after the first n
 -- entries; version 0 is the office that the book began with.
-use Rattle.std.specs.Prelude.{◌≡◌, ◌≢◌, ◌≤◌, ℕ, List, length, take, Some, Ok, All, IsOk, slice_get}
-use Rattle.std.specs.List.{fold}
+use Rattle.std.specs.Prelude.{◌≡◌, ◌≢◌, ◌≤◌, ℕ, List, length, take, Some, All, slice_get}
+use Rattle.std.specs.List.{AllZip, fold}
 use Rattle.std.specs.Result.{result_unwrap_or}
 use Rattle.rail_codes.specs.declared.message_id.MessageId.{MessageId}
 use Rattle.move_messages.specs.declared.message.Message as movement
@@ -10,16 +10,16 @@ use Rattle.wagons_and_orders.specs.declared.free_wagon.FreeWagon.{FreeWagon}
 use Rattle.line_network.specs.Network.{NetworkValue}
 use Rattle.line_network.specs.Networks.{network_at}
 use Rattle.problem_table.specs.Allowed.{IsTableOf}
+use Rattle.cost_table.specs.NamesFound.{StandAt}
 use Rattle.cost_table.specs.Plan.{IsOptimal}
 use Rattle.cost_table.specs.Problem.{ProblemValue, names_of_problem}
 use Rattle.cost_table.specs.Table.{Table}
 use Rattle.price_checker.specs.Certificate.{IsCertificate}
-use Rattle.price_checker.specs.NamedPairs.{positions_of}
 use Rattle.operating_db.specs.After.{after_call}
 use Rattle.operating_db.specs.Commits.{Pair}
 use Rattle.operating_db.specs.Office.{Office}
 use Rattle.operating_db.specs.Problem.{problem_of}
-use Rattle.operating_db.specs.Steps.{IsPromised}
+use Rattle.operating_db.specs.Steps.{IsPossible}
 use Rattle.move_messages.specs.declared.event.Event.{Event}
 use Rattle.move_messages.specs.declared.event.Event.TheVariants.{Message, Place, Withdraw, Commit, Revise}
 use Rattle.commit_book.specs.Commits.{free_in, wagon_of}
@@ -59,6 +59,10 @@ pub record IsTableAt (setting : Setting) (history : List Event) (n at : ℕ) (ta
 abbrev pub IsUnchanged : ProblemValue → (now : Office) → Pair → Type 0
 IsUnchanged problem now pair = (wagon : FreeWagon) × (wagon_of problem pair.0 ≡ Some wagon) × (free_in now pair.0 ≡ Some wagon)
 
+-- the wagon and the order of each pair stand in the problem at the pair's position
+abbrev pub ArePositions : ProblemValue → List Pair → List (ℕ × ℕ) → Type 0
+ArePositions problem pairs positions = AllZip (λ (pair : Pair) (position : ℕ × ℕ). StandAt (names_of_problem problem) pair.0 pair.1 position) pairs positions
+
 -- Of a commit behind a history: in the version and at the moment that it names, its pairs are a plan of least cost, as
 -- its prices show; and each wagon of it is free now as it was then.
 pub record IsLeast (setting : Setting) (history : List Event) (commit : CommitText) : Type 0 where
@@ -66,7 +70,7 @@ pub record IsLeast (setting : Setting) (history : List Event) (commit : CommitTe
   pub table : Table
   pub is_table : IsTableAt setting history commit.version commit.at table
   pub positions : List (ℕ × ℕ)
-  pub are_positions : positions_of (names_of_problem (problem_at setting history commit.version commit.at)) commit.pairs ≡ Ok positions
+  pub are_positions : ArePositions (problem_at setting history commit.version commit.at) commit.pairs positions
   pub certificate : IsCertificate table positions commit.u commit.v
   pub optimal : IsOptimal table positions
   pub unchanged : All (IsUnchanged (problem_at setting history commit.version commit.at) (replay setting history)) commit.pairs
@@ -86,8 +90,7 @@ Owes setting history (Revise network) = Unit {0}
 -- An entry behind a history: the event is possible there, and pays what it owes. Of a commit, that it is possible says
 -- that its wagons are distinct and free, and its orders lack as many as they are given.
 pub record IsEntry (setting : Setting) (history : List Event) (event : Event) : Type 0 where
-  pub promised : IsPromised (replay setting history) event
-  pub possible : IsOk (after_call (length setting.networks) (replay setting history) event)
+  pub possible : IsPossible (length setting.networks) (replay setting history) event
   pub owed : Owes setting history event
 
 -- A legal history: within its limit, and each entry is one behind those before it.

@@ -1,6 +1,7 @@
 pub mod BookStep
 pub mod Books
 pub mod Commits
+pub mod EventView
 pub mod Headline
 pub mod History
 pub mod Made

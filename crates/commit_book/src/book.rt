@@ -1,5 +1,5 @@
 //! The book: its history, the office after it, and the problems that commits may name.
-ghost use Rattle.std.specs.Prelude.{◌≡◌, [], IfErr, IfNone, IfOk, IfSome, IsSome, IsTrue, OnErr, OnOk, Some, false, is_some, length, option_map, slice_get, true};
+ghost use Rattle.std.specs.Prelude.{◌≡◌, ◌↔◌, [], IfErr, IfNone, IfOk, IfSome, IsSome, IsTrue, OnErr, OnOk, Some, false, is_some, length, option_map, slice_get, true};
 ghost use Rattle.line_network.specs.Networks.{network_at};
 ghost use Rattle.operating_db.specs.Problem.{problem_of};
 ghost use Rattle.operating_db.specs.RosterOffice.{first_office};
@@ -8,6 +8,7 @@ ghost use Rattle.commit_book.specs.BookStep.{IsCall, is_full, is_kept};
 ghost use Rattle.commit_book.specs.Books.{IsNoEntry, IsSetting, answer_of, begun_of, begun_with, entry_at, present_office, setting_with};
 ghost use Rattle.commit_book.specs.inner.Entered.{IsEntered};
 ghost use Rattle.commit_book.specs.inner.CommitTests.{IsAccepted, IsRefused};
+ghost use Rattle.commit_book.specs.EventView.{lent_event};
 ghost use Rattle.commit_book.specs.Headline.{IsProved};
 ghost use Rattle.commit_book.specs.History.{IsTableAt, Owes, problem_at, replay, version};
 ghost use Rattle.commit_book.specs.Made.{IsMadeAmong};
@@ -28,7 +29,7 @@ use crate::kept_problems::{
 use crate::ledger::{Ledger, MessageEntry};
 use crate::made_problem::MadeProblem;
 use crate::same_problem::is_same_problem;
-use crate::{Limits, Refusal, Reply, Snap};
+use crate::{EventView, Limits, Refusal, Reply, Snap};
 use cost_table::{Cells, Problem};
 use fleet_rows::Roster;
 use line_network::{Networks, Tables};
@@ -117,8 +118,26 @@ impl Book {
         self.ledger.len() as u64
     }
 
-    /// The entry of a number, counted from 1. Takes no memory.
-    pub fn entry(&self, n: u64) -> Option<&Entry>
+    /// The entry of a number, counted from 1, lent. Takes no memory.
+    pub fn entry(&self, n: u64) -> Option<EventView<'_>>
+        ensures { option_map lent_event result ≡ entry_at self.now.state.history n }
+    {
+        let entry = self.kept_entry(n)?;
+        Some(entry.view())
+    }
+
+    /// Whether the entry of a number is this event. Takes no memory.
+    pub fn is_entry(&self, n: u64, event: &Entry) -> bool
+        ensures { IsTrue result ↔ (entry_at self.now.state.history n ≡ Some event.now) }
+    {
+        match self.kept_entry(n) {
+            Some(entry) => entry.is_same(event),
+            None => false,
+        }
+    }
+
+    /// The entry of a number, as it is kept.
+    fn kept_entry(&self, n: u64) -> Option<&Entry>
         ensures { option_map (λ event. event.now) result ≡ entry_at self.now.state.history n }
     {
         let index = n.checked_sub(1)?;
@@ -235,11 +254,14 @@ impl Book {
     /// one of 61 to 66; `WagonChanged` (82), the first pair whose wagon isn't free now as it is in the problem;
     /// `OrderChanged` (83), the first pair whose order, with this pair and those before it, lacks fewer wagons now;
     /// `OutOfMemory` (1), which may come in place of 84 and what follows it.
-    pub fn commit(&mut self, alloc: Global, commit: CommitText) -> Result<Reply, Refusal>
-        ensures call { IsCall self.old.setting self.old.state (call.Event (event.Commit commit)) (answer_of result) self.new.state }
+    pub fn commit(&mut self, alloc: Global, commit: &CommitText) -> Result<Reply, Refusal>
+        ensures call { IsCall self.old.setting self.old.state (call.Event (event.Commit commit.now)) (answer_of result) self.new.state }
         ensures setting { self.new.setting ≡ self.old.setting }
     {
-        self.submit(alloc, Event::Commit(commit))
+        match self.judged(alloc, commit) {
+            Ok(()) => self.enter_copy(alloc, commit),
+            Err(refusal) => Err(refusal),
+        }
     }
 
     /// The problem of the present version at a moment, which is kept so that a commit may name it. It goes behind the
@@ -312,7 +334,7 @@ impl Book {
     }
 
     /// The same of a commit: `NotKept` (81), `BookFull` (72), else `OutOfMemory` (1).
-    fn commit_without_memory(&self, commit: &CommitText) -> Refusal
+    pub fn commit_without_memory(&self, commit: &CommitText) -> Refusal
         ensures { IsCall self.now.setting self.now.state (call.Event (event.Commit commit.now)) (Refused result) self.now.state }
     {
         if !self.is_kept(commit.version, commit.at) {
@@ -452,6 +474,18 @@ impl Book {
         match self.judged(alloc, &commit) {
             Ok(()) => self.enter(alloc, Event::Commit(commit)),
             Err(refusal) => Err(refusal),
+        }
+    }
+
+    /// Promises the pairs of a tested commit.
+    fn enter_copy(&mut self, alloc: Global, commit: &CommitText) -> Result<Reply, Refusal>
+        requires { IsAccepted self.old.setting self.old.state commit.now }
+        ensures call { IsCall self.old.setting self.old.state (call.Event (event.Commit commit.now)) (answer_of result) self.new.state }
+        ensures setting { self.new.setting ≡ self.old.setting }
+    {
+        match commit.copy(alloc) {
+            Ok(copy) => self.enter(alloc, Event::Commit(copy)),
+            Err(_) => Err(Refusal::OutOfMemory),
         }
     }
 

@@ -1,12 +1,10 @@
 //! The tests of a commit.
-ghost use Rattle.std.specs.Prelude.{◌≡◌, ◌≢◌, [], IfErr, IfOk, None, OnOk, Some, length, nat_lt};
+ghost use Rattle.std.specs.Prelude.{◌≡◌, ◌≢◌, IfErr, IfOk, None, OnOk, Some, length};
 ghost use Rattle.std.specs.Result.{result_err};
 ghost use Rattle.cost_table.specs.Table.{order_count, wagon_count};
 ghost use Rattle.commit_book.specs.BookStep.{refusal_in};
-ghost use Rattle.commit_book.specs.Commits.{free_in, is_same_free, order_changed, wagon_changed, wagon_of as wagon_in_problem};
+ghost use Rattle.commit_book.specs.Commits.{free_in, is_same_free, lacks_fewer, order_changed, wagon_changed, wagon_of as wagon_in_problem};
 ghost use Rattle.faults.specs.declared.faults.Refusal.TheVariants.{OutOfMemory};
-ghost use Rattle.operating_db.specs.Commits.{lack_in, times_of_order as times_in};
-ghost use Rattle.fleet_rows.specs.Rows.{order_in};
 
 use crate::Refusal;
 use crate::ascending_problem::AscendingProblem;
@@ -98,19 +96,19 @@ fn is_unchanged(planned: Option<FreeWagon>, present: Option<FreeWagon>) -> bool
 
 /// Each order lacks as many wagons now as the pairs give it.
 fn orders_unchanged(now: &OfficeState, pairs: &[(WagonNumber, OrderId)]) -> Result<(), Refusal>
-    ensures { result_err result ≡ order_changed now.now.office [] pairs.now }
+    ensures { result_err result ≡ order_changed now.now.office pairs.now }
 {
     for (k, pair) in pairs.iter().enumerate() {
-        if !lacks_more(now, &pairs[..k], pair.1) {
+        if lacks_fewer(now, &pairs[..k + 1], pair.1) {
             return Err(Refusal::OrderChanged(pair.1));
         }
     }
     Ok(())
 }
 
-/// Whether an order lacks more wagons now than these pairs give it.
-fn lacks_more(now: &OfficeState, before: &[(WagonNumber, OrderId)], id: OrderId) -> bool
-    ensures { result ≡ nat_lt (times_in id before.now) (lack_in (order_in now.now.office.orders id)) }
+/// Whether an order lacks fewer wagons now than these pairs give it.
+fn lacks_fewer(now: &OfficeState, pairs: &[(WagonNumber, OrderId)], id: OrderId) -> bool
+    ensures { result ≡ lacks_fewer now.now.office pairs.now id }
 {
-    times_of_order(id, before) < now.lack(id) as usize
+    (now.lack(id) as usize) < times_of_order(id, pairs)
 }

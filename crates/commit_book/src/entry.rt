@@ -1,7 +1,9 @@
 //! Events as a book keeps them.
 ghost use Rattle.std.specs.Prelude.{◌≡◌, ◌↔◌, IfOk, IsTrue};
+ghost use Rattle.commit_book.specs.EventView.{lent_event};
 ghost use Rattle.move_messages.specs.declared.event.Event.TheVariants as event;
 
+use crate::EventView;
 use move_messages::{Event, Message, is_same_event, is_same_message};
 use std::alloc::{AllocError, Global};
 use std::marker::Model;
@@ -58,13 +60,13 @@ impl Entry {
         }
     }
 
-    /// The event. Only a commit's copy takes memory.
-    pub fn event(&self, alloc: Global) -> Result<Event, AllocError>
-        ensures { IfOk result (λ event. event ≡ self.now) }
+    /// The event, lent. Takes no memory.
+    pub fn view(&self) -> EventView<'_>
+        ensures { lent_event result ≡ self.now }
     {
         match &self.kept {
-            KeptEvent::Message(message) => Ok(Event::Message(*message)),
-            KeptEvent::Other(other) => other.copy(alloc),
+            KeptEvent::Message(message) => EventView::Message(message),
+            KeptEvent::Other(event) => EventView::of(event),
         }
     }
 

@@ -24,6 +24,7 @@ use Rattle.operating_db.proofs.CompactRows.{KeepsClosed, all_where_open, order_i
 use Rattle.operating_db.proofs.Events.{step_kept}
 use Rattle.operating_db.proofs.Lookups.{order_in-at}
 use Rattle.operating_db.proofs.Names.{same, same_is}
+use Rattle.operating_db.proofs.Possible.{answered_ok, possible_by, promised_by}
 
 -- ---- offices that know the same orders, apart from the closed ones of a first office
 
@@ -110,7 +111,7 @@ leads_too networks first one other (event ∷ events) after h g known names lead
     let both : GiveBy (KnowTheRest first) (Ok next) (after_call networks other event) =
     subst (λ (r : Result Office ApplyFault). GiveBy (KnowTheRest first) r (after_call networks other event)) leads.1.1 (both_answer networks first one other event h g named known) in
     let too = ok_too (KnowTheRest first) next (after_call networks other event) both in
-    let step : Steps networks other event too.other = (promised_on one other event h g known.alike leads.1.0, too.ok) in
+    let step : Steps networks other event too.other = (possible_by networks other event (promised_on one other event h g known.alike (promised_by networks one event leads.1.0)) (answered_ok (after_call networks other event) too.other too.ok), too.ok) in
     let rest = leads_too networks first next too.other events after (step_kept networks one event next leads.1 h).promises (step_kept networks other event too.other step g).promises too.relates
     (All-tail (NamesNoneClosed first) event events names) leads.2 in
     record { last = rest.last; leads = (too.other, step, rest.leads); known = rest.known }
@@ -128,7 +129,7 @@ nothing_added networks office events after agree names leads =
 -- ---- events of which some are refused
 
 agree_by : (networks : ℕ) (office : Office) (event : Event) (r : Result Office ApplyFault) → after_call networks office event ≡ r → IsPromised office event → PromisesAgree office → PromisesAgree (result_unwrap_or r office)
-agree_by networks office event (Ok new) is can agree = (step_kept networks office event new (can, is) agree).promises
+agree_by networks office event (Ok new) is can agree = (step_kept networks office event new (possible_by networks office event can (answered_ok _ new is), is) agree).promises
 agree_by networks office event (Err fault) is can agree = agree
 
 agree_after : (networks : ℕ) (office : Office) (event : Event) → IsPromised office event → PromisesAgree office → PromisesAgree (after_event networks office event)

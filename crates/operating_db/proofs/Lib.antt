@@ -11,6 +11,7 @@ pub mod FreeCounts
 pub mod KeptOrders
 pub mod Lookups
 pub mod Names
+pub mod Possible
 pub mod Problems
 pub mod States
 pub mod Walks

@@ -1,8 +1,8 @@
 -- Codes that are compared as texts, and lists of them.
-use Rattle.std.proofs.Common.{◌≡◌, ◌∙◌, ℕ, Bool, true, false, cond, not, ◌||◌, ◌&&◌, List, [], ◌∷◌, ◌++◌, refl, ap, sym, take, drop, nat_eq, count_by, arith}
+use Rattle.std.proofs.Common.{◌≡◌, ◌∙◌, ℕ, Bool, true, false, cond, not, ◌||◌, ◌&&◌, List, [], ◌∷◌, ◌++◌, refl, ap, sym, nat_eq, arith}
 use Rattle.std.specs.List.{filter, list_any, Contains}
 use Rattle.std.specs.Cmp.Lexicographic.{pointwise, bytes_decides, nat_list_eq_equiv}
-use Rattle.std.proofs.lemmas.List.{take-append-drop}
+use Rattle.std.proofs.lemmas.List.Folds.{list_any-append}
 use Rattle.std.proofs.lemmas.Map.Views.{list_any-from_Contains, Contains-from_any}
 use Rattle.wagons_and_orders.specs.Numbers.{is_below, is_number, with_number, without_number}
 use Rattle.operating_db.specs.Promises.{is_among}
@@ -40,11 +40,30 @@ any-between : (p : List ℕ → Bool) (front : List (List ℕ)) (y : List ℕ) (
 any-between p [] y back = refl
 any-between p (x ∷ front) y back = ap (λ b. p x || b) (any-between p front y back) ∙ swap_or (p x) (p y) (list_any p (front ++ back))
 
+-- an element is among those that pass a test or among those that don't, by what each passes: `b`
+parted_step : (b any first second whole : Bool) → (first || second) ≡ whole → (cond b (any || first) first || cond (not b) (any || second) second) ≡ (any || whole)
+parted_step true true first second whole h = refl
+parted_step true false first second whole h = h
+parted_step false any first second whole h = swap_or first any second ∙ ap (λ c. any || c) h
+
+any-cond : (p : List ℕ → Bool) (b : Bool) (y : List ℕ) (ys : List (List ℕ)) → list_any p (cond b (y ∷ ys) ys) ≡ cond b (p y || list_any p ys) (list_any p ys)
+any-cond p true y ys = refl
+any-cond p false y ys = refl
+
+any-both : (q p : List ℕ → Bool) (xs : List (List ℕ)) → (list_any q (filter p xs) || list_any q (filter (λ x. not (p x)) xs)) ≡ list_any q xs
+any-both q p [] = refl
+any-both q p (x ∷ xs) =
+    rw (any-cond q (p x) x (filter p xs), any-cond q (not (p x)) x (filter (λ y. not (p y)) xs))
+    (parted_step (p x) (q x) (list_any q (filter p xs)) (list_any q (filter (λ y. not (p y)) xs)) (list_any q xs) (any-both q p xs))
+
+pub any-parted : (q p : List ℕ → Bool) (xs : List (List ℕ)) → list_any q (filter p xs ++ filter (λ x. not (p x)) xs) ≡ list_any q xs
+any-parted q p xs = list_any-append q (filter p xs) (filter (λ x. not (p x)) xs) ∙ any-both q p xs
+
 pub among-with : (w x : List ℕ) (ws : List (List ℕ)) → is_among x (with_number w ws) ≡ (same x w || is_among x ws)
 unfolding with_number
 among-with w x ws =
-    let k = count_by (is_below w) ws in
-    any-between (same x) (take k ws) w (drop k ws) ∙ ap (λ ys. same x w || list_any (same x) ys) (take-append-drop k ws)
+    any-between (same x) (filter (is_below w) ws) w (filter (λ other. not (is_below w other)) ws)
+    ∙ ap (λ b. same x w || b) (any-parted (same x) (is_below w) ws)
 
 -- `off`: y is w; `here`: it is x; `there`: w is x
 without_step : (off here there any left : Bool) → (off ≡ true → here ≡ there) → (here ≡ true → off ≡ there) → left ≡ (any && not there) → cond (not off) (here || left) left ≡ ((here || any) && not there)
@@ -52,10 +71,6 @@ without_step true here true any left h g e = grind (arith, e)
 without_step true here false any left h g e = let f = h refl in grind (arith, e, f)
 without_step false true there any left h g e = let f = g refl in grind (arith, e, f)
 without_step false false there any left h g e = e
-
-any-cond : (p : List ℕ → Bool) (b : Bool) (y : List ℕ) (ys : List (List ℕ)) → list_any p (cond b (y ∷ ys) ys) ≡ cond b (p y || list_any p ys) (list_any p ys)
-any-cond p true y ys = refl
-any-cond p false y ys = refl
 
 pub among-without : (w x : List ℕ) (ws : List (List ℕ)) → is_among x (without_number w ws) ≡ (is_among x ws && not (same w x))
 unfolding without_number

@@ -73,8 +73,8 @@ after_revision networks office network =
     else if network == office.network then Err SameNetwork
     else Ok (record office { network = network })
 
--- What an event makes of an office where there are so many networks, or its first refusal. Which commits are possible
--- is said by `CanPromise`.
+-- What an event makes of an office where there are so many networks, or its first refusal. A commit has none: whether it is
+-- possible is said by `IsPossible`.
 unfoldable pub after_call : (networks : ℕ) → Office → Event → Result Office ApplyFault
 after_call networks office (Message message) = after_message office message
 after_call networks office (Place text) = after_order office text

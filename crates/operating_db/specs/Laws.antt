@@ -9,7 +9,7 @@ use Rattle.operating_db.specs.RosterOffice.{first_office}
 use Rattle.operating_db.specs.FirstOffice.{IsFirstOffice}
 use Rattle.operating_db.specs.Promises.{PromisesAgree}
 use Rattle.operating_db.specs.After.{after_call}
-use Rattle.operating_db.specs.Steps.{IsPromised}
+use Rattle.operating_db.specs.Steps.{IsPossible}
 
 -- the numbers of the wagons; what the orders ask for
 abbrev pub numbers_of : Office → List (List ℕ)
@@ -20,7 +20,7 @@ texts_of office = map (λ row. row.text) office.orders
 
 -- from an office to a new one by an event
 abbrev pub Steps : (networks : ℕ) → Office → Event → Office → Type 0
-Steps networks office event new = IsPromised office event × (after_call networks office event ≡ Ok new)
+Steps networks office event new = IsPossible networks office event × (after_call networks office event ≡ Ok new)
 
 -- from an office to a new one by events, one after the other
 abbrev pub Leads : (networks : ℕ) → Office → List Event → Office → Type 0

@@ -17,7 +17,7 @@ ghost use Rattle.line_network.specs.NetworkCount.{max_networks};
 ghost use Rattle.operating_db.specs.FirstOffice.{IsFirstOffice};
 ghost use Rattle.operating_db.specs.State.{IsState, state_of};
 ghost use Rattle.move_messages.specs.declared.event.Event.TheVariants as event;
-ghost use Rattle.operating_db.specs.Steps.{IsPromised};
+ghost use Rattle.operating_db.specs.Steps.{IsPossible, IsPromised};
 
 use crate::ApplyFault;
 use crate::lists::{free_wagons, waiting_orders};
@@ -258,7 +258,7 @@ impl OfficeState {
     #[tactic(auto, unfolding(crate::specs::After::after_call))]
     pub fn possible(&self, event: &Event) -> Result<(), ApplyFault>
         requires { IsPromised self.now.office event.now }
-        ensures possible { OnOk result (IsOk (after_call self.now.networks self.now.office event.now)) }
+        ensures possible { OnOk result (IsPossible self.now.networks self.now.office event.now) }
         ensures refused { IfErr result (λ fault. after_call self.now.networks self.now.office event.now ≡ Err fault) }
     {
         match event {

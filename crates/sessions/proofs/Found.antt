@@ -15,9 +15,9 @@ use Rattle.operating_db.specs.Commits.{lack_in}
 use Rattle.operating_db.specs.Office.{Office}
 use Rattle.operating_db.specs.Problem.{free_wagons, problem_of, waiting_orders, wanted_in}
 use Rattle.operating_db.proofs.Names.{same_self, same_sym}
-use Rattle.operating_db.proofs.Problems.{free_keeps, picked_distinct}
+use Rattle.operating_db.proofs.Problems.{free_keeps}
 use Rattle.commit_book.specs.Commits.{free_in, is_same_free, is_same_wagon, wagon_of}
-use Rattle.sessions.proofs.Offices.{IsNamedOnce, same}
+use Rattle.commit_book.proofs.Offices.{IsNamedOnce, free_distinct, same}
 
 -- ---- rows and what is picked of them
 
@@ -44,9 +44,6 @@ picked_from pick [] k y h = absurd cc
 picked_from pick (x ∷ xs) k y h = picked_by pick x xs (pick x) refl (λ n z g. picked_from pick xs n z g) k y h
 
 -- ---- free wagons
-
-pub free_distinct : (office : Office) → IsNamedOnce office → IsDistinct same (map (λ (w : FreeWagon). w.number) (free_wagons office.wagons))
-free_distinct office once = picked_distinct (λ (r : WagonRow). r.number) (λ (w : FreeWagon). w.number) free_of free_keeps office.wagons once.wagons
 
 same_number : (n : ℕ) → (n == n) ≡ true
 same_number n = grind (arith, nat_tests)
@@ -84,9 +81,6 @@ wanted_row false row wanted h = absurd cc
 
 pub wanted_keeps : (row : OrderRowValue) (wanted : WantedOrder) → wanted_in row ≡ Some wanted → (wanted.order.id ≡ row.text.id) × (wanted.lack ≡ lack_of row)
 wanted_keeps row wanted h = wanted_row (is_waiting row) row wanted h
-
-pub wanted_distinct : (office : Office) → IsNamedOnce office → IsDistinct same (map (λ (o : WantedOrder). o.order.id) (waiting_orders office.orders))
-wanted_distinct office once = picked_distinct (λ (r : OrderRowValue). r.text.id) (λ (o : WantedOrder). o.order.id) wanted_in (λ row wanted h. (wanted_keeps row wanted h).0) office.orders once.orders
 
 -- an order of the problem of an office lacks as many wagons in it as in the problem
 pub order_same : (office : Office) → IsNamedOnce office → (id : List ℕ) (j : ℕ) (wanted : WantedOrder) → slice_get (waiting_orders office.orders) j ≡ Some wanted → wanted.order.id ≡ id → lack_in (order_in office.orders id) ≡ wanted.lack

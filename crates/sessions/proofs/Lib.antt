@@ -1,5 +1,4 @@
 pub mod Found
-pub mod Offices
 pub mod Planned
 pub mod Positions
 pub mod Receipts

@@ -8,7 +8,7 @@ use Rattle.line_network.specs.Network.{NetworkValue}
 use Rattle.line_network.specs.Networks.{network_at}
 use Rattle.problem_table.specs.Allowed.{IsTableOf}
 use Rattle.cost_table.specs.Plan.{cost_of}
-use Rattle.cost_table.specs.Problem.{ProblemValue, names_of_problem, order_names, wagon_names}
+use Rattle.cost_table.specs.Problem.{ProblemValue, names_of_problem}
 use Rattle.cost_table.specs.Table.{Table}
 use Rattle.price_checker.specs.Certificate.{IsCertificate}
 use Rattle.faults.specs.declared.faults.CheckFault.{CheckFault}
@@ -21,7 +21,7 @@ use Rattle.move_messages.specs.declared.event.Event.{Event}
 use Rattle.move_messages.specs.declared.event.Event.TheVariants as event
 use Rattle.commit_book.specs.BookStep.{BookState, IsCall, IsCommitAnswer, accepted_unless, is_full, is_kept, is_this, refusal_by, refusal_in}
 use Rattle.commit_book.specs.Commits.{order_changed, wagon_changed}
-use Rattle.commit_book.specs.History.{IsLegal, IsTableAt, problem_at, replay, version}
+use Rattle.commit_book.specs.History.{ArePositions, IsLegal, IsTableAt, problem_at, replay, version}
 use Rattle.commit_book.specs.Setting.{Setting}
 use Rattle.commit_book.specs.declared.answer.Answer.{Answer}
 use Rattle.commit_book.specs.declared.answer.Answer.TheVariants.{Begun, Done, Refused}
@@ -30,11 +30,9 @@ use Rattle.faults.specs.declared.faults.Refusal.{Refusal}
 use Rattle.faults.specs.declared.faults.Refusal.TheVariants.{BookFull, OutOfMemory}
 use Rattle.commit_book.specs.declared.reply.Reply.TheVariants.{Accepted}
 use Rattle.commit_book.proofs.BookParts.{last_version}
-use Rattle.commit_book.proofs.Placed.{positions_placed}
+use Rattle.commit_book.proofs.Offices.{IsNamedOnce, named_once, problem_named}
+use Rattle.commit_book.proofs.Placed.{placed_positions, stand_placed}
 use Rattle.sessions.specs.PlannersCommit.{CertificatesAreAccepted, IsCertificateAt, PlansAreAccepted}
-use Rattle.operating_db.proofs.Problems.{once}
-use Rattle.sessions.proofs.Found.{free_distinct, wanted_distinct}
-use Rattle.sessions.proofs.Offices.{IsNamedOnce, named_once}
 use Rattle.sessions.proofs.Positions.{positions_named}
 use Rattle.sessions.proofs.SameTables.{same_certificate}
 use Rattle.sessions.proofs.Unchanged.{no_order_changed, no_wagon_changed}
@@ -93,12 +91,12 @@ checked_free problem t commit positions are c =
 
 -- a commit of a certificate of an office's problem has no refusal in that office
 no_refusal_in : (net : NetworkValue) (office : Office) (at : ℕ) (t : Table) (commit : CommitText) (positions : List (ℕ × ℕ)) → IsNamedOnce office → IsTableOf net (problem_of office at) t
-    → positions_of (names_of_problem (problem_of office at)) commit.pairs ≡ Ok positions → IsCertificate t positions commit.u commit.v → refusal_in (problem_of office at) office commit t ≡ None
+    → ArePositions (problem_of office at) commit.pairs positions → IsCertificate t positions commit.u commit.v → refusal_in (problem_of office at) office commit t ≡ None
 no_refusal_in net office at t commit positions named is are c =
     let problem = problem_of office at in
-    let placed = positions_placed problem commit.pairs positions are in
-    ap (refusal_by problem office commit.pairs) (checked_free problem t commit positions are c)
-    ∙ none_both (wagon_changed problem office commit.pairs) (order_changed office [] commit.pairs) (no_wagon_changed office at named commit.pairs positions placed)
+    let placed = stand_placed problem (problem_named office at named) commit.pairs positions are in
+    ap (refusal_by problem office commit.pairs) (checked_free problem t commit positions (placed_positions problem commit.pairs positions placed) c)
+    ∙ none_both (wagon_changed problem office commit.pairs) (order_changed office commit.pairs) (no_wagon_changed office at named commit.pairs positions placed)
     (no_order_changed net office at t named is commit.pairs positions placed c.plan.within)
 
 -- a commit of a certificate of the last version
@@ -107,7 +105,7 @@ record IsLast (setting : Setting) (history : List Event) (commit : CommitText) :
   table : Table
   is_table : IsTableAt setting history commit.version commit.at table
   positions : List (ℕ × ℕ)
-  are_positions : positions_of (names_of_problem (problem_at setting history commit.version commit.at)) commit.pairs ≡ Ok positions
+  are_positions : ArePositions (problem_at setting history commit.version commit.at) commit.pairs positions
   certificate : IsCertificate table positions commit.u commit.v
 
 no_refusal : (setting : Setting) (history : List Event) (commit : CommitText) → IsNamedOnce (replay setting history) → IsLast setting history commit → (t : Table) → IsTableAt setting history commit.version commit.at t
@@ -118,7 +116,7 @@ no_refusal setting history commit named last t is =
     let first = subst (λ (n : NetworkValue). IsTableOf n (problem_at setting history commit.version commit.at) last.table) net last.is_table.of_problem in
     let c = same_certificate is.network (problem_at setting history commit.version commit.at) last.table t first is.of_problem last.positions commit.u commit.v last.certificate in
     let of = subst (λ (o : Office). IsTableOf is.network (problem_of o commit.at) t) last.office is.of_problem in
-    let are = subst (λ (o : Office). positions_of (names_of_problem (problem_of o commit.at)) commit.pairs ≡ Ok last.positions) last.office last.are_positions in
+    let are = subst (λ (o : Office). ArePositions (problem_of o commit.at) commit.pairs last.positions) last.office last.are_positions in
     subst (λ (o : Office). refusal_in (problem_of o commit.at) office commit t ≡ None) (sym last.office) (no_refusal_in is.network office commit.at t commit last.positions named of are c)
 
 abbrev IsAcceptedOrLacks : ℕ → Answer → Type 0
@@ -150,8 +148,8 @@ certificates_are_accepted setting first book at number begun h commit c answer n
       table = c.table;
       is_table = subst (λ (n : ℕ). IsTableAt setting begun.history n commit.at c.table) (sym c.names_version) (subst (λ (m : ℕ). IsTableAt setting begun.history number m c.table) (sym c.names_moment) c.is_table);
       positions = c.positions;
-      are_positions = subst (λ (n : ℕ). positions_of (names_of_problem (problem_at setting begun.history n commit.at)) commit.pairs ≡ Ok c.positions) (sym c.names_version)
-          (subst (λ (m : ℕ). positions_of (names_of_problem (problem_at setting begun.history number m)) commit.pairs ≡ Ok c.positions) (sym c.names_moment) c.are_positions);
+      are_positions = subst (λ (n : ℕ). ArePositions (problem_at setting begun.history n commit.at) commit.pairs c.positions) (sym c.names_version)
+          (subst (λ (m : ℕ). ArePositions (problem_at setting begun.history number m) commit.pairs c.positions) (sym c.names_moment) c.are_positions);
       certificate = c.certificate;
     } in
     let its : commit.version ≡ length book.history = c.names_version ∙ p.last in
@@ -164,12 +162,9 @@ plans_are_accepted setting first book at number begun h pairs u v planned commit
     let p = present setting book at number begun h.call in
     let now = replay setting book.history in
     let office : version setting begun.history number ≡ now = ap (version setting begun.history) p.last ∙ (ap (λ (es : List Event). version setting es (length book.history)) p.history ∙ last_version setting book.history) in
-    let named = named_once setting book.history first h.legal in
     let problem = problem_of now at in
-    let wagons = once (wagon_names problem.wagons) (free_distinct now named) in
-    let orders = once (order_names problem.orders) (wanted_distinct now named) in
-    let found = positions_named planned.network problem planned.table planned.is_table wagons orders pairs planned.certificate.plan.allowed in
-    let there : positions_of (names_of_problem problem) commit.pairs ≡ Ok pairs = ap (positions_of (names_of_problem problem)) its.named ∙ found in
+    let stand = positions_named planned.network problem planned.table planned.is_table pairs planned.certificate.plan.allowed in
+    let there : ArePositions problem commit.pairs pairs = rw its.named stand in
     let c : IsCertificateAt setting begun.history number at commit = record {
       names_version = its.version ∙ sym p.last;
       names_moment = its.at;
@@ -180,7 +175,7 @@ plans_are_accepted setting first book at number begun h pairs u v planned commit
         of_problem = subst (λ (o : Office). IsTableOf planned.network (problem_of o at) planned.table) (sym office) planned.is_table;
       };
       positions = pairs;
-      are_positions = subst (λ (o : Office). positions_of (names_of_problem (problem_of o at)) commit.pairs ≡ Ok pairs) (sym office) there;
+      are_positions = subst (λ (o : Office). ArePositions (problem_of o at) commit.pairs pairs) (sym office) there;
       certificate = subst (λ (ps : List ℕ). IsCertificate planned.table pairs ps commit.v) (sym its.wagon_prices) (subst (λ (ps : List ℕ). IsCertificate planned.table pairs u ps) (sym its.order_prices) planned.certificate);
     } in
     certificates_are_accepted setting first book at number begun h commit c answer new commits

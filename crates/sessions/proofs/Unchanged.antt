@@ -1,10 +1,10 @@
 -- A certificate of the problem of an office has no wagon and no order that has changed in that office.
-use Rattle.std.proofs.Common.{◌≡◌, ◌∙◌, ◌<◌, ◌≤◌, ℕ, zero, suc, Bool, true, cond, List, [], ◌∷◌, ◌++◌, map, refl, sym, ap, subst, arith, append_assoc}
-use Rattle.std.specs.Prelude.{nat_lt, Option, None, Some, All, slice_get, slice_index}
+use Rattle.std.proofs.Common.{◌≡◌, ◌∙◌, ◌+◌, ◌<◌, ◌≤◌, ℕ, zero, suc, Bool, true, false, cond, List, [], ◌∷◌, length, map, take, get_or, refl, ap, arith}
+use Rattle.std.specs.Prelude.{Option, None, Some, All, slice_get, slice_index}
 use Rattle.std.proofs.lemmas.Bool.Decides.{nat_tests}
-use Rattle.std.proofs.lemmas.List.Elements.{All-cons, All-head, All-nil, All-tail}
-use Rattle.std.proofs.lemmas.List.Sums.{sum_by-append, sum_by-cons}
-use Rattle.std.proofs.lemmas.Option.{slice_get_within}
+use Rattle.std.proofs.lemmas.List.Elements.{All-cons, All-get_or, All-nil}
+use Rattle.std.proofs.lemmas.List.Sums.{sum_by-take-drop}
+use Rattle.std.proofs.lemmas.Option.{slice_get-get_or, slice_get_within}
 use Rattle.wagons_and_orders.specs.Wanted.{WantedOrder}
 use Rattle.line_network.specs.Network.{NetworkValue}
 use Rattle.problem_table.specs.Allowed.{IsTableOf}
@@ -14,13 +14,13 @@ use Rattle.fleet_rows.specs.Rows.{order_in}
 use Rattle.operating_db.specs.Commits.{Pair, lack_in, times_of_order}
 use Rattle.operating_db.specs.Office.{Office}
 use Rattle.operating_db.specs.Problem.{problem_of}
-use Rattle.operating_db.proofs.Names.{same_self}
-use Rattle.commit_book.specs.Commits.{free_in, is_same_free, order_changed, wagon_changed, wagon_of}
+use Rattle.price_checker.proofs.FirstBelow.{first_below_none}
+use Rattle.commit_book.specs.Commits.{free_in, is_same_free, lacks_fewer, order_changed, order_changed_at, wagon_changed, wagon_of}
 use Rattle.faults.specs.declared.faults.Refusal.{Refusal}
-use Rattle.faults.specs.declared.faults.Refusal.TheVariants.{OrderChanged, WagonChanged}
+use Rattle.faults.specs.declared.faults.Refusal.TheVariants.{WagonChanged}
+use Rattle.commit_book.proofs.Offices.{IsNamedOnce, same}
 use Rattle.commit_book.proofs.Placed.{ArePlaced, order_there, order_times, wagon_there}
 use Rattle.sessions.proofs.Found.{order_same, wagon_same}
-use Rattle.sessions.proofs.Offices.{IsNamedOnce, same}
 use Rattle.sessions.proofs.SameTables.{columns}
 
 none_where_true : (b : Bool) (rest : Option Refusal) (refusal : Refusal) → b ≡ true → rest ≡ None → cond b rest (Some refusal) ≡ None
@@ -64,27 +64,17 @@ within_by net office at t once is all all_indices are_all lacks (pair ∷ pairs)
 within_by net office at t once is all all_indices are_all lacks [] (index ∷ indices) placed = absurd placed
 within_by net office at t once is all all_indices are_all lacks (pair ∷ pairs) [] placed = absurd placed
 
--- a pair counts among all of them beside those before it
-counts : (before pairs : List Pair) (pair : Pair) → times_of_order pair.1 before < times_of_order pair.1 (before ++ pair ∷ pairs)
-counts before pairs pair =
-    let f = λ (p : Pair). cond (same pair.1 p.1) 1 0 in
-    let whole = sum_by-append f before (pair ∷ pairs) in
-    let one = sum_by-cons f pair pairs in
-    let here : ◌≡◌ {A = ℕ} (cond (same pair.1 pair.1) 1 0) 1 = ap (λ b. cond b 1 0) (same_self pair.1) in
-    omega (arith, whole, one, here)
-
-less_test : (a b : ℕ) → a < b → nat_lt a b ≡ true
-less_test a b h = grind (arith, nat_tests, h)
-
-no_order_in : (office : Office) (before pairs : List Pair) → All (IsWithin office (before ++ pairs)) pairs → order_changed office before pairs ≡ None
-no_order_in office before [] all = refl
-no_order_in office before (pair ∷ pairs) all =
-    let bound = All-head (IsWithin office (before ++ pair ∷ pairs)) pair pairs all in
-    let less : times_of_order pair.1 before < lack_in (order_in office.orders pair.1) = omega (arith, bound, counts before pairs pair) in
-    let rest = subst (λ (whole : List Pair). All (IsWithin office whole) pairs) (sym (append_assoc before (pair ∷ []) pairs)) (All-tail (IsWithin office (before ++ pair ∷ pairs)) pair pairs all) in
-    none_where_true (nat_lt (times_of_order pair.1 before) (lack_in (order_in office.orders pair.1))) (order_changed office (before ++ pair ∷ []) pairs) (OrderChanged pair.1) (less_test _ _ less)
-    (no_order_in office (before ++ pair ∷ []) pairs rest)
+no_order_at : (office : Office) (pairs : List Pair) → All (IsWithin office pairs) pairs → (k : ℕ) → k < length pairs → order_changed_at office pairs k ≡ None
+no_order_at office pairs all k lt =
+    let pair = get_or pairs k ([], []) in
+    let there : slice_get pairs k ≡ Some pair = slice_get-get_or pairs k ([], []) lt in
+    let bound : times_of_order pair.1 pairs ≤ lack_in (order_in office.orders pair.1) = All-get_or (IsWithin office pairs) pairs k ([], []) lt all in
+    let part = sum_by-take-drop (λ (p : Pair). cond (same pair.1 p.1) 1 0) pairs (k + 1) in
+    let few : times_of_order pair.1 (take (k + 1) pairs) ≤ lack_in (order_in office.orders pair.1) = omega (arith, part, bound) in
+    let test : lacks_fewer office (take (k + 1) pairs) pair.1 ≡ false = grind (arith, nat_tests, few) in
+    rw (there, test) refl
 
 pub no_order_changed : (net : NetworkValue) (office : Office) (at : ℕ) (t : Table) → IsNamedOnce office → IsTableOf net (problem_of office at) t → (pairs : List Pair) (indices : List (ℕ × ℕ)) → ArePlaced (problem_of office at) pairs indices
-    → ((j : ℕ) → j < order_count t → serves j indices ≤ lack_at t j) → order_changed office [] pairs ≡ None
-no_order_changed net office at t once is pairs indices placed lacks = no_order_in office [] pairs (within_by net office at t once is pairs indices placed lacks pairs indices placed)
+    → ((j : ℕ) → j < order_count t → serves j indices ≤ lack_at t j) → order_changed office pairs ≡ None
+no_order_changed net office at t once is pairs indices placed lacks =
+    first_below_none (length pairs) (order_changed_at office pairs) (no_order_at office pairs (within_by net office at t once is pairs indices placed lacks pairs indices placed))

@@ -1,15 +1,13 @@
 -- A planner's commit: a begin, and then, with no call between, a commit of what was planned for it.
-use Rattle.std.specs.Prelude.{◌≡◌, ◌+◌, ◌⊎◌, ℕ, List, length, map, Ok}
+use Rattle.std.specs.Prelude.{◌≡◌, ◌+◌, ◌⊎◌, ℕ, List, length, map}
 use Rattle.move_messages.specs.declared.commit_text.CommitText.{CommitText}
 use Rattle.operating_db.specs.FirstOffice.{IsFirstOffice}
-use Rattle.cost_table.specs.Problem.{names_of_problem}
 use Rattle.cost_table.specs.Table.{Table}
 use Rattle.price_checker.specs.Certificate.{IsCertificate}
-use Rattle.price_checker.specs.NamedPairs.{positions_of}
 use Rattle.move_messages.specs.declared.event.Event.{Event}
 use Rattle.move_messages.specs.declared.event.Event.TheVariants as event
 use Rattle.commit_book.specs.BookStep.{BookState, IsCall}
-use Rattle.commit_book.specs.History.{IsLegal, IsTableAt, problem_at}
+use Rattle.commit_book.specs.History.{ArePositions, IsLegal, IsTableAt, problem_at}
 use Rattle.commit_book.specs.Setting.{Setting}
 use Rattle.price_checker.specs.Snap.{SnapValue, named_pair}
 use Rattle.commit_book.specs.Snap.{snap_of}
@@ -33,7 +31,7 @@ pub record IsCertificateAt (setting : Setting) (history : List Event) (version a
   pub table : Table
   pub is_table : IsTableAt setting history version at table
   pub positions : List (ℕ × ℕ)
-  pub are_positions : positions_of (names_of_problem (problem_at setting history version at)) commit.pairs ≡ Ok positions
+  pub are_positions : ArePositions (problem_at setting history version at) commit.pairs positions
   pub certificate : IsCertificate table positions commit.u commit.v
 
 -- the commit of pairs by position and prices, for a snapshot: its version and moment, the pairs by name, the prices

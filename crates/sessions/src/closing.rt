@@ -15,7 +15,7 @@ use std::thread;
 use std::thread::Threads;
 
 /// Closes a shared book, and answers its book: as many entries as all seats have receipts, and each receipt's event is the
-/// entry of its number. A shared book has as many seats as its ledger has parts.
+/// entry of its number.
 ///
 /// The first of these is answered: `SeatsMissing` (95), exactly where fewer seats come than the shared book was opened with;
 /// shared book and seats are handed back. `ReceiptLost` (96), only where the entry of a receipt is not its event; the book,
@@ -24,7 +24,6 @@ pub fn close<L: BookLedger>(
     shared: SharedBook<L>,
     seats: Vec<Seat<L>>,
 ) -> Result<Book, CloseFault<L>>
-    requires { shared.seats ≡ L.parts }
     ensures counts { IfOk result (λ book. length book.state.history ≡ sum_by count_of seats.items) }
     ensures receipts { IfOk result (λ book. All (HasEntries book.state.history) seats.items) }
     ensures fault { IfErr result (IsHandedBack shared seats) }
@@ -44,7 +43,6 @@ pub(crate) fn close_by_threads<L: BookLedger, T: Threads>(
     shared: SharedBook<L>,
     seats: Vec<Seat<L>>,
 ) -> Result<Book, CloseFault<L>>
-    requires { shared.seats ≡ L.parts }
     ensures counts { IfOk result (λ book. length book.state.history ≡ sum_by count_of seats.items) }
     ensures receipts { IfOk result (λ book. All (HasEntries book.state.history) seats.items) }
     ensures fault { IfErr result (IsHandedBack shared seats) }
@@ -63,7 +61,6 @@ fn audited<L: BookLedger>(
     shared: SharedBook<L>,
     seats: Vec<Seat<L>>,
 ) -> Result<(Book, Vec<Seat<L>>), CloseFault<L>>
-    requires { shared.seats ≡ L.parts }
     ensures seats { IfOk result (λ parts. parts.1 ≡ seats) }
     ensures counts { IfOk result (λ parts. length parts.0.state.history ≡ sum_by count_of seats.items) }
     ensures all { IfOk result (λ parts. shared.seats ≤ length seats.items) }
@@ -81,6 +78,7 @@ fn audited<L: BookLedger>(
         book,
         mut total,
         mut rest,
+        has_ledgers_networks: _,
     } = book.into_inner();
     let mut seats = seats;
     audit_all(&mut total, &mut rest, &mut seats);
@@ -149,10 +147,7 @@ fn first_other(book: &Book, receipts: &[Receipt]) -> Option<u64>
 fn has_entry(book: &Book, receipt: &Receipt) -> bool
     ensures { IsTrue result ↔ HasEntry book.now.state.history receipt.now }
 {
-    match book.entry(receipt.entry) {
-        Some(entry) => entry.is_same(&receipt.event),
-        None => false,
-    }
+    book.is_entry(receipt.entry, &receipt.event)
 }
 
 /// Holds the shares of all seats together against the total, which changes nothing: the seats' counts add up to it. Each

@@ -1,5 +1,5 @@
 //! The book behind the lock.
-ghost use Rattle.std.specs.Prelude.{◌≡◌, ◌≤◌, ◌<◌, ◌+◌, IfOk, IfSome, length};
+ghost use Rattle.std.specs.Prelude.{◌≡◌, ◌≤◌, ◌<◌, ◌+◌, Err, IfOk, IfSome, IsTrue, length};
 ghost use Rattle.commit_book.specs.BookStep.{IsCall};
 ghost use Rattle.commit_book.specs.Books.{IsNoEntry, answer_of, begun_of, IsSetting};
 ghost use Rattle.commit_book.specs.Headline.{IsProved};
@@ -12,7 +12,7 @@ ghost use Rattle.sessions.specs.inner.Counted.{IsEnteredBy, accepted_in};
 
 use crate::BookLedger;
 use commit_book::{Book, MadeProblem, Refusal, Reply, Snap};
-use move_messages::{Event, Message};
+use move_messages::{CommitText, Event, Message};
 use rail_codes::Moment;
 use std::alloc::{AllocError, Global};
 use std::sync::ledger::{Ledger, Share};
@@ -26,14 +26,16 @@ pub(crate) struct CountedBook<L: BookLedger> {
     pub(crate) total: ledger::Book<L>,
     /// A share that has no part, into which those of the seats are merged when the shared book closes.
     pub(crate) rest: Share<L>,
+    /// Whether the ledger is known to stand for the networks of the book.
+    pub(crate) has_ledgers_networks: bool,
     ghost counted: { length book.state.history ≡ total.total },
-    ghost over: { book.setting.networks ≡ L.networks },
+    ghost over: { IsTrue has_ledgers_networks → book.setting.networks ≡ L.networks },
     ghost no_part: { rest.parts ≡ 0 },
 }
 
 impl<L: BookLedger> CountedBook<L> {
     /// Lets an event of a seat be taken in by the book, and counts it on the seat's share if it was accepted. With a commit
-    /// may come what was made of a problem over the book's networks.
+    /// may come what was made of a problem over the ledger's networks.
     pub(crate) fn enter(
         &mut self,
         alloc: Global,
@@ -47,10 +49,12 @@ impl<L: BookLedger> CountedBook<L> {
         ensures parts { share.new.parts ≡ share.old.parts }
     {
         self.audit(share);
+        let made = self.known(made);
         let CountedBook {
             book,
             total,
             rest: _,
+            has_ledgers_networks: _,
         } = self;
         let answer = book.submit_with(alloc, event, made);
         book.for_the_prover();
@@ -78,6 +82,7 @@ impl<L: BookLedger> CountedBook<L> {
             book,
             total,
             rest: _,
+            has_ledgers_networks: _,
         } = self;
         match book.message_near(message, index) {
             Ok(reply) => {
@@ -102,6 +107,32 @@ impl<L: BookLedger> CountedBook<L> {
     {
         self.audit(share);
         self.book.answer_without_memory(event)
+    }
+
+    /// The same of a commit.
+    pub(crate) fn commit_without_memory(
+        &mut self,
+        share: &mut Share<L>,
+        commit: &CommitText,
+    ) -> Refusal
+        ensures answered { IsBooksAnswer share.old.amount (event.Commit commit.now) (Err result) }
+        ensures amount { share.new.amount ≡ share.old.amount }
+        ensures parts { share.new.parts ≡ share.old.parts }
+    {
+        self.audit(share);
+        self.book.commit_without_memory(commit)
+    }
+
+    /// What was made of a problem over the ledger's networks, where these are known to be the book's.
+    fn known(&self, made: Option<Arc<MadeProblem>>) -> Option<Arc<MadeProblem>>
+        requires { IfSome made (λ made. IsMadeAmong L.networks made.value) }
+        ensures { IfSome result (λ made. IsMadeAmong self.now.book.setting.networks made.value) }
+    {
+        if self.has_ledgers_networks {
+            made
+        } else {
+            None
+        }
     }
 
     /// The problem of the book's present version at a moment, which the book keeps. The seat's count is at most the

@@ -9,7 +9,8 @@ ghost use Rattle.sessions.specs.inner.Fed.{AreFed, AreToStart, HasRoom, IsFedFil
 
 use crate::closing::close_by_threads;
 use crate::fed_file::{FedFile, FileOf, fed_file};
-use crate::{BookLedger, CloseFault, FeedFault, FeedReport, FileCount, Seat, SharedBook, open};
+use crate::opening::open_with;
+use crate::{BookLedger, CloseFault, FeedFault, FeedReport, FileCount, Seat, SharedBook};
 use commit_book::Book;
 use line_engine::Source;
 use line_network::Networks;
@@ -99,7 +100,7 @@ fn feed_by<L: BookLedger + Send + Sync, T: Threads + Wait + Sync, R: Source + Se
     let Ok(room) = Room::new(alloc, count) else {
         return Err(FeedFault::OutOfMemory);
     };
-    let Ok((shared, seats)) = open::<L>(alloc, blank, book, count as u32) else {
+    let Ok((shared, seats)) = open_with::<L>(alloc, blank, book, count as u32, true) else {
         return Err(FeedFault::OutOfMemory);
     };
     let feeding = Feeding {
@@ -274,8 +275,7 @@ fn closed<L: BookLedger, T: Threads, R: Drop>(
     shared: SharedBook<L>,
     fed: Fed<L, R>,
 ) -> Result<FeedReport<R>, FeedFault>
-    requires ledger { shared.seats ≡ L.parts }
-    requires all { shared.seats ≤ vec_len fed.seats }
+    requires { shared.seats ≤ vec_len fed.seats }
     ensures files { IfOk result (λ report. report.files ≡ fed.files) }
     ensures receipts { IfOk result (λ report. All (HasEntries report.book.state.history) fed.seats.items) }
     ensures entries { IfOk result (λ report. length report.book.state.history ≡ sum_by count_of fed.seats.items) }

@@ -7,6 +7,6 @@ use commit_book::Entry;
 pub struct Receipt {
     /// The number of the entry.
     pub entry: u64,
-    /// The event.
+    /// The event, which `view` lends.
     pub event: Entry,
 }

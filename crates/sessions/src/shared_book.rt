@@ -42,11 +42,14 @@ pub struct SharedBook<L: BookLedger> {
 }
 
 impl<L: BookLedger> Model for SharedBook<L> {
+    ghost use Rattle.std.specs.Prelude.{◌≡◌};
     ghost use Rattle.sessions.specs.Seat.{SharedBookValue};
 
     ghost Value = { SharedBookValue };
 
     ghost view = { λ shared. record { seats = shared.seats } };
+
+    ghost invariant = { λ shared. shared.seats ≡ L.parts };
 }
 
 impl<L: BookLedger> SharedBook<L> {
@@ -148,11 +151,15 @@ impl<L: BookLedger> SharedBook<L> {
         rt: &impl Wait,
         alloc: Global,
         seat: &mut Seat<L>,
-        commit: CommitText,
+        commit: &CommitText,
     ) -> Result<Reply, Refusal>
-        ensures { IsSubmitted seat.old seat.new (event.Commit commit) result }
+        ensures { IsSubmitted seat.old seat.new (event.Commit commit.now) result }
     {
-        self.submit(rt, alloc, seat, Event::Commit(commit))
+        let Ok(copy) = commit.copy(alloc) else {
+            let mut book = self.locked(rt);
+            return Err(book.commit_without_memory(&mut seat.share, commit));
+        };
+        self.submit_other(rt, alloc, seat, Event::Commit(copy), None)
     }
 
     /// The problem of the book's present version at a moment, which the book keeps so that a commit may name it. The

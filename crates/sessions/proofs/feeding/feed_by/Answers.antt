@@ -7,21 +7,21 @@ use Rattle.sessions.proofs.feeding.feed_by.Goals as goal
 
 pub fed_in_threads-requires-clause-ready : goal.fed_in_threads-requires-clause-ready
 fed_in_threads-requires-clause-ready g c κs within =
-    let seats = c.in-Ok-open.seats in
+    let seats = c.in-Ok-open_with.seats in
     let room = c.in-Ok.ensures.running in
     record {
       fresh = c.requires.given.fresh;
-      new = rw c.in-Ok-open.ensures.seats (without_receipt c.len-count.result);
-      one_each = omega (arith, ap length c.in-Ok-open.ensures.seats, length-new_seats c.len-count.result, seats.ok.0, c.len-count.ensures);
+      new = rw c.in-Ok-open_with.ensures.seats (without_receipt c.len-count.result);
+      one_each = omega (arith, ap length c.in-Ok-open_with.ensures.seats, length-new_seats c.len-count.result, seats.ok.0, c.len-count.ensures);
       none = room.0;
       room = omega (arith, room.1, c.len-count.ensures);
     }
 
-pub closed-requires-clause-all : goal.closed-requires-clause-all
-closed-requires-clause-all g c =
+pub closed-requires : goal.closed-requires
+closed-requires g c =
     let fed = c.in-Ok-fed_in_threads in
     let same = seats_by g.R.Source.remaining g.R.Source.has_failed _ _ _ fed.ensures ∙ length-map c.args.readers.items (given_with c.args.networks.now) in
-    omega (arith, same, fed.fed.seats.ok.0, c.args.readers.ok.0, c.len-count.ensures, c.in-Ok-open.ensures.shared)
+    omega (arith, same, fed.fed.seats.ok.0, c.args.readers.ok.0, c.len-count.ensures, c.in-Ok-open_with.ensures.shared)
 
 pub returns-in-Ok-fed_in_threads : goal.returns-in-Ok-fed_in_threads
 returns-in-Ok-fed_in_threads g c =
