@@ -72,7 +72,7 @@ fn timed_revision(rt: &HostRuntime, alloc: Global, growth: &mut Growth) -> Resul
 fn timed_plan(rt: &HostRuntime, alloc: Global, growth: &mut Growth) -> Result<(u128, u128, u128)> {
     let (begin, snap) = timed_begin(rt, alloc, growth)?;
     let (table, commit) = timed_planning(rt, alloc, growth, &snap)?;
-    Ok((begin, table, timed_commit(rt, alloc, growth, commit)?))
+    Ok((begin, table, timed_commit(rt, alloc, growth, &commit)?))
 }
 
 /// The commit of a problem's plan, and the time of its table.
@@ -111,7 +111,7 @@ fn timed_commit(
     rt: &HostRuntime,
     alloc: Global,
     growth: &mut Growth,
-    commit: CommitText,
+    commit: &CommitText,
 ) -> Result<u128> {
     let start = Instant::now(rt)?;
     entered(growth.book.commit(alloc, commit))?;

@@ -3,16 +3,8 @@ use Rattle.std.proofs.Common.{◌≡◌, ◌+◌, ◌<◌, ℕ, zero, suc, List,
 use Rattle.std.specs.Prelude.{replicate}
 use Rattle.std.specs.List.{concat, flat_map, range_with_len}
 use Rattle.std.proofs.lemmas.List.Concat.{flat_map-append}
-use Rattle.std.proofs.lemmas.List.{length-map}
-use Rattle.wagons_and_orders.specs.Wanted.{WantedOrder}
-use Rattle.cost_table.specs.Problem.{ProblemValue}
-use Rattle.cost_table.specs.Table.{Table, order_count}
+use Rattle.cost_table.specs.Table.{Table}
 use Rattle.cost_table.specs.Plan.{AllAllowed, IsAllowed}
-use Rattle.dispatch_sheet.specs.PlanText.{FitsProblem}
-
--- the table has as many orders as the problem
-pub order_count-fits : (problem : ProblemValue) (t : Table) → FitsProblem problem t → order_count t ≡ length problem.orders
-order_count-fits problem t fits = ap length fits.lacks ∙ length-map problem.orders (λ (o : WantedOrder). o.lack)
 
 -- a pair of a plan is allowed
 pub IsAllowed-at : (t : Table) (pairs : List (ℕ × ℕ)) (i : ℕ) (d : ℕ × ℕ) → AllAllowed t pairs → i < length pairs → IsAllowed t (get_or pairs i d)

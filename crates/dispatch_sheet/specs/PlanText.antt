@@ -3,16 +3,16 @@
 use Rattle.std.specs.Prelude.{◌≡◌, ◌-◌, ◌==◌, ℕ, List, [], ◌∷◌, ◌++◌, length, filter, replicate, codes, decimal}
 use Rattle.std.specs.List.{concat, flat_map, range_with_len}
 use Rattle.cost_table.specs.Plan.{pair_cost, serves}
-use Rattle.cost_table.specs.Problem.{ProblemValue, order_names, wagon_names, lacks_of, penalties_of}
-use Rattle.cost_table.specs.Table.{Table, lack_at, penalty_at, wagon_count}
+use Rattle.cost_table.specs.Problem.{ProblemValue, order_names, wagon_names, penalties_of}
+use Rattle.cost_table.specs.Table.{Table, lack_at, order_count, penalty_at, wagon_count}
 use Rattle.price_checker.specs.NamedFaults.{name_at}
 use Rattle.reply_texts.specs.Words.{next_word}
 
--- The table has as many wagons as the problem, and its orders' penalties and lacks.
+-- The table has as many wagons and orders as the problem, and its orders' penalties.
 pub record FitsProblem (problem : ProblemValue) (t : Table) : Type 0 where
   pub wagons : wagon_count t ≡ length problem.wagons
+  pub orders : order_count t ≡ length problem.orders
   pub penalties : t.penalties ≡ penalties_of problem.orders
-  pub lacks : t.lacks ≡ lacks_of problem.orders
 
 -- a wagon that goes to an order, with its kilometres
 abbrev pub assign_line : ProblemValue → Table → ℕ × ℕ → List ℕ

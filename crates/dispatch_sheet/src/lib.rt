@@ -13,5 +13,5 @@ mod wagon_line;
 mod wagon_list;
 
 pub use certificate::certificate_line;
-pub use plan_lines::plan_text;
+pub use plan_lines::{certified_plan_text, plan_text};
 pub use sheet::sheet_text;

@@ -1,7 +1,7 @@
 //! The lines of a plan.
-ghost use Rattle.std.specs.Prelude.{◌≡◌, ◌++◌, ◌<◌, ◌≤◌, ◌==◌, ℕ, length, replicate, IfOk, OnOk, string_bytes};
+ghost use Rattle.std.specs.Prelude.{◌≡◌, ◌++◌, ◌<◌, ◌≤◌, ◌==◌, ℕ, length, replicate, IfOk, IfSome, OnOk, string_bytes};
 ghost use Rattle.std.specs.List.{concat, flat_map, prefix_len};
-ghost use Rattle.cost_table.specs.Plan.{AllAllowed, IsAllowed};
+ghost use Rattle.cost_table.specs.Plan.{AllAllowed, IsAllowed, IsPlan, pair_cost};
 ghost use Rattle.cost_table.specs.Table.{lack_at};
 ghost use Rattle.price_checker.specs.Certificate.{IsCertificate};
 ghost use Rattle.price_checker.specs.Tight.{AreTight, IsTight};
@@ -15,8 +15,23 @@ use std::alloc::{AllocError, Global};
 
 /// The lines of a plan: order by order as placed, `assign WAGON ORDER KM` for each wagon that the plan gives it, in
 /// the plan's order, then `refuse ORDER PENALTY` for each wagon that it misses. `KM` and `PENALTY` are kilometres. The
-/// table must be one of the snapshot's problem, and the prices a certificate of the plan: they tell the kilometres.
+/// table must have as many wagons and orders as the snapshot's problem, and its penalties; the plan must be one of the
+/// table.
 pub fn plan_text(
+    alloc: Global,
+    snap: &Snap,
+    cells: &Cells,
+    plan: &Plan,
+) -> Result<String, AllocError>
+    requires fits { FitsProblem snap.now.problem cells.now }
+    requires plan { IsPlan cells.now plan.now }
+    ensures { IfOk result (λ text. string_bytes text ≡ plan_text_of snap.now.problem cells.now plan.now) }
+{
+    text_of_plan(alloc, snap, cells, plan, None)
+}
+
+/// The same of a plan that comes with its certificate, whose prices tell the kilometres: no cell is looked up.
+pub fn certified_plan_text(
     alloc: Global,
     snap: &Snap,
     cells: &Cells,
@@ -25,6 +40,22 @@ pub fn plan_text(
 ) -> Result<String, AllocError>
     requires fits { FitsProblem snap.now.problem cells.now }
     requires certificate { IsCertificate cells.now plan.now prices.now.u.items prices.now.v.items }
+    ensures { IfOk result (λ text. string_bytes text ≡ plan_text_of snap.now.problem cells.now plan.now) }
+{
+    text_of_plan(alloc, snap, cells, plan, Some(prices))
+}
+
+/// The lines of a plan. Prices tell the kilometres, where they are there.
+fn text_of_plan(
+    alloc: Global,
+    snap: &Snap,
+    cells: &Cells,
+    plan: &Plan,
+    prices: Option<&Prices>,
+) -> Result<String, AllocError>
+    requires fits { FitsProblem snap.now.problem cells.now }
+    requires plan { IsPlan cells.now plan.now }
+    requires tight { IfSome prices (λ p. AreTight cells.now p.now.u.items p.now.v.items plan.now) }
     ensures { IfOk result (λ text. string_bytes text ≡ plan_text_of snap.now.problem cells.now plan.now) }
 {
     let problem = snap.problem();
@@ -51,13 +82,13 @@ fn push_lines_of_order(
     text: &mut String,
     problem: &Problem,
     cells: &Cells,
-    prices: &Prices,
+    prices: Option<&Prices>,
     mine: &[(usize, usize)],
     j: usize,
 ) -> Result<(), AllocError>
     requires fits { FitsProblem problem.now cells.now }
     requires allowed { AllAllowed cells.now mine.now }
-    requires tight { AreTight cells.now prices.now.u.items prices.now.v.items mine.now }
+    requires tight { IfSome prices (λ p. AreTight cells.now p.now.u.items p.now.v.items mine.now) }
     requires order { j < length problem.now.orders }
     requires within { length mine.now ≤ lack_at cells.now j }
     ensures { OnOk result (string_bytes text.new ≡ string_bytes text.old ++ lines_of_pairs problem.now cells.now mine.now j) }
@@ -71,12 +102,12 @@ fn push_assign_lines(
     text: &mut String,
     problem: &Problem,
     cells: &Cells,
-    prices: &Prices,
+    prices: Option<&Prices>,
     pairs: &[(usize, usize)],
 ) -> Result<(), AllocError>
     requires fits { FitsProblem problem.now cells.now }
     requires allowed { AllAllowed cells.now pairs.now }
-    requires tight { AreTight cells.now prices.now.u.items prices.now.v.items pairs.now }
+    requires tight { IfSome prices (λ p. AreTight cells.now p.now.u.items p.now.v.items pairs.now) }
     ensures { OnOk result (string_bytes text.new ≡ string_bytes text.old ++ flat_map (assign_line problem.now cells.now) pairs.now) }
 {
     for pair in pairs {
@@ -90,20 +121,32 @@ fn push_assign_line(
     text: &mut String,
     problem: &Problem,
     cells: &Cells,
-    prices: &Prices,
+    prices: Option<&Prices>,
     pair: (usize, usize),
 ) -> Result<(), AllocError>
     requires fits { FitsProblem problem.now cells.now }
     requires allowed { IsAllowed cells.now pair }
-    requires tight { IsTight cells.now prices.now.u.items prices.now.v.items pair }
+    requires tight { IfSome prices (λ p. IsTight cells.now p.now.u.items p.now.v.items pair) }
     ensures { OnOk result (string_bytes text.new ≡ string_bytes text.old ++ assign_line problem.now cells.now pair) }
 {
     let (i, j) = pair;
     text.push_str("assign")?;
     push_code(text, wagon_name(problem, i).digits())?;
     push_code(text, order_name(problem, j).as_bytes())?;
-    push_number(text, certified_pair_cost(cells, pair, prices))?;
+    push_number(text, kilometres(cells, prices, pair))?;
     text.push_str("\n")
+}
+
+/// The kilometres of a pair of the plan.
+fn kilometres(cells: &Cells, prices: Option<&Prices>, pair: (usize, usize)) -> u64
+    requires allowed { IsAllowed cells.now pair }
+    requires tight { IfSome prices (λ p. IsTight cells.now p.now.u.items p.now.v.items pair) }
+    ensures { result ≡ pair_cost cells.now pair }
+{
+    match prices {
+        Some(prices) => certified_pair_cost(cells, pair, prices),
+        None => cells.cell(pair.0, pair.1).unwrap_or(0),
+    }
 }
 
 /// Adds a line for each wagon that order `j` misses.

@@ -1,6 +1,7 @@
 //! The tests, by what they try.
 
 mod books;
+mod codes;
 mod commits;
 mod distances;
 mod examples;

@@ -18,7 +18,7 @@ ghost use Rattle.office.specs.inner.OutOfMemory.{MayAnswerOutOfMemory};
 use assignment::plan;
 use commit_book::{Book, Refusal, Reply, Snap};
 use cost_table::{Cells, Plan};
-use dispatch_sheet::{certificate_line, plan_text, sheet_text};
+use dispatch_sheet::{certificate_line, certified_plan_text, sheet_text};
 use line_engine::{
     Handler, LineLimit, Outcome, ReplyText, RunCount, RunFault, Sink, Source, run_lines,
 };
@@ -166,7 +166,7 @@ fn push_planned_reply(
         orders,
         certified_cost(cells, plan.pairs(), prices),
     )?;
-    reply.push_str(&plan_text(alloc, snap, cells, plan, prices)?)?;
+    reply.push_str(&certified_plan_text(alloc, snap, cells, plan, prices)?)?;
     reply.push_str(&certificate_line(alloc, snap, plan, prices)?)?;
     reply.push_bytes(b"\n")
 }

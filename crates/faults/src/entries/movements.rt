@@ -19,7 +19,8 @@ that stands at a siding to be loaded.
 - Where: movement messages: `run`, `feed`.
 - Cause: a message before it is missing or was refused, or it is about another
   wagon.
-- Remedy: look the wagon up in the sheet, and send what is missing first. The
+- Remedy: send what is missing first. The sheet has the wagon's status; a
+  railway, which can't ask for it at the service, asks the dispatcher. The
   manual's status table in MESSAGES.md says what may follow what.
 ";
 
@@ -29,6 +30,7 @@ The message names another place than the wagon's own.
 
 - Where: `release`, `departure` and `yard_departure`: `run`, `feed`.
 - Cause: an arrival before it is missing, or one of the two places is wrong.
-- Remedy: look the wagon up in the sheet. Send the missing arrival first, or the
-  message with the right place; its number is still free.
+- Remedy: send the missing arrival first, or the message with the right place;
+  its number is still free. The sheet has the wagon's place; a railway, which
+  can't ask for it at the service, asks the dispatcher.
 ";

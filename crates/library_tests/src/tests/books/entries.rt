@@ -1,7 +1,7 @@
 //! Entries of a book.
 
 use super::runs::book_after;
-use commit_book::{Book, Call};
+use commit_book::{Book, Call, Entry, EventView};
 use move_messages::Event;
 use std::alloc::Global;
 use std::test::Fail;
@@ -33,17 +33,27 @@ fn entries_are_counted_from_1(rt: HostRuntime) -> Result<(), Fail> {
 
 /// Whether the entry of a number is the event of a line, and that event's copy.
 fn is_entry(alloc: Global, book: &Book, n: u64, line: Line<'_>) -> Result<bool, Fail> {
-    let entry = book.entry(n).ok_or("no entry")?;
     let Call::Event(event) = call(alloc, line)? else {
         return Err(Fail::new("no event"));
     };
-    let copy = event.copy(alloc)?;
-    Ok(entry.is_event(&event) && entry.is_event(&copy))
+    let copy = Entry::of(alloc, event.copy(alloc)?)?;
+    let entry = Entry::of(alloc, event)?;
+    Ok(book.is_entry(n, &entry) && book.is_entry(n, &copy))
+}
+
+/// Whether the entry of a number is lent as a commit of a version.
+fn is_commit_of(book: &Book, n: u64, version: u64) -> bool {
+    match book.entry(n) {
+        Some(EventView::Commit(commit)) => commit.version == version,
+        _ => false,
+    }
 }
 
 #[test]
 fn an_entry_is_its_event(rt: HostRuntime) -> Result<(), Fail> {
     let book = book_after(rt.alloc(), LINES)?;
     assert!(rt; is_entry(rt.alloc(), &book, 2, COMMIT)?);
+    assert!(rt; is_commit_of(&book, 2, 1));
+    assert!(rt; !is_commit_of(&book, 1, 1));
     Ok(())
 }

@@ -49,7 +49,7 @@ impl<'a, L: BookLedger, R: Wait> Desk<'a, L, R> {
             Event::Message(message) => text_of(alloc, shared.send(rt, alloc, seat, &message)),
             Event::Place(text) => text_of(alloc, shared.place(rt, alloc, seat, &text)),
             Event::Withdraw(id) => text_of(alloc, shared.withdraw(rt, alloc, seat, id)),
-            Event::Commit(commit) => text_of(alloc, shared.commit(rt, alloc, seat, commit)),
+            Event::Commit(commit) => text_of(alloc, shared.commit(rt, alloc, seat, &commit)),
             Event::Revise(network) => text_of(alloc, shared.revise(rt, alloc, seat, network)),
         }
     }

@@ -71,7 +71,7 @@ fn commits<L: BookLedger, R: Wait>(
     let networks = networks_of(desk.alloc, SAMPLE.networks)?;
     let (commit, is_least) = planned(desk.alloc, snap, &networks)?;
     let is_nearest = is_nearest(&commit)?;
-    let reply = desk.shared.commit(desk.rt, desk.alloc, seat, commit);
+    let reply = desk.shared.commit(desk.rt, desk.alloc, seat, &commit);
     let told = text_of(desk.alloc, reply)?;
     Ok(is_least && told.as_str() == "accepted 2" && is_nearest)
 }

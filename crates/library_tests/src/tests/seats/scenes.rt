@@ -66,7 +66,6 @@ fn book_after<L: BookLedger + Send + Sync, R: Threads + Wait + Sync>(
     requires one_each { blank.parts ≡ seats }
     requires count { IsSeatCount seats }
     requires no_entry { book.state.history ≡ [] }
-    requires networks { book.setting.networks ≡ L.networks }
 {
     let Ok((shared, mut seats)) = open::<L>(alloc, blank, book, seats) else {
         return Err(Fail::new("no shared"));

@@ -22,11 +22,11 @@ fn entry_told(told: &str) -> Option<u64> {
     told.strip_prefix("accepted ")?.parse::<u64>().ok()
 }
 
-/// Whether an entry's event is a line's.
-fn is_of(alloc: Global, entry: &Entry, line: Line<'_>) -> Result<bool, Fail> {
+/// The entry that a line's event is.
+fn entry_of(alloc: Global, line: Line<'_>) -> Result<Entry, Fail> {
     match call(alloc, line)? {
-        Call::Event(event) => Ok(entry.is_event(&event)),
-        Call::Begin(_) => Ok(false),
+        Call::Event(event) => Ok(Entry::of(alloc, event)?),
+        Call::Begin(_) => Err(Fail::new("no event")),
     }
 }
 
@@ -45,7 +45,7 @@ fn is_told<L: BookLedger, R: Wait>(
         return Ok(seat.count() == count);
     };
     let receipt = seat.receipts().last().ok_or("no receipt")?;
-    let is_noted = receipt.entry == entry && is_of(desk.alloc, &receipt.event, line)?;
+    let is_noted = receipt.entry == entry && receipt.event.is_same(&entry_of(desk.alloc, line)?);
     Ok(is_noted && seat.count() == count.saturating_add(1))
 }
 
@@ -87,7 +87,7 @@ fn has_entry(alloc: Global, book: &Book, line: Line<'_>, told: &str) -> Result<b
     let Some(number) = entry_told(told) else {
         return Ok(true);
     };
-    is_of(alloc, book.entry(number).ok_or("no entry")?, line)
+    Ok(book.is_entry(number, &entry_of(alloc, line)?))
 }
 
 /// Whether a book has the events of all accepted calls of these turns, and no other entry.

@@ -35,7 +35,7 @@ returns c =
     (λ added. (
       head ++ plan_lines ++ line ++ 10 ∷ [],
       added_parts c.args.reply.now head plan_lines line _ _ _ _ (c.in_ok-push_planned.ensures ∙ ap (λ (xs : List ℕ). c.args.reply.now ++ xs) is_head)
-          (c.in_ok-push_str.ensures.ok ∙ ap (λ (xs : List ℕ). c.push_planned.new.reply ++ xs) (c.deref.ensures ∙ c.in_ok-plan_text.ensures))
+          (c.in_ok-push_str.ensures.ok ∙ ap (λ (xs : List ℕ). c.push_planned.new.reply ++ xs) (c.deref.ensures ∙ c.in_ok-certified_plan_text.ensures))
           (c.in_ok-push_str-2.ensures.ok ∙ ap (λ (xs : List ℕ). c.push_str.new.self ++ xs) c.deref-2.ensures) added,
       planned,
     ))
