@@ -8,11 +8,14 @@ import json
 import os
 import random
 import subprocess
-import tempfile
+from collections.abc import Sequence
 
 import office
-from memory import ALL, KEPT, STARTS
-from program import HERE, NETWORKS, PROGRAM, ROSTER, Table, office_words, run
+from memory import ALL, KEPT, STARTS, Refusals
+from program import HERE, HOSTILE, NETWORKS, PROGRAM, ROSTER, Table, office_words, run, written
+
+# A roster and networks.
+Files = tuple[str, tuple[str, ...]]
 
 HISTORIES = int(os.environ.get("HOSTILE_HISTORIES", 10_000))
 DAY = os.path.join(HERE, "..", "examples", "day")
@@ -26,18 +29,18 @@ NEXT = {"loading": "release", "unloading": "release", "ready": "departure", "emp
         "arrived_empty": "delivery"}
 
 
-def checkpoint_of(state):
+def checkpoint_of(state: office.Office) -> str:
     """The checkpoint of an office, as FORMATS.md says it."""
-    head = {"type": "checkpoint", "format": 1, "network": state.network}
+    head: office.Fields = {"type": "checkpoint", "format": 1, "network": state.network}
     if state.wagons:
         head["newest"] = office.moment_text(max(wagon.last for wagon in state.wagons.values()))
     lines = [head]
     for number, wagon in sorted(state.wagons.items()):
-        line = {"type": "wagon", "wagon": number, "class": wagon.kind, "load": wagon.load, "status": wagon.status, "place": wagon.place}
+        row: office.Fields = {"type": "wagon", "wagon": number, "class": wagon.kind, "load": wagon.load, "status": wagon.status, "place": wagon.place}
         if wagon.status == "empty":
-            line["ready"] = office.moment_text(wagon.ready)
-        line |= {"last": office.moment_text(wagon.last), "held": wagon.held}
-        lines.append(line | ({"promise": wagon.promise} if wagon.promise else {}))
+            row["ready"] = office.moment_text(wagon.ready)
+        row |= {"last": office.moment_text(wagon.last), "held": wagon.held}
+        lines.append(row | ({"promise": wagon.promise} if wagon.promise else {}))
     for order in state.orders.values():
         if order.is_open():
             fields = order.fields | {"latest": office.moment_text(order.fields["latest"])}
@@ -48,29 +51,30 @@ def checkpoint_of(state):
 
 
 @functools.cache
-def distances(networks):
+def distances(networks: tuple[str, ...]) -> list[office.Distances]:
     return [office.distances(path) for path in networks]
 
 
-def new_office(files):
+def new_office(files: Files) -> office.Office:
     roster, networks = files
     return office.Office(office.read_rows(roster), distances(networks), ENTRIES, KEPT)
 
 
-def words_of(word, files):
+def words_of(word: str, files: Files) -> list[str]:
     roster, networks = files
     return office_words(word, ENTRIES, KEPT, roster=roster, networks=networks)
 
 
-def fields_of(line):
+def fields_of(line: str) -> office.Fields:
     """The members of a line; none where it is no object."""
     try:
-        return json.loads(line)
+        fields: office.Fields = json.loads(line)
+        return fields
     except ValueError:
         return {}
 
 
-def do(state, line):
+def do(state: office.Office, line: str) -> None:
     """What a line does to the model's office. A plan line begins."""
     fields = fields_of(line)
     try:
@@ -85,17 +89,20 @@ def do(state, line):
 class History:
     """The lines of a run that is under way, its replies, and the model's office after them."""
 
-    def __init__(self, files, seed=0):
+    def __init__(self, files: Files, seed: int = 0) -> None:
         self.random, self.files = random.Random(seed), files
         self.state, self.now = new_office(files), 1_772_409_600
-        self.lines, self.replies, self.number = [], [], 0
+        self.lines: list[str] = []
+        self.replies: list[list[str]] = []
+        self.number = 0
         self.program = subprocess.Popen([PROGRAM, *words_of("run", files)], stdin=subprocess.PIPE, stdout=subprocess.PIPE)
 
-    def send(self, fields):
+    def send(self, fields: office.Fields) -> office.Fields:
         return self.send_line(json.dumps(fields))
 
-    def send_line(self, line):
-        """Sends a line, and keeps its reply; the certificate where it is a plan."""
+    def send_line(self, line: str) -> office.Fields:
+        """Sends a line, and keeps its reply; the members of the certificate where it is a plan."""
+        assert self.program.stdin
         self.lines.append(line)
         self.program.stdin.write(line.encode() + b"\n")
         self.program.stdin.flush()
@@ -105,12 +112,13 @@ class History:
             reply.append(self.read())
         self.replies.append(reply)
         do(self.state, line)
-        return json.loads(reply[-1]) if word == "plan" else None
+        return fields_of(reply[-1]) if word == "plan" else {}
 
-    def read(self):
+    def read(self) -> str:
+        assert self.program.stdout
         return self.program.stdout.readline().decode().rstrip("\n")
 
-    def message(self, kind, wagon, **more):
+    def message(self, kind: str, wagon: office.Wagon, **more: object) -> office.Fields:
         self.number += 1
         self.now += self.random.choice([0, 60, 600])
         at = self.now - self.random.choice([0, 0, 0, 0, 90_000])
@@ -119,7 +127,7 @@ class History:
             place = self.state.orders[wagon.promise].fields["place"]
         return {"type": kind, "company": "0080", "number": self.number, "wagon": wagon.number, "place": place, "moment": office.moment_text(at)} | more
 
-    def step(self):
+    def step(self) -> None:
         """One line, or a plan and its commit."""
         pick, state = self.random, self.state
         what = pick.choices(["move", "hold", "order", "withdraw", "plan", "network", "sheet", "again"], [50, 8, 14, 4, 16, 2, 3, 3])[0]
@@ -145,13 +153,14 @@ class History:
             line = pick.choice(self.lines)
             self.send_line(line if fields_of(line)["type"] not in ("plan", "commit") else '{"type":"sheet"}')
 
-    def close(self):
+    def close(self) -> None:
+        assert self.program.stdin and self.program.stdout
         self.program.stdin.close()
         self.program.stdout.read()
         self.program.wait()
 
 
-def names_before(fields, state, begun):
+def names_before(fields: office.Fields, state: office.Office, begun: set[tuple[int, str]]) -> bool:
     """Whether a line speaks of what a checkpoint doesn't have: a message of before, a problem that wasn't begun since, an order
     that was closed."""
     kind = fields.get("type")
@@ -163,7 +172,7 @@ def names_before(fields, state, begun):
     return order is not None and not order.is_open()
 
 
-def shifted(reply, lines, entries, closed):
+def shifted(reply: Sequence[str], lines: int, entries: int, closed: set[str]) -> list[str]:
     """The reply of the undivided run, as the run from the checkpoint gives it."""
     first = reply[0].split(" ")
     rest = [line for line in reply[1:] if not (line.startswith("order ") and line.split(" ")[1] in closed)]
@@ -175,13 +184,13 @@ def shifted(reply, lines, entries, closed):
     return [" ".join(first), *rest]
 
 
-def cuts_of(history):
+def cuts_of(history: History) -> list[int]:
     """Behind how many lines a history may be cut: not between a plan and its commit."""
     kinds = [fields_of(line).get("type") for line in history.lines]
     return [k for k in range(len(kinds) + 1) if not (0 < k < len(kinds) and kinds[k - 1] == "plan" and kinds[k] == "commit")]
 
 
-def divided(seed):
+def divided(seed: int) -> str | None:
     """A random history, cut at random."""
     history = History(FILES, seed)
     for _ in range(history.random.randint(5, 60)):
@@ -190,17 +199,23 @@ def divided(seed):
     return cut_at(history, history.random.choice(cuts_of(history)))
 
 
-def day_cut(cut):
-    """The example day, cut behind a line."""
+def day_history() -> History:
+    """The example day, whole."""
     history = History(DAY_FILES)
     with open(f"{DAY}/day.jsonl", encoding="utf-8") as file:
         for line in file.read().splitlines():
             history.send_line(line)
     history.close()
+    return history
+
+
+def day_cut(cut: int) -> str | None:
+    """The example day, cut behind a line."""
+    history = day_history()
     return cut_at(history, cut) if cut in cuts_of(history) else None
 
 
-def cut_at(history, cut):
+def cut_at(history: History, cut: int) -> str | None:
     """What differs where a history is cut behind so many lines, saved and gone on with."""
     before = new_office(history.files)
     for line in history.lines[:cut]:
@@ -213,17 +228,19 @@ def cut_at(history, cut):
     return gone_on(history, cut, before, saved.out)
 
 
-def from_words(word, path, files=FILES):
+def from_words(word: str, path: str, files: Files = FILES) -> list[str]:
     words = [word, "--from", path, "--entries", str(ENTRIES), "--kept", str(KEPT), "--workers", "1"]
     for network in files[1]:
         words += ["--network", network]
     return words
 
 
-def gone_on(history, cut, before, checkpoint):
+def gone_on(history: History, cut: int, before: office.Office, checkpoint: bytes) -> str | None:
     """What differs between the rest of a history and the run from a checkpoint."""
     closed = {name for name, order in before.orders.items() if not order.is_open()}
-    lines, wanted, begun = [], [], set()
+    lines: list[str] = []
+    wanted: list[str] = []
+    begun: set[tuple[int, str]] = set()
     for line, reply in zip(history.lines[cut:], history.replies[cut:]):
         fields = fields_of(line)
         if reply[0].split()[1] in ("begun", "plan"):
@@ -235,13 +252,11 @@ def gone_on(history, cut, before, checkpoint):
             line = json.dumps(fields | {"version": fields["version"] - before.length})
         lines.append(line)
         wanted += shifted(reply, cut, before.length, closed)
-    with tempfile.NamedTemporaryFile() as file:
-        file.write(checkpoint)
-        file.flush()
+    with written(checkpoint) as path:
         given = "".join(line + "\n" for line in lines).encode()
-        went = run(from_words("run", file.name, history.files), given)
-        again = run(from_words("save", file.name, history.files))
-        last = run(from_words("save", file.name, history.files), given)
+        went = run(from_words("run", path, history.files), given)
+        again = run(from_words("save", path, history.files))
+        last = run(from_words("save", path, history.files), given)
     if went.out.decode().splitlines() != wanted:
         return f"cut at {cut}: {went.out!r} {went.err!r} where {wanted!r} is right"
     if again.out != checkpoint:
@@ -251,11 +266,10 @@ def gone_on(history, cut, before, checkpoint):
 
 # One checkpoint, cut and with its bytes replaced.
 
-HOSTILE = [0x00, 0x09, 0x0A, 0x0D, 0x20, 0x22, 0x2C, 0x2D, 0x30, 0x39, 0x3A, 0x5B, 0x5C, 0x5D, 0x65, 0x7B, 0x7D, 0x7F, 0xC3, 0xFF]
 FAULTS = {51, 52, 53, 75, 79, 85, 86, 87, 88}
 
 
-def sample():
+def sample() -> bytes:
     """A checkpoint with holds, promises, a filled wagon and an order with room."""
     history = History(FILES)
     while not (any(order.promised and order.filled for order in history.state.orders.values() if order.is_open())
@@ -265,12 +279,10 @@ def sample():
     return checkpoint_of(history.state).encode()
 
 
-def read_from(text):
+def read_from(text: bytes) -> tuple[str | None, bytes | None]:
     """A text as a checkpoint: refused with a code and a line of its own, or an office that is saved as itself."""
-    with tempfile.NamedTemporaryFile() as file:
-        file.write(text)
-        file.flush()
-        outcome = run(from_words("save", file.name))
+    with written(text) as path:
+        outcome = run(from_words("save", path))
     if outcome.fault():
         return outcome.fault(), None
     if outcome.status == 2:
@@ -280,7 +292,7 @@ def read_from(text):
     return None, outcome.out
 
 
-def cut_after(case):
+def cut_after(case: tuple[bytes, int]) -> str | None:
     text, length = case
     fault, out = read_from(text[:length])
     if length >= len(text) - 1:
@@ -288,7 +300,7 @@ def cut_after(case):
     return fault or (None if out is None else f"a checkpoint without its end is read: {out!r}")
 
 
-def byte_replaced(case):
+def byte_replaced(case: tuple[bytes, int, int]) -> str | None:
     text, at, byte = case
     fault, out = read_from(text[:at] + bytes([byte]) + text[at + 1:])
     if fault or out is None:
@@ -298,13 +310,11 @@ def byte_replaced(case):
     return again or (None if same == out else f"{out!r} is saved as {same!r}")
 
 
-def without_memory(case):
+def without_memory(case: tuple[bytes, Refusals]) -> str | None:
     """A checkpoint read and saved again, or `wagons: 1` and nothing else."""
     text, refusals = case
-    with tempfile.NamedTemporaryFile() as file:
-        file.write(text)
-        file.flush()
-        outcome = run(from_words("save", file.name), b"", **refusals)
+    with written(text) as path:
+        outcome = run(from_words("save", path), b"", **refusals)
     if outcome.fault():
         return outcome.fault()
     if outcome.status == 2:
@@ -312,25 +322,26 @@ def without_memory(case):
     return None if outcome.status == 0 and outcome.out == text else f"status {outcome.status} and {outcome.out!r}"
 
 
-def requests(text):
+def requests(text: bytes) -> int:
     """How many requests for memory there are where none is refused."""
-    with tempfile.NamedTemporaryFile() as file:
-        file.write(text)
-        file.flush()
-        return run(from_words("save", file.name), b"", refuse_from=ALL).counts[0]
+    with written(text) as path:
+        return run(from_words("save", path), b"", refuse_from=ALL).counts[0]
 
 
-def main():
+def main() -> None:
     table = Table()
+    table.row("histories cut, saved, and gone on with both ways")
     table.try_all("histories cut at random, saved, and gone on with both ways", divided, range(HISTORIES))
     table.try_all("the example day cut after each line, and gone on with both ways", day_cut, range(42))
     text = sample()
+    table.row("a checkpoint cut after every byte, and every byte replaced")
     table.try_all("a checkpoint cut after every byte", cut_after, [(text, length) for length in range(len(text) + 1)])
     table.try_all("every byte of a checkpoint replaced by each of 20 bytes", byte_replaced,
                   [(text, at, byte) for at in range(len(text)) for byte in HOSTILE if text[at] != byte])
     most = requests(text) + 5
-    table.try_all("`save` of a checkpoint: one request for memory refused", without_memory, [(text, {"refuse_from": n, "refuse_count": 1}) for n in range(1, most)])
-    table.try_all("`save` of a checkpoint: all requests from one on refused", without_memory, [(text, {"refuse_from": n, "refuse_count": ALL}) for n in range(1, most)])
+    table.row("`save`: requests for memory refused")
+    for which, count in ("one request for memory", 1), ("all requests from one on", ALL):
+        table.try_all(f"`save` of a checkpoint: {which} refused", without_memory, [(text, {"refuse_from": n, "refuse_count": count}) for n in range(1, most)])
     table.end()
 
 

@@ -7,11 +7,13 @@ import os
 import subprocess
 import tempfile
 import threading
+from collections.abc import Iterator, Sequence
+from typing import IO, Any
 
 import judge
 import program
 from memory import ENTRIES, KEPT, counts_add_up, fed, new_office
-from program import NETWORKS, ROSTER, SCRIPTS, Outcome, Table, office_words, run, script
+from program import NETWORKS, ROSTER, SCRIPTS, Outcome, Table, office_words, run, script, written
 
 ERRORS = [errno.EIO, errno.EINTR, errno.EAGAIN]
 RUN = office_words("run", ENTRIES, KEPT)
@@ -19,28 +21,28 @@ FEED = office_words("feed", ENTRIES, KEPT)
 INPUTS = {"check": ("tables.jsonl", ["check"]), "run": ("office.jsonl", RUN)}
 
 
-def path_of(name):
+def path_of(name: str) -> str:
     return os.path.join(SCRIPTS, name)
 
 
-def replies_to(word, given, output):
+def replies_to(word: str, given: bytes, output: bytes) -> judge.Replies:
     """The replies to what was given, where the output is right."""
     if word == "check":
         return judge.judge_check(given, output)
     return judge.Run(new_office()).judge(given, output)
 
 
-def whole_lines(given):
+def whole_lines(given: bytes) -> bytes:
     return given[:given.rfind(b"\n") + 1]
 
 
-def wrong(outcome, status, err):
+def wrong(outcome: Outcome, status: int, err: bytes) -> str | None:
     if (outcome.status, outcome.err) != (status, err):
         return f"status {outcome.status} and {outcome.err!r}, where {status} and {err!r} are right"
     return None
 
 
-def judged(word, given, outcome):
+def judged(word: str, given: bytes, outcome: Outcome) -> str | None:
     try:
         replies_to(word, given, outcome.out)
     except judge.Lost as lost:
@@ -48,7 +50,7 @@ def judged(word, given, outcome):
     return None
 
 
-def failing_read(case):
+def failing_read(case: tuple[str, int, int, int]) -> str | None:
     """Each read gets at most `short` bytes, and the nth fails: 93 with the line that the next byte would belong to."""
     word, short, nth, error = case
     name, words = INPUTS[word]
@@ -59,7 +61,7 @@ def failing_read(case):
     return wrong(outcome, 2, f"wagons: 93 {line}\n".encode()) or judged(word, whole_lines(given), outcome)
 
 
-def failing_file(case):
+def failing_file(case: tuple[str, str, int, int, int]) -> str | None:
     """A read of the roster or of a network fails: 93, and nothing is written."""
     word, path, short, nth, error = case
     words = RUN if word == "run" else FEED + [path_of("office.jsonl")]
@@ -67,7 +69,7 @@ def failing_file(case):
     return wrong(outcome, 2, b"wagons: 93\n") or (f"wrote {outcome.out!r}" if outcome.out else None)
 
 
-def failing_feed(case):
+def failing_feed(case: tuple[int, int, int]) -> str | None:
     """A read of a file of `feed` fails: it is reported as failed, and the lines before are done."""
     short, nth, error = case
     path = path_of("office.jsonl")
@@ -78,21 +80,19 @@ def failing_feed(case):
 
 
 @functools.cache
-def ways_of(given):
+def ways_of(given: bytes) -> list[judge.Fed]:
     return list(judge.all_fed(new_office, given))
 
 
-def shrinking(case):
+def shrinking(case: tuple[str, int, int, int]) -> str | None:
     """The file is cut before its nth read, and ends there."""
     word, short, nth, length = case
     name, words = INPUTS.get(word, ("office.jsonl", FEED))
-    with tempfile.NamedTemporaryFile() as copy:
-        copy.write(script(name))
-        copy.flush()
-        words = words + [copy.name] if word == "feed" else words
-        with open(copy.name, "rb") as source:
+    with written(script(name)) as copy:
+        words = words + [copy] if word == "feed" else words
+        with open(copy, "rb") as source:
             outcome = run(words, source, read_inode=os.fstat(source.fileno()).st_ino, read_short=short, shrink_at=nth,
-                          shrink_to=length, shrink_file=copy.name)
+                          shrink_to=length, shrink_file=copy)
     given = script(name)[:max(length, short * (nth - 1))]
     if outcome.fault() or outcome.status == 2:
         return f"status {outcome.status} and {outcome.err!r}"
@@ -103,7 +103,7 @@ def shrinking(case):
 
 
 @functools.cache
-def whole_output(word):
+def whole_output(word: str) -> bytes:
     """What the program writes where nothing fails, judged."""
     name, words = INPUTS[word]
     outcome = run(words, script(name))
@@ -111,7 +111,7 @@ def whole_output(word):
     return outcome.out
 
 
-def failing_write(case):
+def failing_write(case: tuple[str, int, int, int]) -> str | None:
     """Each write takes at most `short` bytes, and the nth fails: 94 with the line whose reply it is a part of."""
     word, short, nth, error = case
     name, words = INPUTS[word]
@@ -123,9 +123,10 @@ def failing_write(case):
 
 
 @functools.cache
-def writes_of(word, short):
+def writes_of(word: str, short: int) -> list[tuple[int, int]]:
     """For each write the line whose reply it is a part of, and how many bytes were written before it."""
-    places, done = [], 0
+    places: list[tuple[int, int]] = []
+    done = 0
     for number, length in replies_of(whole_output(word)):
         for part in range(0, length, short):
             places.append((number, done + part))
@@ -133,22 +134,23 @@ def writes_of(word, short):
     return places
 
 
-def replies_of(output):
+def replies_of(output: bytes) -> list[tuple[int, int]]:
     """The number of each reply, and its length with all its lines."""
-    replies = []
+    replies: list[tuple[int, int]] = []
     for row in output.splitlines(keepends=True):
         first = row.split(b" ")[0]
         if first.isdigit():
-            replies.append([int(first), 0])
-        replies[-1][1] += len(row)
+            replies.append((int(first), 0))
+        number, length = replies[-1]
+        replies[-1] = number, length + len(row)
     return replies
 
 
-def place_of_write(word, short, nth):
+def place_of_write(word: str, short: int, nth: int) -> tuple[int, int]:
     return writes_of(word, short)[nth - 1]
 
 
-def failing_report(case):
+def failing_report(case: tuple[tuple[str, ...], int, int, int]) -> str | None:
     """What is printed at the end in one text: help, the version, the report of `feed`."""
     words, short, nth, error = case
     whole = run(list(words)).out
@@ -158,24 +160,25 @@ def failing_report(case):
     return wrong(outcome, 2, b"wagons: 94\n")
 
 
-def run_to(words, given, **streams):
+def run_to(words: Sequence[str], given: bytes | None, **streams: Any) -> Outcome:
     """Runs with standard output or input as they are given, without the library."""
-    ended = subprocess.run([program.PROGRAM, *words], stderr=subprocess.PIPE, timeout=60, **streams,
-                           **({} if given is None else {"input": given}))
+    if given is not None:
+        streams["input"] = given
+    ended = subprocess.run([program.PROGRAM, *words], stderr=subprocess.PIPE, timeout=60, **streams)
     return Outcome(ended.returncode, b"", ended.stderr)
 
 
-def closed_pipe():
+def closed_pipe() -> int:
     """A pipe that nobody reads any more."""
     reading, writing = os.pipe()
     os.close(reading)
     return writing
 
 
-def odd_device(case):
+def odd_device(case: tuple[str, tuple[str, ...], bytes | None, int, bytes]) -> str | None:
     """Devices of the system itself."""
-    name, words, given, status, err = case
-    words = list(words)
+    name, said, given, status, err = case
+    words = list(said)
     if name == "full disk":
         with open("/dev/full", "wb") as full:
             outcome = run_to(words, given, stdout=full)
@@ -196,18 +199,19 @@ def odd_device(case):
     return wrong(outcome, status, err)
 
 
-def odd_devices():
+def odd_devices() -> list[tuple[str, tuple[str, ...], bytes | None, int, bytes]]:
     """Name, words, input, and the right status and standard error."""
     office_script, tables = script("office.jsonl"), script("tables.jsonl")
     feed = FEED + [path_of("office.jsonl")]
-    cases = []
+    cases: list[tuple[str, tuple[str, ...], bytes | None, int, bytes]] = []
     for name in "full disk", "closed pipe", "no standard output":
         cases += [(name, ("check",), tables, 2, b"wagons: 94 1\n"), (name, tuple(RUN), office_script, 2, b"wagons: 94 1\n"),
                   (name, tuple(feed), b"", 2, b"wagons: 94\n"), (name, ("--help",), b"", 2, b"wagons: 94\n"),
                   (name, ("--version",), b"", 2, b"wagons: 94\n"), (name, ("run", "--help"), b"", 2, b"wagons: 94\n")]
     for name in "no standard input", "directory as standard input":
         cases += [(name, ("check",), None, 2, b"wagons: 93 1\n"), (name, tuple(RUN), None, 2, b"wagons: 93 1\n")]
-    for word, more in ("run", []), ("feed", [path_of("office.jsonl")]):
+    files: dict[str, list[str]] = {"run": [], "feed": [path_of("office.jsonl")]}
+    for word, more in files.items():
         for path in "/tmp", "/no/such/file", "":
             roster = office_words(word, roster=path) + more
             network = office_words(word, networks=[NETWORKS[0], path]) + more
@@ -217,28 +221,35 @@ def odd_devices():
     return cases
 
 
-def no_thread(case):
-    """The nth thread can't be started: 46, after those that run have ended, and nothing is written."""
-    words, nth = case
+def no_thread(case: tuple[tuple[str, ...], int, bool]) -> str | None:
+    """The nth thread can't be started: 46, after those that run have ended, and nothing is written. But where a thread would
+    only look at what a file left behind, another does that, and all is as ever."""
+    words, nth, is_needed = case
     outcome = run(list(words), b"", thread_fails=nth)
-    return wrong(outcome, 2, b"wagons: 46\n") or (f"wrote {outcome.out!r}" if outcome.out else None)
+    if is_needed:
+        return wrong(outcome, 2, b"wagons: 46\n") or (f"wrote {outcome.out!r}" if outcome.out else None)
+    return wrong(outcome, 1, b"") or counts_add_up(outcome.out.decode(), outcome.status)
 
 
-def thread_starts():
+def thread_starts() -> Iterator[tuple[tuple[str, ...], int, bool]]:
+    """Threads start for the distances, so many workers for each network, for each file, and at the end once more for each file."""
     files = [path_of("feed_1.jsonl")] * 16
-    for words in office_words("run", workers=4), office_words("feed", workers=1) + files, office_words("feed", workers=64) + files:
-        count = run(words, b"", thread_fails=10**9).counts[3]
-        yield from ((tuple(words), nth) for nth in range(1, count + 1))
+    started: list[tuple[str, int, list[str]]] = [("run", 4, []), ("feed", 1, files), ("feed", 64, files)]
+    for word, workers, more in started:
+        words = tuple(office_words(word, workers=workers) + more)
+        count, needed = run(words, b"", thread_fails=10**9).counts[3], len(NETWORKS) * workers + len(more)
+        assert count == needed + len(more), (count, needed)
+        yield from ((words, nth, nth <= needed) for nth in range(1, count + 1))
 
 
 class Turns:
     """Lets senders write one after the other, a part at a time."""
 
-    def __init__(self, senders):
+    def __init__(self, senders: int) -> None:
         self.changed, self.next, self.left = threading.Condition(), 0, list(range(senders))
         self.opened = threading.Barrier(senders)
 
-    def write(self, sender, out, part, is_last):
+    def write(self, sender: int, out: IO[bytes], part: bytes, is_last: bool) -> None:
         with self.changed:
             if not self.changed.wait_for(lambda: self.left[self.next] == sender, 30):
                 raise TimeoutError
@@ -251,14 +262,14 @@ class Turns:
             self.changed.notify_all()
 
 
-def send(pipe, text, size, sender, turns):
+def send(pipe: str, text: bytes, size: int, sender: int, turns: Turns) -> None:
     with open(pipe, "wb", buffering=0) as out:
         turns.opened.wait(30)
         for start in range(0, len(text), size):
             turns.write(sender, out, text[start:start + size], start + size >= len(text))
 
 
-def fifos(size):
+def fifos(size: int) -> str | None:
     """Three senders write into named pipes by turns, so many bytes at a time; the report is that of their files. A fourth pipe is
     closed without a byte."""
     names, turns = ["feed_1.jsonl", "feed_2.jsonl", "feed_3.jsonl"], Turns(3)
@@ -280,33 +291,36 @@ def fifos(size):
     return outcome.fault() or counts_add_up(outcome.out.decode(), outcome.status)
 
 
-def reads(name, words, short):
+def reads(name: str, short: int) -> range:
     """The numbers of all reads of a file, the last one at its end among them."""
     size = os.path.getsize(path_of(name))
     return range(1, -(-size // short) + 2)
 
 
-def main():
+def main() -> None:
     table = Table()
-    for word, (name, words) in INPUTS.items():
-        cases = [(word, 1, nth, errno.EIO) for nth in reads(name, words, 1)]
-        cases += [(word, short, nth, error) for short in (7, 64, 1000, 16384) for error in ERRORS for nth in reads(name, words, short)]
+    table.row("each read of standard input, rosters, networks and files of `feed` failed")
+    for word, (name, _) in INPUTS.items():
+        cases = [(word, 1, nth, errno.EIO) for nth in reads(name, 1)]
+        cases += [(word, short, nth, error) for short in (7, 64, 1000, 16384) for error in ERRORS for nth in reads(name, short)]
         table.try_all(f"`{word}`: each read of standard input failed", failing_read, cases)
-    cases = [(word, path, short, nth, errno.EIO) for word in ("run", "feed") for path in (ROSTER, *NETWORKS)
-             for short in (1, 16384) for nth in reads(path, None, short)]
-    table.try_all("`run` and `feed`: each read of the roster and the networks failed", failing_file, cases)
-    cases = [(short, nth, error) for short in (7, 64, 1000, 16384) for error in ERRORS for nth in reads("office.jsonl", None, short)]
-    table.try_all("`feed`: each read of its file failed", failing_feed, cases)
+    table.try_all("`run` and `feed`: each read of the roster and the networks failed", failing_file,
+                  [(word, path, short, nth, errno.EIO) for word in ("run", "feed") for path in (ROSTER, *NETWORKS)
+                   for short in (1, 16384) for nth in reads(path, short)])
+    table.try_all("`feed`: each read of its file failed", failing_feed,
+                  [(short, nth, error) for short in (7, 64, 1000, 16384) for error in ERRORS for nth in reads("office.jsonl", short)])
+    table.row("each write failed")
     for word in INPUTS:
         whole = whole_output(word)
         cases = [(word, 1, nth, errno.EIO) for nth in range(1, len(whole) + 1)]
         cases += [(word, short, nth, error) for short in (7, 100000) for error in (0, errno.EIO, errno.ENOSPC, errno.EPIPE, errno.EINTR)
                   for nth in range(1, len(writes_of(word, short)) + 1)]
         table.try_all(f"`{word}`: each write failed", failing_write, cases)
-    texts = [("--help",), ("--version",), ("check", "--help"), ("run", "--help"), ("feed", "--help"), (*FEED, path_of("office.jsonl"))]
-    cases = [(words, short, nth, error) for words in texts for short in (1, 50) for error in (0, errno.EIO)
-             for nth in range(1, len(run(list(words)).out) // short + 1, 1 if short > 1 else 9)]
-    table.try_all("help, the version and the report of `feed`: writes failed", failing_report, cases)
+    texts: list[tuple[str, ...]] = [("--help",), ("--version",), ("check", "--help"), ("run", "--help"), ("feed", "--help"), (*FEED, path_of("office.jsonl"))]
+    table.try_all("help, the version and the report of `feed`: writes failed", failing_report,
+                  [(words, short, nth, error) for words in texts for short in (1, 50) for error in (0, errno.EIO)
+                   for nth in range(1, len(run(list(words)).out) // short + 1, 1 if short > 1 else 9)])
+    table.row("files that shrink; full disks, closed pipes, directories, missing files; named pipes in turns; each start of a thread failed")
     table.try_all("a full disk, closed pipes, directories, files that aren't there", odd_device, odd_devices())
     cases = [(word, short, nth, length) for word in ("check", "run", "feed") for short in (50, 500) for nth in (2, 5, 9)
              for length in range(0, len(script(INPUTS.get(word, ("office.jsonl",))[0])), 97)]

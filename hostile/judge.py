@@ -1,7 +1,12 @@
 """Holds what the program wrote against the model of office.py."""
 
+from collections.abc import Callable, Iterable, Iterator, Sequence
+
 import office as model
 from office import Doubt, Refused
+
+# What a line says, or why it is refused, or what the model doesn't say of it.
+Command = tuple[str, model.Fields] | Refused | Doubt
 
 
 class Lost(Exception):
@@ -12,10 +17,10 @@ class Unjudged(Exception):
     """The program read what the model leaves out: nothing is said of the lines behind."""
 
 
-_commands = {}
+_commands: dict[bytes, Command] = {}
 
 
-def read(line):
+def read(line: bytes) -> Command:
     """A line's command, or its refusal or doubt as a value."""
     if line not in _commands:
         if len(_commands) > 200_000:
@@ -27,7 +32,7 @@ def read(line):
     return _commands[line]
 
 
-def lines_of(script):
+def lines_of(script: bytes) -> list[tuple[int, bytes]]:
     """Each line that isn't blank, with its number."""
     pieces = script.split(b"\n")
     if not pieces[-1]:
@@ -38,33 +43,34 @@ def lines_of(script):
 class Replies:
     """The lines that the program wrote, from the first one on."""
 
-    def __init__(self, output):
+    def __init__(self, output: bytes) -> None:
         text = output.decode("ascii", "replace")
         if text and not text.endswith("\n"):
             raise Lost("the output ends within a line")
         self.lines = text.split("\n")[:-1]
         self.next = 0
         self.refused = 0
+        self.without_memory: list[int] = []
 
-    def peek(self):
+    def peek(self) -> str:
         return self.lines[self.next] if self.next < len(self.lines) else "(no reply)"
 
-    def expect(self, text):
+    def expect(self, text: str) -> None:
         """One or several lines, as the model has them."""
         for line in text.split("\n"):
             if self.peek() != line:
                 raise Lost(f"{self.peek()!r} where {line!r} is right")
             self.next += 1
 
-    def take(self):
+    def take(self) -> str:
         self.next += 1
         return self.lines[self.next - 1]
 
-    def expect_refusal(self, number, fault):
+    def expect_refusal(self, number: int, fault: object) -> None:
         self.expect(f"{number} refused {fault}")
         self.refused += 1
 
-    def expect_end(self):
+    def expect_end(self) -> None:
         if self.next < len(self.lines):
             raise Lost(f"{self.peek()!r} where nothing more is right")
 
@@ -73,11 +79,12 @@ class Run:
     """A `run` over a script. With `may_refuse` any line may be answered `refused 1`, and has then done nothing, but for a
     plan, which has begun where `begins` says so (one truth value for each such plan, in turn)."""
 
-    def __init__(self, office, may_refuse=False, begins=()):
+    def __init__(self, office: model.Office, may_refuse: bool = False, begins: Iterable[bool] = ()) -> None:
         self.office, self.may_refuse, self.begins = office, may_refuse, iter(begins)
-        self.without_memory, self.plans_without_memory = [], 0
+        self.without_memory: list[int] = []
+        self.plans_without_memory = 0
 
-    def judge(self, script, output, whole=True):
+    def judge(self, script: bytes, output: bytes, whole: bool = True) -> Replies:
         """Whether the output is right for all lines of the script; without `whole` it may end after any line's reply."""
         replies = Replies(output)
         for number, line in lines_of(script):
@@ -87,7 +94,7 @@ class Run:
         replies.expect_end()
         return replies
 
-    def judge_line(self, replies, number, command):
+    def judge_line(self, replies: Replies, number: int, command: Command) -> None:
         if self.may_refuse and replies.peek() == f"{number} refused 1":
             self.refuse_for_memory(replies, number, command)
         elif isinstance(command, Refused):
@@ -104,7 +111,7 @@ class Run:
             except Refused as fault:
                 replies.expect_refusal(number, fault)
 
-    def refuse_for_memory(self, replies, number, command):
+    def refuse_for_memory(self, replies: Replies, number: int, command: Command) -> None:
         replies.expect_refusal(number, 1)
         self.without_memory.append(number)
         if isinstance(command, tuple) and command[0] == "plan":
@@ -112,7 +119,7 @@ class Run:
             if next(self.begins, False):
                 self.office.begun(command[1])
 
-    def judge_plan(self, replies, number, fields):
+    def judge_plan(self, replies: Replies, number: int, fields: model.Fields) -> None:
         """The plan's prices must prove it, and its lines must say the same as its certificate."""
         problem, version = self.office.begun(fields), self.office.length
         table = problem.table
@@ -122,7 +129,8 @@ class Run:
         if replies.next == len(replies.lines):
             raise Lost(f"{number}: a plan without a certificate")
         certificate = read(replies.take().encode())
-        end, replies.next = replies.next, start
+        end = replies.next
+        replies.next = start
         if not isinstance(certificate, tuple) or certificate[0] != "commit":
             raise Lost(f"{number}: the certificate is no commit")
         commit = certificate[1]
@@ -144,13 +152,12 @@ class Run:
         replies.next = end
 
 
-def judge_check(script, output, may_refuse=False):
+def judge_check(script: bytes, output: bytes, may_refuse: bool = False) -> Replies:
     """Whether the output is right for all table lines of a script."""
     replies = Replies(output)
-    without_memory = []
     for number, line in lines_of(script):
         if may_refuse and replies.peek() == f"{number} refused 1":
-            without_memory.append(number)
+            replies.without_memory.append(number)
             replies.expect_refusal(number, 1)
             continue
         try:
@@ -162,14 +169,13 @@ def judge_check(script, output, may_refuse=False):
         replies.expect(f"{number} {reply}")
         replies.refused += reply.startswith("refused")
     replies.expect_end()
-    replies.without_memory = without_memory
     return replies
 
 
-_checked = {}
+_checked: dict[bytes, str | Doubt] = {}
 
 
-def checked(line):
+def checked(line: bytes) -> str:
     if line not in _checked:
         if len(_checked) > 200_000:
             _checked.clear()
@@ -177,9 +183,10 @@ def checked(line):
             _checked[line] = model.check_line(line)
         except Doubt as doubt:
             _checked[line] = doubt
-    if isinstance(_checked[line], Doubt):
-        raise _checked[line]
-    return _checked[line]
+    found = _checked[line]
+    if isinstance(found, Doubt):
+        raise found
+    return found
 
 
 class Fed:
@@ -187,8 +194,9 @@ class Fed:
     for memory, `begins` whether it, being a plan, has begun. Where a plan line has several best plans, `picks` says which
     is taken, in turn, and else the first; `options` is how many each plan line had. Lines in doubt count as refused."""
 
-    def __init__(self, office, script, skip=None, begins=False, picks=()):
-        self.office, self.picks, self.options, self.in_doubt = office, picks, [], False
+    def __init__(self, office: model.Office, script: bytes, skip: int | None = None, begins: bool = False, picks: Sequence[int] = ()) -> None:
+        self.office, self.picks, self.in_doubt = office, picks, False
+        self.options: list[int] = []
         self.accepted = self.repeated = self.refused = 0
         for number, line in lines_of(script):
             command = read(line)
@@ -202,7 +210,7 @@ class Fed:
                 continue
             self.count(*command)
 
-    def count(self, kind, fields):
+    def count(self, kind: str, fields: model.Fields) -> None:
         try:
             if kind == "plan":
                 reply = self.plan(fields)
@@ -214,7 +222,7 @@ class Fed:
         self.accepted += reply.startswith("accepted")
         self.repeated += reply.startswith("repeated")
 
-    def plan(self, fields):
+    def plan(self, fields: model.Fields) -> str:
         problem = self.office.begun(fields)
         plans = model.optima(problem.table)
         pick = self.picks[len(self.options)] if len(self.options) < len(self.picks) else 0
@@ -225,16 +233,16 @@ class Fed:
             self.office.orders[name].promised.add(number)
         return self.office.accept()
 
-    def counts(self):
+    def counts(self) -> str:
         return f"accepted {self.accepted} repeated {self.repeated} refused {self.refused}"
 
-    def report(self):
+    def report(self) -> str:
         return f"file 1 {self.counts()}\n{self.office.sheet()}\n"
 
 
-def all_fed(new_office, script, skip=None, begins=False):
+def all_fed(new_office: Callable[[], model.Office], script: bytes, skip: int | None = None, begins: bool = False) -> Iterator[Fed]:
     """What may become of a file: one `Fed` for each choice among best plans."""
-    todo = [()]
+    todo: list[tuple[int, ...]] = [()]
     while todo:
         picks = todo.pop()
         one = Fed(new_office(), script, skip, begins, picks)

@@ -6,19 +6,19 @@ import json
 import os
 import random
 import re
-import tempfile
+from collections.abc import Iterator, Sequence
+from typing import Any
 
 import judge
+import office
 from memory import ENTRIES, KEPT, new_office
-from program import NOT_JUDGED, Table, office_words, run, script
+from program import HOSTILE, NOT_JUDGED, Table, office_words, run, script, written
 
-# The zero byte, a tab, line ends, what JSON is made of, digits, and bytes of broken UTF-8.
-HOSTILE = [0x00, 0x09, 0x0A, 0x0D, 0x20, 0x22, 0x2C, 0x2D, 0x30, 0x39, 0x3A, 0x5B, 0x5C, 0x5D, 0x65, 0x7B, 0x7D, 0x7F, 0xC3, 0xFF]
 RANDOM_LINES = int(os.environ.get("HOSTILE_RANDOM_LINES", 100_000))
 LINES_A_SCRIPT = 250
 
 
-def tried(word, given, entries=ENTRIES):
+def tried(word: str, given: bytes, entries: int = ENTRIES) -> str | None:
     """What is wrong with the program's answer to a script."""
     words = ["check"] if word == "check" else office_words(word, entries, KEPT)
     if word == "feed":
@@ -38,11 +38,9 @@ def tried(word, given, entries=ENTRIES):
     return None if outcome.status == int(replies.refused > 0) else f"status {outcome.status}"
 
 
-def fed(words, given):
-    with tempfile.NamedTemporaryFile() as file:
-        file.write(given)
-        file.flush()
-        outcome = run(words + [file.name])
+def fed(words: Sequence[str], given: bytes) -> str | None:
+    with written(given) as path:
+        outcome = run([*words, path])
     if outcome.fault() or outcome.status == 2:
         return f"status {outcome.status} and {outcome.err!r}"
     ways = list(judge.all_fed(new_office, given))
@@ -51,26 +49,24 @@ def fed(words, given):
     return None if outcome.status == int(ways[0].refused > 0) else f"status {outcome.status}"
 
 
-def cut(case):
+def cut(case: tuple[str, str, int]) -> str | None:
     word, name, length = case
     return tried(word, script(name)[:length])
 
 
-def replaced(case):
+def replaced(case: tuple[str, str, int, int]) -> str | None:
     word, name, at, byte = case
     text = script(name)
     return tried(word, text[:at] + bytes([byte]) + text[at + 1:])
 
 
-def csv_replaced(case):
+def csv_replaced(case: tuple[str, int, int]) -> str | None:
     """A byte of the roster or a network: the program says what is wrong, or opens an office that has no other form."""
     option, at, byte = case
     name = f"{option}.csv"
     text = script(name)
-    with tempfile.NamedTemporaryFile() as file:
-        file.write(text[:at] + bytes([byte]) + text[at + 1:])
-        file.flush()
-        words = office_words("run", roster=file.name) if option == "roster" else office_words("run", networks=[file.name])
+    with written(text[:at] + bytes([byte]) + text[at + 1:]) as path:
+        words = office_words("run", roster=path) if option == "roster" else office_words("run", networks=[path])
         outcome = run(words, b'{"type":"sheet"}')
     if outcome.fault():
         return outcome.fault()
@@ -88,7 +84,7 @@ SHEET = re.compile(rb"1 sheet 0\n(wagon [0-9]{12} [A-Za-z]{1,12} [0-9]+ [a-z_]+ 
 MOST_LINES, MOST_BYTES = 1_000_000, 65_536
 
 
-def limit(case):
+def limit(case: tuple[str, bytes, str | None]) -> str | None:
     word, given, fault = case
     words = ["check"] if word == "check" else office_words(word)
     if word != "feed":
@@ -96,27 +92,26 @@ def limit(case):
         if outcome.status != (2 if fault else 0) or outcome.out or outcome.err.decode() != (f"wagons: {fault}\n" if fault else ""):
             return f"status {outcome.status} and {outcome.err!r}"
         return None
-    with tempfile.NamedTemporaryFile() as file:
-        file.write(given)
-        file.flush()
-        outcome = run(words + [file.name])
+    with written(given) as path:
+        outcome = run([*words, path])
     row = f"file 1 failed {fault.split()[0]}\n" if fault else "file 1 accepted 0 repeated 0 refused 0\n"
     if outcome.status != (2 if fault else 0) or not outcome.out.startswith(row.encode()) or outcome.err:
         return f"status {outcome.status} and {outcome.out[:80]!r}"
     return None
 
 
-def limits():
+def limits() -> list[tuple[str, bytes, str | None]]:
     """Inputs at each limit and just past it, all of them blank."""
     blank = b" " * MOST_BYTES
-    inputs = [(b"\n" * MOST_LINES, None), (b"\n" * MOST_LINES + b"\n", f"91 {MOST_LINES + 1}"), (b"\n" * MOST_LINES + b" ", f"91 {MOST_LINES + 1}"),
+    inputs: list[tuple[bytes, str | None]] = [
+        (b"\n" * MOST_LINES, None), (b"\n" * MOST_LINES + b"\n", f"91 {MOST_LINES + 1}"), (b"\n" * MOST_LINES + b" ", f"91 {MOST_LINES + 1}"),
               (blank, None), (blank + b"\n" + blank, None), (blank + b" ", "92 1"), (b"\n" + blank + b" \n", "92 2")]
     return [(word, given, fault) for word in ("check", "run", "feed") for given, fault in inputs]
 
 
-def sizes():
+def sizes() -> Iterator[tuple[str, list[dict[str, Any]]]]:
     """Orders that want 500 wagons in all, and more; tables of 500 orders or wagons that orders lack, and more."""
-    order = {"type": "order", "place": "DE00001", "classes": ["Eanos"], "load": 1, "latest": "2026-03-02T23:00:00Z", "penalty": 1, "wagons": 20}
+    order: dict[str, Any] = {"type": "order", "place": "DE00001", "classes": ["Eanos"], "load": 1, "latest": "2026-03-02T23:00:00Z", "penalty": 1, "wagons": 20}
     lines = [order | {"order": f"O{k}"} for k in range(26)] + [{"type": "withdraw", "order": "O0"}, order | {"order": "O25"}, {"type": "sheet"}]
     yield "run", lines
     for count, lack in (25, 20), (26, 20), (500, 1), (501, 1), (499, 2):
@@ -127,14 +122,14 @@ def sizes():
         yield "check", [{"wagons": wagons, "orders": [], "cells": [[]] * count, "penalties": [], "pairs": [], "u": [0] * count, "v": []}]
 
 
-def is_wagon(text):
+def is_wagon(text: str) -> bool:
     try:
-        return bool(judge.model.wagon_of(text))
-    except judge.Refused:
+        return bool(office.wagon_of(text))
+    except office.Refused:
         return False
 
 
-def size(case):
+def size(case: tuple[str, list[dict[str, Any]]]) -> str | None:
     word, lines = case
     return tried(word, "".join(json.dumps(line) + "\n" for line in lines).encode(), 1000)
 
@@ -165,7 +160,7 @@ TABLE_MEMBERS = ["wagons", "orders", "cells", "penalties", "lacks", "pairs", "u"
 
 
 class Dice(random.Random):
-    def value(self, depth=0):
+    def value(self, depth: int = 0) -> str:
         turn = self.random()
         if depth < 4 and turn < 0.15:
             return "[" + ",".join(self.value(depth + 1) for _ in range(self.randrange(5))) + "]"
@@ -181,10 +176,10 @@ class Dice(random.Random):
             return self.choice(["null", "null", "true", "false", self.choice(NO_NUMBERS)])
         return self.text()
 
-    def text(self):
+    def text(self) -> str:
         return '"' + self.choice(TEXTS) + '"'
 
-    def member(self, name, kind):
+    def member(self, name: str, kind: str) -> str:
         """A member, mostly of the kind that it must be."""
         turn = self.random()
         if turn < 0.04:
@@ -205,9 +200,9 @@ class Dice(random.Random):
             return str(self.choice([0, 1, 2, 3, 20, 21, 1000, self.randrange(50)]))
         return self.choice(NUMBERS + ["7"] * 40)
 
-    def command(self):
+    def command(self) -> str:
         kind = self.choice(KINDS)
-        known = [name for name, *_ in judge.model.FIELDS.get(kind, [])]
+        known = [name for name, *_ in office.FIELDS.get(kind, [])]
         names = [name for name in ["type"] + known if self.random() < 0.97] + self.sample(RUN_MEMBERS, self.choice([0, 0, 0, 1, 3]))
         if self.random() < 0.3:
             self.shuffle(names)
@@ -217,7 +212,7 @@ class Dice(random.Random):
             names.insert(0, self.choice(["", "x", "Type", "type "]))
         return "{" + ",".join(f'"{name}":{self.member(name, kind)}' for name in names) + "}"
 
-    def table(self):
+    def table(self) -> str:
         wagons, orders = self.randrange(4), self.randrange(4)
         numbers = ["338447961008", "218124712173", "338447961040", "33 84 4796 100-8"]
         members = {
@@ -240,7 +235,7 @@ class Dice(random.Random):
                 members.pop(name, None)
         return "{" + ",".join(f'"{name}":{value}' for name, value in members.items()) + "}"
 
-    def line(self, word):
+    def line(self, word: str) -> bytes:
         turn = self.random()
         if turn < 0.1:
             text = self.value()
@@ -248,13 +243,13 @@ class Dice(random.Random):
             text = "".join(self.choice('[]{}",:0123456789.eE+-\\/untrfals \t') for _ in range(self.randrange(80)))
         else:
             text = self.table() if word == "check" else self.command()
-        text = bytearray(text.encode().replace(b"\n", b""))
+        hurt = bytearray(text.encode().replace(b"\n", b""))
         for _ in range(self.choice([0, 0, 0, 0, 0, 1, 2])):
-            if text:
-                self.hurt(text)
-        return bytes(text).replace(b"\n", b" ")
+            if hurt:
+                self.hurt(hurt)
+        return bytes(hurt).replace(b"\n", b" ")
 
-    def hurt(self, text):
+    def hurt(self, text: bytearray) -> None:
         at = self.randrange(len(text))
         turn = self.random()
         if turn < 0.4:
@@ -267,7 +262,7 @@ class Dice(random.Random):
             del text[at:]
 
 
-def random_lines(case):
+def random_lines(case: tuple[str, int]) -> str | None:
     word, seed = case
     dice = Dice(f"{word} {seed}")
     return tried(word, b"\n".join(dice.line(word) for _ in range(LINES_A_SCRIPT)) + b"\n", 1_000_000)
@@ -276,16 +271,16 @@ def random_lines(case):
 # Message ids.
 
 
-def reused_ids():
+def reused_ids() -> Iterator[bytes]:
     """For each message of the script, each variant of it behind it: one member changed, or the same message written in
     another way. Of the same company and number only the same message is `repeated`."""
     text = script("office.jsonl").splitlines()
-    others = {"company": ["1003", "ABCD"], "number": [0, 77, 4294967295], "place": ["DE00001", "CZ00001", "XX00000"],
+    others: dict[str, list[Any]] = {"company": ["1003", "ABCD"], "number": [0, 77, 4294967295], "place": ["DE00001", "CZ00001", "XX00000"],
               "wagon": ["318053700015", "318053700031", "338447961008"], "moment": ["2026-03-02T00:00:00Z", "2026-03-02T23:00:00Z"],
-              "hold": [True, False], "type": list(judge.model.KINDS)}
+              "hold": [True, False], "type": list(office.KINDS)}
     for at, line in enumerate(text):
         command = judge.read(line)
-        if not isinstance(command, tuple) or command[0] not in judge.model.KINDS:
+        if not isinstance(command, tuple) or command[0] not in office.KINDS:
             continue
         fields = json.loads(line)
         changed = [fields | {name: value} for name in others for value in others[name] if name != "hold" or "hold" in fields]
@@ -297,37 +292,40 @@ def reused_ids():
             yield b"\n".join(text[:at + 1] + [json.dumps(variant).encode()] + text[at + 1:]) + b"\n"
 
 
-def spaced(wagon):
+def spaced(wagon: str) -> str:
     return f"{wagon[:4]} {wagon[4:8]} {wagon[8:11]}-{wagon[11]}"
 
 
-def east(moment):
+def east(moment: str) -> str:
     """The same instant, told an hour further east."""
     return f"{moment[:11]}{int(moment[11:13]) + 1:02}{moment[13:19]}+01:00"
 
 
-def reused_id(given):
+def reused_id(given: bytes) -> str | None:
     return tried("run", given, 1000)
 
 
-def main():
+def main() -> None:
     table = Table()
+    table.row("scripts cut after every byte")
     scripts = [("check", "tables.jsonl"), ("run", "office.jsonl"), ("feed", "office.jsonl")]
     for word, name in scripts:
         table.try_all(f"`{word}`: its script cut after every byte", cut, [(word, name, n) for n in range(len(script(name)) + 1)])
+    table.row(f"every byte of scripts, a roster and a network replaced, mostly by each of {len(HOSTILE)}")
     for word, name in scripts[:2]:
         cases = [(word, name, at, byte) for at in range(len(script(name))) for byte in HOSTILE]
         table.try_all(f"`{word}`: every byte of its script replaced by each of {len(HOSTILE)} bytes", replaced, cases)
     cases = [("feed", "office.jsonl", at, byte) for at in range(len(script("office.jsonl"))) for byte in (0x00, 0x22, 0x39)]
     table.try_all("`feed`: every byte of its script replaced by each of 3 bytes", replaced, cases)
-    cases = [(option, at, byte) for option in ("roster", "network") for at in range(len(script(f"{option}.csv"))) for byte in HOSTILE]
-    table.try_all(f"every byte of the roster and of a network replaced by each of {len(HOSTILE)} bytes", csv_replaced, cases)
+    table.try_all(f"every byte of the roster and of a network replaced by each of {len(HOSTILE)} bytes", csv_replaced,
+                  [(option, at, byte) for option in ("roster", "network") for at in range(len(script(f"{option}.csv"))) for byte in HOSTILE])
+    table.row("random lines; message ids reused with one member changed")
+    for word in "check", "run":
+        table.try_all(f"`{word}`: random lines", random_lines, [(word, seed) for seed in range(RANDOM_LINES // LINES_A_SCRIPT)], LINES_A_SCRIPT)
+    table.try_all("message ids reused, one member changed", reused_id, list(reused_ids()))
+    table.row("inputs, orders and tables at their limits, and past them")
     table.try_all("inputs at their limits of lines and bytes, and past them", limit, limits())
     table.try_all("orders and tables at their limits of size, and past them", size, sizes())
-    for word in "check", "run":
-        table.try_all(f"`{word}`: random lines", random_lines, [(word, seed) for seed in range(RANDOM_LINES // LINES_A_SCRIPT)],
-                      lambda cases: len(cases) * LINES_A_SCRIPT)
-    table.try_all("message ids reused, one member changed", reused_id, list(reused_ids()))
     table.end()
 
 

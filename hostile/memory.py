@@ -8,12 +8,15 @@ thread that was refused.
 
 import functools
 import itertools
+from collections.abc import Callable, Sequence
 
 import judge
 import office
 import program
-from program import NOT_JUDGED, NETWORKS, ROSTER, Table, office_words, run, script
+from program import NETWORKS, NOT_JUDGED, ROSTER, Outcome, Table, office_words, run, script
 
+# Which requests for memory are refused (faults.c), in small letters.
+Refusals = dict[str, int]
 ENTRIES, KEPT = 21, 4
 ALL = 10**9
 ODDS = [2, 3, 5, 10, 20, 50, 100, 200, 500, 1000, 2000]
@@ -23,20 +26,20 @@ STARTS = [b"wagons: 1\n", b"wagons: 46\n"]
 
 
 @functools.cache
-def networks():
+def networks() -> list[office.Distances]:
     return [office.distances(path) for path in NETWORKS]
 
 
-def new_office(entries=ENTRIES):
+def new_office(entries: int = ENTRIES) -> office.Office:
     return office.Office(office.read_rows(ROSTER), networks(), entries, KEPT)
 
 
-def started(outcome):
+def started(outcome: Outcome) -> bool:
     """Whether it came to its first line; what it says where it didn't."""
     return not (outcome.status == 2 and outcome.err in STARTS and not outcome.out)
 
 
-def tried(words, given, refusals, judged):
+def tried(words: Sequence[str], given: bytes, refusals: Refusals, judged: Callable[[Outcome], str | None]) -> str | None:
     outcome = run(words, given, **refusals)
     if outcome.fault():
         return outcome.fault()
@@ -52,12 +55,12 @@ def tried(words, given, refusals, judged):
         return NOT_JUDGED
 
 
-def status_of(outcome, refused):
+def status_of(outcome: Outcome, refused: int) -> str | None:
     return None if outcome.status == int(refused > 0) else f"status {outcome.status}"
 
 
-def check(refusals):
-    def judged(outcome):
+def check(refusals: Refusals) -> str | None:
+    def judged(outcome: Outcome) -> str | None:
         replies = judge.judge_check(script("tables.jsonl"), outcome.out, may_refuse=True)
         if is_one(refusals) and len(replies.without_memory) > 1:
             return f"one request was refused, and lines {replies.without_memory}"
@@ -65,13 +68,13 @@ def check(refusals):
     return tried(["check"], script("tables.jsonl"), refusals, judged)
 
 
-def is_one(refusals):
+def is_one(refusals: Refusals) -> bool:
     return refusals.get("refuse_count") == 1
 
 
-def office_run(refusals):
-    def judged(outcome):
-        last = None
+def office_run(refusals: Refusals) -> str | None:
+    def judged(outcome: Outcome) -> str | None:
+        last = judge.Lost("no plan is possible")
         # A plan that was refused for memory has begun or not: the replies behind it must fit one of the two.
         for begins in itertools.product([True, False], repeat=script("office.jsonl").count(b'"plan"')):
             one = judge.Run(new_office(), may_refuse=True, begins=begins)
@@ -88,21 +91,21 @@ def office_run(refusals):
 
 
 @functools.cache
-def fed(name, skip=None):
+def fed(name: str, skip: int | None = None) -> judge.Fed:
     """A file without plan lines."""
     return judge.Fed(new_office(), script(name), skip)
 
 
 @functools.cache
-def reports_of_one():
+def reports_of_one() -> set[str]:
     """What `feed` may print of one file where one line of it was refused for memory, or none."""
     numbers = [None] + [number for number, _ in judge.lines_of(script("office.jsonl"))]
     ways = [judge.all_fed(new_office, script("office.jsonl"), number, begins) for number in numbers for begins in (False, True)]
     return {one.report() for way in ways for one in way} | {f"file 1 failed 1\n{new_office().sheet()}\n"}
 
 
-def feed_one(refusals):
-    def judged(outcome):
+def feed_one(refusals: Refusals) -> str | None:
+    def judged(outcome: Outcome) -> str | None:
         text = outcome.out.decode()
         if is_one(refusals) and text not in reports_of_one():
             return f"no line's refusal gives {text!r}"
@@ -111,7 +114,7 @@ def feed_one(refusals):
     return tried(words, b"", refusals, judged)
 
 
-def counts_add_up(text, status):
+def counts_add_up(text: str, status: int) -> str | None:
     """The accepted lines of all files are the sheet's version, and the status is that of the counts."""
     rows = [row.split() for row in text.splitlines()]
     files = [row for row in rows if row[0] == "file"]
@@ -123,7 +126,7 @@ def counts_add_up(text, status):
 
 
 @functools.cache
-def rows_of(name, number):
+def rows_of(name: str, number: int | None) -> tuple[str, tuple[str, ...]]:
     """The rows of a file's own wagons and orders, and its counts, where a line was refused or none."""
     one = fed(name, number)
     mine = script(name).decode()
@@ -132,16 +135,16 @@ def rows_of(name, number):
 
 
 @functools.cache
-def outcomes_of(name):
+def outcomes_of(name: str) -> set[tuple[str, tuple[str, ...]]]:
     numbers = [None] + [number for number, _ in judge.lines_of(script(name))]
     mine = script(name).decode()
     idle = [row for row in new_office().sheet().splitlines() if row.startswith("wagon") and row.split()[1] in mine]
     return {rows_of(name, number) for number in numbers} | {("failed 1", tuple(idle))}
 
 
-def feed_three(refusals):
+def feed_three(refusals: Refusals) -> str | None:
     """Each wagon and order belongs to one file, so that each file's rows are its own."""
-    def judged(outcome):
+    def judged(outcome: Outcome) -> str | None:
         text = outcome.out.decode()
         rows = text.splitlines()
         for k, name in enumerate(FILES) if is_one(refusals) else []:
@@ -154,7 +157,7 @@ def feed_three(refusals):
     return tried(words, b"", refusals, judged)
 
 
-def requests(words, given):
+def requests(words: Sequence[str], given: bytes) -> int:
     """How many requests for memory there are where none is refused, and all is done."""
     outcome = run(words, given, refuse_from=ALL)
     if outcome.status != 1 or outcome.err or not outcome.counts[0]:
@@ -162,8 +165,9 @@ def requests(words, given):
     return outcome.counts[0]
 
 
-def main():
+def main() -> None:
     table = Table()
+    table.row("`check`, `run`, `feed` of one and three files: one request, all from one on, or random ones refused")
     reports_of_one()
     for name in FILES:
         outcomes_of(name)

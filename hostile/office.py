@@ -10,6 +10,17 @@ import itertools
 import json
 import math
 import re
+from collections.abc import Callable, Sequence
+from typing import Any, NoReturn
+
+Fields = dict[str, Any]
+Reader = Callable[[Any], Any]
+# A wagon and an order.
+Pair = tuple[str, str]
+# From each place to each other one the kilometres and the minutes.
+Distances = dict[str, dict[str, tuple[int, int]]]
+# A free wagon's number, class, load limit, place, and since when it is ready.
+Free = tuple[str, str, int, str, int]
 
 MOST_NUMBER = 2**64 - 1
 FIRST_MOMENT, LAST_MOMENT = 946684800, 4102444799
@@ -24,7 +35,7 @@ KINDS = ["release", "departure", "yard_arrival", "yard_departure", "exception", 
 class Doubt(Exception):
     """What the model leaves to the program: its text says what, and `codes` which refusals would be right."""
 
-    def __init__(self, text, *codes):
+    def __init__(self, text: str, *codes: str) -> None:
         super().__init__(text)
         self.codes = codes
 
@@ -32,7 +43,7 @@ class Doubt(Exception):
 class Refused(Exception):
     """A refusal: its code and details."""
 
-    def __str__(self):
+    def __str__(self) -> str:
         return " ".join(map(str, self.args))
 
 
@@ -43,13 +54,13 @@ class NoNumber:
     """A JSON number that is none here: with a sign, a fraction or an exponent, or over 64 bits."""
 
 
-def whole(text):
+def whole(text: str) -> int | NoNumber:
     if text.startswith("-") or int(text) > MOST_NUMBER:
         return fraction(text)
     return int(text)
 
 
-def fraction(text):
+def fraction(text: str) -> NoNumber:
     """A number that isn't used here; but it must fit a float."""
     size = abs(float(text))
     if size == math.inf:
@@ -59,7 +70,7 @@ def fraction(text):
     return NoNumber()
 
 
-def nesting(text):
+def nesting(text: str) -> int:
     """How deep lists and objects stand in one another, outside texts."""
     depth = most = 0
     for token in re.findall(r'"(?:[^"\\]|\\.)*"?|[\[{]|[\]}]', text, re.S):
@@ -71,17 +82,17 @@ def nesting(text):
     return most
 
 
-def no_constant(_text):
+def no_constant(_text: str) -> NoReturn:
     raise ValueError("NaN and Infinity are no JSON")
 
 
-def has_half_character(value):
+def has_half_character(value: object) -> bool:
     if isinstance(value, str):
         return any("\ud800" <= c <= "\udfff" for c in value)
     return isinstance(value, list) and any(map(has_half_character, value))
 
 
-def members(pairs):
+def members(pairs: list[tuple[str, Any]]) -> dict[str, Any]:
     """A member that stands twice counts as the last; but each must be read."""
     if any(has_half_character(name) or has_half_character(value) for name, value in pairs):
         raise ValueError("half a character")
@@ -91,7 +102,7 @@ def members(pairs):
 DECODER = json.JSONDecoder(parse_int=whole, parse_float=fraction, parse_constant=no_constant, object_pairs_hook=members)
 
 
-def read_object(line):
+def read_object(line: bytes) -> dict[str, Any]:
     """The members of a line, by Python's reader of JSON."""
     try:
         text = line.decode("utf-8").strip(" \t\r")
@@ -107,22 +118,23 @@ def read_object(line):
     return value
 
 
-def is_kind(value, kind):
+def is_kind(value: object, kind: type) -> bool:
     return type(value) is kind
 
 
-def text_of(value, pattern, code):
+def text_of(value: Any, pattern: str, code: int) -> str:
     if not is_kind(value, str):
         raise Refused(19)
-    if not re.fullmatch(pattern, value):
+    text: str = value
+    if not re.fullmatch(pattern, text):
         raise Refused(code)
-    return value
+    return text
 
 
-def wagon_of(value):
+def wagon_of(value: Any) -> str:
     if not is_kind(value, str):
         raise Refused(19)
-    digits = value.replace(" ", "").replace("-", "")
+    digits: str = value.replace(" ", "").replace("-", "")
     if not re.fullmatch("[0-9]{12}", digits):
         raise Refused(11)
     total = sum(sum(map(int, str(int(c) * (2 - i % 2)))) for i, c in enumerate(digits[:11]))
@@ -131,7 +143,7 @@ def wagon_of(value):
     return digits
 
 
-def moment_of(value):
+def moment_of(value: Any) -> int:
     if not is_kind(value, str):
         raise Refused(19)
     plain = PLAIN_MOMENT.fullmatch(value)
@@ -142,29 +154,30 @@ def moment_of(value):
     except ValueError:
         raise Refused(17) from None
     east = int(plain[3] + plain[4]) * 3600 + int(plain[3] + plain[5]) * 60 if plain[4] else 0
-    seconds = (at - EPOCH) // datetime.timedelta(seconds=1) - east
+    seconds: int = (at - EPOCH) // datetime.timedelta(seconds=1) - east
     if not FIRST_MOMENT <= seconds <= LAST_MOMENT:
         raise Refused(18)
     return seconds
 
 
-def moment_text(seconds):
+def moment_text(seconds: int) -> str:
     at = datetime.datetime.fromtimestamp(seconds, datetime.timezone.utc)
     return at.strftime("%Y-%m-%dT%H:%M:%SZ")
 
 
-def number_to(most, least=0):
-    def read(value):
+def number_to(most: int, least: int = 0) -> Reader:
+    def read(value: Any) -> int:
         if not is_kind(value, int):
             raise Refused(19)
-        if not least <= value <= most:
+        number: int = value
+        if not least <= number <= most:
             raise Refused(20)
-        return value
+        return number
     return read
 
 
-def list_of(read, least=0, most=None):
-    def read_list(value):
+def list_of(read: Reader, least: int = 0, most: int | None = None) -> Reader:
+    def read_list(value: Any) -> list[Any]:
         if not is_kind(value, list):
             raise Refused(19)
         if len(value) < least or most is not None and len(value) > most:
@@ -173,7 +186,7 @@ def list_of(read, least=0, most=None):
     return read_list
 
 
-def pair_of(value):
+def pair_of(value: Any) -> Pair:
     if not is_kind(value, list):
         raise Refused(19)
     if len(value) != 2:
@@ -181,38 +194,38 @@ def pair_of(value):
     return wagon_of(value[0]), order_of(value[1])
 
 
-def flag(value):
+def flag(value: Any) -> bool:
     if not is_kind(value, bool):
         raise Refused(19)
-    return value
+    return value is True
 
 
-def place_of(value):
+def place_of(value: Any) -> str:
     return text_of(value, "[A-Z]{2}[0-9]{5}", 13)
 
 
-def class_of(value):
+def class_of(value: Any) -> str:
     return text_of(value, "[A-Za-z]{1,12}", 14)
 
 
-def order_of(value):
+def order_of(value: Any) -> str:
     return text_of(value, "[A-Z0-9-]{1,16}", 16)
 
 
-def company_of(value):
+def company_of(value: Any) -> str:
     return text_of(value, "[A-Z0-9]{4}", 15)
 
 
-def or_null(read):
+def or_null(read: Reader) -> Reader:
     return lambda value: None if value is None else read(value)
 
 
 OPTIONAL = object()
 COST = number_to(1_000_000_000)
 PRICES = list_of(number_to(MOST_NUMBER))
-MESSAGE = [("company", company_of), ("number", number_to(4_294_967_295)), ("wagon", wagon_of), ("place", place_of),
+MESSAGE: list[tuple[Any, ...]] = [("company", company_of), ("number", number_to(4_294_967_295)), ("wagon", wagon_of), ("place", place_of),
            ("moment", moment_of)]
-FIELDS = {kind: MESSAGE for kind in KINDS} | {
+FIELDS: dict[str, Sequence[tuple[Any, ...]]] = {kind: MESSAGE for kind in KINDS} | {
     "exception": MESSAGE + [("hold", flag)],
     "order": [("order", order_of), ("place", place_of), ("classes", list_of(class_of, 1, 8)), ("load", number_to(200_000)),
               ("latest", moment_of), ("penalty", COST), ("wagons", number_to(20, 1), 1)],
@@ -223,13 +236,13 @@ FIELDS = {kind: MESSAGE for kind in KINDS} | {
     "network": [("revision", number_to(8, 1))],
     "sheet": [],
 }
-TABLE = [("wagons", list_of(wagon_of)), ("orders", list_of(order_of)), ("cells", list_of(list_of(or_null(COST)))),
+TABLE: list[tuple[Any, ...]] = [("wagons", list_of(wagon_of)), ("orders", list_of(order_of)), ("cells", list_of(list_of(or_null(COST)))),
          ("penalties", list_of(COST)), ("lacks", list_of(number_to(20, 1)), None), ("pairs", list_of(pair_of)), ("u", PRICES),
          ("v", PRICES)]
 
 
-def read_fields(members, fields):
-    values = {}
+def read_fields(members: Fields, fields: Sequence[tuple[Any, ...]]) -> Fields:
+    values: Fields = {}
     for name, read, *default in fields:
         if name not in members:
             if not default:
@@ -245,7 +258,7 @@ def read_fields(members, fields):
     return values
 
 
-def read_command(line):
+def read_command(line: bytes) -> tuple[str, Fields]:
     members = read_object(line)
     if "type" not in members:
         raise Refused(24, "type")
@@ -259,14 +272,14 @@ def read_command(line):
 # Networks, tables and prices.
 
 
-def read_rows(path):
+def read_rows(path: str) -> list[list[str]]:
     with open(path) as file:
         return [row.split(",") for row in file.read().splitlines()[1:]]
 
 
-def distances(path):
+def distances(path: str) -> Distances:
     """The least (km, minutes) from each place to each other one."""
-    lines = {}
+    lines: dict[str, list[tuple[str, int, int]]] = {}
     for start, end, km, minutes, way in read_rows(path):
         lines.setdefault(start, []).append((end, int(km), int(minutes)))
         lines.setdefault(end, [])
@@ -275,8 +288,9 @@ def distances(path):
     return {start: distances_from(lines, start) for start in lines}
 
 
-def distances_from(lines, start):
-    least, turns = {}, [((0, 0), start)]
+def distances_from(lines: dict[str, list[tuple[str, int, int]]], start: str) -> dict[str, tuple[int, int]]:
+    least: dict[str, tuple[int, int]] = {}
+    turns = [((0, 0), start)]
     while turns:
         (km, minutes), place = heapq.heappop(turns)
         if place in least:
@@ -288,7 +302,7 @@ def distances_from(lines, start):
     return least
 
 
-def judge_prices(table, pairs, u, v):
+def judge_prices(table: Fields, pairs: Sequence[Pair], u: Sequence[int], v: Sequence[int]) -> int:
     """The cost of the pairs, where the prices prove it least. `table` has wagons, orders, cells, penalties and lacks."""
     wagons = {wagon: i for i, wagon in enumerate(table["wagons"])}
     orders = {order: j for j, order in enumerate(table["orders"])}
@@ -301,7 +315,8 @@ def judge_prices(table, pairs, u, v):
     for wagon, order in pairs:
         if cells[wagons[wagon]][orders[order]] is None:
             raise Refused(62, wagon, order)
-    used, given = set(), dict.fromkeys(orders, 0)
+    used: set[str] = set()
+    given = dict.fromkeys(orders, 0)
     for wagon, order in pairs:
         if wagon in used or given[order] == table["lacks"][orders[order]]:
             raise Refused(63, wagon, order)
@@ -321,28 +336,28 @@ def judge_prices(table, pairs, u, v):
     return cost
 
 
-def plan_cost(table, pairs):
-    cost = sum(penalty * lack for penalty, lack in zip(table["penalties"], table["lacks"]))
+def plan_cost(table: Fields, pairs: Sequence[Pair]) -> int:
+    cost: int = sum(penalty * lack for penalty, lack in zip(table["penalties"], table["lacks"]))
     for wagon, order in pairs:
         i, j = table["wagons"].index(wagon), table["orders"].index(order)
         cost += table["cells"][i][j] - table["penalties"][j]
     return cost
 
 
-def check_line(line):
+def check_line(line: bytes) -> str:
     """The reply to a line of `check`, without its number."""
     try:
         table = read_fields(read_object(line), TABLE)
         wagons, orders = table["wagons"], table["orders"]
-        if table["lacks"] is None:
-            table["lacks"] = [1] * len(orders)
-        if len(wagons) > 1000 or len(orders) > 500 or sum(table["lacks"]) > 500:
+        lacks: list[int] = [1] * len(orders) if table["lacks"] is None else table["lacks"]
+        table["lacks"] = lacks
+        if len(wagons) > 1000 or len(orders) > 500 or sum(lacks) > 500:
             raise Refused(53)
         for code, names in (51, wagons), (52, orders):
             for k, name in enumerate(names):
                 if name in names[:k]:
                     raise Refused(code, name)
-        lengths = [len(row) for row in table["cells"]] + [len(table["penalties"]), len(table["lacks"])]
+        lengths = [len(row) for row in table["cells"]] + [len(table["penalties"]), len(lacks)]
         if len(table["cells"]) != len(wagons) or any(length != len(orders) for length in lengths):
             raise Refused(54)
         return f"optimal {judge_prices(table, table['pairs'], table['u'], table['v'])}"
@@ -354,40 +369,44 @@ def check_line(line):
 
 
 class Wagon:
-    def __init__(self, number, kind, load, status, place, last):
+    def __init__(self, number: str, kind: str, load: int, status: str, place: str, last: int) -> None:
         self.number, self.kind, self.load, self.status, self.place = number, kind, load, status, place
         self.last = self.ready = last
-        self.held, self.promise = False, None
+        self.held = False
+        self.promise: str | None = None
 
-    def free(self):
+    def free(self) -> Free | None:
         if self.status != "empty" or self.held or self.promise:
             return None
         return self.number, self.kind, self.load, self.place, self.ready
 
-    def row(self):
+    def row(self) -> str:
         hold = "held" if self.held else "-"
         return f"wagon {self.number} {self.kind} {self.load} {self.status} {self.place} {moment_text(self.last)} {hold} {self.promise or '-'}"
 
 
 class Order:
-    def __init__(self, fields):
-        self.fields, self.name, self.wagons = fields, fields["order"], fields["wagons"]
-        self.promised, self.filled, self.withdrawn = set(), [], False
+    def __init__(self, fields: Fields) -> None:
+        self.fields, self.withdrawn = fields, False
+        self.name: str = fields["order"]
+        self.wagons: int = fields["wagons"]
+        self.promised: set[str] = set()
+        self.filled: list[str] = []
 
-    def lack(self):
+    def lack(self) -> int:
         return 0 if self.withdrawn else self.wagons - len(self.promised) - len(self.filled)
 
-    def state(self):
+    def state(self) -> str:
         if self.withdrawn:
             return "withdrawn"
         if len(self.filled) == self.wagons:
             return "filled"
         return "waiting" if self.lack() else "promised"
 
-    def is_open(self):
+    def is_open(self) -> bool:
         return self.state() in ("waiting", "promised")
 
-    def row(self):
+    def row(self) -> str:
         wagons = sorted(self.promised) + [f"{wagon}*" for wagon in self.filled]
         text = f"order {self.name} {self.fields['place']} {moment_text(self.fields['latest'])} {self.fields['penalty']}"
         return f"{text} {self.state()} {self.wagons} {','.join(wagons) or '-'}"
@@ -396,8 +415,8 @@ class Order:
 class Problem:
     """The free wagons and waiting orders of a version, and which wagon may serve which order at what distance."""
 
-    def __init__(self, office, at):
-        self.free = [row.free() for _, row in sorted(office.wagons.items()) if row.free()]
+    def __init__(self, office: "Office", at: int) -> None:
+        self.free = [free for _, row in sorted(office.wagons.items()) if (free := row.free())]
         waiting = [order for order in office.orders.values() if order.lack()]
         self.table = {
             "wagons": [wagon[0] for wagon in self.free], "orders": [order.name for order in waiting],
@@ -405,43 +424,46 @@ class Problem:
             "cells": [[office.cell(wagon, order.fields, at) for order in waiting] for wagon in self.free],
         }
 
-    def size(self):
+    def size(self) -> str:
         return f"{len(self.free)} {len(self.table['orders'])}"
 
 
 class Office:
     """What `wagons run` keeps. Each command answers its reply without the line's number, or raises `Refused`."""
 
-    def __init__(self, roster, networks, entries=100_000, kept=8):
+    def __init__(self, roster: Sequence[Sequence[str]], networks: Sequence[Distances], entries: int = 100_000, kept: int = 8) -> None:
         self.networks, self.entries, self.most_kept = networks, entries, kept
-        self.wagons = {}
+        self.wagons: dict[str, Wagon] = {}
         for number, kind, load, status, place, moment in roster:
             self.wagons[wagon_of(number)] = Wagon(wagon_of(number), kind, int(load), status, place, moment_of(moment))
-        self.orders, self.messages, self.kept = {}, {}, {}
+        self.orders: dict[str, Order] = {}
+        self.messages: dict[tuple[str, int], tuple[int, tuple[object, ...]]] = {}
+        self.kept: dict[tuple[int, int], Problem] = {}
         self.length, self.network = 0, 1
 
-    def cell(self, wagon, order, at):
+    def cell(self, wagon: Free, order: Fields, at: int) -> int | None:
         _, kind, load, place, ready = wagon
         distance = self.networks[self.network - 1].get(place, {}).get(order["place"])
         if kind not in order["classes"] or order["load"] > load or distance is None:
             return None
         return distance[0] if max(ready, at) + 60 * distance[1] <= order["latest"] else None
 
-    def accept(self):
+    def accept(self) -> str:
         self.length += 1
         return f"accepted {self.length}"
 
-    def has_room(self):
+    def has_room(self) -> None:
         if self.length == self.entries:
             raise Refused(72)
 
-    def do(self, kind, fields):
+    def do(self, kind: str, fields: Fields) -> str:
         if kind in KINDS:
             return self.message(kind, fields)
-        return {"order": self.place, "withdraw": self.withdraw, "network": self.revise, "begin": self.begin,
-                "commit": self.commit, "sheet": self.sheet}[kind](fields)
+        commands: dict[str, Callable[[Fields], str]] = {
+            "order": self.place, "withdraw": self.withdraw, "network": self.revise, "begin": self.begin, "commit": self.commit, "sheet": self.sheet}
+        return commands[kind](fields)
 
-    def message(self, kind, fields):
+    def message(self, kind: str, fields: Fields) -> str:
         name = fields["company"], fields["number"]
         message = kind, fields["wagon"], fields["place"], fields["moment"], fields.get("hold")
         if name in self.messages:
@@ -457,7 +479,7 @@ class Office:
         self.messages[name] = self.length, message
         return reply
 
-    def step(self, wagon, kind, fields):
+    def step(self, wagon: Wagon, kind: str, fields: Fields) -> None:
         place, moment, word = fields["place"], fields["moment"], wagon.status
         if moment < wagon.last:
             raise Refused(31)
@@ -487,7 +509,7 @@ class Office:
             wagon.ready = moment
         wagon.status, wagon.place, wagon.last = status, place, moment
 
-    def deliver(self, wagon, place):
+    def deliver(self, wagon: Wagon, place: str) -> str:
         if not wagon.promise or self.orders[wagon.promise].fields["place"] != place:
             self.end_promise(wagon)
             return "empty"
@@ -496,12 +518,12 @@ class Office:
         order.filled.append(wagon.number)
         return "loading"
 
-    def end_promise(self, wagon):
+    def end_promise(self, wagon: Wagon) -> None:
         if wagon.promise:
             self.orders[wagon.promise].promised.discard(wagon.number)
         wagon.promise = None
 
-    def place(self, fields):
+    def place(self, fields: Fields) -> str:
         self.has_room()
         if fields["order"] in self.orders:
             raise Refused(74)
@@ -510,7 +532,7 @@ class Office:
         self.orders[fields["order"]] = Order(fields)
         return self.accept()
 
-    def withdraw(self, fields):
+    def withdraw(self, fields: Fields) -> str:
         self.has_room()
         order = self.orders.get(fields["order"])
         if order is None:
@@ -522,7 +544,7 @@ class Office:
         order.withdrawn = True
         return self.accept()
 
-    def revise(self, fields):
+    def revise(self, fields: Fields) -> str:
         self.has_room()
         if fields["revision"] > len(self.networks):
             raise Refused(79)
@@ -531,10 +553,10 @@ class Office:
         self.network = fields["revision"]
         return self.accept()
 
-    def begin(self, fields):
+    def begin(self, fields: Fields) -> str:
         return f"begun {self.length} {self.begun(fields).size()}"
 
-    def begun(self, fields):
+    def begun(self, fields: Fields) -> Problem:
         key = self.length, fields["at"]
         if key not in self.kept:
             self.kept[key] = Problem(self, fields["at"])
@@ -543,7 +565,7 @@ class Office:
             return self.kept.get(key) or Problem(self, fields["at"])
         return self.kept[key]
 
-    def commit(self, fields):
+    def commit(self, fields: Fields) -> str:
         problem = self.kept.get((fields["version"], fields["at"]))
         if problem is None:
             raise Refused(81)
@@ -554,7 +576,7 @@ class Office:
         for number, _ in pairs:
             if self.wagons[number].free() != free[number]:
                 raise Refused(82, number)
-        given = {}
+        given: dict[str, int] = {}
         for _, name in pairs:
             given[name] = given.get(name, 0) + 1
             if given[name] > self.orders[name].lack():
@@ -564,7 +586,7 @@ class Office:
             self.orders[name].promised.add(number)
         return self.accept()
 
-    def sheet(self, _fields=None):
+    def sheet(self, _fields: Fields | None = None) -> str:
         rows = [f"sheet {self.length}"] + [wagon.row() for _, wagon in sorted(self.wagons.items())]
         rows += [order.row() for order in self.orders.values()]
         if len(self.networks) > 1:
@@ -572,10 +594,11 @@ class Office:
         return "\n".join(rows)
 
 
-def optima(table):
+def optima(table: Fields) -> list[list[Pair]]:
     """All plans of the least cost, as lists of pairs; for small tables."""
     choices = [[None] + [j for j, cost in enumerate(row) if cost is not None] for row in table["cells"]]
-    least, plans = None, []
+    least: int | None = None
+    plans: list[list[Pair]] = []
     for taken in itertools.product(*choices):
         if any(taken.count(j) > lack for j, lack in enumerate(table["lacks"])):
             continue

@@ -9,26 +9,32 @@ import json
 import math
 import os
 import random
-import tempfile
+import sys
+from collections.abc import Callable, Iterator, Sequence
 
 import office
-from checkpoints import DAY, DAY_FILES, FILES, History, words_of
-from memory import ALL, STARTS
-from program import Table, run
-from threads import is_wagon
+from checkpoints import DAY, DAY_FILES, FILES, History, day_history, words_of
+from memory import ALL, STARTS, Refusals
+from program import ROOT, Outcome, Table, run, written
+
+sys.path.append(f"{ROOT}/tools")
+from made_up import wagon_number  # noqa: E402
+
+# Plans with their costs, each as the order of each wagon, by its place in the table.
+Plans = list[tuple[int, tuple[int | None, ...]]]
 
 HISTORIES = int(os.environ.get("HOSTILE_PROBLEMS", 1_000))
 MOST_PLANS = 20_000
 
 
-def table_of(state, at):
+def table_of(state: office.Office, at: int) -> str:
     """The table line of an office's problem, as FORMATS.md says it."""
     table = office.Problem(state, at).table
     members = {name: table[name] for name in ("cells", "lacks", "orders", "penalties", "wagons")}
     return json.dumps(members, separators=(",", ":")) + "\n"
 
 
-def judged(history, at):
+def judged(history: History, at: int) -> str | None:
     """What is wrong with the table of a history's last version at a moment."""
     given = "".join(line + "\n" for line in history.lines).encode()
     moment = office.moment_text(at)
@@ -44,7 +50,7 @@ def judged(history, at):
     return None if cost == right and checked == f"1 optimal {right}\n" else f"{solved.out!r} and {checked!r} where {planned!r}"
 
 
-def random_history(seed):
+def random_history(seed: int) -> tuple[History, int]:
     history = History(FILES, seed)
     for _ in range(history.random.randint(5, 60)):
         history.step()
@@ -52,46 +58,43 @@ def random_history(seed):
     return history, history.now
 
 
-def day_at(minute):
+def day_at(minute: int) -> tuple[History, int]:
     """The example day's last version, at a moment."""
-    history = History(DAY_FILES)
-    with open(f"{DAY}/day.jsonl", encoding="utf-8") as file:
-        for line in file.read().splitlines():
-            history.send_line(line)
-    history.close()
-    return history, office.moment_of("2026-03-02T06:00:00Z") + 60 * minute
+    return day_history(), office.moment_of("2026-03-02T06:00:00Z") + 60 * minute
 
 
-def of_random(seed):
+def of_random(seed: int) -> str | None:
     return judged(*random_history(seed))
 
 
-def of_the_day(minute):
+def of_the_day(minute: int) -> str | None:
     return judged(*day_at(minute))
 
 
 # Reasons.
 
 
-def counts(state, free, fields, at):
+def counts(state: office.Office, free: Sequence[office.Free], fields: office.Fields, at: int) -> list[int]:
     """How many free wagons pass each test for an order, one after the other."""
     ways = state.networks[state.network - 1]
-    tests = [lambda w: w[1] in fields["classes"], lambda w: fields["load"] <= w[2], lambda w: fields["place"] in ways.get(w[3], {}),
-             lambda w: max(w[4], at) + 60 * ways[w[3]][fields["place"]][1] <= fields["latest"],
-             lambda w: ways[w[3]][fields["place"]][0] < fields["penalty"]]
-    found = []
+    tests: list[Callable[[office.Free], object]] = [
+        lambda w: w[1] in fields["classes"], lambda w: fields["load"] <= w[2], lambda w: fields["place"] in ways.get(w[3], {}),
+        lambda w: max(w[4], at) + 60 * ways[w[3]][fields["place"]][1] <= fields["latest"],
+        lambda w: ways[w[3]][fields["place"]][0] < fields["penalty"],
+    ]
+    found: list[int] = []
     for test in tests:
         free = [wagon for wagon in free if test(wagon)]
         found.append(len(free))
     return found
 
 
-def plans_of(table):
+def plans_of(table: office.Fields) -> Plans | None:
     """All plans of a table, each with its cost and what each wagon serves."""
-    choices = [[None] + [j for j, cost in enumerate(row) if cost is not None] for row in table["cells"]]
+    choices: list[list[int | None]] = [[None, *(j for j, cost in enumerate(row) if cost is not None)] for row in table["cells"]]
     if math.prod(map(len, choices)) > MOST_PLANS:
         return None
-    plans = []
+    plans: Plans = []
     for taken in itertools.product(*choices):
         if all(taken.count(j) <= lack for j, lack in enumerate(table["lacks"])):
             km = sum(table["cells"][i][j] for i, j in enumerate(taken) if j is not None)
@@ -99,22 +102,22 @@ def plans_of(table):
     return plans
 
 
-def least(plans):
+def least(plans: Plans) -> float:
     return min((cost for cost, _ in plans), default=math.inf)
 
 
-def with_lack(table, j, change):
+def with_lack(table: office.Fields, j: int, change: int) -> office.Fields:
     lacks = list(table["lacks"])
     lacks[j] += change
     return table | {"lacks": lacks}
 
 
-def broken_bound(table, plans, cost, orders, wagons):
+def broken_bound(table: office.Fields, plans: Plans, cost: int, orders: Sequence[tuple[int, int, str]], wagons: Sequence[tuple[int, int]]) -> str | None:
     """A bound that a plan breaks."""
     if least(plans) != cost:
         return f"cost {cost}, and {least(plans)} is the least"
     for j, (gets, price, further) in enumerate(orders):
-        more, fewer = plans_of(with_lack(table, j, 1)), plans_of(with_lack(table, j, -1))
+        more, fewer = (plans_of(with_lack(table, j, change)) or [] for change in (1, -1))
         if least(more) < cost + price or least(fewer) < cost - price:
             return f"the price {price} of {table['orders'][j]}"
         served = least([plan for plan in plans if plan[1].count(j) > gets])
@@ -126,7 +129,7 @@ def broken_bound(table, plans, cost, orders, wagons):
     return None
 
 
-def reasons(history, at):
+def reasons(history: History, at: int) -> str | None:
     """What is wrong with the reasons of a history's last version at a moment."""
     state = history.state
     problem = office.Problem(state, at)
@@ -160,7 +163,7 @@ def reasons(history, at):
 
 # One order or one wagon.
 
-NAMES = {
+NAMES: dict[str, list[str]] = {
     "order": ["lacks", "gets", "misses", "class", "load", "way", "time", "cheaper", "price", "further"],
     "wagon": ["order", "km", "arrival", "without"], "stays": [], "fits": ["order", "km", "more"], "class": ["order", "has", "wants"],
     "load": ["order", "has", "wants"], "way": ["order", "from", "to"], "late": ["order", "arrival", "latest"],
@@ -169,7 +172,7 @@ NAMES = {
 TEXTS = {"from", "to", "arrival", "latest"}
 
 
-def member_of(word, name, value):
+def member_of(word: str, name: str, value: str) -> object:
     """The value of a member of a JSON line, by its word in the text."""
     if name == "wants" and word == "class":
         return value.split(",")
@@ -180,17 +183,17 @@ def member_of(word, name, value):
     return int(value)
 
 
-def json_of(line):
+def json_of(line: str) -> str:
     """The JSON line that says what a line of text says."""
     word, first, *values = line.split(" ")
-    said = {word: int(first) if word == "why" else first}
+    said: dict[str, object] = {word: int(first) if word == "why" else first}
     said |= {name: member_of(word, name, value) for name, value in zip(NAMES[word], values)}
     if word == "fits":
         said["planned"] = values[3:] == ["planned"]
     return json.dumps(said, separators=(",", ":"))
 
 
-def failed_line(state, wagon, order, at):
+def failed_line(state: office.Office, wagon: office.Free, order: office.Order, at: int) -> str | None:
     """The line of a pair that fails a test; none where it fails none."""
     number, kind, load, place, ready = wagon
     fields, pair = order.fields, f"{wagon[0]} {order.name}"
@@ -207,7 +210,7 @@ def failed_line(state, wagon, order, at):
     return f"costly {pair} {way[0]} {fields['penalty']}" if way[0] >= fields["penalty"] else None
 
 
-def wrong_pairs(table, lines, pairs, plans, whole):
+def wrong_pairs(table: office.Fields, lines: Sequence[str], pairs: Sequence[tuple[tuple[int, int], str | None]], plans: Plans | None, whole: Sequence[str]) -> str | None:
     """What is wrong with the lines of pairs, each with its line where it fails a test."""
     failed = [line for _, line in pairs if line]
     fits = {f"{table['wagons'][i]} {table['orders'][j]}": (i, j) for (i, j), line in pairs if not line}
@@ -216,10 +219,10 @@ def wrong_pairs(table, lines, pairs, plans, whole):
     cost, last = int(whole[0].split()[4]), -1
     for line in lines[:len(fits)]:
         word, number, name, km, more, *rest = line.split(" ")
-        i, j = fits.pop(f"{number} {name}", (None, None))
+        i, j = fits.pop(f"{number} {name}", (-1, -1))
         planned = any(row.startswith(f"wagon {number} {name} ") for row in whole)
         words = ["planned"] if planned else "another plan may be as good".split() if more == "0" else []
-        if word != "fits" or i is None or int(km) != table["cells"][i][j] or int(more) < last or rest != words:
+        if word != "fits" or i < 0 or int(km) != table["cells"][i][j] or int(more) < last or rest != words:
             return f"{line!r}"
         last = int(more)
         if plans is not None and least([plan for plan in plans if plan[1][i] == j]) < cost + last:
@@ -227,7 +230,7 @@ def wrong_pairs(table, lines, pairs, plans, whole):
     return None
 
 
-def asked(history, at):
+def asked(history: History, at: int) -> str | None:
     """What is wrong with what is said of each order and of each wagon, as text and as JSON lines."""
     state = history.state
     problem = office.Problem(state, at)
@@ -255,19 +258,19 @@ def asked(history, at):
     return None if (nobody.status, nobody.out, nobody.err) == (2, b"", b"wagons: 84 NO-SUCH-ORDER\n") else f"{nobody.err!r}"
 
 
-def asked_of_random(seed):
+def asked_of_random(seed: int) -> str | None:
     return asked(*random_history(seed))
 
 
-def asked_of_the_day(minute):
+def asked_of_the_day(minute: int) -> str | None:
     return asked(*day_at(minute))
 
 
-def reasons_of_random(seed):
+def reasons_of_random(seed: int) -> str | None:
     return reasons(*random_history(seed))
 
 
-def reasons_of_the_day(minute):
+def reasons_of_the_day(minute: int) -> str | None:
     return reasons(*day_at(minute))
 
 
@@ -277,21 +280,19 @@ MORNING = "2026-03-02T06:00:00Z"
 WORDS = [["table"], ["why"], ["why", "--order", "SALT-1"], ["why", "--wagon", "318127710032", "--json"]]
 
 
-def morning():
+def morning() -> bytes:
     """The office of the example day at six o'clock, as a checkpoint."""
     with open(f"{DAY}/day.jsonl", "rb") as file:
         return run(words_of("save", DAY_FILES), b"".join(file.readlines()[:8])).out
 
 
-def from_morning(asked, text, **refusals):
-    with tempfile.NamedTemporaryFile() as file:
-        file.write(text)
-        file.flush()
+def from_morning(asked: Sequence[str], text: bytes, **refusals: int | str) -> Outcome:
+    with written(text) as path:
         networks = [word for network in DAY_FILES[1] for word in ("--network", network)]
-        return run([*asked, "--at", MORNING, "--from", file.name, *networks], b"", **refusals)
+        return run([*asked, "--at", MORNING, "--from", path, *networks], b"", **refusals)
 
 
-def without_memory(case):
+def without_memory(case: tuple[list[str], bytes, bytes, Refusals]) -> str | None:
     """What is told without a refusal, or `wagons: 1` and nothing else."""
     asked, text, right, refusals = case
     outcome = from_morning(asked, text, **refusals)
@@ -302,7 +303,7 @@ def without_memory(case):
     return None if outcome.out == right else f"{outcome.out!r} where {right!r} is right"
 
 
-def refused_cases(count):
+def refused_cases(count: int) -> Iterator[tuple[list[str], bytes, bytes, Refusals]]:
     text = morning()
     for asked in WORDS:
         right = from_morning(asked, text).out
@@ -310,19 +311,14 @@ def refused_cases(count):
         yield from ((asked, text, right, {"refuse_from": n, "refuse_count": count}) for n in range(1, most))
 
 
-def wagon_number(k):
-    digits = str(33_847_961_000 + k)
-    return next(digits + check for check in "0123456789" if is_wagon(digits + check))
-
-
-def full_table(wagons, orders):
+def full_table(wagons: int, orders: int) -> bytes:
     dice = random.Random(wagons)
     cells = [[None if dice.random() < 0.1 else dice.randint(1, 9_999) for _ in range(orders)] for _ in range(wagons)]
-    fields = {"wagons": [wagon_number(k) for k in range(wagons)], "orders": [f"O{k}" for k in range(orders)], "cells": cells, "penalties": [20_000] * orders}
+    fields = {"wagons": [wagon_number(str(33_847_961_000 + k)) for k in range(wagons)], "orders": [f"O{k}" for k in range(orders)], "cells": cells, "penalties": [20_000] * orders}
     return json.dumps(fields).encode() + b"\n"
 
 
-def of_full_size(size):
+def of_full_size(size: tuple[int, int]) -> str | None:
     """A table of full size is solved and judged; one wagon or order more is refused with 53."""
     limit = ["--line-bytes", "67108864"]
     solved = run(["solve", *limit], full_table(*size))
@@ -333,16 +329,19 @@ def of_full_size(size):
     return None if checked == f"1 optimal {cost}\n" else f"{checked!r}"
 
 
-def main():
+def main() -> None:
     table = Table()
+    table.row("`table` and `why` of random histories and the example day, beside all plans where these are few")
     table.try_all("`table` of random histories, and `solve` beside `plan`", of_random, range(HISTORIES))
     table.try_all("`table` of the example day at many moments, and `solve` beside `plan`", of_the_day, range(0, 720, 20))
     table.try_all("`why` of random histories, its bounds tried by all plans where they are few", reasons_of_random, range(HISTORIES))
     table.try_all("`why` of the example day at many moments", reasons_of_the_day, range(0, 720, 20))
     table.try_all("`why` of each order and wagon of random histories, as text and JSON, its bounds tried likewise", asked_of_random, range(HISTORIES))
     table.try_all("`why` of each order and wagon of the example day at many moments", asked_of_the_day, range(0, 720, 60))
+    table.row("`table` and `why` from a checkpoint: requests for memory refused")
     table.try_all("`table` and `why` from a checkpoint: one request for memory refused", without_memory, list(refused_cases(1)))
     table.try_all("`table` and `why` from a checkpoint: all requests from one on refused", without_memory, list(refused_cases(ALL)))
+    table.row("tables of full size, and one wagon or order more")
     table.try_all("a table of 1,000 by 500 solved and judged, one wagon or order more refused", of_full_size, [(1_000, 500), (1_001, 500), (1_000, 501)])
     table.end()
 

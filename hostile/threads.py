@@ -6,13 +6,19 @@ import functools
 import multiprocessing
 import os
 import random
+import sys
 import tempfile
+from collections.abc import Sequence
+from multiprocessing.synchronize import Event
 
 import judge
 import office
-from lines import is_wagon
 from memory import counts_add_up
-from program import PROCESSES, Table, office_words, run
+from program import PROCESSES, ROOT, Table, office_words, run
+
+sys.path.append(f"{ROOT}/tools")
+import made_up  # noqa: E402
+from made_up import place  # noqa: E402
 
 TURNS = int(os.environ.get("HOSTILE_TURNS", 200))
 FILES, WAGONS, PLACES, LINES = 16, 4, 40, 300
@@ -20,26 +26,21 @@ KINDS = ["Ea", "Eb", "Ec", "Ed", "Ee", "Ef", "Eg", "Eh", "Ei", "Ej", "Ek", "El",
 MIDNIGHT = 1772409600
 
 
-def wagon_number(k):
-    digits = f"31805370{k:03}"
-    return next(digits + str(check) for check in range(10) if is_wagon(digits + str(check)))
-
-
-def place(k):
-    return f"DE{k:05}"
+def wagon_number(k: int) -> str:
+    return made_up.wagon_number(f"31805370{k:03}")
 
 
 class Sender:
     """Writes one file: messages of its own wagons, most of them right, its own orders, and plans where they are asked for."""
 
-    def __init__(self, k, seed, with_plans):
+    def __init__(self, k: int, seed: int, with_plans: bool) -> None:
         self.k, self.dice, self.with_plans = k, random.Random(f"{seed} {k}"), with_plans
         self.company, self.number, self.now = f"{2000 + k}", 0, MIDNIGHT
         self.wagons = [office.Wagon(wagon_number(k * WAGONS + w), KINDS[k], 60000, "empty", place(w), MIDNIGHT) for w in range(WAGONS)]
         self.first_rows = [[wagon.number, wagon.kind, "60000", "empty", wagon.place, office.moment_text(MIDNIGHT)] for wagon in self.wagons]
 
-    def lines(self):
-        lines = []
+    def lines(self) -> str:
+        lines: list[str] = []
         for n in range(LINES):
             self.now += 60
             if n % 60 == 0:
@@ -51,11 +52,11 @@ class Sender:
             lines.append(self.dice.choice(lines[-20:]) if lines and self.dice.random() < 0.03 else self.message())
         return "\n".join(lines) + "\n"
 
-    def order(self, n):
+    def order(self, n: int) -> str:
         fields = f'"order":"K{self.k}-{n}","place":"{place(n)}","classes":["{KINDS[self.k]}"],"load":50000'
         return f'{{"type":"order",{fields},"latest":"2026-03-05T00:00:00Z","penalty":100000,"wagons":2}}'
 
-    def message(self):
+    def message(self) -> str:
         """A loaded wagon is delivered, an empty one goes on without a delivery: so promises change no status."""
         wagon = self.dice.choice(self.wagons)
         self.number += 1
@@ -71,7 +72,7 @@ class Sender:
         wagon.status, wagon.place = status, where
         return self.text(kind, wagon.number, where)
 
-    def text(self, kind, wagon, where, hold=None):
+    def text(self, kind: str, wagon: str, where: str, hold: bool | None = None) -> str:
         more = "" if hold is None else f',"hold":{str(hold).lower()}'
         return (f'{{"type":"{kind}","company":"{self.company}","number":{self.number},"wagon":"{wagon}","place":"{where}",'
                 f'"moment":"{office.moment_text(self.now)}"{more}}}')
@@ -80,7 +81,7 @@ class Sender:
 class Day:
     """Files of a roster, a network and senders, in a folder."""
 
-    def __init__(self, folder, seed, with_plans, files=FILES):
+    def __init__(self, folder: str, seed: int, with_plans: bool, files: int = FILES) -> None:
         self.folder, senders = folder, [Sender(k, seed, with_plans) for k in range(files)]
         self.texts = [sender.lines() for sender in senders]
         self.roster = [row for sender in senders for row in sender.first_rows]
@@ -89,48 +90,50 @@ class Day:
         self.write("network.csv", "from,to,km,minutes,way\n" + lines)
         self.paths = [self.write(f"{k}.jsonl", text) for k, text in enumerate(self.texts)]
 
-    def write(self, name, text):
+    def write(self, name: str, text: str) -> str:
         path = os.path.join(self.folder, name)
         with open(path, "w") as file:
             file.write(text)
         return path
 
-    def words(self, word, files=()):
+    def words(self, word: str, files: Sequence[str] = ()) -> list[str]:
         return office_words(word, 1_000_000, 64, 2, f"{self.folder}/roster.csv", [f"{self.folder}/network.csv"]) + list(files)
 
-    def office(self):
+    def office(self) -> office.Office:
         return office.Office(self.roster, [office.distances(f"{self.folder}/network.csv")], 1_000_000, 64)
 
 
-def rows_of(text, word):
+def rows_of(text: str, word: str) -> dict[str, list[str]]:
     """The rows of a sheet by wagon or order."""
     rows = (row.split() for row in text.splitlines() if row.startswith(word))
     return {row[1]: row for row in rows}
 
 
+# The folders of the days below, which are removed at the end.
+FOLDERS: list["tempfile.TemporaryDirectory[str]"] = []
+
+
 @functools.cache
-def day_of(seed, with_plans):
+def day_of(seed: int, with_plans: bool) -> tuple[Day, list[judge.Fed]]:
     """A day's files, and what each of them gives alone by the model."""
-    folder = tempfile.TemporaryDirectory()
-    day = Day(folder.name, seed, with_plans)
-    day.keep = folder
-    day.fed = [judge.Fed(day.office(), without_plans(text).encode()) for text in day.texts]
-    return day
+    FOLDERS.append(tempfile.TemporaryDirectory())
+    day = Day(FOLDERS[-1].name, seed, with_plans)
+    return day, [judge.Fed(day.office(), without_plans(text).encode()) for text in day.texts]
 
 
-def without_plans(text):
+def without_plans(text: str) -> str:
     return "".join(line + "\n" for line in text.split("\n")[:-1] if '"plan"' not in line)
 
 
-def sixteen(turn):
+def sixteen(turn: int) -> str | None:
     """No plans: the whole report is known but for the order in which orders were placed."""
-    day = day_of(turn % 5, False)
+    day, alone = day_of(turn % 5, False)
     outcome = run(day.words("feed", day.paths))
     text = outcome.out.decode()
     lost = outcome.fault() or counts_add_up(text, outcome.status)
     if lost:
         return lost
-    for k, fed in enumerate(day.fed):
+    for k, fed in enumerate(alone):
         if text.splitlines()[k] != f"file {k + 1} {fed.counts()}":
             return f"{text.splitlines()[k]!r} where {fed.counts()!r} is right"
         own = {row[0] for row in day.roster[k * WAGONS:(k + 1) * WAGONS]}
@@ -141,17 +144,17 @@ def sixteen(turn):
     return None
 
 
-def sixteen_planning(turn):
+def sixteen_planning(turn: int) -> str | None:
     """With plans: who promises what is open. But each line is counted once, promises agree on both sides, and all but
     promises is as each file says."""
-    day = day_of(turn % 5, True)
+    day, alone = day_of(turn % 5, True)
     outcome = run(day.words("feed", day.paths))
     text = outcome.out.decode()
     lost = outcome.fault() or counts_add_up(text, outcome.status)
     if lost:
         return lost
     wagons, orders = rows_of(text, "wagon "), rows_of(text, "order ")
-    for k, fed in enumerate(day.fed):
+    for k, fed in enumerate(alone):
         row = text.splitlines()[k].split()
         plans = day.texts[k].count('"plan"')
         if sum(map(int, row[3::2])) != fed.accepted + fed.repeated + fed.refused + plans or row[5] != str(fed.repeated):
@@ -163,7 +166,7 @@ def sixteen_planning(turn):
     return promises_agree(wagons, orders)
 
 
-def promises_agree(wagons, orders):
+def promises_agree(wagons: dict[str, list[str]], orders: dict[str, list[str]]) -> str | None:
     for name, row in orders.items():
         promised = [] if row[7] == "-" else row[7].split(",")
         if sorted(promised) != sorted(wagon for wagon, other in wagons.items() if other[8] == name):
@@ -173,12 +176,12 @@ def promises_agree(wagons, orders):
     return None
 
 
-def alone(turn):
+def alone(turn: int) -> str | None:
     """One file: its sheet is that of `run` on the same lines, each plan's certificate sent back behind it."""
     with tempfile.TemporaryDirectory() as folder:
         day = Day(folder, turn, True, 1)
         fed = run(day.words("feed", day.paths))
-        lines = []
+        lines: list[str] = []
         for line in day.texts[0].splitlines():
             lines.append(line)
             if '"plan"' in line:
@@ -192,7 +195,7 @@ def alone(turn):
     return None if sheet == right else f"run says {sheet!r}, feed {right!r}"
 
 
-def contested(turn):
+def contested(turn: int) -> str | None:
     """Two files plan for the same order at once: it is placed and promised once."""
     order = '{"type":"order","order":"O1","place":"DE00001","classes":["Ea"],"load":1,"latest":"2026-03-05T00:00:00Z","penalty":100000}\n'
     plan = '{"type":"plan","at":"2026-03-02T00:00:00Z"}\n'
@@ -211,13 +214,14 @@ def contested(turn):
     return promises_agree(wagons, orders)
 
 
-def busy(stop):
+def busy(stop: Event) -> None:
     while not stop.is_set():
         sum(range(10_000))
 
 
-def main():
+def main() -> None:
     table = Table()
+    table.row("`feed` of many files under load, of two files that plan for one order, of one beside `run`")
     stop = multiprocessing.Event()
     load = [multiprocessing.Process(target=busy, args=(stop,)) for _ in range(PROCESSES)]
     for process in load:

@@ -1,11 +1,9 @@
 //! A feed of one file: where a line is refused memory, the report is that of the file with that line blank, and one line
 //! more is counted as refused.
 
-use crate::books::DAY;
-use crate::runs::run_lines_text;
-use crate::samples::{book, networks};
+use crate::lines::{RUN_LINES, run_lines_text};
+use crate::samples::Sample;
 use crate::trying::{must, prepared, say_refused};
-use line_network::Networks;
 use sessions::{FeedFault, FeedReport, feed, report_text};
 use std::alloc::{AllocError, Global};
 use std::sync::Wait;
@@ -21,42 +19,42 @@ pub(crate) fn all<T: Threads + Wait + Sync>(
     alloc: Global,
     requests: u32,
 ) -> Option<()> {
-    let networks = networks(alloc)?;
     let text = run_lines_text(alloc, None)?;
     let readers = vec![in alloc; MemorySource::new(text.as_bytes(), usize::MAX)].ok()?;
-    let book = book(alloc, 2)?;
+    let sample = Sample::new(alloc)?;
+    let book = sample.book(alloc, 2)?;
     prepared(rt, alloc, requests)?;
-    let report = match feed(threads, alloc, readers, book, &networks) {
+    let report = match feed(threads, alloc, readers, book) {
         Ok(report) => report,
         Err(fault) => {
             must(fault.number() == 1);
             say_refused(rt, "feed");
-            match fed(threads, alloc, &text, &networks).unwrap() {
+            match fed(threads, alloc, &sample, &text).unwrap() {
                 Ok(report) => report,
                 Err(_) => unreachable!(),
             }
         }
     };
-    judge(rt, threads, alloc, &networks, &report)
+    judge(rt, threads, alloc, &sample, &report)
 }
 
 /// What comes of one file.
 fn fed<'a, T: Threads + Wait + Sync>(
     rt: &T,
     alloc: Global,
+    sample: &Sample,
     text: &'a str,
-    networks: &Networks,
 ) -> Option<Result<FeedReport<MemorySource<'a>>, FeedFault>> {
     let readers = vec![in alloc; MemorySource::new(text.as_bytes(), usize::MAX)].ok()?;
-    let book = book(alloc, 2)?;
-    Some(feed(rt, alloc, readers, book, networks))
+    let book = sample.book(alloc, 2)?;
+    Some(feed(rt, alloc, readers, book))
 }
 
 fn judge<T: Threads + Wait + Sync>(
     rt: &HostRuntime,
     threads: &T,
     alloc: Global,
-    networks: &Networks,
+    sample: &Sample,
     report: &FeedReport<MemorySource<'_>>,
 ) -> Option<()> {
     let file = &report.files[0];
@@ -73,7 +71,7 @@ fn judge<T: Threads + Wait + Sync>(
         return Some(());
     }
     say_refused(rt, "feed (a line)");
-    must(fits_some_line(threads, alloc, networks, &text));
+    must(fits_some_line(threads, alloc, sample, &text));
     Some(())
 }
 
@@ -81,12 +79,12 @@ fn judge<T: Threads + Wait + Sync>(
 fn fits_some_line<T: Threads + Wait + Sync>(
     rt: &T,
     alloc: Global,
-    networks: &Networks,
+    sample: &Sample,
     text: &str,
 ) -> bool {
-    for number in 1..=DAY.len() as u64 + 4 {
+    for number in 1..=RUN_LINES {
         let lines = run_lines_text(alloc, Some(number)).unwrap();
-        let Ok(mut report) = fed(rt, alloc, &lines, networks).unwrap() else {
+        let Ok(mut report) = fed(rt, alloc, sample, &lines).unwrap() else {
             return false;
         };
         report.files[0].refused = report.files[0].refused.saturating_add(1);

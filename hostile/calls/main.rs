@@ -1,6 +1,7 @@
 //! Calls that take memory, each tried with one request refused. `hostile_calls REQUESTS PART` prepares the calls of a part,
 //! makes so many requests of its own, and then the calls: the kit refuses always the same request, which so comes earlier
-//! among the calls the more requests come before them. ../calls.py says how what is printed is judged.
+//! among the calls the more requests come before them. ../calls.py says how what is printed is judged. `hostile_calls copy
+//! FILE` writes the program itself into a file, so that it isn't built for each case.
 #![tactic(auto)]
 
 /// What a call answers. Where it is out of memory this says so, and makes the call once more, which must succeed.
@@ -39,16 +40,23 @@ macro_rules! tried_fault {
 mod books;
 mod checkpoints;
 mod feeds;
+mod lines;
+mod plans;
 mod readings;
+mod reviews;
 mod runs;
 mod samples;
 mod seats;
+mod showing;
+mod tables;
+mod told;
 mod trying;
+mod words;
 
 use std::alloc::Global;
-use std::env;
 use std::sync::Wait;
 use std::thread::Threads;
+use std::{env, fs};
 
 fn main(rt: HostRuntime) {
     if all_done(&rt, &rt, rt.alloc()).is_none() {
@@ -56,13 +64,18 @@ fn main(rt: HostRuntime) {
     }
 }
 
-/// Makes the calls, and then requests until one is refused, if none was before.
+/// Makes the calls. Without requests before them it makes requests behind them until one is refused, and says how many.
 fn all_done<T: Threads + Wait + Sync>(rt: &HostRuntime, threads: &T, alloc: Global) -> Option<()> {
     let words: Vec<String> = env::args(rt).ok()?.collect(alloc).ok()?;
+    let part = words.get(2)?.as_str();
+    if words.get(1)?.as_str() == "copy" {
+        let program = fs::read(rt, words.first()?.as_str()).ok()?;
+        return fs::write(rt, part, &program).ok();
+    }
     let requests = words.get(1)?.parse::<u32>().ok()?;
-    let part = words.get(2)?;
-    part_done(rt, threads, alloc, part.as_str(), requests)?;
-    if let Some(left) = trying::refused_behind(alloc, trying::MANY) {
+    part_done(rt, threads, alloc, part, requests)?;
+    if requests == 0 {
+        let left = trying::refused_behind(alloc, trying::MANY)?;
         trying::must(println!(rt; "left: {left}").is_ok());
     }
     Some(())
@@ -78,9 +91,15 @@ fn part_done<T: Threads + Wait + Sync>(
     match part {
         "readings" => readings::all(rt, threads, alloc, requests),
         "books" => books::all(rt, alloc, requests),
+        "tables" => tables::all(rt, alloc, requests),
+        "told" => told::all(rt, alloc, requests),
+        "plans" => plans::all(rt, alloc, requests),
+        "words" => words::all(rt, alloc, requests),
         "checkpoints" => checkpoints::all(rt, alloc, requests),
         "seats" => seats::all(rt, threads, alloc, requests),
+        "closing" => seats::closing(rt, threads, alloc, requests),
         "runs" => runs::all(rt, alloc, requests),
+        "reviews" => reviews::all(rt, alloc, requests),
         "feeds" => feeds::all(rt, threads, alloc, requests),
         _ => unreachable!(),
     }

@@ -1,72 +1,47 @@
-//! Calls that make a value and change none: lines, files, tables, problems, plans and texts. Each is made once more where
-//! it is refused memory, and what it then gives is printed.
+//! Calls that make a value and change none: lines, files, tables and problems. Each is made once more where it is refused
+//! memory, and what it then gives is printed.
 
 use crate::books::DAY;
-use crate::samples::{LONGER, book, command, networks};
-use crate::trying::{must, prepared, say_refused, shown_state};
-use assignment::plan;
-use commit_book::{Book, Limits, Snap};
-use cost_table::{Cells, Plan};
-use dispatch_sheet::{certificate_line, plan_text, sheet_text};
-use line_network::{Networks, OpenGate, Tables, tables, tables_by_workers};
-use office_map::{Choice, map_text};
-use line_network::{Network, read_lines};
+use crate::lines::TABLES;
+use crate::samples::{PLACES, Sample, command};
+use crate::showing::{Show, problem_moment, room, shown};
+use crate::trying::{must, prepared, say, say_refused, say_shown};
+use assignment::{certified_plan, plan};
+use commit_book::{Book, Limits};
+use cost_table::Cells;
+use fleet_rows::Roster;
 use line_fields::{Command, read_line};
-use move_messages::Event;
+use line_network::{Network, OpenGate, Tables, read_lines, tables, tables_by_workers};
+use move_messages::{Event, is_same_event};
 use operating_db::OfficeState;
 use place_names::Places;
-use price_checker::Prices;
-use problem_table::cells;
+use price_checker::{Prices, check_named};
 use rail_codes::{ClassCode, Company, Moment, OrderId, Place, WagonNumber};
-use sessions::work;
 use std::alloc::{AllocError, Global};
 use std::sync::{Arc, Wait};
 use std::thread::Threads;
-use table_lines::solve_line;
+use table_lines::{read_table, read_table_line, solve_line, stated_table, table_cost};
 use test_samples::{NETWORK, ROSTER};
-use fleet_rows::Roster;
 
 const TABLE: &[u8] =
     br#"{"wagons":["338447961008","218124712173"],"orders":["O1","O2"],"cells":[[10,20],[15,null]],"penalties":[1000,1000]}"#;
-
-/// Places with their names and where they lie.
-const PLACES: &str = "place,name,x,y\nDE00001,Bock & Sohn,-4,52.5\nDE00002,,0.25,48\n";
 
 /// What some calls start from.
 #[derive(Drop)]
 struct Start {
     rows: Vec<Vec<Option<u64>>>,
-    roster: Roster,
-    shared: Arc<Networks>,
+    sample: Sample,
     events: Vec<Event>,
-    book: Book,
-    snap: Snap,
-    networks: Networks,
-    longer: Network,
-    named: Places,
 }
 
 impl Start {
     fn new(alloc: Global) -> Option<Start> {
         let first = vec![in alloc; Some(10u64), Some(20)].ok()?;
         let second = vec![in alloc; Some(15u64), None].ok()?;
-        let mut book = book(alloc, 2)?;
-        let Command::Event(Event::Place(text)) = command(alloc, DAY[0].1)? else {
-            return None;
-        };
-        book.place(alloc, &text).ok()?;
-        let at = Moment::read("2026-03-01T01:00:00Z").ok()?;
-        let snap = book.begin(alloc, at).ok()?;
         Some(Start {
             rows: vec![in alloc; first, second].ok()?,
-            roster: Roster::read_rows(alloc, ROSTER.as_bytes()).ok()?,
-            shared: Arc::new(alloc, networks(alloc)?).ok()?,
+            sample: Sample::new(alloc)?,
             events: events(alloc)?,
-            book,
-            snap,
-            networks: networks(alloc)?,
-            longer: read_lines(alloc, LONGER.as_bytes()).ok()?,
-            named: Places::read_names(alloc, PLACES.as_bytes()).ok()?,
         })
     }
 }
@@ -81,15 +56,12 @@ pub(crate) fn all<T: Threads + Wait>(
     prepared(rt, alloc, requests)?;
     codes(rt, alloc)?;
     lines(rt, alloc)?;
+    table_lines(rt, alloc)?;
     distances(rt, threads, alloc)?;
+    names(rt, alloc)?;
     costs(rt, alloc, &start.rows)?;
     rosters(rt, alloc, &start)?;
-    offices(rt, alloc, &start)?;
-    plans(rt, alloc, &start)
-}
-
-fn say(rt: &HostRuntime, text: &str) {
-    must(println!(rt; "{text}").is_ok());
+    offices(rt, alloc, &start)
 }
 
 /// The texts of codes.
@@ -113,9 +85,11 @@ fn codes(rt: &HostRuntime, alloc: Global) -> Option<()> {
 fn lines(rt: &HostRuntime, alloc: Global) -> Option<()> {
     for (_name, line, _wanted) in DAY {
         let read = tried_fault!(rt, "read_line", read_line(alloc, line.as_bytes()));
-        must(println!(rt; "{read:?}").is_ok());
+        say_shown(rt, alloc, &read)?;
         if let Command::Event(event) = read {
-            must(tried!(rt, "Event::copy", event.copy(alloc)) == event);
+            let copy = tried!(rt, "Event::copy", event.copy(alloc));
+            must(is_same_event(&copy, &event));
+            commits(rt, alloc, &event)?;
         }
     }
     for line in [
@@ -123,22 +97,65 @@ fn lines(rt: &HostRuntime, alloc: Global) -> Option<()> {
         r#"{"type":"plan","at":"2026-03-01T01:00:00Z"}"#,
     ] {
         let read = tried_fault!(rt, "read_line", read_line(alloc, line.as_bytes()));
-        must(println!(rt; "{read:?}").is_ok());
+        say_shown(rt, alloc, &read)?;
     }
+    Some(())
+}
+
+/// The copy of an event that is a commit.
+fn commits(rt: &HostRuntime, alloc: Global, event: &Event) -> Option<()> {
+    if let Event::Commit(commit) = event {
+        let copy = tried!(rt, "CommitText::copy", commit.copy(alloc));
+        must(copy == *commit);
+    }
+    Some(())
+}
+
+/// A table line as `solve` and `check` take it: read, judged, its plan checked by names, and solved.
+fn table_lines(rt: &HostRuntime, alloc: Global) -> Option<()> {
+    let line = TABLES[0].as_bytes();
+    let table = tried_fault!(rt, "read_table", read_table(alloc, TABLE));
+    say_shown(rt, alloc, &table)?;
+    let table = tried_fault!(rt, "read_table_line", read_table_line(alloc, line));
+    say_shown(rt, alloc, &table)?;
+    let (names, cells) = tried_fault!(rt, "stated_table", stated_table(alloc, &table));
+    say_shown(rt, alloc, &cells)?;
+    let prices = Prices {
+        u: Vec::from_slice(alloc, &table.u).ok()?,
+        v: Vec::from_slice(alloc, &table.v).ok()?,
+    };
+    let certified = tried_fault!(
+        rt,
+        "check_named",
+        check_named(alloc, &names, &cells, &table.pairs, &prices)
+    );
+    let cost = tried_fault!(rt, "table_cost", table_cost(alloc, line));
+    must(cost == certified.cost());
     let solved = tried_fault!(rt, "solve_line", solve_line(alloc, TABLE));
     say(rt, &solved);
     Some(())
+}
+
+/// The names of places.
+fn names(rt: &HostRuntime, alloc: Global) -> Option<()> {
+    let read = tried_fault!(
+        rt,
+        "Places::read_names",
+        Places::read_names(alloc, PLACES.as_bytes())
+    );
+    say_shown(rt, alloc, &read)
 }
 
 /// A network, its copy, and its distances by one thread and by two.
 fn distances<T: Threads + Wait>(rt: &HostRuntime, threads: &T, alloc: Global) -> Option<()> {
     let read = tried_fault!(rt, "read_lines", read_lines(alloc, NETWORK.as_bytes()));
     let copy = tried!(rt, "Network::copy", read.copy(alloc));
-    must(println!(rt; "{read:?} {copy:?}").is_ok());
+    say_shown(rt, alloc, &read)?;
+    say_shown(rt, alloc, &copy)?;
     let one = tried!(rt, "tables", tables(alloc, &copy));
     let two = tried_fault!(
         rt,
-        "tables_by_workers",
+        "tables_by_workers (two workers)",
         tables_by_workers(threads, alloc, &read, 2, &OpenGate)
     );
     say_distances(rt, &read, &one, &two);
@@ -162,9 +179,12 @@ fn costs(rt: &HostRuntime, alloc: Global, rows: &[Vec<Option<u64>>]) -> Option<(
         "Cells::from_rows",
         Cells::from_rows(alloc, rows, &[1000, 1000], &[1, 1])
     );
-    let (plan, prices) = tried!(rt, "plan", plan(alloc, &table));
-    must(println!(rt; "{table:?} {plan:?} {:?} {:?}", prices.u, prices.v).is_ok());
-    Some(())
+    say_shown(rt, alloc, &table)?;
+    let planned = tried!(rt, "plan", plan(alloc, &table));
+    say_shown(rt, alloc, &planned)?;
+    let (plan, prices, certified) = tried!(rt, "certified_plan", certified_plan(alloc, &table));
+    must(certified.cost() == 35);
+    say_shown(rt, alloc, &(plan, prices))
 }
 
 /// A roster, its copy, and a book of it.
@@ -175,9 +195,10 @@ fn rosters(rt: &HostRuntime, alloc: Global, start: &Start) -> Option<()> {
         Roster::read_rows(alloc, ROSTER.as_bytes())
     );
     let copy = tried!(rt, "Roster::copy", read.copy(alloc));
-    must(println!(rt; "{:?} {:?}", read.rows(), copy.rows()).is_ok());
-    let shared = start.shared.clone().ok()?;
-    let other = start.shared.clone().ok()?;
+    say_shown(rt, alloc, &read)?;
+    say_shown(rt, alloc, &copy)?;
+    let shared = Arc::try_clone(&start.sample.networks).ok()?;
+    let other = Arc::try_clone(&start.sample.networks).ok()?;
     let limits = Limits::new(100, 2)?;
     let made = match Book::new(alloc, copy, shared, limits) {
         Ok(made) => made,
@@ -187,18 +208,19 @@ fn rosters(rt: &HostRuntime, alloc: Global, start: &Start) -> Option<()> {
             Book::new(alloc, again, other, limits).unwrap()
         }
     };
-    must(println!(rt; "{:?}", made.state().wagon_rows()).is_ok());
-    Some(())
+    say_shown(rt, alloc, made.state())
 }
 
 /// An office takes the day's events in, each of which changes nothing where memory is refused; then its problem.
 fn offices(rt: &HostRuntime, alloc: Global, start: &Start) -> Option<()> {
-    let roster = &start.roster;
+    let roster = &start.sample.roster;
     let mut state = tried!(rt, "OfficeState::new", OfficeState::new(alloc, roster, 2));
+    let mut before = room(alloc)?;
     for event in &start.events {
-        let before = shown_state(alloc, &state)?;
+        before.clear();
+        state.show(&mut before).unwrap();
         if let Err(fault) = state.apply(alloc, event) {
-            let after = shown_state(alloc, &state)?;
+            let after = shown(alloc, &state)?;
             must(after.as_str() == before.as_str());
             // One message comes twice, which an office doesn't know.
             if fault.number() == 1 {
@@ -207,13 +229,13 @@ fn offices(rt: &HostRuntime, alloc: Global, start: &Start) -> Option<()> {
             }
         }
     }
-    let at = Moment::read("2026-03-01T01:00:00Z").ok()?;
+    let at = problem_moment();
     let problem = tried!(rt, "OfficeState::problem", state.problem(alloc, at));
     // It takes no memory.
-    let copy = problem.copy();
-    must(println!(rt; "{problem:?} {copy:?}").is_ok());
-    say(rt, &shown_state(alloc, &state)?);
-    Some(())
+    let copy = problem.copy().ok()?;
+    say_shown(rt, alloc, &problem)?;
+    say_shown(rt, alloc, &copy)?;
+    say_shown(rt, alloc, &state)
 }
 
 /// The events of the day.
@@ -225,52 +247,4 @@ fn events(alloc: Global) -> Option<Vec<Event>> {
         }
     }
     Some(events)
-}
-
-/// A planner's work on a book with an order, and the texts of it.
-fn plans(rt: &HostRuntime, alloc: Global, start: &Start) -> Option<()> {
-    let (snap, networks) = (&start.snap, &start.networks);
-    let (plan, prices) = tried_fault!(rt, "work", work(alloc, snap, networks));
-    let table = tried!(rt, "cells", cells(alloc, snap.problem(), networks.get(1)?));
-    texts(rt, alloc, start, &table, &plan, &prices)
-}
-
-fn texts(
-    rt: &HostRuntime,
-    alloc: Global,
-    start: &Start,
-    table: &Cells,
-    plan: &Plan,
-    prices: &Prices,
-) -> Option<()> {
-    let snap = &start.snap;
-    let commit = tried!(
-        rt,
-        "Snap::commit_text",
-        snap.commit_text(alloc, plan, prices)
-    );
-    must(println!(rt; "{commit:?}").is_ok());
-    let planned = tried!(rt, "plan_text", plan_text(alloc, snap, table, plan));
-    say(rt, &planned);
-    let line = tried!(
-        rt,
-        "certificate_line",
-        certificate_line(alloc, snap, plan, prices)
-    );
-    say(rt, &line);
-    sheets(rt, alloc, start)
-}
-
-/// The sheet and the map of a book.
-fn sheets(rt: &HostRuntime, alloc: Global, start: &Start) -> Option<()> {
-    let (version, state) = (start.book.len(), start.book.state());
-    let sheet = tried!(rt, "sheet_text", sheet_text(alloc, version, state));
-    say(rt, &sheet);
-    let map = tried!(
-        rt,
-        "map_text",
-        map_text(alloc, state, &start.longer, &start.named, &Choice::all())
-    );
-    say(rt, &map);
-    Some(())
 }

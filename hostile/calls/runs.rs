@@ -1,80 +1,24 @@
 //! Runs over lines: a line that is refused memory is answered `N refused 1`, and what follows is answered as if that line
 //! were blank.
-ghost use Rattle.std.specs.Prelude.{None};
 
-use crate::books::DAY;
-use crate::samples::book;
-use crate::trying::{must, prepared, say_refused, shown};
-use commit_book::Book;
-use line_engine::{DeviceFailed, LineLimit, RunCount, RunFault, Sink};
+use crate::books::day_calls;
+use crate::lines::{BOOK_LINES, Page, TABLES, joined, run_lines_text};
+use crate::samples::Sample;
+use crate::showing::shown_book;
+use crate::trying::{must, prepared, say, say_refused_in};
+use commit_book::{Book, Call};
+use line_engine::{LineLimit, RunCount, RunFault};
 use office::run;
 use std::alloc::Global;
-use std::str;
-use table_lines::check_run;
+use table_lines::{check_run, solve_run};
 use test_samples::MemorySource;
-
-const PLAN: &str = r#"{"type":"plan","at":"2026-03-01T01:00:00Z"}"#;
-
-const SHEET: &str = r#"{"type":"sheet"}"#;
-
-const BROKEN: &str = r#"{"type":"withdraw","ord"#;
-
-/// Lines of `check`: an optimal plan, one that isn't, and no table.
-const TABLES: [&str; 4] = [
-    r#"{"wagons":["338447961008","218124712173"],"orders":["O1","O2"],"cells":[[10,20],[15,null]],"penalties":[1000,1000],"pairs":[["218124712173","O1"],["338447961008","O2"]],"u":[5,0],"v":[15,25]}"#,
-    r#"{"wagons":["338447961008"],"orders":["O1","O2"],"cells":[[10,20]],"penalties":[50,500],"pairs":[["338447961008","O1"]],"u":[490],"v":[500,500]}"#,
-    BROKEN,
-    r#"{"wagons":[],"orders":["O1"],"cells":[],"penalties":[900],"pairs":[],"u":[],"v":[900]}"#,
-];
-
-/// A sink over memory that was got before.
-#[derive(Drop)]
-struct Page {
-    bytes: Vec<u8>,
-    has_failed: bool,
-}
-
-impl Page {
-    fn new(alloc: Global) -> Option<Page> {
-        Some(Page {
-            bytes: Vec::with_capacity(alloc, 65_536).ok()?,
-            has_failed: false,
-        })
-    }
-
-    fn text(&self) -> &str {
-        str::from_utf8(&self.bytes).unwrap()
-    }
-}
-
-impl Sink for Page {
-    ghost contents = { λ _. None };
-
-    ghost has_failed = { λ page. page.has_failed };
-
-    fn write(&mut self, piece: &[u8]) -> Result<usize, DeviceFailed> {
-        must(self.bytes.extend_from_slice(piece).is_ok());
-        Ok(piece.len())
-    }
-
-    fn failed(&self) -> bool {
-        self.has_failed
-    }
-}
 
 /// A word of the program that reads lines.
 #[derive(Clone, Copy, PartialEq, Eq)]
 enum Word {
     Run,
     Check,
-}
-
-pub(crate) fn all(rt: &HostRuntime, alloc: Global, requests: u32) -> Option<()> {
-    let tables = Start::new(alloc, Word::Check)?;
-    let day = Start::new(alloc, Word::Run)?;
-    prepared(rt, alloc, requests)?;
-    judged(rt, alloc, tables)?;
-    judged(rt, alloc, day)
+    Solve,
 }
 
 /// What a run starts with.
@@ -84,46 +28,45 @@ struct Start {
     text: String,
     page: Page,
     book: Book,
+    calls: Vec<Call>,
+}
+
+pub(crate) fn all(rt: &HostRuntime, alloc: Global, requests: u32) -> Option<()> {
+    let sample = Sample::new(alloc)?;
+    let tables = Start::new(alloc, &sample, Word::Check)?;
+    let problems = Start::new(alloc, &sample, Word::Solve)?;
+    let day = Start::new(alloc, &sample, Word::Run)?;
+    prepared(rt, alloc, requests)?;
+    judged(rt, alloc, &sample, tables)?;
+    judged(rt, alloc, &sample, problems)?;
+    judged(rt, alloc, &sample, day)
 }
 
 impl Start {
-    fn new(alloc: Global, word: Word) -> Option<Start> {
+    fn new(alloc: Global, sample: &Sample, word: Word) -> Option<Start> {
         Some(Start {
             word,
             text: text_of(alloc, word, None)?,
             page: Page::new(alloc)?,
-            book: book(alloc, 2)?,
+            book: sample.book(alloc, 2)?,
+            calls: day_calls(alloc)?,
         })
     }
 }
 
+fn name_of(word: Word) -> &'static str {
+    match word {
+        Word::Run => "run",
+        Word::Check => "check_run",
+        Word::Solve => "solve_run",
+    }
+}
+
 /// The lines of a word, the one of this number left blank.
-pub(crate) fn run_lines_text(alloc: Global, blank: Option<u64>) -> Option<String> {
-    let mut lines = Vec::with_capacity(alloc, DAY.len() + 4).ok()?;
-    for (_name, line, _wanted) in DAY {
-        lines.push(line).ok()?;
-    }
-    for line in [PLAN, SHEET, BROKEN, SHEET] {
-        lines.push(line).ok()?;
-    }
-    joined(alloc, &lines, blank)
-}
-
-fn joined(alloc: Global, lines: &[&str], blank: Option<u64>) -> Option<String> {
-    let mut text = String::with_capacity(alloc, 16_384).ok()?;
-    for (k, line) in lines.iter().enumerate() {
-        if blank != Some(k as u64 + 1) {
-            text.push_str(line).ok()?;
-        }
-        text.push_str("\n").ok()?;
-    }
-    Some(text)
-}
-
 fn text_of(alloc: Global, word: Word, blank: Option<u64>) -> Option<String> {
     match word {
         Word::Run => run_lines_text(alloc, blank),
-        Word::Check => joined(alloc, &TABLES, blank),
+        Word::Check | Word::Solve => joined(alloc, &TABLES, blank),
     }
 }
 
@@ -135,72 +78,86 @@ fn ran(
     book: &mut Book,
 ) -> Result<RunCount, RunFault> {
     let mut reader = MemorySource::new(text.as_bytes(), usize::MAX);
+    let limit = LineLimit::standard();
     match word {
         Word::Run => run(alloc, &mut reader, page, book),
-        Word::Check => check_run(alloc, LineLimit::standard(), &mut reader, page),
+        Word::Check => check_run(alloc, limit, &mut reader, page),
+        Word::Solve => solve_run(alloc, limit, &mut reader, page),
     }
 }
 
 /// A run of a word. Where the memory for its lines is refused it says so, has written nothing and changed nothing.
-fn judged(rt: &HostRuntime, alloc: Global, start: Start) -> Option<()> {
+fn judged(rt: &HostRuntime, alloc: Global, sample: &Sample, start: Start) -> Option<()> {
     let Start {
         word,
         text,
         mut page,
         mut book,
+        calls,
     } = start;
-    let before = shown(alloc, &book)?;
+    let before = shown_book(alloc, &book, &calls)?;
     let count = match ran(alloc, word, &text, &mut page, &mut book) {
         Ok(count) => count,
         Err(fault) => {
-            must(fault.number() == 1 && page.bytes.is_empty());
-            say_refused(rt, "a run (the memory for its lines)");
-            must(shown(alloc, &book).unwrap().as_str() == before.as_str());
+            must(fault.number() == 1 && page.is_empty());
+            say_refused_in(rt, name_of(word), "the memory for its lines");
+            must(shown_book(alloc, &book, &calls).unwrap().as_str() == before.as_str());
             ran(alloc, word, &text, &mut page, &mut book).unwrap()
         }
     };
-    match refused_line(page.text()) {
+    match page.text().lines().find_map(refused_by) {
         Some(number) => {
-            say_refused(rt, "a run (a line)");
-            judge_rest(alloc, word, &page, &book, count, number)
+            say_refused_in(rt, name_of(word), "a line");
+            let second = sample.book(alloc, 2).unwrap();
+            let (page, book, calls) = (&page, &book, &calls[..]);
+            let first = Outcome {
+                word,
+                page,
+                book,
+                calls,
+            };
+            judge_rest(alloc, first, count, number, second);
         }
-        None => {
-            must(println!(rt; "{}", page.text()).is_ok());
-            Some(())
-        }
+        None => say(rt, page.text()),
     }
+    Some(())
 }
 
-/// The number of the line that was refused memory.
-fn refused_line(replies: &str) -> Option<u64> {
-    let line = replies.lines().find(|line| line.ends_with(" refused 1"))?;
-    line.split(' ').next()?.parse::<u64>().ok()
+/// The number of the line that a reply refuses memory, if it does, as `run` and `check` say it, or as `solve` does.
+fn refused_by(reply: &str) -> Option<u64> {
+    let number = match reply.strip_prefix("{\"line\":") {
+        Some(rest) => rest.strip_suffix(",\"refused\":\"1\"}")?,
+        None => reply.strip_suffix(" refused 1")?,
+    };
+    number.parse::<u64>().ok()
 }
 
-/// Whether all other replies, and the book, are those of the lines where that one is blank.
-fn judge_rest(
-    alloc: Global,
+/// What came of a run.
+#[derive(Clone, Copy)]
+struct Outcome<'a> {
     word: Word,
-    page: &Page,
-    first: &Book,
-    count: RunCount,
-    number: u64,
-) -> Option<()> {
-    let mut second = book(alloc, 2).unwrap();
+    page: &'a Page,
+    book: &'a Book,
+    calls: &'a [Call],
+}
+
+/// That all other replies, and the book, are those of the lines where that one is blank, brought to a second book.
+fn judge_rest(alloc: Global, first: Outcome<'_>, count: RunCount, number: u64, second: Book) {
+    let mut second = second;
     let mut other = Page::new(alloc).unwrap();
-    let text = text_of(alloc, word, Some(number)).unwrap();
-    let wanted = ran(alloc, word, &text, &mut other, &mut second).unwrap();
+    let text = text_of(alloc, first.word, Some(number)).unwrap();
+    let wanted = ran(alloc, first.word, &text, &mut other, &mut second).unwrap();
     must(count.lines == wanted.lines && count.refused == wanted.refused.saturating_add(1));
     let mut rest = other.text().lines();
-    for line in page.text().lines() {
-        if !line.ends_with(" refused 1") {
+    for line in first.page.text().lines() {
+        if refused_by(line).is_none() {
             must(rest.next() == Some(line));
         }
     }
-    must(rest.next().is_none() && first.len() == second.len());
+    must(rest.next().is_none() && first.book.len() == second.len());
     // A plan that is refused may have begun its problem, which is kept then.
-    if number <= DAY.len() as u64 {
-        must(shown(alloc, first).unwrap().as_str() == shown(alloc, &second).unwrap().as_str());
+    if first.word != Word::Run || number <= BOOK_LINES {
+        let shows = shown_book(alloc, first.book, first.calls).unwrap();
+        must(shown_book(alloc, &second, first.calls).unwrap().as_str() == shows.as_str());
     }
-    Some(())
 }

@@ -1,0 +1,207 @@
+//! What the words `save`, `table`, `why`, `plan` and `map` print of a book's last version. Where a call is refused memory the
+//! book's office and its entries are as before, though it may keep the problem; the call made again is what is printed.
+
+use crate::books::{BEGIN, ORDER, OTHER_ORDER, answer, call_of};
+use crate::samples::{PLACES, Sample};
+use crate::showing::{problem_moment, shown};
+use crate::trying::{must, prepared, say, say_refused};
+use command_line::{Asked, OfficeOptions, PlanOptions, ProblemOptions, Start, WhyOptions};
+use commit_book::{Book, Limits};
+use fleet_rows::Roster;
+use last_texts::{
+    ZoneFile, last_map, last_plan_text, last_reasons, last_saved, last_table, read_zone,
+};
+use line_network::{Network, read_lines};
+use office_map::Choice;
+use place_names::Places;
+use rail_codes::{OrderId, WagonNumber};
+use std::alloc::Global;
+use std::str;
+use test_samples::{LONGER, NETWORK};
+
+/// A wagon that is new, and one that is there already and carries less from now on.
+pub(crate) const ADDED: &str =
+    "wagon,class,load,status,place,moment\n338447961016,Eanos,60000,empty,DE00002,2026-03-01T00:00:00Z\n338447961008,Eanos,40000,empty,DE00001,2026-03-01T00:00:00Z\n";
+
+/// What a call gives that may keep its problem in a book. Where it is refused memory this says so, tests that the book's office
+/// and entries are as before, and makes the call once more.
+macro_rules! tried_last {
+    ($rt:expr, $alloc:expr, $name:expr, $book:expr, $call:expr) => {{
+        let before = shown($alloc, $book.state())?;
+        let entries = $book.len();
+        match $call {
+            Ok(text) => text,
+            Err(stop) => {
+                must(stop.number() == 1);
+                say_refused($rt, $name);
+                must($book.len() == entries);
+                must(shown($alloc, $book.state()).unwrap().as_str() == before.as_str());
+                match $call {
+                    Ok(text) => text,
+                    Err(_) => unreachable!(),
+                }
+            }
+        }
+    }};
+}
+
+/// What the words have of their files: a book for each, so that each makes its problem, networks, and places.
+#[derive(Drop)]
+struct Files<'a> {
+    books: Vec<Book>,
+    sample: Sample,
+    networks: Vec<Network>,
+    named: Places,
+    added: Option<Roster>,
+    zone: ZoneFile<'a>,
+}
+
+impl Files<'_> {
+    fn new(rt: &HostRuntime, alloc: Global) -> Option<Files<'static>> {
+        let sample = Sample::new(alloc)?;
+        let mut books = Vec::new(alloc);
+        for _ in 0..6 {
+            books.push(book_with_orders(alloc, &sample)?).ok()?;
+        }
+        let mut all = Vec::new(alloc);
+        for text in [NETWORK, LONGER] {
+            all.push(read_lines(alloc, text.as_bytes()).ok()?).ok()?;
+        }
+        Some(Files {
+            books,
+            sample,
+            networks: all,
+            named: Places::read_names(alloc, PLACES.as_bytes()).ok()?,
+            added: Some(Roster::read_rows(alloc, ADDED.as_bytes()).ok()?),
+            zone: read_zone(rt, None).ok()?,
+        })
+    }
+}
+
+/// A book with two orders, which keeps no problem yet.
+fn book_with_orders(alloc: Global, sample: &Sample) -> Option<Book> {
+    let mut book = sample.book(alloc, 2)?;
+    for line in [ORDER, OTHER_ORDER] {
+        let call = call_of(alloc, line)?;
+        answer(alloc, &mut book, &call);
+    }
+    Some(book)
+}
+
+pub(crate) fn all(rt: &HostRuntime, alloc: Global, requests: u32) -> Option<()> {
+    let mut files = Files::new(rt, alloc)?;
+    prepared(rt, alloc, requests)?;
+    saved(rt, alloc, &files)?;
+    mapped(rt, alloc, &files)?;
+    stated(rt, alloc, &mut files.books[0])?;
+    reasons(rt, alloc, &mut files)?;
+    planned(rt, alloc, &mut files)
+}
+
+/// `save`: with a roster, without a wagon, and as it is.
+fn saved(rt: &HostRuntime, alloc: Global, files: &Files<'_>) -> Option<()> {
+    let book = &files.books[0];
+    let leaving = [WagonNumber::read("218124712173").ok()?];
+    for (added, leaving) in [(&files.added, &leaving[..]), (&None, &leaving[..0])] {
+        let text = tried_last!(
+            rt,
+            alloc,
+            "last_saved (save)",
+            book,
+            last_saved(alloc, book, added, leaving)
+        );
+        say(rt, &text);
+    }
+    Some(())
+}
+
+fn mapped(rt: &HostRuntime, alloc: Global, files: &Files<'_>) -> Option<()> {
+    let (book, choice) = (&files.books[0], Choice::all());
+    let text = tried_last!(
+        rt,
+        alloc,
+        "last_map (map)",
+        book,
+        last_map(alloc, book, &files.networks, &files.named, &choice)
+    );
+    say(rt, &text);
+    Some(())
+}
+
+/// `table`.
+fn stated(rt: &HostRuntime, alloc: Global, book: &mut Book) -> Option<()> {
+    let at = problem_moment();
+    let text = tried_last!(
+        rt,
+        alloc,
+        "last_table (table)",
+        book,
+        last_table(alloc, book, at)
+    );
+    say(rt, &text);
+    Some(())
+}
+
+/// `why`: of the plan, of an order and of a wagon.
+fn reasons(rt: &HostRuntime, alloc: Global, files: &mut Files<'_>) -> Option<()> {
+    let asked = [
+        Asked::Plan,
+        Asked::Order(OrderId::read("O2").ok()?),
+        Asked::Wagon(WagonNumber::read("338447961008").ok()?),
+    ];
+    for (k, one) in asked.iter().enumerate() {
+        let options = WhyOptions {
+            problem: problem_options(alloc)?,
+            places: None,
+            asked: *one,
+            json: k == 1,
+        };
+        let (book, distances) = (&mut files.books[k + 1], &*files.sample.networks);
+        let names = Some(&files.named);
+        let text = tried_last!(
+            rt,
+            alloc,
+            "last_reasons (why)",
+            book,
+            last_reasons(alloc, book, distances, &options, names)
+        );
+        say(rt, &text);
+    }
+    Some(())
+}
+
+/// `plan`: as a table and as CSV.
+fn planned(rt: &HostRuntime, alloc: Global, files: &mut Files<'_>) -> Option<()> {
+    for (k, csv) in [false, true].iter().enumerate() {
+        let options = PlanOptions {
+            problem: problem_options(alloc)?,
+            places: None,
+            zone: None,
+            csv: *csv,
+        };
+        let (book, distances) = (&mut files.books[k + 4], &*files.sample.networks);
+        let (named, zone) = (&files.named, &files.zone);
+        let text = tried_last!(
+            rt,
+            alloc,
+            "last_plan_text (plan)",
+            book,
+            last_plan_text(alloc, book, distances, &options, named, zone)
+        );
+        say(rt, str::from_utf8(&text).unwrap());
+    }
+    Some(())
+}
+
+/// The options of a word that asks for a problem. It reads the moment alone: its files are read before.
+fn problem_options(alloc: Global) -> Option<ProblemOptions<'static>> {
+    Some(ProblemOptions {
+        office: OfficeOptions {
+            start: Start::Roster(""),
+            networks: Vec::new(alloc),
+            limits: Limits::new(100, 2)?,
+            workers: 1,
+        },
+        at: problem_moment(),
+    })
+}
