@@ -23,6 +23,7 @@ import random
 import subprocess
 import sys
 import time
+from collections.abc import Iterator
 
 CLASSES = ["Eanos", "Falns", "Habbins"]
 # What a wagon does that isn't free, by the word of a roster.
@@ -35,31 +36,31 @@ MOST_OPEN_WAGONS = 500
 FIELD = 600  # how many kilometres the field has from south to north
 
 
-def wagon_number(k):
+def wagon_number(k: int) -> str:
     """The number of wagon k, with its check digit."""
     eleven = f"3180537{k:04}"
     total = sum(sum(map(int, str(int(c) * (2 - i % 2)))) for i, c in enumerate(eleven))
     return eleven + str(-total % 10)
 
 
-def place(k):
+def place(k: int) -> str:
     return f"DE{k:05}"
 
 
-def name(k):
+def name(k: int) -> str:
     """The name of place k, as `Lindenau`; from place 168 on with a number behind it."""
     again, k = divmod(k, len(FIRST) * len(SECOND))
     return FIRST[k % len(FIRST)] + SECOND[k // len(FIRST)] + (f" {again + 1}" if again else "")
 
 
-def moment(seconds):
+def moment(seconds: int) -> str:
     return time.strftime("%Y-%m-%dT%H:%M:%SZ", time.gmtime(seconds))
 
 
-def points(count):
+def points(count: int) -> list[tuple[float, float]]:
     """Points in a field, none too near to another."""
     least = 0.6 / math.sqrt(count)
-    found = []
+    found: list[tuple[float, float]] = []
     while len(found) < count:
         point = (random.random() * 1.5, random.random())
         if all(math.dist(point, other) > least for other in found):
@@ -67,7 +68,7 @@ def points(count):
     return found
 
 
-def lines(at):
+def lines(at: list[tuple[float, float]]) -> Iterator[tuple[int, int, int]]:
     """The pairs of neighbours, to both of which no third point is nearer, and their kilometres."""
     reach = 4 / math.sqrt(len(at))
     for a, here in enumerate(at):
@@ -77,7 +78,7 @@ def lines(at):
                 yield b, a, max(5, round(far * FIELD))
 
 
-def write_roster(path, wagons, places):
+def write_roster(path: str, wagons: int, places: int) -> None:
     with open(path, "w", encoding="utf-8") as file:
         file.write("wagon,class,load,status,place,moment\n")
         for k in range(wagons):
@@ -85,38 +86,38 @@ def write_roster(path, wagons, places):
             file.write(f"{wagon_number(k)},{random.choice(CLASSES)},60000,{status},{place(random.randrange(places))},{moment(START)}\n")
 
 
-def write_network(path, at):
+def write_network(path: str, at: list[tuple[float, float]]) -> None:
     with open(path, "w", encoding="utf-8") as file:
         file.write("from,to,km,minutes,way\n")
         for a, b, km in lines(at):
             file.write(f"{place(a)},{place(b)},{km},{km + 10},both\n")
 
 
-def write_places(path, at):
+def write_places(path: str, at: list[tuple[float, float]]) -> None:
     with open(path, "w", encoding="utf-8") as file:
         file.write("place,name,x,y\n")
         for k, (x, y) in enumerate(at):
             file.write(f"{place(k)},{name(k)},{x * FIELD:.1f},{y * FIELD:.1f}\n")
 
 
-def order(k, places, most):
+def order(k: int, places: int, most: int) -> str:
     """The line of order k, for at most so many wagons."""
-    fields = {"type": "order", "order": f"O{k + 1}", "place": place(random.randrange(places))}
+    fields: dict[str, object] = {"type": "order", "order": f"O{k + 1}", "place": place(random.randrange(places))}
     fields |= {"classes": random.sample(CLASSES, random.choice([1, 1, 1, 2])), "load": 50000}
     fields |= {"latest": moment(START + random.randint(8, 96) * 3600), "penalty": 1000, "wagons": random.randint(1, most)}
     return json.dumps(fields, separators=(",", ":"))
 
 
-def certificate(program, folder, journal):
+def certificate(program: str, folder: str, journal: list[str]) -> str:
     """The certificate of the plan that ends a journal."""
     words = [program, "run", "--roster", f"{folder}/roster.csv", "--network", f"{folder}/network.csv"]
     replies = subprocess.run(words, input="\n".join(journal) + "\n", capture_output=True, text=True).stdout
     return next(line for line in replies.splitlines() if line.startswith("{"))
 
 
-def main():
+def main() -> None:
     program, folder = sys.argv[1], sys.argv[2]
-    wagons, places, orders = map(int, sys.argv[3:6] if sys.argv[3:] else (1000, 150, 150))
+    wagons, places, orders = map(int, sys.argv[3:6]) if sys.argv[3:] else (1000, 150, 150)
     random.seed(1)
     os.makedirs(folder, exist_ok=True)
     write_roster(f"{folder}/roster.csv", wagons, places)

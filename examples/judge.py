@@ -7,7 +7,7 @@ import sys
 from typing import Any
 
 import numpy
-from scipy.optimize import linprog
+from scipy.optimize import linprog  # type: ignore[import]  # Debian's scipy has no types.
 
 
 def solved(table: dict[str, Any]) -> dict[str, Any]:

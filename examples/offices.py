@@ -16,26 +16,26 @@ import os
 import sys
 
 
-def fits(record, kind, place):
+def fits(record: dict[str, str], kind: str, place: str) -> bool:
     return record["class"] in ("", kind) and place.startswith(record["region"])
 
 
-def office_of(records, kinds, place):
+def office_of(records: list[dict[str, str]], kinds: list[str], place: str) -> str | None:
     """The office of the first record that fits one of these classes at this place."""
     return next((record["office"] for record in records if any(fits(record, kind, place) for kind in kinds)), None)
 
 
-def plain(number):
+def plain(number: str) -> str:
     """A wagon's number without its spaces and hyphens."""
     return number.replace(" ", "").replace("-", "")
 
 
-def cut_roster(records, path):
+def cut_roster(records: list[dict[str, str]], path: str) -> tuple[dict[str, list[list[str]]], dict[str, str | None]]:
     """The lines of the roster of each office, and the office of each wagon."""
     with open(path, encoding="utf-8", newline="") as file:
         header, *rows = csv.reader(file)
     rosters = {record["office"]: [header] for record in records}
-    wagons = {}
+    wagons: dict[str, str | None] = {}
     for row in rows:
         office = office_of(records, [row[1]], row[4])
         wagons[plain(row[0])] = office
@@ -46,7 +46,7 @@ def cut_roster(records, path):
     return rosters, wagons
 
 
-def offices_of(line, records, wagons, orders):
+def offices_of(line: str, records: list[dict[str, str]], wagons: dict[str, str | None], orders: dict[str, str | None]) -> list[str]:
     """The offices that a line of the journal goes to."""
     said = json.loads(line)
     kind, everyone = said["type"], list(dict.fromkeys(record["office"] for record in records))
@@ -58,13 +58,14 @@ def offices_of(line, records, wagons, orders):
     return [found] if found else []
 
 
-def main():
+def main() -> int:
     offices, roster, folder = sys.argv[1:]
     with open(offices, encoding="utf-8", newline="") as file:
         records = list(csv.DictReader(file))
     rosters, wagons = cut_roster(records, roster)
-    journals = {office: [] for office in rosters}
-    orders, lost = {}, None in wagons.values()
+    journals: dict[str, list[str]] = {office: [] for office in rosters}
+    orders: dict[str, str | None] = {}
+    lost = None in wagons.values()
     for number, line in enumerate(sys.stdin, 1):
         try:
             found = offices_of(line, records, wagons, orders)

@@ -9,6 +9,7 @@ are left out; a plan line stands after each 100 messages of a file.
 
 import json
 import sys
+from typing import Any
 
 COMPANIES = 8
 MESSAGES_A_PLAN = 100
@@ -17,13 +18,15 @@ MESSAGES_A_PLAN = 100
 class Companies:
     """Gives each wagon a company, and each message that company's next number; the same message keeps its number."""
 
-    def __init__(self):
-        self.company, self.numbers, self.last = {}, {}, [0] * COMPANIES
+    def __init__(self) -> None:
+        self.company: dict[str, int] = {}
+        self.numbers: dict[tuple[str, int], int] = {}
+        self.last = [0] * COMPANIES
 
-    def of_wagon(self, wagon):
+    def of_wagon(self, wagon: str) -> int:
         return self.company.setdefault(wagon, len(self.company) % COMPANIES)
 
-    def renumber(self, fields):
+    def renumber(self, fields: dict[str, Any]) -> tuple[int, dict[str, Any]]:
         old = fields["company"], fields["number"]
         k = self.of_wagon(fields["wagon"])
         if old not in self.numbers:
@@ -35,14 +38,14 @@ class Companies:
 class Cut:
     """The files of one cut, as they are written."""
 
-    def __init__(self, folder, files):
+    def __init__(self, folder: str, files: int) -> None:
         self.out = [open(f"{folder}/{files}_{k + 1}.jsonl", "w") for k in range(files)]
         self.messages = [0] * files
 
-    def line(self, company, fields):
+    def line(self, company: int, fields: dict[str, Any]) -> None:
         self.out[company % len(self.out)].write(json.dumps(fields, separators=(",", ":")) + "\n")
 
-    def message(self, company, fields):
+    def message(self, company: int, fields: dict[str, Any]) -> None:
         self.line(company, fields)
         k = company % len(self.out)
         self.messages[k] += 1
@@ -50,7 +53,7 @@ class Cut:
             self.line(company, {"type": "plan", "at": fields["moment"]})
 
 
-def main():
+def main() -> None:
     folder = sys.argv[1]
     companies, orders = Companies(), 0
     cuts = [Cut(folder, files) for files in (1, 2, 4, 8)]
@@ -67,4 +70,5 @@ def main():
                     cut.message(company, message)
 
 
-main()
+if __name__ == "__main__":
+    main()

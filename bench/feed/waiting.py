@@ -9,12 +9,17 @@ import re
 import sys
 
 
-def main():
+def main() -> None:
     path, files = sys.argv[1], int(sys.argv[2])
-    begun, ended, waited, order = {}, {}, {}, []
+    begun: dict[str, float] = {}
+    ended: dict[str, float] = {}
+    waited: dict[str, float] = {}
+    order: list[str] = []
     with open(path) as trace:
         for row in trace:
-            thread, at, call = re.match(r"(\d+) +([\d.]+) (.*)", row).groups()
+            found = re.match(r"(\d+) +([\d.]+) (.*)", row)
+            assert found, row
+            thread, at, call = found.groups()
             made = re.search(r"clone3?.* = (\d+)( <[\d.]+>)?$", call)
             if made:
                 order.append(made[1])
@@ -28,4 +33,5 @@ def main():
     print(f"{sum(waited.get(thread, 0) for thread in threads) / whole:.1%}")
 
 
-main()
+if __name__ == "__main__":
+    main()

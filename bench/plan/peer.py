@@ -10,7 +10,7 @@ import sys
 import time
 
 import numpy
-from scipy.optimize import linear_sum_assignment
+from scipy.optimize import linear_sum_assignment  # type: ignore[import]  # Debian's scipy has no types.
 
 line = json.load(sys.stdin)
 lacks = numpy.array(line["lacks"])
@@ -25,16 +25,16 @@ refused = numpy.repeat(penalties[:, None], units, axis=1)
 forms = [numpy.ascontiguousarray(numpy.hstack([served, refused]))]
 if served.shape[1] >= units:
     forms.append(numpy.minimum(served, penalties[:, None]))
-costs_found, times = set(), []
+costs_found: set[int] = set()
+times: list[int] = []
 for matrix in forms:
-    least = None
+    turns = []
     for _ in range(int(sys.argv[1])):
         start = time.perf_counter_ns()
         rows, columns = linear_sum_assignment(matrix)
-        took = time.perf_counter_ns() - start
-        least = took if least is None else min(least, took)
+        turns.append(time.perf_counter_ns() - start)
     costs_found.add(int(matrix[rows, columns].sum()))
-    times.append(least // 1_000)
+    times.append(min(turns) // 1_000)
 assert len(costs_found) == 1, costs_found
 print(costs_found.pop())
 print(*times, file=sys.stderr)

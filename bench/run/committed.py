@@ -14,50 +14,38 @@ import json
 import random
 import subprocess
 import sys
+from collections.abc import Sequence
+
+from day import CLASSES, PLACES, answer
+from made_up import line, place
 
 WAITING = 270
 SERVED = 30
-PLACES = 200
-CLASSES = ["Eanos", "Falns", "Habbins"]
 
 
-def line(fields):
-    return json.dumps(fields, separators=(",", ":")) + "\n"
-
-
-def order(name, place, kind, penalty):
+def order(name: str, place: str, kind: str, penalty: int) -> str:
     fields = {"type": "order", "order": name, "place": place, "classes": [kind], "load": 50000}
     return line(fields | {"latest": "2026-04-03T00:00:00Z", "penalty": penalty})
 
 
-def anywhere():
-    return f"DE{random.randrange(PLACES):05}", random.choice(CLASSES)
+def anywhere() -> tuple[str, str]:
+    return place(random.randrange(PLACES)), random.choice(CLASSES)
 
 
-def waiting(wagons):
+def waiting(wagons: Sequence[dict[str, str]]) -> list[str]:
     """Orders at places where no wagon of their class stands: lines have 5 kilometres at least, and these pay for 4."""
     taken = {(wagon["place"], wagon["class"]) for wagon in wagons}
-    free = [(f"DE{k:05}", kind) for k in range(PLACES) for kind in CLASSES if (f"DE{k:05}", kind) not in taken]
+    free = [(place(k), kind) for k in range(PLACES) for kind in CLASSES if (place(k), kind) not in taken]
     return [order(f"P{k}", *random.choice(free), 4) for k in range(WAITING)]
 
 
-def answer(office, lines):
-    """Hands lines to the office, and returns the line of JSON that it answers."""
-    office.stdin.write("".join(lines))
-    office.stdin.flush()
-    for reply in office.stdout:
-        if reply.startswith("{"):
-            return reply
-    sys.exit("the office ended before its certificate")
-
-
-def freed(number, place, k):
+def freed(number: str, place: str, k: int) -> str:
     """A message that a wagon isn't held, which makes it ready at that moment."""
     message = {"type": "exception", "company": "9999", "number": k, "wagon": number, "place": place}
     return line(message | {"moment": f"2026-03-03T00:{k // 3600 % 60:02}:{k // 60 % 60:02}Z", "hold": False})
 
 
-def main():
+def main() -> None:
     program, folder, rounds = sys.argv[1], sys.argv[2], int(sys.argv[3])
     random.seed(3)
     with open(f"{folder}/roster.csv") as file:
@@ -65,11 +53,12 @@ def main():
     places = {wagon["wagon"]: wagon["place"] for wagon in wagons}
     words = [program, "run", "--roster", f"{folder}/roster.csv", "--network", f"{folder}/network.csv"]
     office = subprocess.Popen(words, stdin=subprocess.PIPE, stdout=subprocess.PIPE, text=True)
+    assert office.stdin and office.stdout
     scripts = {name: open(f"{folder}/{name}.jsonl", "w") for name in ("committed", "planned", "uncommitted")}
 
-    def write(lines, names=tuple(scripts)):
+    def write(lines: Sequence[str], names: Sequence[str] = tuple(scripts)) -> None:
         for name in names:
-            scripts[name].write("".join(lines))
+            scripts[name].write("".join(f"{it}\n" for it in lines))
 
     lines = waiting(wagons)
     write(lines)
@@ -81,8 +70,8 @@ def main():
         before += came
         if turn + 1 == rounds:
             with open(f"{folder}/last.jsonl", "w") as out:
-                out.write("".join(before))
-        certificate = answer(office, [*lines, *came, plan])
+                out.write("".join(f"{it}\n" for it in before))
+        certificate = answer(office.stdin, office.stdout, [*lines, *came, plan]).rstrip("\n")
         pairs = json.loads(certificate)["pairs"]
         lines = [line({"type": "withdraw", "order": f"Q{turn}-{k}"}) for k in range(SERVED)]
         for number, _ in pairs:
@@ -95,10 +84,11 @@ def main():
         before += [plan, certificate, *lines]
         lines = [certificate, *lines]
     print(at)
-    office.stdin.write("".join(lines))
+    office.stdin.write("".join(f"{it}\n" for it in lines))
     office.stdin.close()
     office.stdout.read()
     office.wait()
 
 
-main()
+if __name__ == "__main__":
+    main()

@@ -7,10 +7,15 @@ certificate of its plan, so the program itself is asked for it: it reads the lin
 """
 
 import json
+import os
 import random
 import subprocess
 import sys
-import time
+from typing import IO
+
+sys.path.append(os.path.join(os.path.dirname(os.path.abspath(__file__)), "..", "..", "tools"))
+import made_up  # noqa: E402
+from made_up import line, moment, place  # noqa: E402
 
 PLACES = 200
 WAGONS = 1000
@@ -20,54 +25,36 @@ START = 1772409600  # 2026-03-02T00:00:00Z
 SECONDS_A_MESSAGE = 10
 
 
-def wagon_number(k):
-    eleven = f"31805370{k:03}"
-    total = sum(sum(map(int, str(int(c) * (2 - i % 2)))) for i, c in enumerate(eleven))
-    return eleven + str(-total % 10)
-
-
-def place(k):
-    return f"DE{k:05}"
-
-
-def moment(seconds):
-    return time.strftime("%Y-%m-%dT%H:%M:%SZ", time.gmtime(seconds))
-
-
 class Wagon:
-    def __init__(self, k):
-        self.number = wagon_number(k)
+    def __init__(self, k: int) -> None:
+        self.number = made_up.wagon_number(f"31805370{k:03}")
         self.kind = CLASSES[k % len(CLASSES)]
         self.place = place(random.randrange(PLACES))
         self.status = "empty"
         self.held = False
-        self.goal = None  # the place of the order that it is promised to
-
-
-def line(fields):
-    return json.dumps(fields, separators=(",", ":"))
+        self.goal: str | None = None  # the place of the order that it is promised to
 
 
 class Day:
     """The lines, made so that nearly all of them are accepted."""
 
-    def __init__(self):
+    def __init__(self) -> None:
         self.wagons = [Wagon(k) for k in range(WAGONS)]
         self.by_number = {wagon.number: wagon for wagon in self.wagons}
         self.numbers = {company: 0 for company in COMPANIES}
         self.now = START
-        self.last = None
+        self.last = ""
 
-    def message(self, kind, wagon, where, hold=None):
+    def message(self, kind: str, wagon: Wagon, where: str, hold: bool | None = None) -> str:
         company = random.choice(COMPANIES)
         self.numbers[company] += 1
-        fields = {"type": kind, "company": company, "number": self.numbers[company], "wagon": wagon.number}
+        fields: dict[str, object] = {"type": kind, "company": company, "number": self.numbers[company], "wagon": wagon.number}
         fields |= {"place": where, "moment": moment(self.now)}
         if hold is not None:
             fields["hold"] = hold
         return line(fields)
 
-    def next_message(self):
+    def next_message(self) -> str:
         self.now += SECONDS_A_MESSAGE
         turn = random.random()
         if turn < 0.01 and self.last:
@@ -82,7 +69,7 @@ class Day:
         self.last = self.step(wagon)
         return self.last
 
-    def step(self, wagon):
+    def step(self, wagon: Wagon) -> str:
         word, _, load = wagon.status.partition("_")
         anywhere = place(random.randrange(PLACES))
         if word == "empty":
@@ -106,13 +93,13 @@ class Day:
             return self.move("delivery", wagon, wagon.place, "empty")
         return self.move("release", wagon, wagon.place, "empty")
 
-    def move(self, kind, wagon, where, status):
+    def move(self, kind: str, wagon: Wagon, where: str, status: str) -> str:
         text = self.message(kind, wagon, where)
         wagon.place, wagon.status = where, status
         return text
 
 
-def write_files(folder, day):
+def write_files(folder: str, day: Day) -> None:
     with open(f"{folder}/roster.csv", "w") as out:
         out.write("wagon,class,load,status,place,moment\n")
         for wagon in day.wagons:
@@ -125,24 +112,24 @@ def write_files(folder, day):
                 out.write(f"{place(k)},{place(other)},{km},{km + 10},both\n")
 
 
-def main():
+def main() -> None:
     program, folder, messages = sys.argv[1], sys.argv[2], int(sys.argv[3])
     random.seed(1)
     day = Day()
     write_files(folder, day)
     words = [program, "run", "--roster", f"{folder}/roster.csv", "--network", f"{folder}/network.csv", "--entries", "1000000"]
     office = subprocess.Popen(words, stdin=subprocess.PIPE, stdout=subprocess.PIPE, text=True)
+    assert office.stdin and office.stdout
     with open(f"{folder}/lines.jsonl", "w") as out:
         for hour in range(messages // 1000):
             lines = [day.next_message() for _ in range(1000)]
             goal = place(random.randrange(PLACES))
-            order = {"type": "order", "order": f"O{hour}", "place": goal, "classes": [random.choice(CLASSES)], "load": 50000}
+            order: dict[str, object] = {"type": "order", "order": f"O{hour}", "place": goal, "classes": [random.choice(CLASSES)], "load": 50000}
             lines.append(line(order | {"latest": moment(day.now + 30 * 86400), "penalty": 1000000, "wagons": 3}))
             lines.append(line({"type": "plan", "at": moment(day.now)}))
-            certificate = asked(office, lines)
-            goals = {f"O{hour}": goal}
-            for number, order in json.loads(certificate)["pairs"]:
-                day.by_number[number].goal = goals[order]
+            certificate = answer(office.stdin, office.stdout, lines)
+            for number, _ in json.loads(certificate)["pairs"]:
+                day.by_number[number].goal = goal
             office.stdin.write(certificate)
             out.write("\n".join(lines) + "\n" + certificate)
     office.stdin.close()
@@ -150,14 +137,15 @@ def main():
     office.wait()
 
 
-def asked(office, lines):
-    """Hands lines to the office, and returns the certificate that it answers."""
-    office.stdin.write("\n".join(lines) + "\n")
-    office.stdin.flush()
-    for reply in office.stdout:
+def answer(given: IO[str], replies: IO[str], lines: list[str]) -> str:
+    """Hands lines to an office, and returns the certificate that it answers."""
+    given.write("".join(f"{it}\n" for it in lines))
+    given.flush()
+    for reply in replies:
         if reply.startswith("{"):
             return reply
     sys.exit("the office ended before its certificate")
 
 
-main()
+if __name__ == "__main__":
+    main()

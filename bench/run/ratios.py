@@ -25,7 +25,7 @@ def main() -> None:
     columns = sys.argv[2:6]
     least = ratio([min(column) for column in zip(*rows)], columns)
     turns = [found for found in (ratio(row, columns) for row in rows) if found == found]
-    print(f"{least:.2f} by the least of the turns, {statistics.median(turns):.2f} by their median")
+    print(f"{least:.2f} by the least of the turns, {statistics.median(turns or [least]):.2f} by their median")
 
 
 if __name__ == "__main__":

@@ -9,40 +9,38 @@ table.json, the table that each of these lines plans, as a table line.
 
 import csv
 import heapq
-import json
 import random
 import sys
+from typing import Any
+
+from day import CLASSES, PLACES
+from made_up import line, place
 
 ORDERS = 300
-PLACES = 200
-CLASSES = ["Eanos", "Falns", "Habbins"]
 
 
-def line(fields):
-    return json.dumps(fields, separators=(",", ":")) + "\n"
-
-
-def order(k):
-    fields = {"type": "order", "order": f"P{k}", "place": f"DE{random.randrange(PLACES):05}"}
+def order(k: int) -> dict[str, Any]:
+    fields: dict[str, Any] = {"type": "order", "order": f"P{k}", "place": place(random.randrange(PLACES))}
     fields |= {"classes": [random.choice(CLASSES)], "load": 50000}
     return fields | {"latest": "2026-04-03T00:00:00Z", "penalty": 1000000}
 
 
-def kilometres_from(lines, start):
+def kilometres_from(lines: dict[str, list[tuple[str, int]]], start: str) -> dict[str, int]:
     """The kilometres to each place that can be reached."""
-    found, heap = {}, [(0, start)]
+    found: dict[str, int] = {}
+    heap = [(0, start)]
     while heap:
-        km, place = heapq.heappop(heap)
-        if place not in found:
-            found[place] = km
-            for there, more in lines.get(place, []):
+        km, at = heapq.heappop(heap)
+        if at not in found:
+            found[at] = km
+            for there, more in lines.get(at, []):
                 heapq.heappush(heap, (km + more, there))
     return found
 
 
-def table(folder, orders):
+def table(folder: str, orders: list[dict[str, Any]]) -> str:
     """Who is in time for which order: here every wagon of the order's class, since its latest moment is far off."""
-    lines = {}
+    lines: dict[str, list[tuple[str, int]]] = {}
     with open(f"{folder}/network.csv") as file:
         for line_of in csv.DictReader(file):
             ends = line_of["from"], line_of["to"]
@@ -51,42 +49,42 @@ def table(folder, orders):
                 lines.setdefault(ends[1], []).append((ends[0], int(line_of["km"])))
     with open(f"{folder}/roster.csv") as file:
         wagons = sorted(csv.DictReader(file), key=lambda wagon: wagon["wagon"])
-    away = {place: kilometres_from(lines, place) for place in {wagon["place"] for wagon in wagons}}
+    away = {at: kilometres_from(lines, at) for at in {wagon["place"] for wagon in wagons}}
     cells = [
         [away[wagon["place"]].get(one["place"]) if wagon["class"] in one["classes"] else None for one in orders]
         for wagon in wagons
     ]
     penalties = [one["penalty"] for one in orders]
-    fields = {"wagons": [], "orders": [], "cells": cells, "penalties": penalties}
+    fields: dict[str, Any] = {"wagons": [], "orders": [], "cells": cells, "penalties": penalties}
     return line(fields | {"lacks": [1] * len(orders), "pairs": [], "u": [], "v": []})
 
 
-def ask(kind, k):
+def ask(kind: str, k: int) -> str:
     return line({"type": kind, "at": f"2026-03-03T00:{k // 60:02}:{k % 60:02}Z"})
 
 
-def asks(kind, lines):
-    return "".join(ask(kind, k) for k in range(lines))
+def asks(kind: str, lines: int) -> str:
+    return "".join(f"{ask(kind, k)}\n" for k in range(lines))
 
 
-def asks_after_messages(folder, kind, lines):
+def asks_after_messages(folder: str, kind: str, lines: int) -> str:
     """A message that a wagon isn't held, which makes it ready at that moment, before each line."""
     with open(f"{folder}/roster.csv") as file:
         wagons = list(csv.DictReader(file))
-    message = {"type": "exception", "company": "9999", "moment": "2026-03-03T00:00:00Z", "hold": False}
+    message: dict[str, Any] = {"type": "exception", "company": "9999", "moment": "2026-03-03T00:00:00Z", "hold": False}
     told = [
         line(message | {"number": k, "wagon": wagons[k]["wagon"], "place": wagons[k]["place"]}) for k in range(lines)
     ]
-    return "".join(told[k] + ask(kind, k) for k in range(lines))
+    return "".join(f"{told[k]}\n{ask(kind, k)}\n" for k in range(lines))
 
 
-def main():
+def main() -> None:
     folder, lines = sys.argv[1], int(sys.argv[2])
     random.seed(2)
     waiting = [order(k) for k in range(ORDERS)]
     with open(f"{folder}/table.json", "w") as out:
-        out.write(table(folder, waiting))
-    orders = "".join(map(line, waiting))
+        out.write(table(folder, waiting) + "\n")
+    orders = "".join(f"{line(it)}\n" for it in waiting)
     scripts = [("orders", ""), ("begins", asks("begin", lines)), ("plans", asks("plan", lines))]
     scripts += [(f"changed_{kind}s", asks_after_messages(folder, kind, lines)) for kind in ("begin", "plan")]
     for name, more in scripts:
@@ -94,4 +92,5 @@ def main():
             out.write(orders + more)
 
 
-main()
+if __name__ == "__main__":
+    main()

@@ -6,9 +6,12 @@ moves, round and round: each leaves, arrives and is delivered empty. So each lin
 lines come between each other.
 """
 
-import json
+import os
 import sys
-import time
+
+sys.path.append(os.path.join(os.path.dirname(os.path.abspath(__file__)), "..", "..", "tools"))
+import made_up  # noqa: E402
+from made_up import line, moment  # noqa: E402
 
 PLACES = 200
 WAGONS = 1000
@@ -17,17 +20,12 @@ ROUND = ["departure", "arrival", "delivery"]
 
 
 def wagon_number(k: int) -> str:
-    eleven = f"31805370{k:03}"
-    total = sum(sum(map(int, str(int(c) * (2 - i % 2)))) for i, c in enumerate(eleven))
-    return eleven + str(-total % 10)
+    return made_up.wagon_number(f"31805370{k:03}")
 
 
 def place(k: int) -> str:
-    return f"DE{k % PLACES:05}"
-
-
-def moment(seconds: int) -> str:
-    return time.strftime("%Y-%m-%dT%H:%M:%SZ", time.gmtime(seconds))
+    """The place of this number, round and round."""
+    return made_up.place(k % PLACES)
 
 
 def messages(sender: int, senders: int, lines: int) -> list[str]:
@@ -39,7 +37,7 @@ def messages(sender: int, senders: int, lines: int) -> list[str]:
         # A wagon begins at the place of its number, and each round leads it one place on.
         at = place(wagon + turn // len(ROUND) + (turn % len(ROUND) > 0))
         fields = {"type": ROUND[turn % len(ROUND)], "company": f"S{sender:03}", "number": n, "wagon": wagon_number(wagon), "place": at}
-        made.append(json.dumps(fields | {"moment": moment(START + 60 * turn)}, separators=(",", ":")))
+        made.append(line(fields | {"moment": moment(START + 60 * turn)}))
     return made
 
 
@@ -55,7 +53,8 @@ def main() -> None:
             out.write(f"{place(k)},{place(k + 1)},{10 + k % 50},{20 + k % 50},both\n")
     for sender in range(senders):
         with open(f"{folder}/sender_{sender}.jsonl", "w") as out:
-            out.write("".join(f"{line}\n" for line in messages(sender, senders, lines)))
+            out.write("".join(f"{it}\n" for it in messages(sender, senders, lines)))
 
 
-main()
+if __name__ == "__main__":
+    main()

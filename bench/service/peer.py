@@ -94,4 +94,5 @@ def main() -> None:
     web.run_app(app, host="127.0.0.1", port=int(sys.argv[3]), print=lambda *_: None, access_log=None)
 
 
-main()
+if __name__ == "__main__":
+    main()

@@ -8,10 +8,13 @@ the medians over the fleets of what the offices' plans cost more than the plan o
 
 import statistics
 import sys
+from typing import Any
 
 import numpy
-from scipy.optimize import linear_sum_assignment
+from scipy.optimize import linear_sum_assignment  # type: ignore[import]  # Debian's scipy has no types.
 
+# Rows of numbers: places, or who is chosen of them.
+Numbers = numpy.ndarray[Any, Any]
 PLACES = 400
 CLASSES = 8
 # So many of a hundred wagons are free at once, and so many are wanted.
@@ -27,7 +30,7 @@ CUTS = ["class", "class and region", "region", "at random"]
 class Fleet:
     """Free wagons and wanted ones, at places of 1,200 by 1,000 km. Where many come free, few are wanted: both are uneven."""
 
-    def __init__(self, seed, wagons):
+    def __init__(self, seed: int, wagons: int) -> None:
         self.draw = draw = numpy.random.default_rng(seed)
         places = draw.uniform((0, 0), (1200, 1000), (PLACES, 2))
         unloads, loads = (weights / weights.sum() for weights in draw.lognormal(0, 1, (2, PLACES)))
@@ -38,7 +41,7 @@ class Fleet:
         # The kilometres to each place within a day or three.
         self.reach = draw.choice([400, 800, 1600], wanted)
 
-    def costs(self, orders, wagons):
+    def costs(self, orders: Numbers, wagons: Numbers) -> Numbers:
         """Kilometres of each pair; a pair that isn't allowed costs as much as a refusal, and so is none."""
         apart = self.orders[orders][:, None, :] - self.wagons[wagons][None, :, :]
         km = numpy.rint(DETOUR * numpy.hypot(apart[..., 0], apart[..., 1]))
@@ -46,7 +49,7 @@ class Fleet:
         suits = (wants == has) | (self.takes_both[orders][:, None] & (wants // 2 == has // 2))
         return numpy.where(suits & (km <= self.reach[orders][:, None]), numpy.minimum(km, PENALTY), PENALTY)
 
-    def least(self, orders, wagons):
+    def least(self, orders: Numbers, wagons: Numbers) -> tuple[int, int]:
         """What a plan of least cost costs, and how many wanted wagons it misses."""
         if not len(orders):
             return 0, 0
@@ -56,7 +59,7 @@ class Fleet:
         found = costs[linear_sum_assignment(costs)]
         return int(found.sum()), int((found == PENALTY).sum())
 
-    def offices(self, cut, count):
+    def offices(self, cut: str, count: int) -> tuple[Numbers, Numbers]:
         """The office of each order and each wagon."""
         if cut == "at random":
             return self.draw.integers(count, size=len(self.orders)), self.draw.integers(count, size=len(self.wagons))
@@ -68,25 +71,26 @@ class Fleet:
         orders, wagons = self.regions(2)
         return self.order_class * groups // CLASSES * 2 + orders, self.wagon_class * groups // CLASSES * 2 + wagons
 
-    def regions(self, count):
+    def regions(self, count: int) -> tuple[Numbers, Numbers]:
         """By stripes from west to east with as many free wagons each; eight regions are four stripes of two halves."""
         stripes = count if count <= 4 else count // 2
         bounds = numpy.quantile(self.wagons[:, 0], numpy.linspace(0, 1, stripes + 1)[1:-1])
         middle = numpy.median(self.wagons[:, 1])
 
-        def region(places):
-            stripe = numpy.searchsorted(bounds, places[:, 0])
-            return stripe if stripes == count else stripe * 2 + (places[:, 1] > middle)
+        def region(places: Numbers) -> Numbers:
+            stripe: Numbers = numpy.searchsorted(bounds, places[:, 0])
+            half: Numbers = stripe * 2 + (places[:, 1] > middle)
+            return stripe if stripes == count else half
 
         return region(self.orders), region(self.wagons)
 
-    def least_in(self, cut, count):
+    def least_in(self, cut: str, count: int) -> tuple[int, int]:
         orders, wagons = self.offices(cut, count)
         plans = [self.least(numpy.flatnonzero(orders == office), numpy.flatnonzero(wagons == office)) for office in range(count)]
         return sum(cost for cost, _ in plans), sum(missed for _, missed in plans)
 
 
-def main():
+def main() -> None:
     fleets = int(sys.argv[1]) if len(sys.argv) > 1 else 5
     wagons = int(sys.argv[2]) if len(sys.argv) > 2 else 8000
     every = [Fleet(seed, wagons) for seed in range(fleets)]
@@ -105,4 +109,5 @@ def main():
         print(f"| {cut} | {' | '.join(cells)} |", flush=True)
 
 
-main()
+if __name__ == "__main__":
+    main()

@@ -27,9 +27,11 @@ from pathlib import Path
 
 HERE = Path(__file__).resolve().parent
 ROOT = HERE.parents[1]
-sys.path.insert(0, str(ROOT / "service"))
+sys.path[:0] = [str(ROOT / "service"), str(ROOT / "tools")]
 
+import programs  # noqa: E402
 import redis  # noqa: E402
+from ports import free_port  # noqa: E402
 from wagons_service.redis_link import EXEC, MULTI, pack  # noqa: E402
 
 # So many lines are appended at once, and so many are on their way.
@@ -38,12 +40,8 @@ WINDOW = 4000
 # A look at how many are answered takes time from what is timed.
 SECONDS_BETWEEN_LOOKS = 0.004
 LEASE = 1000
-
-
-def free_port() -> int:
-    with socket.socket() as free:
-        free.bind(("127.0.0.1", 0))
-        return int(free.getsockname()[1])
+# So many lines are answered before a takeover.
+TAKEOVER_LINES = 2000
 
 
 def client(port: int) -> "redis.Redis[bytes]":
@@ -86,6 +84,16 @@ def end(children: "list[subprocess.Popen[bytes]]") -> None:
     for child in children:
         child.kill()
         child.wait()
+
+
+@contextmanager
+def ended() -> Iterator["list[subprocess.Popen[bytes]]"]:
+    """Children that are ended whatever happens."""
+    children: "list[subprocess.Popen[bytes]]" = []
+    try:
+        yield children
+    finally:
+        end(children)
 
 
 def consume(port: int, name: str) -> None:
@@ -173,21 +181,22 @@ def measured(offices: list[tuple[int, str]], lines: list[bytes]) -> float:
 
 
 def told(tried: Tried, rate: float) -> float:
-    print(f"{tried.offices} {tried.kind}: {rate:,.0f}", file=sys.stderr, flush=True)
+    if sys.stderr.isatty():
+        print(f"{tried.offices} {tried.kind}: {rate:,.0f}", file=sys.stderr, flush=True)
     return rate
 
 
-def in_turns(tries: list[Tried], turns: int, program: str, room: str, lines: list[bytes]) -> list[float]:
+def in_turns(tries: list[Tried], turns: int, program: str, room: str, lines: list[bytes], least: int) -> list[float]:
     """Each in turns with the others: the best of its rates, since other work beside it only takes away."""
     found = []
     for _ in range(turns):
-        found.append([told(one, one.rate(program, room, lines[:max(len(lines) // one.offices, 20_000)])) for one in tries])
+        found.append([told(one, one.rate(program, room, lines[:max(len(lines) // one.offices, least)])) for one in tries])
     return [max(rates) for rates in zip(*found)]
 
 
-def rates(program: str, room: str, lines: list[bytes], turns: int, counts: list[int], kinds: list[str]) -> None:
+def rates(program: str, room: str, lines: list[bytes], turns: int, counts: list[int], kinds: list[str], least: int) -> None:
     tries = [Tried(offices, kind) for offices in counts for kind in kinds]
-    found = in_turns(tries, turns, program, room, lines)
+    found = in_turns(tries, turns, program, room, lines, least)
     one = {kind: rate for kind, rate in zip(kinds, found)}
     print("| Offices | What | Lines a second | Times one |")
     print("|---|---|---|---|")
@@ -199,23 +208,23 @@ def takeover(program: str, room: str, lines: list[bytes], turns: int) -> None:
     """From the kill of the first to the first reply that the standby writes, while lines come in."""
     found = []
     for _ in range(turns):
-        with server(room) as port:
+        with server(room) as port, ended() as children:
             first = office(program, room, port, "north")
+            children.append(first)
             until_held(port, "north")
-            second = office(program, room, port, "north")
+            children.append(office(program, room, port, "north"))
             time.sleep(2)
             there, replies = client(port), "{north}:replies"
-            for line in lines[:2000]:
+            for line in lines[:TAKEOVER_LINES]:
                 there.xadd("{north}:lines", {"line": line})
-            while there.xlen(replies) < 2000:
+            while there.xlen(replies) < TAKEOVER_LINES:
                 time.sleep(0.01)
             first.send_signal(signal.SIGKILL)
             start, before = time.monotonic(), there.xlen(replies)
-            there.xadd("{north}:lines", {"line": lines[2000]})
+            there.xadd("{north}:lines", {"line": lines[TAKEOVER_LINES]})
             while there.xlen(replies) <= before:
                 time.sleep(0.002)
             found.append(time.monotonic() - start)
-            end([first, second])
     print(f"a takeover with a lease of {LEASE / 1000} s: median {statistics.median(found):.2f} s, longest {max(found):.2f} s of {turns}", flush=True)
 
 
@@ -226,23 +235,23 @@ def router(room: str, lines: list[bytes], turns: int) -> None:
     Path(f"{room}/offices.csv").write_text("wagon,office\n" + "".join(f"{number},{names[k % 8]}\n" for k, number in enumerate(numbers)))
     found = []
     for _ in range(turns):
-        with server(room) as port, open(f"{room}/log", "ab") as log:
+        with server(room) as port, open(f"{room}/log", "ab") as log, ended() as children:
             there = client(port)
             command = [str(ROOT / "service" / "wagons-router"), "--inbox", f"redis://127.0.0.1:{port}/fleet", "--offices", f"{room}/offices.csv"]
-            child = subprocess.Popen(command, stderr=log)
+            children.append(subprocess.Popen(command, stderr=log))
             while not there.execute_command("FUNCTION", "LIST"):
                 time.sleep(0.02)
             found.append(measured([(port, "fleet")], lines))
             assert sum(there.xlen(f"{{{name}}}:lines") for name in names) == len(lines)
-            end([child])
     print(f"the router, from an inbox to eight streams: median {statistics.median(found):,.0f} lines a second", flush=True)
 
 
 def starts(program: str, room: str, lines: list[bytes], turns: int) -> None:
     """From the start of a service until it has read its stream and may write."""
     for journal_lines, name in (1_000_000, "no checkpoint"), (100_000, "checkpoints of each 100,000 lines"):
-        with server(room, "everysec") as port:
+        with server(room, "everysec") as port, ended() as children:
             child = office(program, room, port, "north", "--journal-lines", str(journal_lines))
+            children.append(child)
             until_held(port, "north")
             rate = measured([(port, "north")], lines) if journal_lines == 1_000_000 else fill(port, lines)
             found = []
@@ -252,13 +261,19 @@ def starts(program: str, room: str, lines: list[bytes], turns: int) -> None:
                 child.wait()
                 start = time.monotonic()
                 child = office(program, room, port, "north")
+                children.append(child)
                 until_held(port, "north")
                 found.append(time.monotonic() - start)
             memory = int(client(port).info("memory")["used_memory"])
             size = int(client(port).info("persistence")["aof_current_size"])
             print(f"a start with {len(lines):,} lines and {name}: median {statistics.median(found):.2f} s; Redis has {memory / 1e6:.0f} MB, "
                   f"its append-only file {size / 1e6:.0f} MB; {rate:,.0f} lines a second before", flush=True)
-            end([child])
+
+
+def replies_added(there: "redis.Redis[bytes]") -> int:
+    """How many replies were added in all; the stream isn't there before the first one."""
+    key = "{north}:replies"
+    return int(there.xinfo_stream(key)["entries-added"]) if there.exists(key) else 0
 
 
 def fill(port: int, lines: list[bytes]) -> float:
@@ -270,9 +285,9 @@ def fill(port: int, lines: list[bytes]) -> float:
         for line in lines[at:at + BATCH]:
             pipe.xadd("{north}:lines", {"line": line})
         pipe.execute()
-        while at - int(there.xinfo_stream("{north}:replies")["entries-added"] if at else 0) > WINDOW:
+        while at - replies_added(there) > WINDOW:
             time.sleep(0.001)
-    while int(there.xinfo_stream("{north}:replies")["entries-added"]) < len(lines):
+    while replies_added(there) < len(lines):
         time.sleep(0.01)
     return len(lines) / (time.monotonic() - start)
 
@@ -284,25 +299,28 @@ def main() -> None:
     parser.add_argument("--lines", type=int, default=200_000)
     parser.add_argument("--turns", type=int, default=3)
     parser.add_argument("--start-lines", type=int, default=999_999)
+    parser.add_argument("--least-lines", type=int, default=20_000, help="how many lines an office gets at least")
+    parser.add_argument("--takeovers", type=int, default=5)
     given = parser.parse_args()
-    program = subprocess.run([f"{ROOT}/tools/program", "wagons", os.environ.get("WAGONS", "")], check=True, stdout=subprocess.PIPE, text=True).stdout.strip()
+    program = programs.wagons()
     with tempfile.TemporaryDirectory(prefix="wagons-bench-streams-", dir=os.environ.get("ROOM")) as room:
-        most = max(given.lines, 20_000, given.start_lines if "start" in given.parts else 0)
+        most = max(given.lines, given.least_lines, TAKEOVER_LINES + 1, given.start_lines if "start" in given.parts else 0)
         subprocess.run([f"{ROOT}/bench/service/lines.py", room, "1", str(most)], check=True)
         lines = Path(f"{room}/sender_0.jsonl").read_bytes().splitlines()
         print(f"load {os.getloadavg()[0]:.1f} at the start, {os.cpu_count()} processors", flush=True)
         if "rate" in given.parts:
-            rates(program, room, lines[:given.lines], given.turns, given.offices, ["office", "plain"])
+            rates(program, room, lines[:given.lines], given.turns, given.offices, ["office", "plain"], given.least_lines)
         if "servers" in given.parts:
-            rates(program, room, lines[:given.lines], given.turns, given.offices, ["office, servers", "plain, servers"])
+            rates(program, room, lines[:given.lines], given.turns, given.offices, ["office, servers", "plain, servers"], given.least_lines)
         if "standby" in given.parts:
-            rates(program, room, lines[:given.lines], given.turns, given.offices, ["standby"])
+            rates(program, room, lines[:given.lines], given.turns, given.offices, ["standby"], given.least_lines)
         if "router" in given.parts:
             router(room, lines[:given.lines], given.turns)
         if "takeover" in given.parts:
-            takeover(program, room, lines, max(given.turns, 5))
+            takeover(program, room, lines, max(given.turns, given.takeovers))
         if "start" in given.parts:
             starts(program, room, lines[:given.start_lines], given.turns)
 
 
-main()
+if __name__ == "__main__":
+    main()

@@ -7,11 +7,13 @@ number is sent once more: what was appended by it already isn't appended again. 
 
 import sys
 import time
+from collections.abc import Callable
+from typing import Any
 
 import redis
 
 
-def once(server, what):
+def once(server: str, what: "Callable[[redis.Redis[str]], Any]") -> Any:
     """Does what is asked over a new connection, and tries again until it is done."""
     host, port = server.rsplit(":", 1)
     while True:
@@ -21,17 +23,18 @@ def once(server, what):
             time.sleep(0.2)
 
 
-def main():
+def main() -> None:
     server, stream, company, path = sys.argv[1:]
     lines, replies, mark = (f"{{{stream}}}:{part}" for part in ("lines", "replies", f"sent:{company}"))
     last = int((once(server, lambda redis: redis.get(mark)) or "1").split()[0])
     with open(path, encoding="utf-8") as file:
         sent = file.read().splitlines()
     for number, line in list(enumerate(sent, 1))[last - 1:]:
-        (id,) = once(server, lambda redis: redis.fcall("append", 2, lines, mark, number, line))
+        (id,) = once(server, lambda redis: redis.execute_command("FCALL", "append", 2, lines, mark, number, line))
         while not (found := once(server, lambda redis: redis.xrange(replies, id, id))):
             time.sleep(0.01)
         print(id, found[0][1]["reply"], flush=True)
 
 
-main()
+if __name__ == "__main__":
+    main()

@@ -1,11 +1,12 @@
-// Writes a network of 2,000 places as CSV from a seed. With no argument: 20,000 lines both ways between any two places,
-// which join them all. With the argument `railway`: places on a plane of 1,000 by 1,000 km, each joined to the nearest of
-// the places before it, so that all are joined, and to its nearest until it has 2 to 5 lines; kilometres as the crow flies
-// and a fifth more, minutes at 40 to 100 km an hour.
+// Writes a network of so many places as CSV from a seed. With no other argument: ten times as many lines both ways between
+// any two places, which join them all. With the argument `railway`: places on a plane of 1,000 by 1,000 km, each joined to the
+// nearest of the places before it, so that all are joined, and to its nearest until it has 2 to 5 lines; kilometres as the
+// crow flies and a fifth more, minutes at 40 to 100 km an hour.
 #include <algorithm>
 #include <cmath>
 #include <cstdint>
 #include <cstdio>
+#include <cstdlib>
 #include <set>
 #include <utility>
 #include <vector>
@@ -19,10 +20,10 @@ static std::uint64_t below(std::uint64_t n) {
     return state % n;
 }
 
-static const unsigned places = 2'000;
+static unsigned places;
 
 static void any_lines() {
-    for (unsigned line = 0; line < 20'000; ++line) {
+    for (unsigned line = 0; line < 10 * places; ++line) {
         // The first lines join each place to an earlier one.
         const unsigned from = line + 1 < places ? line + 1 : below(places);
         const unsigned to = line + 1 < places ? below(line + 1) : below(places);
@@ -61,8 +62,10 @@ static void railway_lines() {
     }
 }
 
-int main(int count, char **) {
+int main(int count, char **words) {
+    if (count < 2) return 2;
+    places = std::atoi(words[1]);
     std::puts("from,to,km,minutes,way");
-    if (count > 1) railway_lines();
+    if (count > 2) railway_lines();
     else any_lines();
 }

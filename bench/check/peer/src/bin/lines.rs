@@ -1,5 +1,6 @@
-//! Writes 100,000 table lines from a seed, each with a certificate: most of a few hundred bytes, each thousandth
+//! Writes so many table lines from a seed, each with a certificate: most of a few hundred bytes, each thousandth
 //! near the line limit. Order j's cheapest wagon is wagon j, and orders past the wagons are refused.
+use std::env;
 use std::io::{self, BufWriter, Write};
 
 struct Random(u64);
@@ -58,7 +59,8 @@ fn line(random: &mut Random, wagons: u64, orders: u64) -> String {
 fn main() -> io::Result<()> {
     let mut random = Random(20_260_301);
     let mut out = BufWriter::new(io::stdout().lock());
-    for k in 0..100_000 {
+    let lines = env::args().nth(1).and_then(|word| word.parse().ok()).expect("how many lines");
+    for k in 0..lines {
         let (wagons, orders) = if k % 1000 == 0 {
             (100, 110)
         } else {
