@@ -1,7 +1,7 @@
 # The program and its tests. A machine needs the proof kit's command `rt` (with the Python 3 that it needs itself) and GNU
 # make, nothing else; `bench` needs more (bench/README.md), and so does the service (docs/SERVICE.md).
 
-.PHONY: run demo prove build claim test quick scripts examples hostile bench service service-test test-streams install uninstall
+.PHONY: run demo prove build claim test quick scripts examples hostile bench smoke service service-test test-streams install uninstall
 
 # No file here is made by a rule that make has of its own; it would look for one for each source.
 MAKEFLAGS += --no-builtin-rules
@@ -37,23 +37,37 @@ $(BUILT): $(SOURCES)
 	@$(PROVE) wagons
 
 # Compares the manual of refusals with what `wagons explain` must print; tries what this file says of sources, the completion
-# for bash, and that the definitions of the headline are found; proves every crate from nothing, tries the edits that must
-# fail, runs every test and the programs on their stored files; then tries the program that was built so on the pages'
-# commands and under the service. `make` need not build it again. The last line is that of `rt ci`.
+# for bash, and that the definitions of the headline are found; proves every crate from nothing, tries the wrong bodies that
+# must fail, runs every test and the programs on their stored files; then tries the program that was built so on the pages'
+# commands, by hostile use, in the benches at their smallest size, and under the service; Python's types come first. `make`
+# need not build it again. The last line is that of `rt ci`.
 test:
 	@tools/try_pages
 	@sed '1,/^\$$ wagons explain$$/d;$$d' crates/wagons_scripts/data/explain.script | cmp docs/REFUSALS.md -
 	@tools/try_make
 	@tools/try_completions
 	@tools/claim
+	@tools/wrong_bodies --read
 	@mkdir -p out && touch out/tested
 	@echo "== rt ci: every proof from nothing (bench/README.md has its time)"
 	@rt ci | tee out/test.log
-	@cp crates/wagons/out/wagons $(BUILT).new && touch -r out/tested $(BUILT).new && mv $(BUILT).new $(BUILT)
+	@for program in wagons benches; do \
+	  cp crates/$$program/out/$$program out/$$program.new && touch -r out/tested out/$$program.new && mv out/$$program.new out/$$program || exit 1; \
+	done
+	@echo "== the types of the Python files, by mypy"
+	@tools/try_types
+	@echo "== each line gets its reply at once; the scripts; the commands of the examples' pages"
 	@tools/try_replies $(BUILT)
 	@tools/scripts $(BUILT)
-	@examples/try
-	@service/tests/run
+	@WAGONS= examples/try
+	@echo "== the short form of make hostile: refused memory, failing devices, broken bytes, checkpoints, problems, threads, keys"
+	@WAGONS= hostile/run --short
+	@echo "== the service with the program, a disk and a browser"
+	@WAGONS= service/tests/run
+	@echo "== wrong bodies, many in one check"
+	@tools/wrong_bodies --built
+	@echo "== beside each other: calls whose requests for memory are refused; the benches at their smallest size, and then Redis Streams, with two kills of each kind"
+	@WAGONS= BENCH= TESTS=$(CURDIR)/crates/library_tests/out/library_tests_tests tools/side_by_side "hostile/run calls" "bench/smoke && service/stream_tests/run --kills 2"
 	@tail -n 1 out/test.log
 
 # Writes out/claim.md: all that one must believe of the headline beside the kit, on one page.
@@ -72,6 +86,10 @@ scripts:
 # Runs each command of the examples' pages and compares what it prints with what the page says.
 examples:
 	@examples/try
+
+# Runs each script of bench once at its smallest size, which compares but times nothing.
+smoke:
+	@bench/smoke
 
 # Times the program's words, the distances and the planner beside their peers, and a book beside itself. Each says which
 # build it times and what it installs.

@@ -1,7 +1,6 @@
 """What the tests share: the program that is tried, Redis servers, and services over their streams."""
 
 import os
-import subprocess
 import sys
 from collections.abc import Callable, Iterator
 from pathlib import Path
@@ -10,9 +9,10 @@ from typing import Any
 import pytest
 
 ROOT = Path(__file__).resolve().parents[2]
-sys.path[:0] = [str(ROOT / "service"), str(ROOT / "service" / "tests"), str(Path(__file__).parent)]
+sys.path[:0] = [str(ROOT / "service"), str(ROOT / "tools"), str(ROOT / "service" / "tests"), str(Path(__file__).parent)]
 
-from servers import Office, RedisServer, Router, free_port  # noqa: E402
+import programs  # noqa: E402
+from servers import Office, RedisServer, Router, server_port  # noqa: E402
 
 StartServer = Callable[..., RedisServer]
 StartOffice = Callable[..., Office]
@@ -33,8 +33,7 @@ def program(tmp_path_factory: pytest.TempPathFactory) -> str:
     """The real program: the one that `WAGONS` names, or the proved one."""
     # Services that are killed leave their copies of journals behind.
     os.environ["TMPDIR"] = str(tmp_path_factory.mktemp("copies"))
-    named = [str(ROOT / "tools" / "program"), "wagons", os.environ.get("WAGONS", "")]
-    return subprocess.run(named, check=True, stdout=subprocess.PIPE, text=True).stdout.strip()
+    return programs.wagons()
 
 
 @pytest.fixture
@@ -43,7 +42,7 @@ def start_server(tmp_path: Path) -> Iterator[StartServer]:
     started: list[RedisServer] = []
 
     def one(**options: Any) -> RedisServer:
-        port = free_port()
+        port = server_port()
         server = RedisServer(tmp_path / f"redis-{port}", port, **options)
         started.append(server)
         return server.start()

@@ -3,7 +3,6 @@
 import json
 import os
 import signal
-import socket
 import subprocess
 import time
 from collections.abc import Callable, Sequence
@@ -11,25 +10,16 @@ from pathlib import Path
 from typing import Any
 
 import redis
+from ports import free_port
 from running import DAY, NETWORKS, ROOT, Service
 
 # A slow, loaded machine may take as long as this for anything; nothing is proved by waiting.
 PATIENCE = 120.0
 
 
-def free_port() -> int:
-    """A port that is free now, as is the one 10,000 above it, which a node of a cluster takes too."""
-    while True:
-        with socket.socket() as free, socket.socket() as bus:
-            free.bind(("127.0.0.1", 0))
-            port = int(free.getsockname()[1])
-            if port > 55_000:
-                continue
-            try:
-                bus.bind(("127.0.0.1", port + 10_000))
-            except OSError:
-                continue
-            return port
+def server_port() -> int:
+    """A port for a server, which as a node of a cluster takes the one 10,000 above it too."""
+    return free_port(10_000)
 
 
 def until(what: str, is_so: Callable[[], Any], seconds: float = PATIENCE) -> Any:

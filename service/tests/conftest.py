@@ -1,7 +1,5 @@
 """What the tests share: the program that is tried, and services over folders of their own."""
 
-import os
-import subprocess
 import sys
 from collections.abc import Callable, Iterator
 from pathlib import Path
@@ -10,8 +8,9 @@ from typing import Any
 import pytest
 
 ROOT = Path(__file__).resolve().parents[2]
-sys.path[:0] = [str(ROOT / "service"), str(Path(__file__).parent)]
+sys.path[:0] = [str(ROOT / "service"), str(ROOT / "tools"), str(Path(__file__).parent)]
 
+import programs  # noqa: E402
 from running import Service  # noqa: E402
 
 Start = Callable[..., Service]
@@ -26,8 +25,7 @@ def pytest_addoption(parser: pytest.Parser) -> None:
 @pytest.fixture(scope="session")
 def program() -> str:
     """The real program: the one that `WAGONS` names, or the proved one."""
-    named = [str(ROOT / "tools" / "program"), "wagons", os.environ.get("WAGONS", "")]
-    return subprocess.run(named, check=True, stdout=subprocess.PIPE, text=True).stdout.strip()
+    return programs.wagons()
 
 
 @pytest.fixture

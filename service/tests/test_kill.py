@@ -5,7 +5,6 @@ import json
 import os
 import random
 import signal
-import socket
 import threading
 import time
 from pathlib import Path
@@ -13,6 +12,7 @@ from pathlib import Path
 import pytest
 
 from conftest import Start
+from ports import free_port
 from running import WAGONS, Service, message
 
 SENDERS = 8
@@ -86,12 +86,6 @@ class Sender(threading.Thread):
 @pytest.fixture
 def kills(request: pytest.FixtureRequest) -> int:
     return int(request.config.getoption("--kills"))
-
-
-def free_port() -> int:
-    with socket.socket() as free:
-        free.bind(("127.0.0.1", 0))
-        return int(free.getsockname()[1])
 
 
 def test_no_line_is_lost_or_doubled(start: Start, kills: int, tmp_path: Path) -> None:

@@ -158,10 +158,11 @@ def test_the_day_by_clicks(start: Start, browse: Browse) -> None:
     assert service.post(LINES[5:7]).replies[1].endswith("accepted 7")
     page.until_says("#state", "version 7")
     page.plan("2026-03-02T06:00:00Z")
-    page.until_says("#plan-head", "20 free wagons, 5 waiting orders: this plan costs 660 km, and none costs less.")
+    page.until_says("#plan-head", "20 free wagons, 5 waiting orders: this plan costs 660, 360 km and 300 for missing wagons. None costs less.")
     page.until(lambda: page.rows("#plan-table")[0][5], "an arrival")
     pairs = page.rows("#plan-table")
     assert pairs[0][:6] == ["318127710016", "MALT-1", "DE10001", "DE10003", "150", "2026-03-02T08:50:00Z"]
+    assert pairs[0][6] == "The prices don't say what it costs to do without it."
     assert len(pairs) == 8 and any("Every plan in which it stays costs at least 300 km more." == pair[6] for pair in pairs)
     assert page.rows("#missing-table") == [["SALT-1", "1", "300", "Free wagons that suit and are there in time: 1. No plan gives it more."]]
     PICTURE.parent.mkdir(exist_ok=True)
@@ -187,7 +188,7 @@ def test_the_day_by_clicks(start: Start, browse: Browse) -> None:
     # A plan whose wagon is held in between is refused, and says why.
     page.until_says("#state", "version 24")
     page.plan("2026-03-02T11:00:00Z")
-    page.until_says("#plan-head", "this plan costs 465 km")
+    page.until_says("#plan-head", "this plan costs 465, 165 km and 300 for missing wagons")
     service.post(message("1003", 77, "315466400019", hold=True, moment="2026-03-02T10:55:00Z"))
     page.click("#accept")
     page.until_says("#said", "Refused, 82 WagonChanged: A wagon of the commit isn't free now as it was in the problem.")

@@ -198,6 +198,8 @@ function readPlan(words, reply, at, number) {
     if (kind === "assign") read.pairs.push({ wagon: rest[0], order: rest[1], km: rest[2], from: stands.get(rest[0]) ?? "", to: wanted.get(rest[1]) ?? "" });
     if (kind === "refuse") read.missing.set(rest[0], { order: rest[0], penalty: rest[1], misses: (read.missing.get(rest[0])?.misses ?? 0) + 1 });
   }
+  read.km = read.pairs.reduce((sum, pair) => sum + Number(pair.km), 0);
+  read.penalties = Number(read.cost) - read.km;
   return read;
 }
 
