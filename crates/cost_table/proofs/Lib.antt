@@ -7,3 +7,4 @@ pub mod Search
 pub mod ProblemLemmas
 pub mod AmongLemmas
 pub mod PartLemmas
+pub mod TableRowLemmas

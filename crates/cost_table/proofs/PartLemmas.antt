@@ -5,13 +5,13 @@ use Rattle.std.proofs.Math.Seq.{drop-append_seam, take-append_seam}
 use Rattle.std.proofs.lemmas.Bool.Decides.{nat_tests}
 use Rattle.std.proofs.lemmas.List.Elements.{All-drop, All-take}
 use Rattle.cost_table.specs.TableLimits.{IsRow}
-use Rattle.cost_table.specs.Table.{cost_in}
+use Rattle.cost_table.specs.TableRows.{cost_in}
 
 pub first_is_row : (n low : ℕ) (first rest : List (ℕ × ℕ)) → IsRow n low (first ++ rest) → IsRow n low first
 first_is_row n low [] rest h = tt
 first_is_row n low (cell ∷ first) rest h = (h.0, h.1, h.2, first_is_row n (cell.0 + 1) first rest h.3)
 
-row_from_less : (n low low' : ℕ) (row : List (ℕ × ℕ)) → low' ≤ low → IsRow n low row → IsRow n low' row
+pub row_from_less : (n low low' : ℕ) (row : List (ℕ × ℕ)) → low' ≤ low → IsRow n low row → IsRow n low' row
 row_from_less n low low' [] l h = tt
 row_from_less n low low' (cell ∷ row) l h = (omega (arith, l, h.0), h.1, h.2, h.3)
 

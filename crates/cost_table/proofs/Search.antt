@@ -7,7 +7,7 @@ use Rattle.std.proofs.lemmas.Cmp.{ranked}
 use Rattle.std.proofs.lemmas.List.Sorted.{IsNonDecreasingBy-from_default}
 use Rattle.std.proofs.lemmas.Bool.Decides.{nat_tests}
 use Rattle.cost_table.specs.TableLimits.{IsRow}
-use Rattle.cost_table.specs.Table.{cost_in}
+use Rattle.cost_table.specs.TableRows.{cost_in}
 use Rattle.cost_table.specs.inner.Searched.{IsAscendingRow, order_of_cell}
 
 first_least : (n low k : ℕ) (row : List (ℕ × ℕ)) → IsRow n low row → k < length row → low ≤ order_of_cell row k

@@ -1,50 +1,20 @@
-use Rattle.std.proofs.Common.{◌≡◌, ◌+◌, ◌<◌, ◌≤◌, ℕ, zero, suc, Bool, true, false, Option, Some, None, cond, inl, inr, List, [], ◌∷◌, length, get_or, map, refl, sym, arith, subst}
+-- The limits of tables, and what rows make.
+use Rattle.std.proofs.Common.{◌≡◌, ◌∙◌, ◌<◌, ◌≤◌, ◌+◌, ℕ, Bool, true, false, Option, Some, None, cond, inl, inr, List, [], ◌∷◌, length, get_or, map, refl, sym, ap, arith, subst}
 use Rattle.std.proofs.lemmas.List.{length-map, get_or_past}
 use Rattle.std.proofs.lemmas.Bool.{cases_lt, cases_Bool}
 use Rattle.std.specs.Prelude.{All, sum, ◌==◌, OnSome, IfSome}
-use Rattle.std.specs.List.{AllByRecursion}
 use Rattle.std.proofs.lemmas.List.Sums.{AllPass-from_list_all}
-use Rattle.std.proofs.lemmas.List.Elements.{recursion_from_All, All-map}
+use Rattle.std.proofs.lemmas.List.Elements.{All-map}
 use Rattle.std.proofs.lemmas.Bool.Decides.{nat_tests}
-use Rattle.cost_table.specs.Table.{Table, cost_in, cost_at}
-use Rattle.cost_table.specs.TableLimits.{IsTable, IsRow, max_cost, max_table_lack, max_table_orders, max_table_wagons}
+use Rattle.cost_table.specs.declared.table_rows.TableRows.{TableRows}
+use Rattle.cost_table.specs.Table.{Table, cost_at, order_count, wagon_count}
+use Rattle.cost_table.specs.TableLimits.{IsNumber, IsTable, IsRow, max_cost, max_table_lack, max_table_orders, max_table_wagons}
 use Rattle.wagons_and_orders.specs.WantedLimits.{IsLack}
-use Rattle.cost_table.specs.Rows.{Rows, IsNumber, cells_of, table_of, number_at, is_too_large, is_even, rows_fault}
-
-cost_below : (k j : ℕ) (numbers : List (Option ℕ)) → j < k → cost_in (cells_of k numbers) j ≡ None
-cost_below k j [] h = refl
-cost_below k j (None ∷ numbers) h = cost_below (k + 1) j numbers (omega arith)
-cost_below k j (Some n ∷ numbers) h =
-    let i = cost_below (k + 1) j numbers (omega arith) in
-    grind (arith, nat_tests, i, h)
-
-pub cost_there : (k j n : ℕ) (rest : Option ℕ) → j ≡ k → cond (k == j) (Some n) rest ≡ Some n
-cost_there k j n rest e = grind (arith, nat_tests, e)
-
-pub cost_later : (k j n : ℕ) (rest : Option ℕ) → k < j → cond (k == j) (Some n) rest ≡ rest
-cost_later k j n rest h = grind (arith, nat_tests, h)
-
--- the cost that the cells of a row have for an order is the number handed in
-cost_in-cells_of : (k m j : ℕ) (numbers : List (Option ℕ)) → j ≡ k + m → cost_in (cells_of k numbers) j ≡ get_or numbers m None
-cost_in-cells_of k m j [] e = refl
-cost_in-cells_of k zero j (None ∷ numbers) e = cost_below (k + 1) j numbers (omega arith)
-cost_in-cells_of k (suc m) j (None ∷ numbers) e = cost_in-cells_of (k + 1) m j numbers (omega arith)
-cost_in-cells_of k zero j (Some n ∷ numbers) e = cost_there k j n (cost_in (cells_of (k + 1) numbers) j) (omega arith)
-cost_in-cells_of k (suc m) j (Some n ∷ numbers) e =
-    let i = cost_in-cells_of (k + 1) m j numbers (omega arith) in
-    let later = cost_later k j n (cost_in (cells_of (k + 1) numbers) j) (omega arith) in
-    cc
-
-pub numbers_kept : (rows : Rows) (i j : ℕ) → cost_in (get_or (map (λ row. cells_of 0 row.items) rows) i []) j ≡ number_at rows i j
-numbers_kept [] i j = refl
-numbers_kept (row ∷ rows) zero j = cost_in-cells_of 0 j j row.items (omega arith)
-numbers_kept (row ∷ rows) (suc i) j = numbers_kept rows i j
-
-IsRow-cells_of : (n k low : ℕ) (numbers : List (Option ℕ)) → low ≤ k → k + length numbers ≤ n → AllByRecursion IsNumber numbers → IsRow n low (cells_of k numbers)
-IsRow-cells_of n k low [] below within all = tt
-IsRow-cells_of n k low (None ∷ numbers) below within all = IsRow-cells_of n (k + 1) low numbers (omega arith) (omega arith) all.1
-IsRow-cells_of n k low (Some c ∷ numbers) below within all =
-    (below, omega arith, all.0, IsRow-cells_of n (k + 1) (k + 1) numbers (omega arith) (omega arith) all.1)
+use Rattle.cost_table.specs.Rows.{Rows, table_of, is_too_large, is_even, rows_fault}
+use Rattle.cost_table.specs.SharedRows.{HasPlaces, rows_in}
+use Rattle.cost_table.specs.TableRows.{all_rows, cells_of, cost_in, row_at, table_with}
+use Rattle.cost_table.specs.StoredTable.{AreStored}
+use Rattle.cost_table.proofs.TableRowLemmas.{cost_by_row, row_is, rows_are, table_with-all_rows}
 
 pub record Passes (rows : Rows) (penalties lacks : List ℕ) : Type 0 where
   pub wagons : length rows ≤ max_table_wagons
@@ -73,26 +43,34 @@ pub table_kept : (rows : Rows) (penalties lacks : List ℕ) → Passes rows pena
 table_kept rows penalties lacks p numbers costs all_lacks =
     let count : length lacks ≡ length penalties = p.lack_count in
     record {
-      wagons = omega (arith, p.wagons, length-map rows (λ row. cells_of 0 row.items));
+      wagons = omega (arith, p.wagons, length-map rows (λ row. row.items));
       orders = omega (arith, p.orders, count);
       penalty_count = sym count;
-      rows = All-map (IsRow (length lacks) 0) (λ row. cells_of 0 row.items) rows
-          (λ k d l.
-          let long = same_length (length (get_or rows k d).items) (length penalties) (p.row_lengths k d l) in
-          IsRow-cells_of (length lacks) 0 0 (get_or rows k d).items (omega arith) (omega (arith, long, count)) (recursion_from_All IsNumber (get_or rows k d).items (numbers k d l)));
+      even = All-map (λ costs. length costs ≡ length lacks) (λ row. row.items) rows
+          (λ k d l. same_length (length (get_or rows k d).items) (length penalties) (p.row_lengths k d l) ∙ sym count);
+      costs = All-map (All IsNumber) (λ row. row.items) rows numbers;
       penalties = costs;
       lacks = all_lacks;
       lack_in_all = p.in_all;
     }
 
 -- rows that are those of the lists make the table
-pub fields_kept : (held : List (List (ℕ × ℕ))) (rows : Rows) (penalties lacks : List ℕ) → held ≡ map (λ row. cells_of 0 row.items) rows → IsTable (table_of rows penalties lacks) → IsTable (record { rows = held; penalties = penalties; lacks = lacks })
-fields_kept held rows penalties lacks are t = rw are t
+cells_of_lists : (rows : Rows) → map (λ row. cells_of 0 row.items) rows ≡ map (cells_of 0) (map (λ row. row.items) rows)
+cells_of_lists [] = refl
+cells_of_lists (row ∷ rows) = ap (λ held. cells_of 0 row.items ∷ held) (cells_of_lists rows)
+
+pub stored_lists : (held : TableRows) (rows : Rows) (penalties lacks : List ℕ) → HasPlaces held → rows_in held ≡ map (λ row. cells_of 0 row.items) rows → IsTable (table_of rows penalties lacks)
+    → AreStored held penalties lacks × (table_with (rows_in held) penalties lacks ≡ table_of rows penalties lacks)
+stored_lists held rows penalties lacks placed are legal =
+    let t = table_of rows penalties lacks in
+    let all : rows_in held ≡ all_rows t = are ∙ cells_of_lists rows in
+    let same : table_with (rows_in held) penalties lacks ≡ t = ap (λ (stored : List (List (ℕ × ℕ))). table_with stored penalties lacks) all ∙ table_with-all_rows t legal.even in
+    (record { placed = placed; rows = subst (All (IsRow (length lacks) 0)) (sym all) (rows_are t legal); table = subst IsTable (sym same) legal }, same)
 
 -- what a cost of the table is known to be
 pub record CostWithin (t : Table) (i j c : ℕ) : Type 0 where
-  pub wagon : i < length t.rows
-  pub order : j < length t.lacks
+  pub wagon : i < wagon_count t
+  pub order : j < order_count t
   pub limit : c ≤ max_cost
 
 cost_here : (c d : ℕ) (rest : Option ℕ) (b : Bool) → b ≡ true → cond b (Some c) rest ≡ Some d → c ≡ d
@@ -115,23 +93,23 @@ cost_in_within n low j c (cell ∷ row) h is =
       | inr e ↦ rest (cost_past cell.1 c (cost_in row j) (cell.0 == j) e is)
     ]
 
-past_rows : (t : Table) (i j c : ℕ) → length t.rows ≤ i → cost_at t i j ≡ Some c → ⊥
-past_rows t i j c l is =
-    let none : get_or t.rows i [] ≡ [] = get_or_past t.rows i [] l in
-    let cost : cost_in [] j ≡ Some c = subst (λ (row : List (ℕ × ℕ)). cost_in row j ≡ Some c) none is in
-    cc
-
 pub cost_at_within : (t : Table) (i j c : ℕ) → IsTable t → cost_at t i j ≡ Some c → CostWithin t i j c
 cost_at_within t i j c legal is =
-    elim (cases_lt i (length t.rows)) [
+    let here : cost_in (row_at t i) j ≡ Some c = sym (cost_by_row t i j) ∙ is in
+    elim (cases_lt i (wagon_count t)) [
       | inl l ↦
-          let row = cost_in_within (length t.lacks) 0 j c (get_or t.rows i []) (legal.rows i [] l) is in
+          let row = cost_in_within (order_count t) 0 j c (row_at t i) (row_is t i legal) here in
           record { wagon = l; order = row.0; limit = row.1 }
-      | inr l ↦ absurd (past_rows t i j c l is)
-    ]
+      | inr l ↦ absurd (past_wagons t i j c l is)
+    ] where
+      past_wagons : (t : Table) (i j c : ℕ) → wagon_count t ≤ i → cost_at t i j ≡ Some c → ⊥
+      past_wagons t i j c l is =
+          let none : get_or t.costs i [] ≡ [] = get_or_past t.costs i [] l in
+          let cost : None ≡ Some c = sym (ap (λ (costs : List (Option ℕ)). get_or costs j None) none) ∙ is in
+          cc
 
 -- what a look-up answers is within the table
-pub look_up_within : (t : Table) (i j : ℕ) (o : Option ℕ) → IsTable t → o ≡ cost_at t i j → OnSome o ((i < length t.rows) × (j < length t.lacks)) × IfSome o (λ c. c ≤ max_cost)
+pub look_up_within : (t : Table) (i j : ℕ) (o : Option ℕ) → IsTable t → o ≡ cost_at t i j → OnSome o ((i < wagon_count t) × (j < order_count t)) × IfSome o (λ c. c ≤ max_cost)
 look_up_within t i j None legal is = (tt, tt)
 look_up_within t i j (Some c) legal is =
     let within = cost_at_within t i j c legal (sym is) in

@@ -1,5 +1,7 @@
 pub mod TableLimits
 pub mod Table
+pub mod TableRows
+pub mod StoredTable
 pub mod Plan
 pub mod PlanList
 pub mod Rows

@@ -1,8 +1,8 @@
 -- Rows as they are handed in, the table that they give, and what may be wrong with them.
-use Rattle.std.specs.Prelude.{◌≤◌, ◌+◌, ℕ, if◌then◌else◌, ◌==◌, nat_lt, ◌||◌, ◌&&◌, Bool, List, [], ◌∷◌, length, map, Option, Some, None, sum, slice_index_or, Vec}
+use Rattle.std.specs.Prelude.{ℕ, if◌then◌else◌, ◌==◌, nat_lt, ◌||◌, ◌&&◌, Bool, List, [], length, map, Option, Some, None, sum, slice_index_or, Vec}
 use Rattle.std.specs.List.{list_all}
 use Rattle.std.specs.declared.alloc.Global.{Global}
-use Rattle.cost_table.specs.TableLimits.{max_table_wagons, max_table_orders, max_cost, max_table_lack}
+use Rattle.cost_table.specs.TableLimits.{max_table_wagons, max_table_orders, max_table_lack}
 use Rattle.faults.specs.declared.faults.TableFault.{TableFault}
 use Rattle.faults.specs.declared.faults.TableFault.TheVariants.{TooLarge, UnevenRows}
 use Rattle.cost_table.specs.Table.{Table}
@@ -15,19 +15,10 @@ Rows = List (Vec (Option ℕ) Global)
 abbrev pub number_at : Rows → ℕ → ℕ → Option ℕ
 number_at rows i j = slice_index_or (slice_index_or (map (λ row. row.items) rows) i []) j None
 
-abbrev pub IsNumber : Option ℕ → Type 0
-IsNumber None = Unit {0}
-IsNumber (Some n) = n ≤ max_cost
-
--- the orders from j on that have a number, each with it
-abbrev pub cells_of : ℕ → List (Option ℕ) → List (ℕ × ℕ)
-cells_of j [] = []
-cells_of j (None ∷ numbers) = cells_of (j + 1) numbers
-cells_of j (Some n ∷ numbers) = (j, n) ∷ cells_of (j + 1) numbers
-
+-- the table that they are
 abbrev pub table_of : Rows → List ℕ → List ℕ → Table
 table_of rows penalties lacks =
-    record { rows = map (λ row. cells_of 0 row.items) rows; penalties = penalties; lacks = lacks }
+    record { costs = map (λ row. row.items) rows; penalties = penalties; lacks = lacks }
 
 abbrev pub is_too_large : Rows → List ℕ → List ℕ → Bool
 is_too_large rows penalties lacks =

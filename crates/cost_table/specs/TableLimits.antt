@@ -1,5 +1,5 @@
 -- The limits of a table.
-use Rattle.std.specs.Prelude.{ℕ, ◌≡◌, ◌≤◌, ◌<◌, ◌+◌, List, [], ◌∷◌, length, All, sum}
+use Rattle.std.specs.Prelude.{ℕ, ◌≡◌, ◌≤◌, ◌<◌, ◌+◌, List, [], ◌∷◌, length, Option, None, Some, All, sum}
 use Rattle.wagons_and_orders.specs.WantedLimits.{IsLack}
 use Rattle.cost_table.specs.Table.{Table, wagon_count, order_count}
 
@@ -19,6 +19,11 @@ max_table_lack = 500
 abbrev pub max_cost : ℕ
 max_cost = 1_000_000_000
 
+-- a cost within its limit, or none
+abbrev pub IsNumber : Option ℕ → Type 0
+IsNumber None = Unit {0}
+IsNumber (Some cost) = cost ≤ max_cost
+
 -- a row from order `low` on: ascending by order, each order one of the table's, each cost within its limit
 abbrev pub IsRow : ℕ → ℕ → List (ℕ × ℕ) → Type 0
 IsRow orders low [] = Unit {0}
@@ -30,7 +35,8 @@ pub record IsTable (t : Table) : Type 0 where
   pub wagons : wagon_count t ≤ max_table_wagons
   pub orders : order_count t ≤ max_table_orders
   pub penalty_count : length t.penalties ≡ order_count t
-  pub rows : All (IsRow (order_count t) 0) t.rows
+  pub even : All (λ costs. length costs ≡ order_count t) t.costs
+  pub costs : All (All IsNumber) t.costs
   pub penalties : All (λ penalty. penalty ≤ max_cost) t.penalties
   pub lacks : All IsLack t.lacks
   pub lack_in_all : sum t.lacks ≤ max_table_lack

@@ -2,8 +2,9 @@
 ghost use Rattle.std.specs.Prelude.{◌≡◌, ◌≤◌, ◌++◌, All, IfOk, OnOk, length, map, sum, ◌==◌};
 ghost use Rattle.std.specs.List.{list_all};
 ghost use Rattle.wagons_and_orders.specs.WantedLimits.{IsLack};
-ghost use Rattle.cost_table.specs.TableLimits.{max_table_orders};
-ghost use Rattle.cost_table.specs.Rows.{IsNumber, cells_of, is_too_large, is_even};
+ghost use Rattle.cost_table.specs.TableLimits.{IsNumber, max_table_orders};
+ghost use Rattle.cost_table.specs.TableRows.{cells_of};
+ghost use Rattle.cost_table.specs.Rows.{is_too_large, is_even};
 
 use crate::limits::{MAX_TABLE_LACK, MAX_TABLE_ORDERS, MAX_TABLE_WAGONS};
 use crate::row_block::RowBlock;

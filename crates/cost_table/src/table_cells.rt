@@ -1,12 +1,14 @@
 //! The table of a distribution.
 ghost use Rattle.std.specs.Prelude.{◌≡◌, ◌<◌, ◌≤◌, ℕ, All, IfOk, OnOk, IfSome, OnSome, IfErr, IsTrue, unwrap_or};
 ghost use Rattle.std.specs.Result.{result_err};
-ghost use Rattle.cost_table.specs.TableLimits.{max_cost, IsTable, IsRow};
-ghost use Rattle.cost_table.specs.Rows.{IsNumber, table_of, number_at, rows_fault};
+ghost use Rattle.cost_table.specs.TableLimits.{max_cost, IsNumber, IsTable, IsRow};
+ghost use Rattle.cost_table.specs.Rows.{table_of, number_at, rows_fault};
 ghost use Rattle.faults.specs.declared.faults.TableFault.TheVariants.{OutOfMemory};
-ghost use Rattle.cost_table.specs.Table.{row_at, cost_in, cost_at, penalty_at, lack_at, wagon_count, order_count};
+ghost use Rattle.cost_table.specs.Table.{cost_at, penalty_at, lack_at, wagon_count, order_count};
+ghost use Rattle.cost_table.specs.TableRows.{all_rows, cost_in, row_at, table_with};
 ghost use Rattle.wagons_and_orders.specs.WantedLimits.{IsLack};
 ghost use Rattle.cost_table.specs.inner.Searched.{IsAscendingRow};
+ghost use Rattle.cost_table.specs.StoredTable.{AreStored};
 ghost use Rattle.cost_table.specs.RowParts.{cells_in};
 ghost use Rattle.cost_table.specs.SharedRows.{HasPlaces, rows_in};
 
@@ -17,8 +19,8 @@ use faults::TableFault;
 use std::alloc::{AllocError, Global};
 use std::marker::Model;
 
-/// The table of a distribution: per wagon the orders that it may serve with their costs, per order the penalty of
-/// a missed wagon and how many wagons it lacks. Costs and penalties are in kilometres, each at most 1,000,000,000;
+/// The table of a distribution: for each wagon and each order a cost, or none where the wagon may not serve it; for each
+/// order the penalty of a missed wagon, and how many wagons it lacks. It keeps the allowed pairs alone. Costs and penalties are in kilometres, each at most 1,000,000,000;
 /// each lack is 1 to 20; at most 1,000 wagons, 500 orders, and 500 lacking wagons in all.
 pub struct Cells {
     rows: TableRows,
@@ -39,22 +41,22 @@ impl Drop for Cells {
 
 impl Model for Cells {
     ghost use Rattle.cost_table.specs.Table.{Table};
-    ghost use Rattle.cost_table.specs.TableLimits.{IsTable};
-    ghost use Rattle.cost_table.specs.SharedRows.{HasPlaces, rows_in};
+    ghost use Rattle.cost_table.specs.TableRows.{table_with};
+    ghost use Rattle.cost_table.specs.StoredTable.{AreStored};
+    ghost use Rattle.cost_table.specs.SharedRows.{rows_in};
 
     ghost Value = { Table };
 
-    ghost view = { λ c. record { rows = rows_in c.rows; penalties = c.penalties.items; lacks = c.lacks.items } };
+    ghost view = { λ c. table_with (rows_in c.rows) c.penalties.items c.lacks.items };
 
-    ghost invariant = { λ c. HasPlaces c.rows × IsTable (record { rows = rows_in c.rows; penalties = c.penalties.items; lacks = c.lacks.items }) };
+    ghost invariant = { λ c. AreStored c.rows c.penalties.items c.lacks.items };
 }
 
 impl Cells {
     /// The table of rows that are found.
     pub fn of_rows(rows: TableRows, penalties: Vec<u64>, lacks: Vec<u32>) -> Cells
-        requires placed { HasPlaces rows }
-        requires table { IsTable (record { rows = rows_in rows; penalties = penalties.items; lacks = lacks.items }) }
-        ensures { result ≡ record { rows = rows_in rows; penalties = penalties.items; lacks = lacks.items } }
+        requires { AreStored rows penalties.items lacks.items }
+        ensures { result ≡ table_with (rows_in rows) penalties.items lacks.items }
     {
         Cells {
             rows,
@@ -65,7 +67,7 @@ impl Cells {
 
     /// The rows.
     pub fn rows(&self) -> &TableRows
-        ensures rows { rows_in result.now ≡ self.now.rows }
+        ensures rows { rows_in result.now ≡ all_rows self.now }
         ensures placed { HasPlaces result.now }
         ensures table { IsTable self.now }
     {

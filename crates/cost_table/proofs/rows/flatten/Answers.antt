@@ -1,6 +1,6 @@
 use Rattle.std.proofs.Common.{◌≡◌, ◌+◌, ◌<◌, ℕ, List, [], ◌∷◌, ◌++◌, length, get_or, take, map, rules, ap, sym, ◌∙◌, arith}
 use Rattle.std.proofs.lemmas.List.{map_more}
-use Rattle.cost_table.specs.Rows.{cells_of}
+use Rattle.cost_table.specs.TableRows.{cells_of}
 use Rattle.cost_table.proofs.RowLemmas.{HoldRows-more}
 use Rattle.cost_table.proofs.rows.flatten.Goals as goal
 

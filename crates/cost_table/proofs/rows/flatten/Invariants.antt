@@ -1,5 +1,5 @@
 use Rattle.std.proofs.Common.{take, map}
-use Rattle.cost_table.specs.Rows.{cells_of}
+use Rattle.cost_table.specs.TableRows.{cells_of}
 use Rattle.cost_table.specs.RowBlocks.{HoldRows}
 use Rattle.cost_table.proofs.rows.flatten.Given as goal
 

@@ -1,6 +1,6 @@
 use Rattle.std.proofs.Common.{◌≡◌, ◌+◌, ◌≤◌, ◌++◌, drop, length}
 use Rattle.std.specs.Prelude.{vec_len, vec_capacity}
-use Rattle.cost_table.specs.Rows.{cells_of}
+use Rattle.cost_table.specs.TableRows.{cells_of}
 use Rattle.cost_table.proofs.rows.push_row.Given as goal
 
 -- The cells so far and those of the rest are those of the row; there is room for the rest.
