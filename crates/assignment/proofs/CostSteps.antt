@@ -4,8 +4,10 @@ use Rattle.std.proofs.lemmas.Bool.{cases_eq, cases_lt}
 use Rattle.std.proofs.lemmas.Bool.Decides.{nat_tests}
 use Rattle.std.proofs.lemmas.List.{take_more, take_all}
 use Rattle.std.proofs.lemmas.Nat.{mul-add-lt, div-mul-add, mod-mul-add}
-use Rattle.cost_table.specs.Table.{Table, cost_at, cost_in, row_at, wagon_count, order_count}
+use Rattle.cost_table.specs.Table.{Table, cost_at, wagon_count, order_count}
 use Rattle.cost_table.specs.TableLimits.{IsRow}
+use Rattle.cost_table.specs.TableRows.{cost_in, row_at}
+use Rattle.cost_table.proofs.TableRowLemmas.{cost_by_row}
 use Rattle.assignment.specs.inner.Costs.{cell_cost, AreCostsOf, cost_before, cost_within}
 use Rattle.assignment.proofs.Writes.{same_at, other_at, written_length}
 
@@ -58,7 +60,7 @@ before_none t n i j l = grind (arith, nat_tests, l)
 -- a whole row
 pub within_whole : (t : Table) (n m i j : ℕ) → length (row_at t n) ≤ m → cost_before t (n + 1) i j ≡ cost_within t n m i j
 within_whole t n m i j all = elim (cases_eq i n) [
-  | inl same ↦ subst (λ (x : ℕ). cost_before t (n + 1) x j ≡ cost_within t n m x j) (sym same) (before_is t (n + 1) n j (omega arith) ∙ ap (λ r. cost_in r j) (sym (take_all m (row_at t n) all)) ∙ sym (within_here t n m j))
+  | inl same ↦ subst (λ (x : ℕ). cost_before t (n + 1) x j ≡ cost_within t n m x j) (sym same) (before_is t (n + 1) n j (omega arith) ∙ cost_by_row t n j ∙ ap (λ r. cost_in r j) (sym (take_all m (row_at t n) all)) ∙ sym (within_here t n m j))
   | inr other ↦ elim (cases_lt i n) [
     | inl less ↦ before_is t (n + 1) i j (omega (arith, less)) ∙ sym (before_is t n i j less) ∙ sym (within_other t n m i j other)
     | inr more ↦ before_none t (n + 1) i j (omega (arith, more, other)) ∙ sym (before_none t n i j more) ∙ sym (within_other t n m i j other)

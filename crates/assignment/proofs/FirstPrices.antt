@@ -1,7 +1,8 @@
 use Rattle.std.proofs.Common.{◌≡◌, ◌≢◌, ◌+◌, ◌<◌, ◌≤◌, ℕ, zero, suc, List, Option, Some, None, length, get_or, set, min, replicate, refl, sym, ◌∙◌, ap, arith, inl, inr, subst}
 use Rattle.std.proofs.lemmas.Bool.{cases_eq}
-use Rattle.cost_table.specs.Table.{Table, cost_at, row_at, wagon_count, order_count, penalty_at}
+use Rattle.cost_table.specs.Table.{Table, cost_at, wagon_count, order_count, penalty_at}
 use Rattle.cost_table.specs.TableLimits.{IsTable, IsRow}
+use Rattle.cost_table.specs.TableRows.{row_at}
 use Rattle.assignment.specs.inner.Costs.{cell_cost, ArePricesOf, AreColumnsOf, cost_before, cost_within, cost_two}
 use Rattle.assignment.specs.inner.State.{Kept, IsKept, order_at, orders_of}
 use Rattle.assignment.proofs.CostSteps.{before_is, within_new, within_kept, within_whole, row_from}

@@ -3,7 +3,8 @@ use Rattle.std.proofs.Common.{◌≡◌, ◌≢◌, ◌+◌, ◌<◌, ◌≤◌,
 use Rattle.std.specs.declared.alloc.Global.{Global}
 use Rattle.std.proofs.lemmas.Bool.{cases_eq}
 use Rattle.std.proofs.lemmas.List.{length_push, get_or_push, get_or_append_left}
-use Rattle.cost_table.specs.Table.{Table, row_at, wagon_count}
+use Rattle.cost_table.specs.Table.{Table, wagon_count}
+use Rattle.cost_table.specs.TableRows.{row_at}
 use Rattle.assignment.specs.declared.groups.Groups.{Groups}
 use Rattle.assignment.specs.inner.Groups.{AreGrouped, first_in, group_in, last_in, next_in}
 use Rattle.assignment.proofs.Writes.{same_at, other_at, written_length}

@@ -1,8 +1,9 @@
 -- The cells of a group's row are placed one after another, wherever the row is split.
 use Rattle.std.proofs.Common.{◌≡◌, ◌+◌, ◌*◌, ◌<◌, ◌++◌, ℕ, List, length, get_or, set, min, refl, sym, ◌∙◌, ap, arith, subst, length-append, get_or-append-add}
 use Rattle.std.proofs.lemmas.List.{get_or_append_left}
-use Rattle.cost_table.specs.Table.{Table, row_at, wagon_count, order_count}
+use Rattle.cost_table.specs.Table.{Table, wagon_count, order_count}
 use Rattle.cost_table.specs.TableLimits.{IsRow}
+use Rattle.cost_table.specs.TableRows.{row_at}
 use Rattle.assignment.specs.inner.Costs.{AreColumnsOf, cost_within}
 use Rattle.assignment.specs.inner.Groups.{group_table}
 use Rattle.assignment.proofs.CostSteps.{more_read, place_read, row_from}

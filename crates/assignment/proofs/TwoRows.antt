@@ -2,9 +2,10 @@ use Rattle.std.proofs.Common.{◌≡◌, ◌≢◌, ◌+◌, ◌*◌, ◌<◌, �
 use Rattle.std.proofs.lemmas.Bool.{cases_eq, cases_lt}
 use Rattle.std.proofs.lemmas.Bool.Decides.{nat_tests}
 use Rattle.std.proofs.lemmas.Nat.{mul-add-lt}
-use Rattle.cost_table.specs.Table.{Table, cost_at, cost_in, row_at, wagon_count, order_count}
+use Rattle.cost_table.specs.Table.{Table, cost_at, wagon_count, order_count}
 use Rattle.cost_table.specs.TableLimits.{IsRow}
-use Rattle.cost_table.proofs.TableLemmas.{cost_later, cost_there}
+use Rattle.cost_table.specs.TableRows.{cost_in, row_at}
+use Rattle.cost_table.proofs.TableRowLemmas.{cost_by_row, cost_later, cost_there}
 use Rattle.assignment.specs.inner.Costs.{cell_cost, AreCostsOf, cost_before, cost_two}
 use Rattle.assignment.proofs.CostSteps.{before_is, before_none, place_order, place_wagon}
 use Rattle.assignment.proofs.Writes.{same_at, other_at, written_length}
@@ -53,7 +54,7 @@ pub full_at : (t : Table) (i j : ℕ) (row : List (ℕ × ℕ)) → row ≡ row_
 full_at t i j row e is full l =
     let long : length row ≡ order_count t = ap length e ∙ full in
     let here : j ≡ 0 + j = omega arith in
-    ap (λ r. cost_in r j) (sym e) ∙ ap (cost_in row) here ∙ full_from (order_count t) 0 j row is (omega (arith, long)) (omega (arith, l, long))
+    cost_by_row t i j ∙ ap (λ r. cost_in r j) (sym e) ∙ ap (cost_in row) here ∙ full_from (order_count t) 0 j row is (omega (arith, long)) (omega (arith, l, long))
 
 pub two_below : (t : Table) (n m i j : ℕ) → j < m → cost_two t n m i j ≡ cost_before t (n + 2) i j
 two_below t n m i j l = grind (arith, nat_tests, l)

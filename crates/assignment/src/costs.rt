@@ -1,7 +1,8 @@
 //! The costs of a table by order, one of each group, in one flat array, and what is found while they are placed.
 ghost use Rattle.std.specs.Prelude.{◌≡◌, ◌<◌, ◌+◌, ◌*◌, ℕ, true, false, min, IfOk, IfSome, length, slice_index, slice_set};
 ghost use Rattle.cost_table.specs.TableLimits.{IsTable, IsRow};
-ghost use Rattle.cost_table.specs.Table.{cost_at, row_at, penalty_at, order_count};
+ghost use Rattle.cost_table.specs.Table.{penalty_at, order_count};
+ghost use Rattle.cost_table.specs.TableRows.{row_at};
 ghost use Rattle.assignment.specs.inner.Costs.{AreColumns, AreColumnsOf, AreFullRows, cost_before};
 ghost use Rattle.assignment.specs.inner.Groups.{AreGroups, AreFirst, group_table};
 

@@ -1,8 +1,9 @@
 //! Groups of wagons that have the same row.
 ghost use Rattle.std.specs.Prelude.{◌≡◌, ◌<◌, ◌≤◌, ◌+◌, ℕ, IfOk, length, true, slice_index, slice_index_or};
-ghost use Rattle.cost_table.specs.Table.{row_at, wagon_count};
+ghost use Rattle.cost_table.specs.Table.{wagon_count};
 ghost use Rattle.cost_table.specs.RowParts.{cells_in};
 ghost use Rattle.cost_table.specs.TableLimits.{IsTable};
+ghost use Rattle.cost_table.specs.TableRows.{row_at};
 ghost use Rattle.assignment.specs.inner.Groups.{AreGroups, AreGrouped, HasRoomFor};
 
 use cost_table::{Cells, Row};

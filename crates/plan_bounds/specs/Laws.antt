@@ -1,6 +1,7 @@
 -- Laws of certificates: what every other plan of the table costs, and every plan of a table that differs in one order or one wagon.
 use Rattle.std.specs.Prelude.{◌≡◌, ◌+◌, ◌-◌, ◌*◌, ◌<◌, ◌≤◌, ℕ, List, slice_index}
-use Rattle.cost_table.specs.Table.{lack_at, order_count, penalty_at, row_at, wagon_count}
+use Rattle.cost_table.specs.Table.{costs_at, lack_at, order_count, penalty_at, wagon_count}
+use Rattle.cost_table.specs.TableRows.{costs_of}
 use Rattle.cost_table.specs.Plan.{IsAllowed, IsPlan, cost_of, pair_cost, serves}
 use Rattle.plan_bounds.specs.PricedPlan.{IsCertified, PricedPlan, certified_cost}
 use Rattle.plan_bounds.specs.Slack.{missed, refusal_slack, slack, slack_in_all}
@@ -82,9 +83,9 @@ WithoutAWagonCostsItsPrice =
 
 -- with one wagon more, no plan saves more than the most by which an order's price exceeds that wagon's cost for it
 abbrev pub OneWagonMoreSavesItsGain : Type 0
-OneWagonMoreSavesItsGain = (p : PricedPlan) → IsCertified p → (row : List (ℕ × ℕ)) → NoneSavesMore p (with_wagon p.table row) (gain_of p.v row)
+OneWagonMoreSavesItsGain = (p : PricedPlan) → IsCertified p → (row : List (ℕ × ℕ)) → NoneSavesMore p (with_wagon p.table (costs_of (order_count p.table) row)) (gain_of p.v row)
 
--- with one wagon more of the row of wagon i, no plan saves more than the price of wagon i
+-- with one wagon more that costs what wagon i does, no plan saves more than the price of wagon i
 abbrev pub ItsTwinSavesItsPrice : Type 0
 ItsTwinSavesItsPrice =
-    (p : PricedPlan) → IsCertified p → (i : ℕ) → i < wagon_count p.table → NoneSavesMore p (with_wagon p.table (row_at p.table i)) (slice_index p.u i)
+    (p : PricedPlan) → IsCertified p → (i : ℕ) → i < wagon_count p.table → NoneSavesMore p (with_wagon p.table (costs_at p.table i)) (slice_index p.u i)

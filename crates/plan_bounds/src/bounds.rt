@@ -1,6 +1,7 @@
 //! The bounds of a certificate, one by one.
 ghost use Rattle.std.specs.Prelude.{◌≡◌, ◌+◌, ◌-◌, ◌<◌, ◌≤◌, ◌↔◌, Some, IsSome, IfNone, IfSome, All, length, slice_index};
-ghost use Rattle.cost_table.specs.Table.{lack_at, order_count, row_at, wagon_count};
+ghost use Rattle.cost_table.specs.Table.{costs_at, lack_at, order_count, wagon_count};
+ghost use Rattle.cost_table.specs.TableRows.{costs_of};
 ghost use Rattle.cost_table.specs.Plan.{IsAllowed};
 ghost use Rattle.price_checker.specs.Certificate.{IsCertificate};
 ghost use Rattle.plan_bounds.specs.PricedPlan.{IsCertified, certified_cost};
@@ -78,14 +79,14 @@ impl<'a> Bounds<'a> {
     }
 
     /// The price of wagon `i`: what every plan in which it is idle costs more, at least, and every plan without it; and what
-    /// one more wagon with the same row saves at most. It is 0 for a wagon that the certified plan leaves idle.
+    /// one more wagon with the same costs saves at most. It is 0 for a wagon that the certified plan leaves idle.
     pub fn idle_bound(&self, i: usize) -> u64
         requires { i < wagon_count self.now.table }
         ensures value { result ≡ slice_index self.now.u i }
         ensures idle { CostsMore self.now (IsIdle i) result }
         ensures own { IsIdle i self.now.pairs → result ≡ 0 }
         ensures wagon_less { AllCostMore self.now (without_wagon self.now.table i) result }
-        ensures twin { NoneSavesMore self.now (with_wagon self.now.table (row_at self.now.table i)) result }
+        ensures twin { NoneSavesMore self.now (with_wagon self.now.table (costs_at self.now.table i)) result }
     {
         self.prices.u[i]
     }
@@ -94,7 +95,7 @@ impl<'a> Bounds<'a> {
     pub fn wagon_gain(&self, row: &[(u32, u32)]) -> u64
         requires { All (λ cell. cell.0 < order_count self.now.table) row.now }
         ensures value { result ≡ gain_of self.now.v row.now }
-        ensures bound { NoneSavesMore self.now (with_wagon self.now.table row.now) result }
+        ensures bound { NoneSavesMore self.now (with_wagon self.now.table (costs_of (order_count self.now.table) row.now)) result }
     {
         gain(&self.prices.v, row)
     }

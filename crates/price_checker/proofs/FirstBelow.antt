@@ -37,6 +37,11 @@ first_below_none zero f h = refl
 first_below_none (suc n) f h =
     none_both (first_below n f) (f n) (first_below_none n f (λ k l. h k (omega arith))) (h n (omega arith))
 
+-- two functions that are the same below n
+pub first_below-same : {A : Type 0} (n : ℕ) (f g : ℕ → Option A) → ((k : ℕ) → k < n → f k ≡ g k) → first_below n f ≡ first_below n g
+first_below-same zero f g h = refl
+first_below-same (suc n) f g h = rw (first_below-same n f g (λ k l. h k (omega arith)), h n (omega arith)) refl
+
 -- what is found at k, with nothing below it
 pub first_below_some : {A : Type 0} (n k : ℕ) (f : ℕ → Option A) (x : A) → k < n → first_below k f ≡ None → f k ≡ Some x → first_below n f ≡ Some x
 first_below_some zero k f x l h s = absurd (omega arith)

@@ -5,23 +5,18 @@ use Rattle.std.specs.List.{AllByRecursion}
 use Rattle.std.proofs.Math.Nat.{eq-or-lt_of_le}
 use Rattle.std.proofs.lemmas.Bool.Decides.{nat_tests}
 use Rattle.std.proofs.lemmas.List.Elements.{All-from_recursion}
-use Rattle.cost_table.specs.Table.{Table, cost_in, row_at, order_count}
+use Rattle.cost_table.specs.Table.{Table, cost_at, order_count}
 use Rattle.cost_table.specs.TableLimits.{IsRow}
+use Rattle.cost_table.specs.TableRows.{cost_in, row_at}
 use Rattle.faults.specs.declared.faults.CheckFault.{CheckFault}
 use Rattle.faults.specs.declared.faults.CheckFault.TheVariants.{PriceGap}
 use Rattle.price_checker.specs.Faults.{first_below, gap_at, gap_of_wagon}
 use Rattle.price_checker.specs.inner.RowWalk.{gap_of_row}
-use Rattle.price_checker.proofs.FirstBelow.{first_from, first_below-from, first_from-same}
+use Rattle.cost_table.proofs.TableRowLemmas.{cost_by_row, none_before}
+use Rattle.price_checker.proofs.FirstBelow.{first_from, first_below-from, first_below-same, first_from-same}
 
 abbrev pub gap_at_order : ℕ → List (ℕ × ℕ) → ℕ → List ℕ → ℕ → Option CheckFault
 gap_at_order i row u v j = gap_at i j (cost_in row j) u (slice_index v j)
-
--- a row has no cost for an order below its first
-pub cost_in_below : (n low j : ℕ) (row : List (ℕ × ℕ)) → IsRow n low row → j < low → cost_in row j ≡ None
-cost_in_below n low j [] h l = refl
-cost_in_below n low j (cell ∷ row) h l =
-    let rest : cost_in row j ≡ None = cost_in_below n (cell.0 + 1) j row h.3 (omega (arith, h.0)) in
-    grind (arith, nat_tests, rest, h.0, l)
 
 cost_in_first : (j : ℕ) (cell : ℕ × ℕ) (row : List (ℕ × ℕ)) → cell.0 ≡ j → cost_in (cell ∷ row) j ≡ Some cell.1
 cost_in_first j cell row e = grind (arith, nat_tests, e)
@@ -57,7 +52,7 @@ walk_from i start (suc n) (cell ∷ row) u v h =
           ∙ ap (λ m. cond (nat_lt (cell.1 + u) (slice_index v m)) (Some (PriceGap i m)) (gap_of_row i row u v)) e
       | inr less ↦
           let later : IsRow (suc start + n) (suc start) (cell ∷ row) = subst (λ (m : ℕ). IsRow m (suc start) (cell ∷ row)) same (IsRow-from (start + suc n) start (suc start) cell row (omega (arith, less)) h) in
-          let cost : cost_in (cell ∷ row) start ≡ None = cost_in_below (suc start + n) (suc start) start (cell ∷ row) later (omega arith) in
+          let cost : cost_in (cell ∷ row) start ≡ None = none_before (suc start + n) (suc start) start (cell ∷ row) later (omega arith) in
           let here : gap_at_order i (cell ∷ row) u v start ≡ None = ap (λ c. gap_at i start c u (slice_index v start)) cost in
           let walk : first_from (suc start) n (gap_at_order i (cell ∷ row) u v) ≡ gap_of_row i (cell ∷ row) u v = walk_from i (suc start) n (cell ∷ row) u v later in
           rw here walk
@@ -75,7 +70,9 @@ pub gap_of_wagon-walked : (t : Table) (i u : ℕ) (row : List (ℕ × ℕ)) (v :
     → gap_of_wagon t i u v ≡ found
 gap_of_wagon-walked t i u row v found h is walked =
     let walk : first_below (order_count t) (gap_at_order i row u v) ≡ gap_of_row i row u v = row_walk i (order_count t) row u v h in
-    sym (walked ∙ sym walk ∙ ap (λ r. first_below (order_count t) (gap_at_order i r u v)) is)
+    let cost : first_below (order_count t) (gap_at_order i (row_at t i) u v) ≡ gap_of_wagon t i u v =
+    first_below-same (order_count t) (gap_at_order i (row_at t i) u v) (λ j. gap_at i j (cost_at t i j) u (slice_index v j)) (λ j l. ap (λ c. gap_at i j c u (slice_index v j)) (sym (cost_by_row t i j))) in
+    sym (walked ∙ sym walk ∙ ap (λ r. first_below (order_count t) (gap_at_order i r u v)) is ∙ cost)
 
 row_orders : (n low : ℕ) (row : List (ℕ × ℕ)) → IsRow n low row → AllByRecursion (λ (cell : ℕ × ℕ). cell.0 < n) row
 row_orders n low [] h = tt

@@ -1,24 +1,25 @@
 -- How the rows of a problem's table grow.
-use Rattle.std.proofs.Common.{◌≡◌, ◌+◌, ◌<◌, ◌≤◌, ℕ, zero, suc, Bool, true, false, Option, Some, None, cond, inl, inr, List, [], ◌∷◌, ◌++◌, length, get_or, take, drop, min, refl, sym, ap, ◌∙◌, subst, arith, append-nil, append_assoc, length-take-le}
+use Rattle.std.proofs.Common.{◌≡◌, ◌+◌, ◌<◌, ◌≤◌, ℕ, zero, suc, Bool, true, false, Option, Some, None, cond, List, [], ◌∷◌, ◌++◌, length, get_or, take, drop, min, refl, sym, ap, ◌∙◌, subst, arith, append-nil, append_assoc, length-take-le}
 use Rattle.std.specs.Prelude.{◌↔◌, All, IfSome, slice_get, ◌==◌}
 use Rattle.std.specs.Option.{option_or}
-use Rattle.std.proofs.lemmas.List.{drop_at, take_more, get_or_past, get_or_push, get_or_append_left, get_or_default, take_all, length-append, length-map}
+use Rattle.std.proofs.lemmas.List.{drop_at, take_more, get_or_push, get_or_append_left, get_or_default, take_all, length-append, length-map}
 use Rattle.std.proofs.lemmas.List.Elements.{All-push, All-weaker}
-use Rattle.std.proofs.lemmas.Bool.{cases_lt}
 use Rattle.std.proofs.lemmas.Bool.Decides.{nat_tests}
 use Rattle.std.proofs.lemmas.Option.{slice_get_within}
 use Rattle.wagons_and_orders.specs.declared.free_wagon.FreeWagon.{FreeWagon}
 use Rattle.wagons_and_orders.specs.Wanted.{WantedOrder}
 use Rattle.cost_table.specs.TableLimits.{max_cost, IsTable, IsRow}
-use Rattle.cost_table.specs.Table.{Table, cost_in}
+use Rattle.cost_table.specs.Table.{Table, cost_at, order_count}
+use Rattle.cost_table.specs.TableRows.{all_rows, cost_in, costs_of}
 use Rattle.wagons_and_orders.specs.WantedLimits.{IsLack}
 use Rattle.cost_table.specs.Problem.{ProblemValue, penalties_of, lacks_of}
 use Rattle.cost_table.specs.ProblemLimits.{IsProblem}
 use Rattle.problem_table.specs.Allowed.{Reaches, IsTableOf}
 use Rattle.problem_table.specs.Lasting.{IsLastingTable}
-use Rattle.problem_table.specs.inner.AllowedRows.{AddsLastingRow, AddsRow, AreLastingRows, IsLastingRow, IsRowOf}
+use Rattle.problem_table.specs.inner.AllowedRows.{AddsLastingRow, AddsRow, AreLastingRows, IsLastingRow, IsRowOf, table_of_rows}
 use Rattle.line_network.specs.Network.{NetworkValue}
 use Rattle.cost_table.proofs.TableLemmas.{cost_in_within}
+use Rattle.cost_table.proofs.TableRowLemmas.{cost_at-table_with, cost_by_row, costs_even, costs_within, length-all_rows, row_is, row_of_all}
 
 -- what stands in a list with one more: what stood there, or the one more
 pub data Stands {X : Type 0} (xs : List X) (y : X) (i : ℕ) (x : X) : Type 0 where
@@ -208,58 +209,53 @@ IsProblem-at problem m h = record {
   each_order_once = h.each_order_once;
 }
 
-abbrev pub table_with : ProblemValue → List (List (ℕ × ℕ)) → Table
-table_with problem rows = record { rows = rows; penalties = penalties_of problem.orders; lacks = lacks_of problem.orders }
-
 lack_count : (problem : ProblemValue) → length (lacks_of problem.orders) ≡ length problem.orders
 lack_count problem = length-map problem.orders (λ (o : WantedOrder). o.lack)
 
+pub rows_for_orders : (problem : ProblemValue) (rows : List (List (ℕ × ℕ))) → All (IsRow (length problem.orders) 0) rows → All (IsRow (length (lacks_of problem.orders)) 0) rows
+rows_for_orders problem rows ascend = subst (λ (n : ℕ). All (IsRow n 0) rows) (sym (lack_count problem)) ascend
+
 -- rows of a problem are a table
-pub IsTable-with : (problem : ProblemValue) (rows : List (List (ℕ × ℕ))) → IsProblem problem → length rows ≡ length problem.wagons → All (IsRow (length problem.orders) 0) rows → All (λ penalty. penalty ≤ max_cost) (penalties_of problem.orders) → All IsLack (lacks_of problem.orders) → IsTable (table_with problem rows)
+pub IsTable-with : (problem : ProblemValue) (rows : List (List (ℕ × ℕ))) → IsProblem problem → length rows ≡ length problem.wagons → All (IsRow (length problem.orders) 0) rows → All (λ penalty. penalty ≤ max_cost) (penalties_of problem.orders) → All IsLack (lacks_of problem.orders) → IsTable (table_of_rows rows problem.orders)
 IsTable-with problem rows kept count ascend costs all_lacks =
     let penalty_count : length (penalties_of problem.orders) ≡ length problem.orders = length-map problem.orders (λ (o : WantedOrder). o.order.penalty) in
     record {
-      wagons = omega (arith, count, kept.few_wagons);
+      wagons = omega (arith, count, kept.few_wagons, length-map rows (costs_of (length (lacks_of problem.orders))));
       orders = omega (arith, lack_count problem, kept.few_orders);
       penalty_count = penalty_count ∙ sym (lack_count problem);
-      rows = subst (λ (n : ℕ). All (IsRow n 0) rows) (sym (lack_count problem)) ascend;
+      even = costs_even (length (lacks_of problem.orders)) rows;
+      costs = costs_within (length (lacks_of problem.orders)) rows (rows_for_orders problem rows ascend);
       penalties = costs;
       lacks = all_lacks;
       lack_in_all = kept.lack_in_all;
     }
 
 -- rows that last are a table that lasts
-pub lasting_table : (net : NetworkValue) (problem : ProblemValue) (rows : List (List (ℕ × ℕ))) (lasts : List ℕ) → AreLastingRows net problem.at problem.wagons problem.orders rows lasts → IsLastingTable net problem (table_with problem rows) lasts
+pub lasting_table : (net : NetworkValue) (problem : ProblemValue) (rows : List (List (ℕ × ℕ))) (lasts : List ℕ) → AreLastingRows net problem.at problem.wagons problem.orders rows lasts → IsLastingTable net problem (table_of_rows rows problem.orders) lasts
 lasting_table net problem rows lasts h = record {
-  wagons = h.count;
+  wagons = length-map rows (costs_of (length (lacks_of problem.orders))) ∙ h.count;
   moments = h.moments;
   within = h.within;
   penalties = refl;
   lacks = refl;
-  cells = λ i j km wagon wanted at to m l u. (h.each i wagon at m l u).cells j km wanted to;
-}
+  cells = λ i j km wagon wanted at to m l u. iff_by (cost_at (table_of_rows rows problem.orders) i j) (cost_in (get_or rows i []) j) km (cost_at-table_with rows (penalties_of problem.orders) (lacks_of problem.orders) i j legal) ((h.each i wagon at m l u).cells j km wanted to);
+} where
+  legal : All (IsRow (length (lacks_of problem.orders)) 0) rows
+  legal = rows_for_orders problem rows (lasting_ascend net problem.at problem.wagons problem.orders rows lasts h)
 
 -- and the other way round
-pub lasting_rows : (net : NetworkValue) (problem : ProblemValue) (t : Table) (lasts : List ℕ) → IsTable t → IsLastingTable net problem t lasts → AreLastingRows net problem.at problem.wagons problem.orders t.rows lasts
+pub lasting_rows : (net : NetworkValue) (problem : ProblemValue) (t : Table) (lasts : List ℕ) → IsTable t → IsLastingTable net problem t lasts → AreLastingRows net problem.at problem.wagons problem.orders (all_rows t) lasts
 lasting_rows net problem t lasts legal h =
     let orders : length t.lacks ≡ length problem.orders = ap length h.lacks ∙ lack_count problem in
     record {
-      count = h.wagons;
+      count = length-all_rows t ∙ h.wagons;
       moments = h.moments;
       within = h.within;
       each = λ i wagon at m l u. record {
-        ascends = subst (λ (n : ℕ). IsRow n 0 (get_or t.rows i [])) orders (ascends_at i);
-        cells = λ j km wanted to. h.cells i j km wagon wanted at to m l u;
+        ascends = subst (λ (n : ℕ). IsRow n 0 (get_or (all_rows t) i [])) orders (subst (IsRow (order_count t) 0) (sym (row_of_all t i)) (row_is t i legal));
+        cells = λ j km wanted to. iff_by (cost_in (get_or (all_rows t) i []) j) (cost_at t i j) km (ap (λ row. cost_in row j) (row_of_all t i) ∙ sym (cost_by_row t i j)) (h.cells i j km wagon wanted at to m l u);
       };
-    } where
-      empty_past : (i : ℕ) → length t.rows ≤ i → IsRow (length t.lacks) 0 (get_or t.rows i [])
-      empty_past i l = subst (IsRow (length t.lacks) 0) (sym (get_or_past t.rows i [] l)) tt
-
-      ascends_at : (i : ℕ) → IsRow (length t.lacks) 0 (get_or t.rows i [])
-      ascends_at i = elim (cases_lt i (length t.rows)) [
-        | inl l ↦ legal.rows i [] l
-        | inr l ↦ empty_past i l
-      ]
+    }
 
 -- a table that lasts is the table of each moment up to the least of the last ones
 pub lasting_at : (net : NetworkValue) (problem : ProblemValue) (t : Table) (lasts : List ℕ) (m : ℕ) → IsLastingTable net problem t lasts → problem.at ≤ m → All (λ last. m ≤ last) lasts → IsTableOf net (record problem { at = m }) t
@@ -285,12 +281,12 @@ least_all lasts k least l all = subst (All (λ end. least ≤ end)) (take_all k 
 -- ---- what was made
 
 -- a table of rows that last, and up to when it does
-pub made_lasting : (net : NetworkValue) (problem : ProblemValue) (rows : List (List (ℕ × ℕ))) (lasts : List ℕ) (t : Table) (lasts' : List ℕ) → AreLastingRows net problem.at problem.wagons problem.orders rows lasts → t ≡ table_with problem rows → lasts' ≡ lasts → IsLastingTable net problem t lasts'
+pub made_lasting : (net : NetworkValue) (problem : ProblemValue) (rows : List (List (ℕ × ℕ))) (lasts : List ℕ) (t : Table) (lasts' : List ℕ) → AreLastingRows net problem.at problem.wagons problem.orders rows lasts → t ≡ table_of_rows rows problem.orders → lasts' ≡ lasts → IsLastingTable net problem t lasts'
 made_lasting net problem rows lasts t lasts' h is are = rw (is, are) (lasting_table net problem rows lasts h)
 
-pub made_at : (net : NetworkValue) (problem : ProblemValue) (rows : List (List (ℕ × ℕ))) (lasts : List ℕ) (t : Table) (until m : ℕ) → AreLastingRows net problem.at problem.wagons problem.orders rows lasts → t ≡ table_with problem rows → All (λ end. until ≤ end) lasts → problem.at ≤ m → m ≤ until → IsTableOf net (record problem { at = m }) t
+pub made_at : (net : NetworkValue) (problem : ProblemValue) (rows : List (List (ℕ × ℕ))) (lasts : List ℕ) (t : Table) (until m : ℕ) → AreLastingRows net problem.at problem.wagons problem.orders rows lasts → t ≡ table_of_rows rows problem.orders → All (λ end. until ≤ end) lasts → problem.at ≤ m → m ≤ until → IsTableOf net (record problem { at = m }) t
 made_at net problem rows lasts t until m h is least from up =
-    rw is (lasting_at net problem (table_with problem rows) lasts m (lasting_table net problem rows lasts h) from (All-weaker (λ end. until ≤ end) (λ end. m ≤ end) (λ end l. omega (arith, l, up)) lasts least))
+    rw is (lasting_at net problem (table_of_rows rows problem.orders) lasts m (lasting_table net problem rows lasts h) from (All-weaker (λ end. until ≤ end) (λ end. m ≤ end) (λ end l. omega (arith, l, up)) lasts least))
 
-pub made_now : (net : NetworkValue) (problem : ProblemValue) (rows : List (List (ℕ × ℕ))) (lasts : List ℕ) (t : Table) → AreLastingRows net problem.at problem.wagons problem.orders rows lasts → t ≡ table_with problem rows → IsTableOf net problem t
-made_now net problem rows lasts t h is = rw is (lasting_at net problem (table_with problem rows) lasts problem.at (lasting_table net problem rows lasts h) (omega arith) h.within)
+pub made_now : (net : NetworkValue) (problem : ProblemValue) (rows : List (List (ℕ × ℕ))) (lasts : List ℕ) (t : Table) → AreLastingRows net problem.at problem.wagons problem.orders rows lasts → t ≡ table_of_rows rows problem.orders → IsTableOf net problem t
+made_now net problem rows lasts t h is = rw is (lasting_at net problem (table_of_rows rows problem.orders) lasts problem.at (lasting_table net problem rows lasts h) (omega arith) h.within)

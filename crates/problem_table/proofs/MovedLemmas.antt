@@ -11,8 +11,8 @@ use Rattle.wagons_and_orders.specs.declared.free_wagon.FreeWagon.{FreeWagon}
 use Rattle.wagons_and_orders.specs.Wanted.{WantedOrder}
 use Rattle.line_network.specs.Network.{NetworkValue}
 use Rattle.cost_table.specs.Problem.{ProblemValue}
-use Rattle.cost_table.specs.Table.{cost_in}
 use Rattle.cost_table.specs.TableLimits.{IsRow}
+use Rattle.cost_table.specs.TableRows.{cost_in}
 use Rattle.problem_table.specs.Allowed.{Reaches}
 use Rattle.problem_table.specs.declared.goals.Goal.{Goal}
 use Rattle.problem_table.specs.declared.moved.Moved.{Moved}

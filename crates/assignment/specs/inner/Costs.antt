@@ -1,6 +1,7 @@
 -- The costs of a table by order, in one flat list.
 use Rattle.std.specs.Prelude.{◌≡◌, ◌+◌, ◌*◌, ◌<◌, ◌≤◌, ◌==◌, nat_lt, ℕ, if◌then◌else◌, List, length, take, Option, Some, None, slice_index}
-use Rattle.cost_table.specs.Table.{Table, cost_at, cost_in, row_at, penalty_at, wagon_count, order_count}
+use Rattle.cost_table.specs.Table.{Table, cost_at, penalty_at, wagon_count, order_count}
+use Rattle.cost_table.specs.TableRows.{cost_in, row_at}
 use Rattle.assignment.specs.declared.costs.Columns.{Columns}
 use Rattle.assignment.specs.declared.costs.TheConstants.{NO_CELL}
 

@@ -1,7 +1,8 @@
 -- Groups of wagons that have the same row.
 use Rattle.std.specs.Prelude.{◌≡◌, ◌<◌, ◌≤◌, ◌⊎◌, ℕ, List, length, map, slice_index}
 use Rattle.std.specs.Vec.{vec_capacity}
-use Rattle.cost_table.specs.Table.{Table, row_at, wagon_count}
+use Rattle.cost_table.specs.Table.{Table, costs_at, wagon_count}
+use Rattle.cost_table.specs.TableRows.{row_at}
 use Rattle.assignment.specs.declared.groups.Groups.{Groups}
 use Rattle.assignment.specs.declared.groups.TheConstants.{NO_WAGON}
 
@@ -54,9 +55,9 @@ pub record HasRoomFor (n : ℕ) (groups : Groups) : Type 0 where
 abbrev pub AreGroups : Table → Groups → Type 0
 AreGroups t groups = AreGrouped t (wagon_count t) groups
 
--- the table whose rows are those of the groups
+-- the table whose costs are those of the groups
 abbrev pub group_table : Table → List ℕ → Table
-group_table t first = record t { rows = map (row_at t) first }
+group_table t first = record t { costs = map (costs_at t) first }
 
 -- the price of each wagon: that of its group
 abbrev pub prices_of : List ℕ → List ℕ → List ℕ

@@ -6,7 +6,8 @@ use Rattle.line_network.specs.Network.{NetworkValue}
 use Rattle.problem_table.specs.Allowed.{Reaches}
 use Rattle.cost_table.specs.TableLimits.{IsRow}
 use Rattle.cost_table.specs.Problem.{penalties_of, lacks_of}
-use Rattle.cost_table.specs.Table.{Table, cost_in}
+use Rattle.cost_table.specs.Table.{Table}
+use Rattle.cost_table.specs.TableRows.{cost_in, table_with}
 
 -- A row of cells: the orders of which R holds at a cost, ascending, each with that cost.
 pub record IsRowOf (R : WantedOrder → ℕ → Type 0) (orders : List WantedOrder) (row : List (ℕ × ℕ)) : Type 0 where
@@ -29,7 +30,7 @@ IsLastingRow net at wagon orders row last = (m : ℕ) → at ≤ m → m ≤ las
 
 -- the table of these rows, with the orders' penalties and lacks
 abbrev pub table_of_rows : List (List (ℕ × ℕ)) → List WantedOrder → Table
-table_of_rows rows orders = record { rows = rows; penalties = penalties_of orders; lacks = lacks_of orders }
+table_of_rows rows orders = table_with rows (penalties_of orders) (lacks_of orders)
 
 -- such a row for each wagon, none of which is past at this moment
 pub record AreLastingRows (net : NetworkValue) (at : ℕ) (wagons : List FreeWagon) (orders : List WantedOrder) (rows : List (List (ℕ × ℕ))) (lasts : List ℕ) : Type 0 where

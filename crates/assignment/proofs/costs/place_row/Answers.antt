@@ -1,5 +1,5 @@
 use Rattle.std.proofs.Common.{◌≡◌, ◌+◌, ◌-◌, ℕ, length, get_or, sym, ◌∙◌, ap, arith, subst, length-append}
-use Rattle.cost_table.specs.Table.{row_at}
+use Rattle.cost_table.specs.TableRows.{row_at}
 use Rattle.assignment.specs.inner.Costs.{AreColumnsOf, cost_within}
 use Rattle.assignment.specs.inner.Groups.{group_table}
 use Rattle.assignment.proofs.FirstPrices.{columns_whole}

@@ -1,7 +1,7 @@
 use Rattle.std.proofs.Common.{◌≡◌, ◌∙◌, arith, subst, sym}
 use Rattle.std.proofs.lemmas.Grind.{common_steps}
 use Rattle.std.specs.Prelude.{slice_index}
-use Rattle.cost_table.specs.Table.{row_at}
+use Rattle.cost_table.specs.Table.{costs_at}
 use Rattle.plan_bounds.specs.PricedPlan.{IsCertified}
 use Rattle.plan_bounds.specs.Changes.{with_wagon, without_wagon}
 use Rattle.plan_bounds.specs.Bounds.{AllCostMore, CostsMore, IsIdle, NoneSavesMore}
@@ -35,4 +35,4 @@ returns-clause-twin c =
     let p = c.args.self.now in
     let certified : IsCertified p = subst IsCertified c.self.view_is c.self.invariant in
     let value : c.index.result.now ≡ slice_index p.u c.args.i = grind (arith, common_steps) in
-    subst (NoneSavesMore p (with_wagon p.table (row_at p.table c.args.i))) (sym value) (its_twin_saves_its_price p certified c.args.i c.requires)
+    subst (NoneSavesMore p (with_wagon p.table (costs_at p.table c.args.i))) (sym value) (its_twin_saves_its_price p certified c.args.i c.requires)
