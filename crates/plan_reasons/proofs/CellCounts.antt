@@ -1,5 +1,5 @@
 -- Numbers of orders that grow one by one, and the cells of an order in a row.
-use Rattle.std.proofs.Common.{◌≡◌, ◌≢◌, ◌+◌, ◌<◌, ◌≤◌, ℕ, zero, suc, Bool, true, false, cond, Option, Some, None, List, [], ◌∷◌, ◌++◌, length, set, get_or, take, drop, replicate, length-take-le, get_or-set_same, get_or-set_other, refl, sym, ap, ap₂, ◌∙◌, inl, inr, subst, arith}
+use Rattle.std.proofs.Common.{◌≡◌, ◌≢◌, ◌+◌, ◌<◌, ◌≤◌, ℕ, zero, suc, Bool, true, false, cond, Option, Some, None, List, [], ◌∷◌, ◌++◌, length, set, get_or, take, drop, replicate, length-take-le, get_or-set_same, get_or-set_other, refl, sym, ap, ap₂, ◌∙◌, inl, inr, subst, arith, map}
 use Rattle.std.specs.Prelude.{◌==◌, All, is_some, nat_lt, slice_index}
 use Rattle.std.specs.List.{count_by, sum_by}
 use Rattle.std.proofs.lemmas.Bool.{cases_eq}
@@ -8,9 +8,11 @@ use Rattle.std.proofs.lemmas.Grind.{get_or_default_zero}
 use Rattle.std.proofs.lemmas.List.{get_or-replicate, length-set, take-append-le, take_all, take_more}
 use Rattle.std.proofs.lemmas.List.Elements.{All-take}
 use Rattle.std.proofs.lemmas.List.Sums.{count_by-le-length, sum_by-append, sum_by-cons}
-use Rattle.cost_table.specs.Table.{Table, cost_in, order_count}
+use Rattle.cost_table.specs.Table.{Table, order_count}
 use Rattle.cost_table.specs.TableLimits.{IsRow, IsTable}
-use Rattle.cost_table.proofs.TableLemmas.{cost_in_within, cost_there}
+use Rattle.cost_table.specs.TableRows.{all_rows, cells_of, cost_in}
+use Rattle.cost_table.proofs.TableLemmas.{cost_in_within}
+use Rattle.cost_table.proofs.TableRowLemmas.{cost_in-cells_of, cost_there, rows_are}
 use Rattle.plan_reasons.specs.Laws.{cells_of_order}
 use Rattle.plan_reasons.specs.PairLists.{is_below}
 use Rattle.plan_reasons.specs.inner.Tallied.{AreMore, AreNumbers, below_in_row, cells_below, cheaper_cells, is_cell_below}
@@ -124,7 +126,15 @@ below_most : (cost : Option ℕ) (limit : ℕ) → ((c : ℕ) → cost ≡ Some 
 below_most None limit less = refl
 below_most (Some c) limit less = grind (arith, nat_tests, less c refl)
 
-module _ (t : Table) (table : IsTable t) (limits counts : List ℕ) (are : AreNumbers (order_count t) (cells_below t.rows limits) counts) where
+-- what is counted along rows is counted over all costs
+count_of_costs : (test : Option ℕ → Bool) (j : ℕ) (costs : List (List (Option ℕ))) → count_by (λ row. test (cost_in row j)) (map (cells_of 0) costs) ≡ count_by (λ row. test (get_or row j None)) costs
+count_of_costs test j [] = refl
+count_of_costs test j (row ∷ costs) =
+    sum_by-cons (λ (cells : List (ℕ × ℕ)). cond (test (cost_in cells j)) 1 0) (cells_of 0 row) (map (cells_of 0) costs)
+    ∙ ap₂ (λ (one more : ℕ). one + more) (ap (λ cost. cond (test cost) 1 0) (cost_in-cells_of 0 j j row (omega arith))) (count_of_costs test j costs)
+    ∙ sym (sum_by-cons (λ (row : List (Option ℕ)). cond (test (get_or row j None)) 1 0) row costs)
+
+module _ (t : Table) (table : IsTable t) (limits counts : List ℕ) (are : AreNumbers (order_count t) (cells_below (all_rows t) limits) counts) where
   below_all : (n j : ℕ) (row : List (ℕ × ℕ)) → slice_index limits j ≡ 18_446_744_073_709_551_615 → IsRow n 0 row → is_below (cost_in row j) (slice_index limits j) ≡ is_some (cost_in row j)
   below_all n j row limit is = below_most (cost_in row j) (slice_index limits j) (λ c at. omega (arith, limit, (cost_in_within n 0 j c row is at).1))
 
@@ -134,11 +144,11 @@ module _ (t : Table) (table : IsTable t) (limits counts : List ℕ) (are : AreNu
     are.0,
     λ j less.
         let limit = ap (λ (xs : List ℕ). get_or xs j 0) most ∙ get_or-replicate (order_count t) j 18_446_744_073_709_551_615 0 less in
-        are.1 j less ∙ sum_same (IsRow (order_count t) 0) (λ row. below_in_row row limits j) (λ row. cond (is_some (cost_in row j)) 1 0) (λ row is. one_cell (order_count t) 0 row limits j is ∙ ap (λ (b : Bool). cond b 1 0) (below_all (order_count t) j row limit is)) t.rows table.rows,
+        are.1 j less ∙ sum_same (IsRow (order_count t) 0) (λ row. below_in_row row limits j) (λ row. cond (is_some (cost_in row j)) 1 0) (λ row is. one_cell (order_count t) 0 row limits j is ∙ ap (λ (b : Bool). cond b 1 0) (below_all (order_count t) j row limit is)) (all_rows t) (rows_are t table) ∙ count_of_costs is_some j t.costs,
   )
 
   pub cheaper_count : limits ≡ t.penalties → AreNumbers (order_count t) (cheaper_cells t) counts
-  cheaper_count same = (are.0, λ j less. are.1 j less ∙ rows_below (order_count t) t.rows limits j table.rows ∙ ap (λ (xs : List ℕ). count_by (λ row. is_below (cost_in row j) (slice_index xs j)) t.rows) same)
+  cheaper_count same = (are.0, λ j less. are.1 j less ∙ rows_below (order_count t) (all_rows t) limits j (rows_are t table) ∙ (ap (λ (xs : List ℕ). count_by (λ row. is_below (cost_in row j) (slice_index xs j)) (all_rows t)) same ∙ count_of_costs (λ cost. is_below cost (slice_index t.penalties j)) j t.costs))
 
 -- a list that was written as a whole
 pub written_whole : (new old : List ℕ) (n : ℕ) → length new ≡ length old → length old ≡ n → take n (new ++ drop (length new) old) ≡ new

@@ -4,7 +4,6 @@ use Rattle.std.specs.Prelude.{◌↔◌, IsTrue, is_some, slice_get, slice_index
 use Rattle.std.specs.List.{AllZip, count_by, range_with_len}
 use Rattle.std.proofs.lemmas.List.Sums.{sum_by-cons}
 use Rattle.wagons_and_orders.specs.declared.free_wagon.FreeWagon.{FreeWagon}
-use Rattle.cost_table.specs.Table.{cost_in}
 use Rattle.plan_reasons.specs.Reasons.{IsInTime}
 use Rattle.plan_reasons.specs.Laws.{InTimeAreAllowed}
 
@@ -25,24 +24,24 @@ same_mark A true None marked is = let cell = is.1 (marked.0 refl) in let no : No
 same_mark A false (Some km) marked is = marked.1 (is.0 (km, refl))
 same_mark A false None marked is = refl
 
-cells_counted : (IsSo : FreeWagon → Type 0) (j : ℕ) (rows : List (List (ℕ × ℕ))) (wagons : List FreeWagon) (marks : List Bool) → length rows ≡ length wagons
+cells_counted : (IsSo : FreeWagon → Type 0) (j : ℕ) (rows : List (List (Option ℕ))) (wagons : List FreeWagon) (marks : List Bool) → length rows ≡ length wagons
     → AllZip (λ wagon mark. IsTrue mark ↔ IsSo wagon) wagons marks
-    → ((i : ℕ) (wagon : FreeWagon) → slice_get wagons i ≡ Some wagon → ((km : ℕ) × (cost_in (slice_index_or rows i []) j ≡ Some km)) ↔ IsSo wagon)
-    → count_by (λ mark. mark) marks ≡ count_by (λ row. is_some (cost_in row j)) rows
+    → ((i : ℕ) (wagon : FreeWagon) → slice_get wagons i ≡ Some wagon → ((km : ℕ) × (slice_index_or (slice_index_or rows i []) j None ≡ Some km)) ↔ IsSo wagon)
+    → count_by (λ mark. mark) marks ≡ count_by (λ row. is_some (slice_index_or row j None)) rows
 cells_counted IsSo j [] [] [] e each is = refl
 cells_counted IsSo j [] [] (m ∷ ms) e each is = absurd each
 cells_counted IsSo j [] (w ∷ ws) marks e each is = absurd (omega arith)
 cells_counted IsSo j (row ∷ rows) [] marks e each is = absurd (omega arith)
 cells_counted IsSo j (row ∷ rows) (w ∷ ws) [] e each is = absurd each
 cells_counted IsSo j (row ∷ rows) (w ∷ ws) (m ∷ ms) e each is =
-    let first = same_mark (IsSo w) m (cost_in row j) each.0 (is 0 w refl) in
+    let first = same_mark (IsSo w) m (slice_index_or row j None) each.0 (is 0 w refl) in
     let rest = cells_counted IsSo j rows ws ms (omega arith) each.1 (λ i wagon at. is (suc i) wagon at) in
     sum_by-cons (λ (mark : Bool). cond mark 1 0) m ms ∙ ap₂ (λ (one more : ℕ). one + more) (ap (λ (mark : Bool). cond mark 1 0) first) rest
-    ∙ sym (sum_by-cons (λ (r : List (ℕ × ℕ)). cond (is_some (cost_in r j)) 1 0) row rows)
+    ∙ sym (sum_by-cons (λ (r : List (Option ℕ)). cond (is_some (slice_index_or r j None)) 1 0) row rows)
 
 pub in_time_are_allowed : InTimeAreAllowed
 in_time_are_allowed net problem t table j n wanted order counted =
-    counted.count ∙ cells_counted (λ (wagon : FreeWagon). IsInTime net problem.at wagon wanted.order) j t.rows problem.wagons counted.marks table.wagons counted.each (λ i wagon at. (
+    counted.count ∙ cells_counted (λ (wagon : FreeWagon). IsInTime net problem.at wagon wanted.order) j t.costs problem.wagons counted.marks table.wagons counted.each (λ i wagon at. (
       λ cell. (cell.0, (table.cells i j cell.0 wagon wanted at order).0 cell.1),
       λ in_time. (in_time.0, (table.cells i j in_time.0 wagon wanted at order).1 in_time.1),
     ))

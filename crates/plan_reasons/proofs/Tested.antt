@@ -17,7 +17,7 @@ use Rattle.line_network.specs.Network.{NetworkValue, are_one_place, place_index}
 use Rattle.line_network.specs.Distance.{IsDistance}
 use Rattle.line_network.specs.DistanceAnswers.{IsAnswered}
 use Rattle.cost_table.specs.Problem.{ProblemValue}
-use Rattle.cost_table.specs.Table.{Table, cost_at, cost_in, penalty_at}
+use Rattle.cost_table.specs.Table.{Table, cost_at, penalty_at}
 use Rattle.problem_table.specs.Allowed.{IsTableOf}
 use Rattle.problem_table.proofs.GoalLemmas.{is_there, listed}
 use Rattle.plan_reasons.specs.declared.tested_wagons.TestedWagon.{TestedWagon}
@@ -53,7 +53,7 @@ each_within P Q within (x ∷ xs) (y ∷ ys) h = (within x y h.0, each_within P 
 
 -- ---- columns of the table
 
-each_row : (IsSo : FreeWagon → Type 0) (test : List (ℕ × ℕ) → Bool) (rows : List (List (ℕ × ℕ))) (wagons : List FreeWagon) → length rows ≡ length wagons
+each_row : (IsSo : FreeWagon → Type 0) (test : List (Option ℕ) → Bool) (rows : List (List (Option ℕ))) (wagons : List FreeWagon) → length rows ≡ length wagons
     → ((i : ℕ) (wagon : FreeWagon) → slice_get wagons i ≡ Some wagon → IsTrue (test (slice_index_or rows i [])) ↔ IsSo wagon) → AllZip (λ wagon row. IsTrue (test row) ↔ IsSo wagon) wagons rows
 each_row IsSo test [] [] e is = tt
 each_row IsSo test [] (w ∷ ws) e is = absurd (omega arith)
@@ -67,14 +67,14 @@ some_there (Some km) = (λ h. (km, refl), λ h. refl)
 module _ (net : NetworkValue) (problem : ProblemValue) (t : Table) (table : IsTableOf net problem t) (j : ℕ) (wanted : WantedOrder) (order : slice_get problem.orders j ≡ Some wanted) where
   pub in_time_counted : IsCount (λ wagon. IsInTime net problem.at wagon wanted.order) problem.wagons (cells_of_order t j)
   in_time_counted =
-      counted_by (λ (wagon : FreeWagon). IsInTime net problem.at wagon wanted.order) (λ (row : List (ℕ × ℕ)). is_some (cost_in row j)) problem.wagons t.rows (each_row _ _ t.rows problem.wagons table.wagons (λ i wagon at. (
+      counted_by (λ (wagon : FreeWagon). IsInTime net problem.at wagon wanted.order) (λ (costs : List (Option ℕ)). is_some (get_or costs j None)) problem.wagons t.costs (each_row _ _ t.costs problem.wagons table.wagons (λ i wagon at. (
         λ h. let cell = (some_there (cost_at t i j)).0 h in (cell.0, (table.cells i j cell.0 wagon wanted at order).0 cell.1),
         λ h. (some_there (cost_at t i j)).1 (h.0, (table.cells i j h.0 wagon wanted at order).1 h.1),
       )))
 
   pub cheaper_counted : IsCount (λ wagon. IsCheaper net problem.at wagon wanted.order) problem.wagons (cheaper_cells t j)
   cheaper_counted =
-      counted_by (λ (wagon : FreeWagon). IsCheaper net problem.at wagon wanted.order) (λ (row : List (ℕ × ℕ)). is_below (cost_in row j) (penalty_at t j)) problem.wagons t.rows (each_row _ _ t.rows problem.wagons table.wagons (λ i wagon at. fits_are_cheaper net problem t table i j wagon wanted at order))
+      counted_by (λ (wagon : FreeWagon). IsCheaper net problem.at wagon wanted.order) (λ (costs : List (Option ℕ)). is_below (get_or costs j None) (penalty_at t j)) problem.wagons t.costs (each_row _ _ t.costs problem.wagons table.wagons (λ i wagon at. fits_are_cheaper net problem t table i j wagon wanted at order))
 
 -- ---- classes
 

@@ -1,12 +1,12 @@
 -- Laws of the text: what its counts count, and what its numbers bound.
-use Rattle.std.specs.Prelude.{◌≡◌, ◌+◌, ◌-◌, ◌<◌, ◌≤◌, ◌↔◌, ℕ, IsTrue, List, length, Some, IfNone, IfSome, is_some, slice_get, slice_index}
+use Rattle.std.specs.Prelude.{◌≡◌, ◌+◌, ◌-◌, ◌<◌, ◌≤◌, ◌↔◌, ℕ, IsTrue, List, length, None, Some, IfNone, IfSome, is_some, slice_get, slice_index, slice_index_or}
 use Rattle.std.specs.List.{count_by}
 use Rattle.move_messages.specs.Order.{Order}
 use Rattle.wagons_and_orders.specs.declared.free_wagon.FreeWagon.{FreeWagon}
 use Rattle.wagons_and_orders.specs.Wanted.{WantedOrder}
 use Rattle.line_network.specs.Network.{NetworkValue}
 use Rattle.cost_table.specs.Problem.{ProblemValue}
-use Rattle.cost_table.specs.Table.{Table, cost_in, lack_at, order_count, wagon_count}
+use Rattle.cost_table.specs.Table.{Table, lack_at, order_count, wagon_count}
 use Rattle.problem_table.specs.Allowed.{IsTableOf}
 use Rattle.plan_bounds.specs.PricedPlan.{IsCertified, PricedPlan}
 use Rattle.plan_bounds.specs.Changes.{with_lack, without_wagon}
@@ -19,7 +19,7 @@ use Rattle.plan_reasons.specs.PairLists.{passes_all}
 
 -- how many wagons of a table may serve order j
 abbrev pub cells_of_order : Table → (j : ℕ) → ℕ
-cells_of_order t j = count_by (λ row. is_some (cost_in row j)) t.rows
+cells_of_order t j = count_by (λ costs. is_some (slice_index_or costs j None)) t.costs
 
 -- the wagons that are there in time are those that may serve the order
 abbrev pub InTimeAreAllowed : Type 0

@@ -4,6 +4,7 @@ ghost use Rattle.cost_table.specs.Plan.{serves};
 ghost use Rattle.cost_table.specs.RowParts.{cells_in};
 ghost use Rattle.cost_table.specs.Table.{order_count};
 ghost use Rattle.cost_table.specs.TableLimits.{IsRow};
+ghost use Rattle.cost_table.specs.TableRows.{all_rows};
 ghost use Rattle.plan_reasons.specs.Laws.{cells_of_order};
 ghost use Rattle.plan_reasons.specs.inner.Tallied.{AreMore, AreNumbers, below_in_row, cells_below, cheaper_cells};
 
@@ -32,7 +33,7 @@ pub(crate) fn cheaper(alloc: Global, cells: &Cells) -> Result<Vec<u64>, AllocErr
 /// For each order, how many cells of a table cost less than its limit.
 fn cells_below(alloc: Global, cells: &Cells, limits: &[u64]) -> Result<Vec<u64>, AllocError>
     requires { length limits.now ≡ order_count cells.now }
-    ensures { IfOk result (λ counts. AreNumbers (order_count cells.now) (cells_below cells.now.rows limits.now) counts.items) }
+    ensures { IfOk result (λ counts. AreNumbers (order_count cells.now) (cells_below (all_rows cells.now) limits.now) counts.items) }
 {
     let mut counts = vec![in alloc; 0; cells.orders()]?;
     for i in 0..cells.wagons() {

@@ -13,8 +13,7 @@ use Rattle.line_fields.specs.Values.{◌>>=◌, number_within, list_of_each}
 use Rattle.line_fields.specs.Fields.{Gives}
 use Rattle.line_fields.proofs.Bounds.{bind_ok, number_is_within, HoldsOfRead, list_holds, field_holds, optional_field_holds}
 use Rattle.move_messages.specs.OrderLimits.{max_order_wagons}
-use Rattle.cost_table.specs.TableLimits.{max_cost}
-use Rattle.cost_table.specs.Rows.{IsNumber}
+use Rattle.cost_table.specs.TableLimits.{max_cost, IsNumber}
 use Rattle.wagons_and_orders.specs.WantedLimits.{IsLack}
 use Rattle.table_lines.specs.TableLine.{cell_of, row_of, cells_of, lacks_field}
 

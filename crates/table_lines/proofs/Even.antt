@@ -9,7 +9,7 @@ use Rattle.cost_table.specs.Names.{NameLists}
 use Rattle.cost_table.specs.DistinctNames.{names_or_fault, unrepeated, first_repeated}
 use Rattle.line_fields.specs.Values.{◌>>=◌}
 use Rattle.table_lines.specs.TableLine.{TableText}
-use Rattle.cost_table.specs.Rows.{Rows, cells_of, table_of, is_even as are_even, is_too_large as are_too_large, rows_fault}
+use Rattle.cost_table.specs.Rows.{Rows, table_of, is_even as are_even, is_too_large as are_too_large, rows_fault}
 use Rattle.cost_table.specs.TableLimits.{max_table_lack, max_table_orders, max_table_wagons}
 use Rattle.faults.specs.declared.faults.TableFault.{TableFault}
 use Rattle.faults.specs.declared.faults.TableFault.TheVariants as table
@@ -22,10 +22,6 @@ use Rattle.table_lines.specs.declared.table_refusal.TableRefusal.TheVariants.{Ou
 -- the cells of rows
 abbrev pub cells_in : Rows → List (List (Option ℕ))
 cells_in rows = map (λ row. row.items) rows
-
-rows_of_cells : (rows : Rows) → map (cells_of 0) (cells_in rows) ≡ map (λ row. cells_of 0 row.items) rows
-rows_of_cells [] = refl
-rows_of_cells (row ∷ rows) = ap (λ (more : List (List (ℕ × ℕ))). cells_of 0 row.items ∷ more) (rows_of_cells rows)
 
 evenness : (rows : Rows) (penalties lacks : List ℕ) → (list_all (λ row. length row == length penalties) (cells_in rows) && (length lacks == length penalties)) ≡ are_even rows penalties lacks
 evenness rows penalties lacks = ap (λ (b : Bool). b && (length lacks == length penalties)) (list_all-map (λ (row : List (Option ℕ)). length row == length penalties) (λ row. row.items) rows)
@@ -49,7 +45,7 @@ pub even_rows : (wagons orders : ℕ) (rows : Rows) (penalties lacks : List ℕ)
     → even_table wagons orders (cells_in rows) penalties lacks ≡ Ok (table_of rows penalties lacks)
 even_rows wagons orders rows penalties lacks w o none =
     let even = by_evenness wagons orders rows penalties lacks w o ∙ no_rows_fault (are_too_large rows penalties lacks) (are_even rows penalties lacks) none in
-    rw even (ap (λ (r : List (List (ℕ × ℕ))). Ok (record { rows = r; penalties = penalties; lacks = lacks })) (rows_of_cells rows))
+    rw even refl
 
 not_large : (rows : Rows) (penalties lacks : List ℕ) → length rows ≤ max_table_wagons → length penalties ≤ max_table_orders → sum lacks ≤ max_table_lack → are_too_large rows penalties lacks ≡ false
 not_large rows penalties lacks w o l =
@@ -80,10 +76,6 @@ counted : (wagons orders : ℕ) (cells : List (List (Option ℕ))) (penalties la
     → (length cells ≡ wagons) × (length lacks ≡ orders)
 counted wagons orders cells penalties lacks h = (grind (arith, nat_tests, h), grind (arith, nat_tests, h))
 
-length_rows : (cells : List (List (Option ℕ))) → length (map (cells_of 0) cells) ≡ length cells
-length_rows [] = refl
-length_rows (row ∷ cells) = ap (λ (n : ℕ). suc n) (length_rows cells)
-
 if_even : (even : Bool) (stated found : Table) → cond even (Ok stated) (Err (OfTable table.UnevenRows)) ≡ Ok found → (even ≡ true) × (stated ≡ found)
 if_even true stated found h = (refl, cc)
 if_even false stated found h = absurd cc
@@ -92,10 +84,10 @@ if_even false stated found h = absurd cc
 pub even_counts : (wagons orders : ℕ) (cells : List (List (Option ℕ))) (penalties lacks : List ℕ) (table : Table) → even_table wagons orders cells penalties lacks ≡ Ok table
     → (wagon_count table ≡ wagons) × (order_count table ≡ orders)
 even_counts wagons orders cells penalties lacks table h =
-    let stated : Table = record { rows = map (cells_of 0) cells; penalties = penalties; lacks = lacks } in
+    let stated : Table = record { costs = cells; penalties = penalties; lacks = lacks } in
     let f = if_even (is_even wagons orders cells penalties lacks) stated table h in
     let n = counted wagons orders cells penalties lacks f.0 in
-    (ap wagon_count (sym f.1) ∙ length_rows cells ∙ n.0, ap order_count (sym f.1) ∙ n.1)
+    (ap wagon_count (sym f.1) ∙ n.0, ap order_count (sym f.1) ∙ n.1)
 
 -- an even table is the one that the line states
 pub even_is_stated : (t : TableText) (table : Table) → even_table (length t.wagons) (length t.orders) t.cells t.penalties (lacks_in t) ≡ Ok table → table ≡ table_in t

@@ -22,8 +22,8 @@ use Rattle.line_fields.proofs.Lines.{object_of-ok}
 use Rattle.line_fields.proofs.Writing.{list-reads, number_reads}
 use Rattle.line_fields.proofs.WrittenTokens.{read-tokens}
 use Rattle.move_messages.specs.OrderLimits.{max_order_wagons}
-use Rattle.cost_table.specs.Rows.{IsNumber, Rows}
-use Rattle.cost_table.specs.TableLimits.{max_cost}
+use Rattle.cost_table.specs.Rows.{Rows}
+use Rattle.cost_table.specs.TableLimits.{IsNumber, max_cost}
 use Rattle.wagons_and_orders.specs.WantedLimits.{IsLack}
 use Rattle.table_lines.specs.TableLine.{IsWithinLimits, TableText, cell_of, row_of, table_line_of, table_of, table_text, table_text_of, with_plan, with_plan_of}
 use Rattle.table_lines.specs.declared.table_line.TableLine.{TableLine}

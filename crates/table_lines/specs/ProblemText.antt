@@ -1,9 +1,8 @@
 -- The line of a table under the names of its wagons and orders, without a plan.
-use Rattle.std.specs.Prelude.{◌≡◌, ℕ, List, [], map, Option, Some, Ok}
-use Rattle.std.specs.List.{range_with_len}
+use Rattle.std.specs.Prelude.{◌≡◌, ℕ, List, [], Some, Ok}
 use Rattle.cost_table.specs.Names.{NameLists}
 use Rattle.cost_table.specs.Plan.{IsOptimal, cost_of}
-use Rattle.cost_table.specs.Table.{Table, cost_in, order_count}
+use Rattle.cost_table.specs.Table.{Table}
 use Rattle.price_checker.specs.NamedPairs.{checked}
 use Rattle.table_lines.specs.TableCost.{cost_of_text, with_check_fault}
 use Rattle.table_lines.specs.TableLine.{TableText, with_plan}
@@ -11,18 +10,10 @@ use Rattle.table_lines.specs.TablePart.{table_of_line}
 use Rattle.table_lines.specs.Solving.{IsSolved}
 use Rattle.table_lines.specs.StatedTable.{stated_in, stated_line}
 
--- what a row has for each of so many orders: a cost, or none where the pair isn't allowed
-abbrev pub costs_of : (orders : ℕ) → List (ℕ × ℕ) → List (Option ℕ)
-costs_of orders row = map (cost_in row) (range_with_len 0 orders)
-
--- the costs of each wagon
-abbrev pub costs_in : Table → List (List (Option ℕ))
-costs_in table = map (costs_of (order_count table)) table.rows
-
 -- a table under these names, as a line states it; it says what each order lacks
 abbrev pub text_of_table : NameLists → Table → TableText
 text_of_table names table =
-    record { wagons = names.wagons; orders = names.orders; cells = costs_in table; penalties = table.penalties; lacks = Some table.lacks; pairs = []; u = []; v = [] }
+    record { wagons = names.wagons; orders = names.orders; cells = table.costs; penalties = table.penalties; lacks = Some table.lacks; pairs = []; u = []; v = [] }
 
 -- A line that states this table under these names: its fields are read as the table's, and what is to be solved is that
 -- very table, with each of its costs, penalties and lacks. With any plan and prices, the check of it is the check of that

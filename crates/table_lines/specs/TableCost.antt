@@ -1,10 +1,9 @@
 -- What a table line is answered: the cost of its plan in km where its pairs and prices are a certificate of its
 -- table, else the first refusal.
-use Rattle.std.specs.Prelude.{◌≡◌, ◌≢◌, ℕ, Bool, ◌&&◌, ◌||◌, ◌==◌, nat_lt, if◌then◌else◌, List, length, map, replicate, sum, Option, unwrap_or, Result, Ok, Err, MatchResult}
+use Rattle.std.specs.Prelude.{◌≡◌, ◌≢◌, ℕ, Bool, ◌&&◌, ◌||◌, ◌==◌, nat_lt, if◌then◌else◌, List, length, replicate, sum, Option, unwrap_or, Result, Ok, Err, MatchResult}
 use Rattle.std.specs.List.{list_all}
 use Rattle.cost_table.specs.Table.{Table}
 use Rattle.cost_table.specs.TableLimits.{max_table_lack, max_table_orders, max_table_wagons}
-use Rattle.cost_table.specs.Rows.{cells_of}
 use Rattle.cost_table.specs.Plan.{IsOptimal, cost_of}
 use Rattle.cost_table.specs.Names.{NameLists}
 use Rattle.cost_table.specs.DistinctNames.{names_or_fault}
@@ -39,7 +38,7 @@ is_even wagons orders cells penalties lacks =
 -- the table of these cells, if they are even
 abbrev pub even_table : ℕ → ℕ → List (List (Option ℕ)) → List ℕ → List ℕ → Result Table TableRefusal
 even_table wagons orders cells penalties lacks =
-    if is_even wagons orders cells penalties lacks then Ok (record { rows = map (cells_of 0) cells; penalties = penalties; lacks = lacks }) else Err (OfTable UnevenRows)
+    if is_even wagons orders cells penalties lacks then Ok (record { costs = cells; penalties = penalties; lacks = lacks }) else Err (OfTable UnevenRows)
 
 -- the table of a line's cells, if they are even
 abbrev pub even_table_of : TableText → Result Table TableRefusal
@@ -47,7 +46,7 @@ even_table_of t = even_table (length t.wagons) (length t.orders) t.cells t.penal
 
 -- the table that a line states
 abbrev pub table_in : TableText → Table
-table_in t = record { rows = map (cells_of 0) t.cells; penalties = t.penalties; lacks = lacks_in t }
+table_in t = record { costs = t.cells; penalties = t.penalties; lacks = lacks_in t }
 
 -- ---- the answer
 

@@ -11,8 +11,7 @@ use Rattle.line_fields.specs.Fields.{list_at, optional_list_at}
 use Rattle.line_fields.specs.Line.{object_of}
 use Rattle.move_messages.specs.OrderLimits.{max_order_wagons}
 use Rattle.wagons_and_orders.specs.WantedLimits.{IsLack}
-use Rattle.cost_table.specs.Rows.{IsNumber}
-use Rattle.cost_table.specs.TableLimits.{max_cost}
+use Rattle.cost_table.specs.TableLimits.{IsNumber, max_cost}
 use Rattle.table_lines.specs.declared.table_line.TableLine.{TableLine}
 
 -- a table line, as a contract sees it: wagon numbers and the names of orders are texts

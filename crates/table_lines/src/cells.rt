@@ -6,7 +6,7 @@ ghost use Rattle.line_fields.specs.declared.fault.FieldFault.{FieldFault};
 ghost use Rattle.line_fields.specs.Values.{each};
 ghost use Rattle.line_fields.specs.Fields.{Gives, in_field};
 ghost use Rattle.table_lines.specs.TableLine as meaning;
-ghost use Rattle.cost_table.specs.Rows.{IsNumber};
+ghost use Rattle.cost_table.specs.TableLimits.{IsNumber};
 
 use cost_table::MAX_COST;
 use line_fields::{

@@ -1,13 +1,12 @@
 //! The table of a problem, as a table line.
-ghost use Rattle.std.specs.Prelude.{◌≡◌, ◌≤◌, All, IfOk, length, map, string_bytes};
+ghost use Rattle.std.specs.Prelude.{◌≡◌, ◌<◌, ◌≤◌, All, IfOk, length, map, string_bytes};
 ghost use Rattle.cost_table.specs.Problem.{names_of_problem, order_names, wagon_names};
-ghost use Rattle.cost_table.specs.Rows.{IsNumber};
-ghost use Rattle.cost_table.specs.Table.{order_count, row_at, wagon_count};
-ghost use Rattle.cost_table.specs.TableLimits.{max_cost};
+ghost use Rattle.cost_table.specs.Table.{costs_at, order_count, wagon_count};
+ghost use Rattle.cost_table.specs.TableLimits.{IsNumber, max_cost};
 ghost use Rattle.wagons_and_orders.specs.WantedLimits.{IsLack};
 ghost use Rattle.table_lines.specs.TableLine.{IsWithinLimits, table_text};
 ghost use Rattle.table_lines.specs.UnplannedText.{unplanned_text};
-ghost use Rattle.table_lines.specs.ProblemText.{StatesTable, costs_in, costs_of, text_of_table};
+ghost use Rattle.table_lines.specs.ProblemText.{StatesTable, text_of_table};
 
 use crate::table_line::TableLine;
 use crate::unplanned_tokens::unplanned_line;
@@ -79,7 +78,7 @@ fn ids_of(alloc: Global, orders: &[Wanted]) -> Result<Vec<OrderId>, AllocError>
 
 /// The costs of each wagon of a table.
 fn rows_of(alloc: Global, cells: &Cells) -> Result<Vec<Vec<Option<u64>>>, AllocError>
-    ensures costs { IfOk result (λ rows. map (λ row. row.items) rows.items ≡ costs_in cells.now) }
+    ensures costs { IfOk result (λ rows. map (λ row. row.items) rows.items ≡ cells.now.costs) }
     ensures limits { IfOk result (λ rows. All (λ row. All IsNumber row.items) rows.items) }
 {
     let wagons = cells.wagons();
@@ -90,9 +89,10 @@ fn rows_of(alloc: Global, cells: &Cells) -> Result<Vec<Vec<Option<u64>>>, AllocE
     Ok(rows)
 }
 
-/// The costs of one wagon of a table.
+/// What one wagon of a table costs for each order.
 fn row_of(alloc: Global, cells: &Cells, i: usize) -> Result<Vec<Option<u64>>, AllocError>
-    ensures { IfOk result (λ row. row.items ≡ costs_of (order_count cells.now) (row_at cells.now i)) }
+    requires { i < wagon_count cells.now }
+    ensures { IfOk result (λ row. row.items ≡ costs_at cells.now i) }
 {
     let orders = cells.orders();
     let mut row = Vec::with_capacity(alloc, orders)?;

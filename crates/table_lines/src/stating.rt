@@ -2,8 +2,7 @@
 
 ghost use Rattle.std.specs.Prelude.{◌≡◌, ◌≤◌, All, length, sum};
 ghost use Rattle.cost_table.specs.DistinctNames.{names_or_fault as read_names};
-ghost use Rattle.cost_table.specs.Rows.{IsNumber};
-ghost use Rattle.cost_table.specs.TableLimits.{max_cost, max_table_lack, max_table_orders, max_table_wagons};
+ghost use Rattle.cost_table.specs.TableLimits.{IsNumber, max_cost, max_table_lack, max_table_orders, max_table_wagons};
 ghost use Rattle.wagons_and_orders.specs.WantedLimits.{IsLack};
 ghost use Rattle.table_lines.specs.TableLine.{IsWithinLimits, table_text};
 ghost use Rattle.table_lines.specs.TableCost.{Yields, even_table_of, lacks_in, with_table_fault};

@@ -1,7 +1,6 @@
 //! What a table line is answered.
 ghost use Rattle.std.specs.Prelude.{◌≡◌, ◌<◌, ◌≤◌, All, IfOk, IfSome, map, sum, nat_lt};
-ghost use Rattle.cost_table.specs.Rows.{IsNumber};
-ghost use Rattle.cost_table.specs.TableLimits.{max_cost, max_table_lack, max_table_orders, max_table_wagons};
+ghost use Rattle.cost_table.specs.TableLimits.{IsNumber, max_cost, max_table_lack, max_table_orders, max_table_wagons};
 ghost use Rattle.wagons_and_orders.specs.WantedLimits.{IsLack};
 ghost use Rattle.table_lines.specs.TableLine.{IsWithinLimits, table_text};
 ghost use Rattle.table_lines.specs.TableCost.{Yields, lacks_in, is_too_large as is_large, even_table, cost_of_text, cost_of_line, IsCertified, CertifiesLine};

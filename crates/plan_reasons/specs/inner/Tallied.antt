@@ -1,5 +1,5 @@
 -- What is counted once for all orders of a text.
-use Rattle.std.specs.Prelude.{◌≡◌, ◌+◌, ◌==◌, ◌&&◌, ◌<◌, ℕ, Bool, false, map, nat_lt, nat_le, List, Some, length, slice_get, slice_index, slice_index_or}
+use Rattle.std.specs.Prelude.{◌≡◌, ◌+◌, ◌==◌, ◌&&◌, ◌<◌, ℕ, Bool, false, map, nat_lt, nat_le, List, None, Some, length, slice_get, slice_index, slice_index_or}
 use Rattle.std.specs.List.{AllZip, count_by, sum_by}
 use Rattle.move_messages.specs.Order.{Order}
 use Rattle.wagons_and_orders.specs.declared.free_wagon.FreeWagon.{FreeWagon}
@@ -7,7 +7,7 @@ use Rattle.wagons_and_orders.specs.Listed.{is_listed}
 use Rattle.wagons_and_orders.specs.Wanted.{WantedOrder}
 use Rattle.line_network.specs.Network.{NetworkValue, place_index}
 use Rattle.cost_table.specs.Plan.{serves}
-use Rattle.cost_table.specs.Table.{Table, cost_in, order_count, penalty_at}
+use Rattle.cost_table.specs.Table.{Table, order_count, penalty_at}
 use Rattle.plan_reasons.specs.declared.reasons.Counts.{Counts}
 use Rattle.plan_reasons.specs.declared.planned_problem.PlannedProblem.{PlannedProblem}
 use Rattle.plan_reasons.specs.declared.tallies.Tallies.{Tallies}
@@ -38,7 +38,7 @@ cells_below rows limits j = sum_by (λ row. below_in_row row limits j) rows
 
 -- how many wagons of a table may serve order j at less than its penalty
 abbrev pub cheaper_cells : Table → (j : ℕ) → ℕ
-cheaper_cells t j = count_by (λ row. is_below (cost_in row j) (penalty_at t j)) t.rows
+cheaper_cells t j = count_by (λ costs. is_below (slice_index_or costs j None) (penalty_at t j)) t.costs
 
 -- ---- wagons
 
