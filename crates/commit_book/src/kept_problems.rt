@@ -80,7 +80,7 @@ fn last_other(kept: &[KeptProblem], index: usize) -> usize
 }
 
 /// Forgets the tables of kept problems, but that of the problem at an index and the last one of the others. A table takes up
-/// to 4 MB, and is made again where a commit asks for it.
+/// to 8 MB, half of it in a block that tables share, and is made again where a commit asks for it.
 pub(crate) fn forget_tables(kept: &mut [KeptProblem], index: usize)
     ensures fewer { HaveFewerTables kept.old kept.new }
     ensures few { HaveTwoTables kept.old kept.new index }
