@@ -91,6 +91,11 @@ class Keys:
         """How many lines a journal of this stream has, for good."""
         return self._key("journal-lines")
 
+    @property
+    def lost(self) -> bytes:
+        """Of an inbox: the lines that an office had and lost, and that can't come again."""
+        return self._key("lost")
+
 
 class Trimmed(Exception):
     """What was read last isn't there any more, so what came behind it may be missing: the server lost it, or trimmed it."""
