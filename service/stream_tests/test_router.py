@@ -95,7 +95,7 @@ def test_what_cannot_come_again_is_said(server: RedisServer, start_router: Start
     for start in range(2):
         router.again()
         kept += sent(client, 6 + start, 7 + start)
-        until("the next line is brought", lambda: kept[-1] in ids_of(client, LINES))
+        until("the next line has its record", lambda: ids_of(client, RECORDS)[-1] == kept[-1])
         assert client.hgetall("{fleet}:lost") == {id: LATE + b" north" for id in lost}
     assert ids_of(client, LINES) == sorted([*kept, foreign])
     # Said once, though the later line is lost as well.
@@ -159,5 +159,6 @@ def test_more_is_lost_than_the_inbox_keeps(server: RedisServer, start_router: St
     until("the other office has its line", lambda: ids_of(client, keys("south")[0]) == other)
     assert client.exists(LINES) == 0
     router.end()
+    assert start_router(server.address("fleet"), offices, ["--complete", "west"]).process.wait() == 2
     start_router(server.address("fleet"), offices, ["--complete", "north"])
     until("it has what the inbox keeps", lambda: ids_of(client, LINES) == ids[3:])

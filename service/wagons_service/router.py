@@ -152,7 +152,7 @@ class Router:
         # All lines that have no record yet, and the last line that has one.
         self._lines: deque[_Line] = deque()
         self._last = last
-        self._works = {name: _Office(name) for name in self._offices.names}
+        self._by_name = {name: _Office(name) for name in self._offices.names}
         self._done = asyncio.Event()
 
     async def run(self) -> None:
@@ -180,14 +180,14 @@ class Router:
             self._forget(last)
             await together(
                 self._follow(reader, last), self._record(writer), self._look_back(writer, last), writer.until_lost(),
-                *(self._deliver(office, writer) for office in self._works.values()))
+                *(self._deliver(office, writer) for office in self._by_name.values()))
         finally:
             for link in links:
                 link.close()
 
     async def _look_back(self, inbox: Link, last: bytes) -> None:
         """Finds the last line that each office was brought, by the records."""
-        unknown = dict(self._works)
+        unknown = dict(self._by_name)
         async for records in records_back(inbox, self._keys, last):
             for id, name in records:
                 if office := unknown.pop(name, None):
@@ -217,8 +217,8 @@ class Router:
         if office is None:
             self._done.set()
         else:
-            self._works[office].owed.append(taken)
-            self._works[office].grew.set()
+            self._by_name[office].owed.append(taken)
+            self._by_name[office].grew.set()
 
     async def _deliver(self, office: _Office, inbox: Link) -> None:
         """Appends an office's lines to its stream; while that can't be reached the other offices get theirs."""
@@ -230,7 +230,8 @@ class Router:
                 await together(self._bring(office, inbox, link), link.until_lost())
             except (Lost, Refused, TooMuchLost) as fault:
                 log.warning("the lines of office %s wait: %s", office.name, fault)
-                await asyncio.sleep(pauses.after(start))
+                # Until a person has done something, there is nothing new to find.
+                await asyncio.sleep(SECONDS_BETWEEN_COMPARISONS if isinstance(fault, TooMuchLost) else pauses.after(start))
             finally:
                 if link:
                     link.close()

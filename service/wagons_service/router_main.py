@@ -35,6 +35,8 @@ def main(arguments: Sequence[str]) -> int:
     try:
         address = Address.read(given.inbox)
         offices = Offices.read(given.offices)
+        if unknown := set(given.complete) - set(offices.names):
+            raise BadOffices(f"--complete {min(unknown)}: {given.offices} has no such office")
     except (BadAddress, BadOffices) as fault:
         print(f"wagons-router: {fault}", file=sys.stderr)
         return 2
