@@ -21,7 +21,7 @@ OFFICE = ("on >SECRET -@all +xlen +xadd +xread +xrange +xrevrange +xtrim +xinfo 
           "~{north}:*").split()
 ROUTER = ["on", ">SECRET", "-@all", "+multi", "+exec", "+function|load",
           "(+xlen +xadd +xread +xrange +xrevrange +xtrim +xinfo +exists +hmget +hsetnx ~{fleet}:*)",
-          "(+xlen +xadd +xrange +xrevrange +xinfo +exists ~{north}:lines ~{south}:lines)"]
+          "(+xlen +xadd +xrange +xrevrange +xtrim +xinfo +exists ~{north}:lines ~{south}:lines)"]
 # What whoever connects may do, with any list: name himself, and end.
 ANYBODY = {"auth", "hello", "quit", "reset"}
 # How Redis says that a user may not do something; before it looks who calls, it says what nobody may do, or not so.

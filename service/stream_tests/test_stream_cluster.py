@@ -154,12 +154,12 @@ def test_a_line_that_comes_too_late(server: RedisServer, start_router: StartRout
     client, inbox = server.client, keys("fleet")[0]
     client.xadd(keys("south")[0], {"line": "{}"}, id="99999999999999-0")
     # The inbox lost its last lines, and gave their ids again: to the same line, and to another one.
-    lines = [message("R001", n, wagon) for n, wagon in enumerate([WAGONS[0], WAGONS[0], WAGONS[0], WAGONS[20], WAGONS[0]])]
-    ids = [client.xadd(inbox, {"line": line}, id=f"1-{n}") for n, line in enumerate(lines[:2], 1)]
-    for id, line in zip(ids, [lines[0], b"{}"]):
-        client.xadd(keys("north")[0], {"line": line}, id=id)
+    sent = [message("R001", n, wagon) for n, wagon in enumerate([WAGONS[0], WAGONS[0], WAGONS[0], WAGONS[20], WAGONS[0]])]
+    ids = [client.xadd(inbox, {"line": text}, id=f"1-{n}") for n, text in enumerate(sent[:2], 1)]
+    for id, text in zip(ids, [sent[0], b"{}"]):
+        client.xadd(keys("north")[0], {"line": text}, id=id)
     router = start_router(server.address("fleet"), {WAGONS[0]: "north", WAGONS[20]: "south"})
-    ids += [client.xadd(inbox, {"line": line}) for line in lines[2:]]
+    ids += [client.xadd(inbox, {"line": text}) for text in sent[2:]]
     records = until("each line has its record", lambda: (now := client.xrange(keys("fleet")[1])) and len(now) == 5 and now)
     north, late = {b"office": b"north"}, {b"reply": b"refused 101"}
     assert records == list(zip(ids, [north, late, north, late, north]))

@@ -9,7 +9,6 @@ import subprocess
 from pathlib import Path
 
 import pytest
-import redis
 from conftest import StartOffice, StartServer
 from railways import keys, whole_replies
 from running import DAY, NETWORKS, ROOT, WAGONS, line, message, order
