@@ -2,7 +2,7 @@
 
 import os
 import sys
-from collections.abc import Callable, Iterator
+from collections.abc import Callable, Iterator, Sequence
 from pathlib import Path
 from typing import Any
 
@@ -76,8 +76,8 @@ def start_office(program: str) -> Iterator[StartOffice]:
 def start_router(tmp_path: Path) -> Iterator[StartRouter]:
     started: list[Router] = []
 
-    def one(inbox: str, offices: dict[str, str]) -> Router:
-        router = Router(inbox, offices, tmp_path / "offices.csv")
+    def one(inbox: str, offices: dict[str, str], options: Sequence[str] = ()) -> Router:
+        router = Router(inbox, offices, tmp_path / "offices.csv", options)
         started.append(router)
         return router
 

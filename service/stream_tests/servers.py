@@ -118,10 +118,10 @@ class Office(Service):
 
 
 class Router:
-    def __init__(self, inbox: str, offices: dict[str, str], file: Path) -> None:
+    def __init__(self, inbox: str, offices: dict[str, str], file: Path, options: Sequence[str] = ()) -> None:
         file.write_text("wagon,office\n" + "".join(f"{wagon},{office}\n" for wagon, office in offices.items()))
         self._log = file.with_suffix(".log")
-        self._command = [str(ROOT / "service" / "wagons-router"), "--inbox", inbox, "--offices", str(file)]
+        self._command = [str(ROOT / "service" / "wagons-router"), "--inbox", inbox, "--offices", str(file), *options]
         self._start()
 
     def _start(self) -> None:

@@ -149,12 +149,19 @@ def reply_under(server: RedisServer, office: str, id: bytes) -> bytes:
     return reply
 
 
-def test_a_foreign_line_is_noticed(server: RedisServer, start_office: StartOffice, start_router: StartRouter, tmp_path: Path) -> None:
-    """Who appends to an office's stream beside the inbox doesn't make a line vanish: it waits, and the log says so."""
-    client = server.client
+def test_a_line_that_comes_too_late(server: RedisServer, start_router: StartRouter) -> None:
+    """Who appends to an office's stream beside the inbox makes no line vanish: it is refused, and the rest goes on."""
+    client, inbox = server.client, keys("fleet")[0]
     client.xadd(keys("south")[0], {"line": "{}"}, id="99999999999999-0")
+    # The inbox lost its last lines, and gave their ids again: to the same line, and to another one.
+    sent = [message("R001", n, wagon) for n, wagon in enumerate([WAGONS[0], WAGONS[0], WAGONS[0], WAGONS[20], WAGONS[0]])]
+    ids = [client.xadd(inbox, {"line": text}, id=f"1-{n}") for n, text in enumerate(sent[:2], 1)]
+    for id, text in zip(ids, [sent[0], b"{}"]):
+        client.xadd(keys("north")[0], {"line": text}, id=id)
     router = start_router(server.address("fleet"), {WAGONS[0]: "north", WAGONS[20]: "south"})
-    ids = [client.xadd(keys("fleet")[0], {"line": message("R001", n, wagon)}) for n, wagon in enumerate([WAGONS[0], WAGONS[20], WAGONS[0]])]
-    until("the other office has its lines", lambda: client.xlen(keys("north")[0]) == 2)
+    ids += [client.xadd(inbox, {"line": text}) for text in sent[2:]]
+    records = until("each line has its record", lambda: (now := client.xrange(keys("fleet")[1])) and len(now) == 5 and now)
+    north, late = {b"office": b"north"}, {b"reply": b"refused 101"}
+    assert records == list(zip(ids, [north, late, north, late, north]))
+    assert [id for id, _ in client.xrange(keys("north")[0])] == ids[:3] + ids[4:] and client.xlen(keys("south")[0]) == 1
     router.until_logged("has a later line")
-    assert list(dict(client.xrange(keys("fleet")[1]))) == ids[:1]

@@ -2,42 +2,45 @@
 
 Redis refuses an id that isn't above those before it. So a line is in its office's stream once, however often the router
 crashed and however many routers there are, and nothing else has to be remembered. What became of each line stands under
-its id among the inbox's replies: the office that has it, or a refusal.
+its id among the inbox's replies: the office that has it, or a refusal. By these records an office gets again what its node
+lost.
 """
 
 import asyncio
 import csv
 import logging
+import time
 from collections import deque
-from collections.abc import Iterable, Mapping, Sequence
+from collections.abc import Coroutine, Iterable, Mapping, Sequence
 from contextlib import suppress
-from dataclasses import dataclass
+from dataclasses import dataclass, field as member
+from itertools import islice
 from typing import Any
 
 from .address import Address
-from .redis_link import Link, Lost, Refused, good, number, pack
+from .lost_lines import TooMuchLost, are_there, lost_lines, records_back
+from .redis_link import Link, Lost, Refused, number, pack
 from .senders import MESSAGES, read
-from .streams import (
-    LIBRARY, MOST_ENTRIES, START, Keys, Trimmed, add_copies, are_added, field, is_whole, last_id, order, read_behind, wait)
+from .streams import LIBRARY, MOST_ENTRIES, START, Keys, Trimmed, add_copies, are_added, field, is_whole, last_id, order, read_behind, wait
 
 log = logging.getLogger("wagons-router")
 
 MILLISECONDS_OF_WAITING = 1000
 SECONDS_BETWEEN_TRIES = 0.2
 MOST_SECONDS_BETWEEN_TRIES = 2.0
+# How often an office's stream is compared with what it was brought, beside each new connection.
+SECONDS_BETWEEN_COMPARISONS = 60.0
 # So many lines may wait for an office that can't be reached before no more are read.
 MOST_WAITING = 1_000_000
 TRIM_EACH = 10_000
 # Lines for all but movement messages.
 OTHERS = frozenset(["order", "withdraw", "begin", "plan", "commit", "network", "sheet"])
+# The router's own refusal: the office's stream has a later line, or another one, so this one can't come under its id.
+TOO_LATE = "refused 101"
 
 
 class BadOffices(Exception):
     """A file of offices that can't be used; the text says why."""
-
-
-class Foreign(Exception):
-    """Another writer has appended to an office's stream, so lines can't come under their ids any more."""
 
 
 @dataclass(frozen=True)
@@ -105,6 +108,8 @@ class _Line:
     office: str | None
     refusal: str
     is_done: bool
+    # Whether its record is written, or on its way.
+    is_recorded: bool = False
 
     def record(self, key: bytes) -> bytes:
         """What is said of the line among the inbox's replies."""
@@ -112,39 +117,57 @@ class _Line:
         return pack(b"XADD", key, self.id, *words)
 
 
+@dataclass(eq=False, slots=True)
+class _Office:
+    """An office in a session."""
+
+    name: str
+    # The lines that aren't in its stream yet, and what says that there are more.
+    owed: deque[_Line] = member(default_factory=deque)
+    grew: asyncio.Event = member(default_factory=asyncio.Event)
+    # The last line that is known to have come, and whether the records were looked through for it.
+    last: bytes = START
+    is_known: asyncio.Event = member(default_factory=asyncio.Event)
+
+    @property
+    def key(self) -> bytes:
+        return Keys(self.name).lines
+
+    def know(self, last: bytes) -> None:
+        self.last = last
+        self.is_known.set()
+
+
 class Router:
-    def __init__(self, address: Address, offices: Offices, hours: int) -> None:
+    def __init__(self, address: Address, offices: Offices, hours: int, complete: Sequence[str] = ()) -> None:
         self._address = address
         self._keys = Keys(address.stream)
         self._offices = offices
         self._hours = hours
+        self._complete = frozenset(complete)
         self._recorded = 0
-        self._forget()
+        self._forget(START)
 
-    def _forget(self) -> None:
-        # All lines that have no record yet, and of each office those that aren't in its stream yet.
+    def _forget(self, last: bytes) -> None:
+        # All lines that have no record yet, and the last line that has one.
         self._lines: deque[_Line] = deque()
-        self._owed: dict[str, deque[_Line]] = {name: deque() for name in self._offices.names}
-        self._calls = {name: asyncio.Event() for name in self._offices.names}
+        self._last = last
+        self._by_name = {name: _Office(name) for name in self._offices.names}
         self._done = asyncio.Event()
 
     async def run(self) -> None:
         """Works for good; what breaks is tried again."""
-        pause = SECONDS_BETWEEN_TRIES
+        pauses = Pauses()
         while True:
+            start = time.monotonic()
             try:
                 await self._session()
             except (Lost, Refused, Trimmed) as fault:
                 log.warning("the inbox can't be reached: %s", fault)
-                await asyncio.sleep(pause)
-                pause = min(2 * pause, MOST_SECONDS_BETWEEN_TRIES)
-            else:
-                pause = SECONDS_BETWEEN_TRIES
+                await asyncio.sleep(pauses.after(start))
 
     async def _session(self) -> None:
-        self._forget()
         links: list[Link] = []
-        tasks: list[asyncio.Task[None]] = []
         try:
             for _ in range(2):
                 links.append(await Link.open(self._address, self._keys.lines))
@@ -154,17 +177,25 @@ class Router:
             if last == START and not await is_whole(writer, self._keys.lines):
                 raise Trimmed("the inbox doesn't begin with its first line any more")
             log.info("reads the inbox %s behind %s", self._address.stream, last.decode())
-            works = [self._follow(reader, last), self._record(writer), *map(self._deliver, self._offices.names)]
-            tasks = [asyncio.create_task(work) for work in works]
-            done, _ = await asyncio.wait(tasks, return_when=asyncio.FIRST_COMPLETED)
-            for task in done:
-                task.result()
+            self._forget(last)
+            await together(
+                self._follow(reader, last), self._record(writer), self._look_back(writer, last), writer.until_lost(),
+                *(self._deliver(office, writer) for office in self._by_name.values()))
         finally:
-            for task in tasks:
-                task.cancel()
-            await asyncio.gather(*tasks, return_exceptions=True)
             for link in links:
                 link.close()
+
+    async def _look_back(self, inbox: Link, last: bytes) -> None:
+        """Finds the last line that each office was brought, by the records."""
+        unknown = dict(self._by_name)
+        async for records in records_back(inbox, self._keys, last):
+            for id, name in records:
+                if office := unknown.pop(name, None):
+                    office.know(id)
+            if not unknown:
+                return
+        for office in unknown.values():
+            office.know(START)
 
     async def _follow(self, link: Link, last: bytes) -> None:
         """Reads the inbox."""
@@ -186,40 +217,80 @@ class Router:
         if office is None:
             self._done.set()
         else:
-            self._owed[office].append(taken)
-            self._calls[office].set()
+            self._by_name[office].owed.append(taken)
+            self._by_name[office].grew.set()
 
-    async def _deliver(self, office: str) -> None:
+    async def _deliver(self, office: _Office, inbox: Link) -> None:
         """Appends an office's lines to its stream; while that can't be reached the other offices get theirs."""
-        key, pause = Keys(office).lines, SECONDS_BETWEEN_TRIES
+        pauses = Pauses()
         while True:
-            await self._calls[office].wait()
-            link = None
+            link, start = None, time.monotonic()
             try:
-                link = await Link.open(self._address, key)
-                while True:
-                    await self._calls[office].wait()
-                    self._calls[office].clear()
-                    await self._deliver_owed(link, key, self._owed[office])
-                    pause = SECONDS_BETWEEN_TRIES
-            except (Lost, Refused, Foreign) as fault:
-                log.warning("the lines of office %s wait: %s", office, fault)
-                self._calls[office].set()
-                await asyncio.sleep(pause)
-                pause = min(2 * pause, MOST_SECONDS_BETWEEN_TRIES)
+                link = await Link.open(self._address, office.key)
+                await together(self._bring(office, inbox, link), link.until_lost())
+            except (Lost, Refused, TooMuchLost) as fault:
+                log.warning("the lines of office %s wait: %s", office.name, fault)
+                # Until a person has done something, there is nothing new to find.
+                await asyncio.sleep(SECONDS_BETWEEN_COMPARISONS if isinstance(fault, TooMuchLost) else pauses.after(start))
             finally:
                 if link:
                     link.close()
 
-    async def _deliver_owed(self, link: Link, key: bytes, owed: deque[_Line]) -> None:
-        while owed:
-            part = [owed[index] for index in range(min(len(owed), MOST_ENTRIES))]
-            answers = await link.transaction(add_copies(key, [line.id for line in part], [line.line for line in part]))
-            if not are_added(answers):
-                await judge_there(link, key, [line.id for line, answer in zip(part, answers) if not isinstance(answer, bytes)])
-            for line in part:
-                owed.popleft().is_done = True
-            self._done.set()
+    async def _bring(self, office: _Office, inbox: Link, link: Link) -> None:
+        """Brings what the office is owed, over one connection."""
+        while True:
+            await self._owe_lost(office, inbox, link)
+            end = time.monotonic() + SECONDS_BETWEEN_COMPARISONS
+            while (left := end - time.monotonic()) > 0:
+                if office.owed:
+                    await self._bring_part(office, inbox, link)
+                else:
+                    office.grew.clear()
+                    with suppress(TimeoutError):
+                        await asyncio.wait_for(office.grew.wait(), left)
+
+    async def _owe_lost(self, office: _Office, inbox: Link, link: Link) -> None:
+        """Owes an office once more what its stream has lost."""
+        await office.is_known.wait()
+        if office.last == START or (await are_there(link, office.key, [office.last]))[0]:
+            return
+        # Both at one moment: each line that was brought is either among these, or has its record.
+        last = self._last
+        office.owed = deque(line for line in self._lines if line.office == office.name)
+        for line in office.owed:
+            line.is_done = False
+        there = await last_id(link, office.key)
+        lost = await lost_lines(inbox, self._keys, last, office.name, link, office.name in self._complete)
+        office.owed.extendleft(_Line(id, line, office.name, "", is_done=False, is_recorded=True) for id, line in reversed(lost))
+        office.last = there
+        log.warning("the stream of office %s has lost what was behind %s, and gets it again: %d lines", office.name, there.decode(), len(office.owed))
+
+    async def _bring_part(self, office: _Office, inbox: Link, link: Link) -> None:
+        part = list(islice(office.owed, MOST_ENTRIES))
+        answers = await link.transaction(add_copies(office.key, [line.id for line in part], [line.line for line in part]))
+        late: set[bytes] = set()
+        if not are_added(answers):
+            known = [line for line, answer in zip(part, answers) if not isinstance(answer, bytes)]
+            there = await are_there(link, office.key, [line.id for line in known], [line.line for line in known])
+            refused = [line for line, is_there in zip(known, there) if not is_there]
+            await self._refuse(office, refused, inbox)
+            late = {line.id for line in refused}
+        office.last = next((line.id for line in reversed(part) if line.id not in late), office.last)
+        for line in part:
+            office.owed.popleft().is_done = True
+        self._done.set()
+
+    async def _refuse(self, office: _Office, late: Sequence[_Line], inbox: Link) -> None:
+        """Says of lines that they can't come any more, so that those behind them do. A record can't be changed; of a line
+        that has one it is said beside the records."""
+        for line in late:
+            if line.is_recorded:
+                await inbox.one(pack(b"HSETNX", self._keys.lost, line.id, f"{TOO_LATE} {office.name}".encode()))
+            else:
+                line.office, line.refusal = None, TOO_LATE
+        if late:
+            log.error("%s has a later line, or another one, so %d lines of the inbox can't come under their ids and are refused, the first one %s",
+                      office.key.decode(), len(late), late[0].id.decode())
 
     async def _record(self, link: Link) -> None:
         """Says of each line what became of it, in their order."""
@@ -227,9 +298,11 @@ class Router:
             await self._done.wait()
             self._done.clear()
             while part := self._next_done():
+                for line in part:
+                    line.is_recorded = True
                 are_added(await link.transaction([line.record(self._keys.replies) for line in part]))
                 for _ in part:
-                    self._lines.popleft()
+                    self._last = self._lines.popleft().id
                 await self._trim(link, part)
 
     def _next_done(self) -> list[_Line]:
@@ -250,15 +323,30 @@ class Router:
                 await link.one(pack(b"XTRIM", key, b"MINID", b"~", number(max(oldest, 0))))
 
 
-async def judge_there(link: Link, key: bytes, ids: Sequence[bytes]) -> None:
-    """Raises `Foreign` where one of these ids, which Redis didn't take, isn't in the stream, nor was trimmed from it."""
-    oldest = [] if await is_whole(link, key) else await link.one(pack(b"XRANGE", key, b"-", b"+", b"COUNT", b"1"))
-    found: list[Any] = await link.ask(b"".join(pack(b"XRANGE", key, id, id) for id in ids), len(ids))
-    for id, entries in zip(ids, found):
-        if not good(entries) and not (oldest and order(id) < order(oldest[0][0])):
-            raise Foreign(f"{key.decode()} has a later line that didn't come through the inbox, so {id.decode()} can't be added")
+class Pauses:
+    """The pauses between tries: each is longer than the one before, but for those after what has lasted."""
+
+    def __init__(self) -> None:
+        self._next = SECONDS_BETWEEN_TRIES
+
+    def after(self, start: float) -> float:
+        """The pause after a try that began then."""
+        pause = SECONDS_BETWEEN_TRIES if time.monotonic() - start > MOST_SECONDS_BETWEEN_TRIES else self._next
+        self._next = min(2 * pause, MOST_SECONDS_BETWEEN_TRIES)
+        return pause
 
 
-async def run(address: Address, offices: Offices, hours: int) -> None:
+async def together(*works: Coroutine[Any, Any, None]) -> None:
+    """Does all of these until one of them breaks; then the others end, and its fault is raised."""
+    tasks = [asyncio.create_task(work) for work in works]
+    try:
+        await asyncio.gather(*tasks)
+    finally:
+        for task in tasks:
+            task.cancel()
+        await asyncio.gather(*tasks, return_exceptions=True)
+
+
+async def run(address: Address, offices: Offices, hours: int, complete: Sequence[str]) -> None:
     with suppress(asyncio.CancelledError):
-        await Router(address, offices, hours).run()
+        await Router(address, offices, hours, complete).run()

@@ -13,9 +13,9 @@ from .router import BadOffices, Offices, run
 PAGE = "docs/STREAMS.md, and `man wagons-router`"
 
 
-async def serve(address: Address, offices: Offices, hours: int) -> None:
+async def serve(address: Address, offices: Offices, hours: int, complete: Sequence[str]) -> None:
     """Runs until SIGTERM or SIGINT."""
-    work = asyncio.create_task(run(address, offices, hours))
+    work = asyncio.create_task(run(address, offices, hours, complete))
     loop = asyncio.get_running_loop()
     for number in signal.SIGTERM, signal.SIGINT:
         loop.add_signal_handler(number, work.cancel)
@@ -28,13 +28,17 @@ def main(arguments: Sequence[str]) -> int:
     parser.add_argument("--inbox", metavar="ADDRESS", required=True, help="redis://HOST:PORT/INBOX")
     parser.add_argument("--offices", metavar="FILE", required=True, help="which office has which wagon: a CSV file with the header wagon,office")
     parser.add_argument("--keep", metavar="HOURS", type=int, default=24, help="how long the inbox keeps lines that their offices have; 24 where nothing is said")
+    parser.add_argument("--complete", metavar="OFFICE", action="append", default=[],
+                        help="an office whose stream has all lines from before those that the inbox keeps; any number of times")
     given = parser.parse_args(arguments)
     logging.basicConfig(format="wagons-router: %(levelname)s: %(message)s", level=logging.INFO, stream=sys.stderr)
     try:
         address = Address.read(given.inbox)
         offices = Offices.read(given.offices)
+        if unknown := set(given.complete) - set(offices.names):
+            raise BadOffices(f"--complete {min(unknown)}: {given.offices} has no such office")
     except (BadAddress, BadOffices) as fault:
         print(f"wagons-router: {fault}", file=sys.stderr)
         return 2
-    asyncio.run(serve(address, offices, given.keep))
+    asyncio.run(serve(address, offices, given.keep, given.complete))
     return 0

@@ -11,7 +11,6 @@ import os
 import secrets
 import shutil
 import socket
-import tempfile
 import time
 from bisect import bisect_left
 from collections.abc import Sequence
@@ -19,6 +18,7 @@ from contextlib import suppress
 from dataclasses import dataclass
 from typing import Any
 
+from . import temporary
 from .address import Address
 from .answers import Refusal
 from .journal import NotKept
@@ -63,7 +63,7 @@ class StreamService(Service):
         self._keys = Keys(address.stream)
         self._target = Keys(address.inbox or address.stream).lines
         self._is_temporary = not options.copy
-        self._copy = options.copy or tempfile.mkdtemp(prefix="wagons-service-")
+        self._copy = temporary.folder(options.copy)
         self._token = f"{socket.gethostname()}:{os.getpid()}:{secrets.token_hex(8)}".encode()
         self._task: asyncio.Task[None] | None = None
         self._grew = asyncio.Event()

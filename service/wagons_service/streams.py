@@ -23,24 +23,59 @@ NO_LINE = b"?"
 TOO_LONG = b"refused 92"
 
 # Appends lines once for each number of a sender: KEYS are the lines and the sender's mark, ARGV its number and the lines.
-# The answer is the ids of the lines. The number that was last once more gives the same ids and appends nothing.
+# The answer is the ids of the lines. The number that was last once more gives the same ids and appends nothing, where its
+# lines are the same: the mark has their digest. A number is compared as a text, since Lua has none above 2^53 but roughly.
 LIBRARY = b"""#!lua name=wagons
+local function is_number(text)
+  return text == '0' or #text <= 18 and string.match(text, '^[1-9]%d*$') ~= nil
+end
+
+local function is_below(one, other)
+  return #one < #other or #one == #other and one < other
+end
+
+local function digest(arguments)
+  local parts = {}
+  for index = 2, #arguments do parts[index - 1] = #arguments[index] .. ':' .. arguments[index] end
+  return redis.sha1hex(table.concat(parts))
+end
+
+-- The last number, the digest of its lines, and their ids. A mark of before there were digests has none.
+local function read_mark(mark)
+  local last, words = string.match(mark, '^0*(%d+) ?(.*)$')
+  local known, ids = string.match(words or '', '^(' .. string.rep('%x', 40) .. ') ?(.*)$')
+  return last, known, ids or words
+end
+
 redis.register_function('append', function(keys, arguments)
-  local mark = redis.call('GET', keys[2])
+  local number = arguments[1]
+  if #keys ~= 2 or #arguments < 2 then
+    return redis.error_reply('ERR append takes two keys, a number and one or more lines')
+  end
+  if not is_number(number) then
+    return redis.error_reply('ERR a number has 1 to 18 digits and no zero in front')
+  end
+  local sum, mark = digest(arguments), redis.call('GET', keys[2])
   if mark then
-    local last, ids = string.match(mark, '^(%d+) ?(.*)$')
-    if tonumber(last) > tonumber(arguments[1]) then
-      return redis.error_reply('ERR number ' .. arguments[1] .. ' is below the last one, ' .. last)
+    local last, known, words = read_mark(mark)
+    if not last then
+      return redis.error_reply('ERR ' .. keys[2] .. ' is no mark of append')
     end
-    if tonumber(last) == tonumber(arguments[1]) then
-      local found = {}
-      for id in string.gmatch(ids, '%S+') do found[#found + 1] = id end
-      return found
+    if is_below(number, last) then
+      return redis.error_reply('ERR number ' .. number .. ' is below the last one, ' .. last)
+    end
+    if number == last then
+      if known and known ~= sum then
+        return redis.error_reply('ERR number ' .. number .. ' was sent with other lines')
+      end
+      local ids = {}
+      for id in string.gmatch(words, '%S+') do ids[#ids + 1] = id end
+      return ids
     end
   end
   local ids = {}
   for index = 2, #arguments do ids[#ids + 1] = redis.call('XADD', keys[1], '*', 'line', arguments[index]) end
-  redis.call('SET', keys[2], arguments[1] .. ' ' .. table.concat(ids, ' '))
+  redis.call('SET', keys[2], number .. ' ' .. sum .. ' ' .. table.concat(ids, ' '))
   return ids
 end)
 """
@@ -90,6 +125,11 @@ class Keys:
     def journal_lines(self) -> bytes:
         """How many lines a journal of this stream has, for good."""
         return self._key("journal-lines")
+
+    @property
+    def lost(self) -> bytes:
+        """Of an inbox: the lines that an office had and lost, and that can't come again."""
+        return self._key("lost")
 
 
 class Trimmed(Exception):
