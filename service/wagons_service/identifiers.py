@@ -4,8 +4,9 @@ They are kept in a file beside the journal, and a number is on the disk before a
 """
 
 import json
+import os
 
-from .journal import FileOfLines
+from .journal import FileOfLines, sync_folder
 
 # Companies that number their messages themselves mostly begin low, so these begin in the upper half.
 FIRST_NUMBER = 2_147_483_648
@@ -21,6 +22,9 @@ class NoNumberLeft(Exception):
 class Identifiers:
     def __init__(self, path: str) -> None:
         self._file = FileOfLines(path)
+        # What a service that was killed left in memory alone is on the disk before a line has it, and so is the file itself.
+        self._file.sync()
+        sync_folder(os.path.dirname(path) or ".")
         self._numbers: dict[tuple[str, str], int] = {}
         self._last: dict[str, int] = {}
         self._new: list[tuple[str, str]] = []

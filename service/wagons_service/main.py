@@ -11,6 +11,7 @@ from aiohttp import web
 from aiohttp.http_exceptions import BadHttpMessage
 
 from . import options
+from .ending import end_on_signals
 from .identifiers import Identifiers
 from .journal import Broken, FolderInUse, Unreadable
 from .options import Options
@@ -46,15 +47,15 @@ async def serve(given: Options) -> None:
     """Runs until SIGTERM or SIGINT."""
     stop = asyncio.Event()
     loop = asyncio.get_running_loop()
-    for number in signal.SIGTERM, signal.SIGINT:
-        loop.add_signal_handler(number, stop.set)
+    end_on_signals(stop, loop)
     service = of_stream(given) if given.address else Service(given)
     server = Server(service, given.tokens)
     loop.add_signal_handler(signal.SIGHUP, server.read_tokens_again)
     app = server.application()
     Page(server).add_to(app)
-    if given.map:
-        XmlRoute(server, Map.read(given.map), Identifiers(f"{given.journal}/identifiers.jsonl")).add_to(app)
+    xml = XmlRoute(server, Map.read(given.map), Identifiers(f"{given.journal}/identifiers.jsonl")) if given.map else None
+    if xml:
+        xml.add_to(app)
     runner = web.AppRunner(app, access_log=None, auto_decompress=False, lingering_time=SECONDS_OF_LINGERING)
     await runner.setup()
     site = web.TCPSite(runner, given.host, given.port, shutdown_timeout=5)
@@ -67,6 +68,8 @@ async def serve(given: Options) -> None:
     await stop.wait()
     log.info("ends")
     server.end_streams()
+    if xml:
+        xml.end()
     await site.stop()
     await service.close()
     await runner.cleanup()

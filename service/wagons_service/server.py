@@ -12,7 +12,7 @@ from aiohttp import web, web_urldispatcher
 from aiohttp.http_exceptions import BadHttpMessage
 
 from .answers import JSON_LINES, MOST_BYTES_A_REQUEST, Refusal, cut, number_in, page_end, sentence, with_lines
-from .journal import MOST_LINES, Journal, is_blank
+from .journal import MOST_LINES, Journal, Unreadable, is_blank
 from .office import NotTaken, Office, State, Stopped
 from .senders import ANYONE, BadTokens, Forbidden, NoLine, Role, Sender, Tokens, is_loopback
 from .service import Service
@@ -116,6 +116,8 @@ class Server:
         if sender is None and request.method == "GET" and request.path == "/":
             raise web.HTTPSeeOther("/login")
         if sender is None and request.path not in OPEN_PATHS and not request.path.startswith(OPEN_PREFIX):
+            if self._tokens.has_expired(token):
+                raise Refusal(401, "The token has expired.")
             raise Refusal(401, "A token is needed that this service knows: send `Authorization: Bearer TOKEN`.")
         return sender
 
@@ -182,7 +184,7 @@ class Server:
 
     async def answer(self, request: web.Request, lines: Sequence[bytes], start: float) -> web.StreamResponse:
         """Takes lines, and answers with their replies as they were kept."""
-        parts = await self.service.take(lines)
+        parts = await self.service.take(lines, request["sender"].name)
         number = (parts[0].office if parts else self.office).journal.number
         headers = {"Content-Type": JSON_LINES, "Journal": str(number)}
         kept = []
@@ -241,7 +243,7 @@ class Server:
         await response.prepare(request)
         while first <= last:
             end = page_end(journal, first, last)
-            records = [record + b"\n" for _, record in with_lines(journal, first, end, request["sender"])]
+            records = [shown(journal, *told, request["sender"]) + b"\n" for told in with_lines(journal, first, end, request["sender"])]
             await response.write(b"".join(records))
             first = end + 1
         return response
@@ -271,7 +273,7 @@ class Server:
 
     async def _tell(self, response: web.StreamResponse, office: Office, first: int, sender: Sender) -> None:
         await self._write(response, b"retry: 1000\n\n")
-        while not self._closing.is_set():
+        while not self._closing.is_set() and not sender.has_expired:
             while first <= office.answered:
                 end = page_end(office.journal, first, office.answered)
                 told = with_lines(office.journal, first, end, sender)
@@ -333,6 +335,12 @@ async def expect(request: web.Request) -> None:
     await request.writer.write(b"HTTP/1.1 100 Continue\r\n\r\n")
 
 
+def shown(journal: Journal, number: int, record: bytes, sender: Sender) -> bytes:
+    """A reply's record; a dispatcher sees who sent its line."""
+    sent = journal.sent.find(number) if sender.role is Role.DISPATCHER else None
+    return sent.added_to(record) if sent else record
+
+
 def last_number(numbers: range, lines: Sequence[bytes]) -> int | None:
     """The number of the last line that gets a reply."""
     return next((number for number in reversed(numbers) if not is_blank(lines[number - numbers.start])), None)
@@ -356,7 +364,7 @@ def refusal_of(fault: Exception) -> Refusal | None:
             return Refusal(400, str(fault))
         case NotTaken():
             return Refusal(503, f"{fault}; nothing of the request was taken")
-        case Stopped():
+        case Stopped() | Unreadable():
             return Refusal(503, str(fault))
     return None
 

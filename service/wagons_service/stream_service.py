@@ -110,7 +110,7 @@ class StreamService(Service):
 
     # Lines are appended.
 
-    async def take(self, lines: Sequence[bytes]) -> list[Part]:
+    async def take(self, lines: Sequence[bytes], _name: str) -> list[Part]:
         self.office.may_take()
         if not lines:
             return []
