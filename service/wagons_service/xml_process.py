@@ -17,7 +17,7 @@ from typing import Any, BinaryIO
 from .xml_lines import BadXml, Map, Row
 
 SECONDS = 5
-MEGABYTES = 512
+MEGABYTES = 256
 MOST_PROCESSES = 8
 SECONDS_TO_START = 60
 LENGTH = struct.Struct(">Q")
@@ -58,12 +58,17 @@ def answer_to(rules: Map, document: bytes, note: int) -> dict[str, Any]:
     begin(AT_FIRST)
     try:
         return {"rows": rules.rows(document, begin)}
-    except BadXml as fault:
-        if "Memory allocation failed" in str(fault):
-            return {"memory": True}
-        return {"bad": str(fault)}
     except MemoryError:
         return {"memory": True}
+    except BadXml as fault:
+        return {"memory": True} if has_no_memory() else {"bad": str(fault)}
+
+
+def has_no_memory() -> bool:
+    """Whether the limit was reached: the reader of XML then says one thing or another, and not that."""
+    with open("/proc/self/status", encoding="ascii") as file:
+        peak = next(int(line.split()[1]) for line in file if line.startswith("VmPeak:"))
+    return peak > MEGABYTES * 1024 * 0.95
 
 
 def read_part(file: BinaryIO) -> bytes | None:
@@ -91,7 +96,7 @@ class XmlProcess:
         note = os.memfd_create("note")
         pipe = asyncio.subprocess.PIPE
         process = await asyncio.create_subprocess_exec(
-            sys.executable, "-c", START, str(note), stdin=pipe, stdout=pipe, pass_fds=(note,), start_new_session=True,
+            sys.executable, "-c", START, str(note), stdin=pipe, stdout=pipe, stderr=asyncio.subprocess.DEVNULL, pass_fds=(note,), start_new_session=True,
             env={**os.environ, "PYTHONPATH": PACKAGES})
         made = cls(process, note)
         try:
