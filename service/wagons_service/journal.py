@@ -15,6 +15,7 @@ from collections.abc import Iterator, Sequence
 from itertools import accumulate
 from operator import add
 
+from .archive import NotReadable, opened, unpack_all
 from .checksums import Changed, Checksums
 from .sent import SentLines
 
@@ -47,7 +48,10 @@ class FileOfLines:
 
     def __init__(self, path: str) -> None:
         # The handle closes the file when nobody reads it any more, though a new journal has begun since.
-        self._handle = os.fdopen(os.open(path, os.O_RDWR | os.O_CREAT | os.O_CLOEXEC, 0o600), "rb+", buffering=0)
+        try:
+            self._handle = os.fdopen(opened(path), "rb+", buffering=0)
+        except NotReadable as fault:
+            raise Unreadable(str(fault)) from None
         self._file = self._handle.fileno()
         self._ends = array("Q", [0])
         size = 0
@@ -257,6 +261,7 @@ class Folder:
         self.last = max((int(name) for name in os.listdir(path) if name.isascii() and name.isdigit()), default=0)
         if not self.last:
             self._begin({})
+        unpack_all(f"{path}/{self.last}")
 
     def journal(self, number: int | None = None) -> "Journal":
         """The last journal, or the one of a number."""

@@ -10,7 +10,8 @@ from collections.abc import Sequence
 from aiohttp import web
 from aiohttp.http_exceptions import BadHttpMessage
 
-from . import options
+from . import commands, options
+from .archive import NotReadable, keep_small
 from .ending import end_on_signals
 from .identifiers import Identifiers
 from .journal import Broken, FolderInUse, Unreadable
@@ -61,6 +62,7 @@ async def serve(given: Options) -> None:
     site = web.TCPSite(runner, given.host, given.port, shutdown_timeout=5)
     await site.start()
     service.start()
+    keep_small(service.folder, given.keep_days)
     gc.freeze()
     gc.set_threshold(OBJECTS_BETWEEN_SEARCHES)
     for host, port, *_ in runner.addresses:
@@ -80,8 +82,11 @@ def main(arguments: Sequence[str]) -> int:
     logging.basicConfig(format="wagons-service: %(levelname)s: %(message)s", level=logging.INFO, stream=sys.stderr)
     logging.getLogger("aiohttp.server").addFilter(is_ours)
     try:
-        asyncio.run(serve(given))
-    except (FolderInUse, Unreadable, BadTokens, BadMap, Broken, OSError) as fault:
+        if given.command:
+            print(asyncio.run(commands.run(given)))
+        else:
+            asyncio.run(serve(given))
+    except (FolderInUse, Unreadable, NotReadable, BadTokens, BadMap, Broken, commands.Failed, OSError) as fault:
         print(f"wagons-service: {fault}", file=sys.stderr)
         return 2
     return 0
