@@ -10,8 +10,10 @@ import shutil
 import tempfile
 from bisect import bisect_right
 from dataclasses import replace
+from pathlib import Path
 
 from .archive import NotReadable, sync
+from .gauges import BACKED_UP
 from .journal import CHUNK, Broken, Journal, KeptReplies, Unreadable
 from .options import Options
 from .program import DONE, Program, Replies
@@ -37,6 +39,7 @@ async def back_up(options: Options) -> str:
         said = await make(options, new)
         os.rename(new, target)
         sync(os.path.dirname(target))
+        Path(options.journal, BACKED_UP).touch()
     except (Unreadable, NotReadable, Broken) as fault:
         raise NotCopied(str(fault).replace(f"{new}/journal", options.journal)) from None
     finally:

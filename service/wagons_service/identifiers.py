@@ -33,6 +33,10 @@ class Identifiers:
             self._numbers[company, text] = number
             self._last[company] = max(number, self._last.get(company, 0))
 
+    @property
+    def count(self) -> int:
+        return len(self._numbers)
+
     def number(self, company: str, text: str) -> int:
         """The number of a text; a new one counts from `keep` on."""
         known = self._numbers.get((company, text))

@@ -12,6 +12,7 @@ from collections import deque
 from collections.abc import Sequence
 from contextlib import suppress
 from dataclasses import dataclass
+from datetime import datetime
 from enum import Enum
 
 from .journal import CHUNK, MOST_LINES, Broken, Journal, KeptReplies, NotKept
@@ -79,6 +80,8 @@ class Office:
         self._told = 0
         self._counted = 0
         self._full: str | None = None
+        # How many entries the book has.
+        self.entries = 0
         self._queue: list[_Request] = []
         self._is_writing = False
         self._is_paused = False
@@ -144,6 +147,11 @@ class Office:
     def answered(self) -> int:
         """The number of the last line whose reply is whole."""
         return self.journal.replies.last
+
+    def taken_at(self, number: int) -> float | None:
+        """When a line was taken, in seconds since 1970, where that is known."""
+        sent = self.journal.sent.find(number)
+        return datetime.fromisoformat(sent.taken).timestamp() if sent else None
 
     def may_take(self) -> None:
         """Raises `NotTaken` where no lines are taken now."""
@@ -394,7 +402,13 @@ class Office:
             return
         self._counted = replies.numbers[-1]
         self.metrics.count(replies)
-        for number, text in replies.refused:
+        if b"accepted" in replies.kinds:
+            place = next(place for place in reversed(range(len(replies.kinds))) if replies.kinds[place] == b"accepted")
+            self.entries = int(replies.texts[place].rsplit(b" ", 1)[1])
+        refused = replies.refused
+        lines = self.journal.lines.read(refused[0][0], refused[-1][0]).split(b"\n") if refused else []
+        for number, text in refused:
+            self.metrics.count_refusal(text, lines[number - refused[0][0]])
             if not self._is_our_line(number, text):
                 self.refused.append(number)
             if text.endswith(b" refused 72") and not self._full:

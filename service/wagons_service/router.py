@@ -16,6 +16,7 @@ from typing import Any
 
 from .address import Address
 from .redis_link import Link, Lost, Refused, good, number, pack
+from .router_metrics import MOST_HEAD_BYTES, answer, text_of
 from .senders import MESSAGES, read
 from .streams import (
     LIBRARY, MOST_ENTRIES, START, Keys, Trimmed, add_copies, are_added, field, is_whole, last_id, order, read_behind, wait)
@@ -120,6 +121,9 @@ class Router:
         self._hours = hours
         self._recorded = 0
         self._forget()
+
+    def metrics(self) -> str:
+        return text_of({office: len(owed) for office, owed in self._owed.items()}, self._lines[0].id if self._lines else None)
 
     def _forget(self) -> None:
         # All lines that have no record yet, and of each office those that aren't in its stream yet.
@@ -259,6 +263,9 @@ async def judge_there(link: Link, key: bytes, ids: Sequence[bytes]) -> None:
             raise Foreign(f"{key.decode()} has a later line that didn't come through the inbox, so {id.decode()} can't be added")
 
 
-async def run(address: Address, offices: Offices, hours: int) -> None:
+async def run(address: Address, offices: Offices, hours: int, metrics: tuple[str, int] | None = None) -> None:
     with suppress(asyncio.CancelledError):
-        await Router(address, offices, hours).run()
+        router = Router(address, offices, hours)
+        if metrics:
+            await asyncio.start_server(lambda reader, writer: answer(reader, writer, router.metrics()), *metrics, limit=MOST_HEAD_BYTES)
+        await router.run()

@@ -7,15 +7,15 @@ import signal
 import sys
 from collections.abc import Sequence
 
-from .address import Address, BadAddress
+from .address import Address, BadAddress, host_of
 from .router import BadOffices, Offices, run
 
 PAGE = "docs/STREAMS.md, and `man wagons-router`"
 
 
-async def serve(address: Address, offices: Offices, hours: int) -> None:
+async def serve(address: Address, offices: Offices, hours: int, metrics: tuple[str, int] | None) -> None:
     """Runs until SIGTERM or SIGINT."""
-    work = asyncio.create_task(run(address, offices, hours))
+    work = asyncio.create_task(run(address, offices, hours, metrics))
     loop = asyncio.get_running_loop()
     for number in signal.SIGTERM, signal.SIGINT:
         loop.add_signal_handler(number, work.cancel)
@@ -28,13 +28,19 @@ def main(arguments: Sequence[str]) -> int:
     parser.add_argument("--inbox", metavar="ADDRESS", required=True, help="redis://HOST:PORT/INBOX")
     parser.add_argument("--offices", metavar="FILE", required=True, help="which office has which wagon: a CSV file with the header wagon,office")
     parser.add_argument("--keep", metavar="HOURS", type=int, default=24, help="how long the inbox keeps lines that their offices have; 24 where nothing is said")
+    parser.add_argument("--metrics", metavar="HOST:PORT", help="where `GET /metrics` says what is held, for Prometheus; nowhere where nothing is said")
     given = parser.parse_args(arguments)
     logging.basicConfig(format="wagons-router: %(levelname)s: %(message)s", level=logging.INFO, stream=sys.stderr)
     try:
         address = Address.read(given.inbox)
         offices = Offices.read(given.offices)
+        metrics = host_of(given.metrics, given.metrics) if given.metrics else None
     except (BadAddress, BadOffices) as fault:
         print(f"wagons-router: {fault}", file=sys.stderr)
         return 2
-    asyncio.run(serve(address, offices, given.keep))
+    try:
+        asyncio.run(serve(address, offices, given.keep, metrics))
+    except OSError as fault:
+        print(f"wagons-router: {fault}", file=sys.stderr)
+        return 2
     return 0

@@ -10,7 +10,7 @@ import json
 import logging
 import os
 import re
-from collections.abc import Mapping, Sequence
+from collections.abc import Iterable, Mapping, Sequence
 from dataclasses import dataclass, replace
 from datetime import UTC, datetime
 from enum import Enum
@@ -141,6 +141,10 @@ class Tokens:
 
     def __len__(self) -> int:
         return len(self._senders)
+
+    @property
+    def senders(self) -> Iterable[Sender]:
+        return self._senders.values()
 
     def find(self, token: str) -> Sender | None:
         """Whose token it is; nobody's where it has expired."""

@@ -12,6 +12,8 @@ from aiohttp import web, web_urldispatcher
 from aiohttp.http_exceptions import BadHttpMessage
 
 from .answers import JSON_LINES, MOST_BYTES_A_REQUEST, Refusal, cut, number_in, page_end, sentence, with_lines
+from .gauges import gauges
+from .identifiers import Identifiers
 from .journal import MOST_LINES, Journal, Unreadable, is_blank
 from .office import NotTaken, Office, State, Stopped
 from .senders import ANYONE, BadTokens, Forbidden, NoLine, Role, Sender, Tokens, is_loopback
@@ -42,6 +44,8 @@ class Server:
         self.metrics = service.metrics
         self._tokens_file = tokens_file
         self._tokens = Tokens.read(tokens_file) if tokens_file else None
+        # Those of XML, where it is taken.
+        self.identifiers: Identifiers | None = None
         self._held = 0
         self._closing = asyncio.Event()
 
@@ -325,6 +329,7 @@ class Server:
             raise Forbidden("A railway's token doesn't see the metrics.")
         lines = self.office.journal.lines
         text = self.metrics.text(lines.count, lines.size, self.office.state is State.RUNNING)
+        text += "".join(f"{line}\n" for line in gauges(self.service, self._tokens, self.identifiers))
         return web.Response(body=text.encode(), headers={"Content-Type": "text/plain; version=0.0.4; charset=utf-8"})
 
 

@@ -24,6 +24,10 @@ class Part(NamedTuple):
 
 
 class Service:
+    # Of a stream: until when this one holds the lease, by the monotonic clock, and how many replicas its server has.
+    lease_until: float | None = None
+    replicas: int | None = None
+
     def __init__(self, options: Options) -> None:
         self.options = options
         self.metrics = Metrics()

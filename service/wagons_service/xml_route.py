@@ -18,7 +18,7 @@ from .xml_process import Ended, TooMuch, XmlProcesses
 class XmlRoute:
     def __init__(self, server: Server, rules: Map, identifiers: Identifiers) -> None:
         self._server = server
-        self._identifiers = identifiers
+        self._identifiers = server.identifiers = identifiers
         self._processes = XmlProcesses(rules)
         # One document of a sender at a time is turned into lines, so that none has all processes.
         self._senders: WeakValueDictionary[Sender, asyncio.Lock] = WeakValueDictionary()
