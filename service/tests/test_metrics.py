@@ -54,9 +54,8 @@ def test_the_rules(start: Start, tmp_path: Path) -> None:
         assert done.returncode == 0, done.stdout + done.stderr
     # Each rule is about something that is there.
     service = start(options=["--map", str(ROOT / "examples" / "service" / "map.toml")]).until_running()
-    done = subprocess.run([ROOT / "service" / "wagons-service", "backup", tmp_path / "backup", "--journal", service.folder, "--program", service.program,
-                           *service.office], capture_output=True)
-    assert done.returncode == 0
+    subprocess.run([ROOT / "service" / "wagons-service", "backup", tmp_path / "backup", "--journal", service.folder, "--program", service.program,
+                    *service.office], check=True)
     named = set(re.findall(r"wagons_\w+", "".join(re.findall(r"expr: .*", RULES.read_text()))))
     there = set(re.findall(r"# TYPE (\w+)", service.get("/metrics").text))
     assert len(named) > 12 and named - there <= ELSEWHERE

@@ -15,6 +15,7 @@ from .archive import NotReadable, keep_small
 from .ending import end_on_signals
 from .identifiers import Identifiers
 from .journal import Broken, FolderInUse, Unreadable
+from .notify import notify, stand_up
 from .options import Options
 from .page import Page
 from .senders import BadTokens
@@ -67,7 +68,10 @@ async def serve(given: Options) -> None:
     gc.set_threshold(OBJECTS_BETWEEN_SEARCHES)
     for host, port, *_ in runner.addresses:
         log.info("listens on http://%s:%d", f"[{host}]" if ":" in host else host, port)
+    signs = stand_up()
     await stop.wait()
+    signs.cancel()
+    notify("STOPPING=1")
     log.info("ends")
     server.end_streams()
     if xml:

@@ -8,6 +8,7 @@ import sys
 from collections.abc import Sequence
 
 from .address import Address, BadAddress, host_of
+from .notify import stand_up
 from .router import BadOffices, Offices, run
 
 PAGE = "docs/STREAMS.md, and `man wagons-router`"
@@ -19,7 +20,9 @@ async def serve(address: Address, offices: Offices, hours: int, metrics: tuple[s
     loop = asyncio.get_running_loop()
     for number in signal.SIGTERM, signal.SIGINT:
         loop.add_signal_handler(number, work.cancel)
+    signs = stand_up()
     await work
+    signs.cancel()
 
 
 def main(arguments: Sequence[str]) -> int:
