@@ -181,6 +181,10 @@ def test_xml_that_needs_much_memory_is_refused(start: Start) -> None:
     assert (answer.status, answer.text) == (
         413, "Turning the document into lines needs over 256 MB of memory, at its beginning, before the first message; send it in parts.\n")
     assert service.post(b"", path="/xml").text == "Line 1, column 1: Document is empty.\n"
+    # A map that takes the sender's text into each line makes much of little.
+    large = HEAD.replace(b"1001", b"x" * 8000) + b'<Movement event="held"/>' * 2000 + b"</Movements>"
+    answer = service.post(large, path="/xml")
+    assert (answer.status, answer.text) == (413, "The lines of the document would have over 8,000,000 bytes; send it in parts.\n")
 
 
 def test_the_service_ends_while_xml_is_read(start: Start) -> None:

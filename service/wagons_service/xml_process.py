@@ -19,6 +19,8 @@ from .xml_lines import BadXml, Map, Row
 SECONDS = 5
 MEGABYTES = 256
 MOST_PROCESSES = 8
+# As many as a request of lines may have.
+MOST_BYTES = 8_000_000
 SECONDS_TO_START = 60
 LENGTH = struct.Struct(">Q")
 NOTE_BYTES = 256
@@ -57,7 +59,8 @@ def answer_to(rules: Map, document: bytes, note: int) -> dict[str, Any]:
 
     begin(AT_FIRST)
     try:
-        return {"rows": rules.rows(document, begin)}
+        rows = rules.rows(document, begin)
+        return {"rows": rows} if sum(len(row.line) for row in rows) <= MOST_BYTES else {"large": True}
     except MemoryError:
         return {"memory": True}
     except BadXml as fault:
@@ -96,7 +99,7 @@ class XmlProcess:
         note = os.memfd_create("note")
         pipe = asyncio.subprocess.PIPE
         process = await asyncio.create_subprocess_exec(
-            sys.executable, "-c", START, str(note), stdin=pipe, stdout=pipe, stderr=asyncio.subprocess.DEVNULL, pass_fds=(note,), start_new_session=True,
+            sys.executable, "-P", "-c", START, str(note), stdin=pipe, stdout=pipe, stderr=asyncio.subprocess.DEVNULL, pass_fds=(note,), start_new_session=True,
             env={**os.environ, "PYTHONPATH": PACKAGES})
         made = cls(process, note)
         try:
@@ -111,13 +114,15 @@ class XmlProcess:
         """The lines of a document, before identifiers have numbers."""
         try:
             async with asyncio.timeout(SECONDS):
-                answer = json.loads(await self._ask(document))
+                answer = await asyncio.to_thread(json.loads, await self._ask(document))
         except TimeoutError:
             raise TooMuch(f"Turning the document into lines took over {SECONDS} seconds, and had come to {self._element()}; send it in parts.") from None
         except asyncio.IncompleteReadError:
             raise TooMuch(f"The document ended the process that read it, at {self._element()}; send it in parts.") from None
         if "memory" in answer:
             raise TooMuch(f"Turning the document into lines needs over {MEGABYTES} MB of memory, at {self._element()}; send it in parts.")
+        if "large" in answer:
+            raise TooMuch(f"The lines of the document would have over {MOST_BYTES:,} bytes; send it in parts.")
         if "bad" in answer:
             raise BadXml(answer["bad"])
         return [Row(*row) for row in answer["rows"]]
