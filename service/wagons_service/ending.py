@@ -15,9 +15,15 @@ def end_on_signals(stop: asyncio.Event, loop: asyncio.AbstractEventLoop, seconds
     The journal allows it, since a service may be killed at any moment. Neither the loop nor Python need be running for it.
     """
 
+    has_come = False
+
     def end(_number: int, _frame: FrameType | None) -> None:
-        faulthandler.dump_traceback_later(seconds, exit=True)
-        loop.call_soon_threadsafe(stop.set)
+        nonlocal has_come
+        # A second signal gives no more time, and may come when the loop is closed.
+        if not has_come:
+            has_come = True
+            faulthandler.dump_traceback_later(seconds, exit=True)
+            loop.call_soon_threadsafe(stop.set)
 
     for number in signal.SIGTERM, signal.SIGINT:
         signal.signal(number, end)

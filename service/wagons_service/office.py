@@ -135,6 +135,8 @@ class Office:
         for task in self._tasks:
             task.cancel()
         await asyncio.gather(*self._tasks, return_exceptions=True)
+        with suppress(Broken):
+            self.journal.sent.sync()
         self._is_over = True
         self._end_waiting(has_ended=True)
 

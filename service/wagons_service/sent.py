@@ -7,7 +7,7 @@ last second. The journal itself stays as it came.
 
 import re
 from array import array
-from bisect import bisect_right
+from bisect import bisect_left, bisect_right
 from collections.abc import Sequence
 from datetime import UTC, datetime
 from typing import TYPE_CHECKING, NamedTuple
@@ -54,14 +54,15 @@ class SentLines:
     def _cut(self, lines: int) -> None:
         """Cuts off what is said of lines that never came, since a crash came first."""
         while self._places and (last := self._read(self._places[-1])) and last.last > lines:
-            self._drop_last()
+            self._keep_first(len(self._places) - 1)
             if last.first <= lines:
                 self._append([last._replace(last=lines)])
 
-    def _drop_last(self) -> None:
-        self._file.cut(self._places.pop() - 1)
-        self._firsts.pop()
-        self._found = None
+    def _keep_first(self, count: int) -> None:
+        if count < len(self._places):
+            self._file.cut(self._places[count] - 1)
+            del self._places[count:], self._firsts[count:]
+            self._found = None
 
     def _append(self, sent: Sequence[Sent]) -> None:
         place = self._file.count + 1
@@ -87,8 +88,7 @@ class SentLines:
 
     def forget(self, first: int) -> None:
         """The lines from this number on weren't added."""
-        while self._firsts and self._firsts[-1] >= first:
-            self._drop_last()
+        self._keep_first(bisect_left(self._firsts, first))
 
     def sync(self) -> None:
         if not self._is_synced:

@@ -343,12 +343,15 @@ class StreamService(Service):
     # The lease.
 
     async def _hold(self, link: Link) -> None:
+        may_count = True
         while not self._is_caught_up:
             await asyncio.sleep(0.01)
         while True:
             is_held = await self._ask_lease(link)
             self.lease_until = time.monotonic() + self.options.lease / 1000 if is_held else None
-            self.replicas = await count_replicas(link)
+            if may_count:
+                self.replicas = await count_replicas(link)
+                may_count = self.replicas is not None
             if is_held and not self.is_first:
                 log.info("this service writes the replies now")
                 if self._checkpoint:
