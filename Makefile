@@ -140,7 +140,7 @@ install: $(BUILT)
 	install -D -m 644 -t $(LIB)/wagons_service service/wagons_service/*.py
 	install -D -m 644 -t $(LIB)/wagons_service/page_files service/wagons_service/page_files/*
 	install -D -m 644 -t $(SHARE)/man/man1 service/wagons-service.1 service/wagons-router.1 service/wagons-xml.1
-	install -D -m 644 -t $(SHARE)/doc/wagons/service service/*.service service/offices.csv
+	install -D -m 644 -t $(SHARE)/doc/wagons/service service/*.service service/offices.csv service/nginx.conf service/alerts.yml
 	install -D -m 755 -t $(SHARE)/doc/wagons/examples/service examples/service/railway.py
 	install -D -m 644 -t $(SHARE)/doc/wagons/examples/service examples/service/README.md examples/service/map.toml examples/service/movements.xml examples/service/tokens
 	install -D -m 644 completions/wagons.bash $(SHARE)/bash-completion/completions/wagons

@@ -124,5 +124,9 @@ def test_no_line_is_lost_or_doubled(start: Start, kills: int, tmp_path: Path) ->
     told = {number: reply for sender in senders for number, reply in sender.told.items()}
     printed = service.run_again(options=["--entries", "1000000"]).splitlines()
     assert [told[k + 1] for k in range(len(journal))] == service.kept == printed
+    # Of each line it is known who sent it, once.
+    sent = [json.loads(record) for record in (service.last / "senders.jsonl").read_text().splitlines()]
+    names = [(number, record["sender"]) for record in sent for number in range(record["first"], record["last"] + 1)]
+    assert names == [(number, f"railway-{json.loads(line)['company']}") for number, line in enumerate(journal, 1)]
     assert len(journal) > kills
     assert service.stop() == 0

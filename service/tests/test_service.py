@@ -224,7 +224,7 @@ def test_metrics(start: Start) -> None:
     service.post(LINES)
     text = service.get("/metrics").text
     for expected in ["wagons_up 1", "wagons_lines_total 42", f"wagons_journal_bytes {len(LINES) + 3}", 'wagons_replies_total{kind="accepted"} 30',
-                     'wagons_refusals_total{code="82"} 1', 'wagons_requests_total{status="200"}', "wagons_line_seconds_count 41"]:
+                     'wagons_refusals_total{code="82",company=""} 1', 'wagons_requests_total{status="200"}', "wagons_line_seconds_count 41"]:
         assert expected in text, expected
 
 

@@ -1,13 +1,17 @@
 """XML messages become lines."""
 
 import json
+import signal
 import subprocess
+import sys
+import threading
+import time
 from pathlib import Path
 
 import pytest
 
 from conftest import ROOT, Start
-from running import WAGONS
+from running import WAGONS, Answer
 from wagons_service.identifiers import FIRST_NUMBER, Identifiers
 from wagons_service.xml_lines import BadMap, BadXml, Map, documents
 
@@ -146,6 +150,70 @@ def test_xml_is_sent(start: Start, tmp_path: Path) -> None:
     service = start(options=["--tokens", str(tmp_path / "tokens"), "--map", str(MAP)]).until_running()
     assert service.post(movement("A"), mine, "/xml").replies == ["6 repeated 4"]
     assert service.post(movement("B"), mine, "/xml").replies == ["7 accepted 5"]
+
+
+# Each message looks for its sender among all that stand before it.
+SLOW = b'<Movements xmlns="urn:example:wagon-movements">' + b"<a/>" * 200_000 + b'<Movement event="held"/>\n' * 2000 + b"</Movements>"
+TOKENS = "railway-1001-token railway 1001\nrailway-1002-token railway 1002\ndispatcher-s-token dispatcher\n"
+
+
+def test_xml_that_takes_long_holds_up_nobody(start: Start, tmp_path: Path) -> None:
+    (tmp_path / "tokens").write_text(TOKENS)
+    service = start(options=["--tokens", str(tmp_path / "tokens"), "--map", str(MAP)]).until_running()
+    answers: list[Answer] = []
+    sender = threading.Thread(target=lambda: answers.append(service.post(SLOW, "railway-1001-token", "/xml")))
+    sender.start()
+    time.sleep(0.5)
+    for k in range(5):
+        assert service.post(movement(f"A{k}", company="1002"), "railway-1002-token", "/xml").replies == [f"{k + 1} accepted {k + 1}"]
+    assert sender.is_alive()
+    sender.join(30)
+    assert answers[0].status == 413
+    assert answers[0].text.startswith("Turning the document into lines took over 5 seconds, and had come to line ")
+    assert answers[0].text.endswith(", Movement; send it in parts.\n")
+    # The process that was ended is made again.
+    assert service.post(movement("A5"), "railway-1001-token", "/xml").replies == ["6 accepted 6"]
+
+
+def test_xml_that_needs_much_memory_is_refused(start: Start) -> None:
+    service = start(options=["--map", str(MAP)]).until_running()
+    answer = service.post(b'<Movements xmlns="urn:example:wagon-movements">' + b'<a b=""/>' * 800_000 + b"</Movements>", path="/xml")
+    assert (answer.status, answer.text) == (
+        413, "Turning the document into lines needs over 256 MB of memory, at its beginning, before the first message; send it in parts.\n")
+    assert service.post(b"", path="/xml").text == "Line 1, column 1: Document is empty.\n"
+    # A map that takes the sender's text into each line makes much of little.
+    large = HEAD.replace(b"1001", b"x" * 8000) + b'<Movement event="held"/>' * 2000 + b"</Movements>"
+    answer = service.post(large, path="/xml")
+    assert (answer.status, answer.text) == (413, "The lines of the document would have over 8,000,000 bytes; send it in parts.\n")
+
+
+def test_the_service_ends_while_xml_is_read(start: Start) -> None:
+    service = start(options=["--map", str(MAP)]).until_running()
+    answers: list[Answer] = []
+    sender = threading.Thread(target=lambda: answers.append(service.post(SLOW, path="/xml")))
+    sender.start()
+    time.sleep(1)
+    service.process.send_signal(signal.SIGTERM)
+    assert service.process.wait(20) == 0
+    sender.join()
+    assert (answers[0].status, answers[0].text) == (503, "the service is being stopped; nothing of the request was taken\n")
+
+
+def test_a_service_that_hangs_is_ended() -> None:
+    """Neither the loop nor the interpreter gets to see that it should end."""
+    script = """
+import asyncio, ctypes, os, signal
+from wagons_service.ending import end_on_signals
+
+async def hang():
+    end_on_signals(asyncio.Event(), asyncio.get_running_loop(), 0.5)
+    os.kill(os.getpid(), signal.SIGTERM)
+    ctypes.PyDLL(None).sleep(60)
+
+asyncio.run(hang())
+"""
+    hung = subprocess.run([sys.executable, "-c", script], env={"PYTHONPATH": str(ROOT / "service")}, capture_output=True, timeout=20)
+    assert hung.returncode == 1 and b"Timeout" in hung.stderr and b"in hang" in hung.stderr
 
 
 def test_without_a_map_there_is_no_xml(start: Start) -> None:

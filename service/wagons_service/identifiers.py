@@ -4,8 +4,9 @@ They are kept in a file beside the journal, and a number is on the disk before a
 """
 
 import json
+import os
 
-from .journal import FileOfLines
+from .journal import FileOfLines, sync_folder
 
 # Companies that number their messages themselves mostly begin low, so these begin in the upper half.
 FIRST_NUMBER = 2_147_483_648
@@ -21,6 +22,9 @@ class NoNumberLeft(Exception):
 class Identifiers:
     def __init__(self, path: str) -> None:
         self._file = FileOfLines(path)
+        # What a service that was killed left in memory alone is on the disk before a line has it, and so is the file itself.
+        self._file.sync()
+        sync_folder(os.path.dirname(path) or ".")
         self._numbers: dict[tuple[str, str], int] = {}
         self._last: dict[str, int] = {}
         self._new: list[tuple[str, str]] = []
@@ -28,6 +32,10 @@ class Identifiers:
             company, text, number = json.loads(self._file.read(place, place))
             self._numbers[company, text] = number
             self._last[company] = max(number, self._last.get(company, 0))
+
+    @property
+    def count(self) -> int:
+        return len(self._numbers)
 
     def number(self, company: str, text: str) -> int:
         """The number of a text; a new one counts from `keep` on."""

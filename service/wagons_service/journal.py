@@ -1,7 +1,7 @@
 """The journal: the lines as they came, each on disk before the office sees it, and the replies kept beside them.
 
-A folder has a folder for each journal, `1`, `2` and so on, with `journal.jsonl` and `replies.jsonl` in it; the last one is
-written. All but the first have `checkpoint.jsonl`, from which their office begins. Lines are numbered from 1, as
+A folder has a folder for each journal, `1`, `2` and so on, with `journal.jsonl`, `replies.jsonl`, `checksums.jsonl` and
+`senders.jsonl` in it; the last one is written. All but the first have `checkpoint.jsonl`, from which their office begins. Lines are numbered from 1, as
 `wagons run` numbers them, so the journal is what the office read: `wagons run < journal.jsonl` gives the same replies.
 """
 
@@ -14,6 +14,10 @@ from array import array
 from collections.abc import Iterator, Sequence
 from itertools import accumulate
 from operator import add
+
+from .archive import NotReadable, opened, unpack_all
+from .checksums import Changed, Checksums
+from .sent import SentLines
 
 # What one input of `wagons run` may have; past it the program stops with 91 or 92.
 MOST_LINES = 1_000_000
@@ -44,7 +48,10 @@ class FileOfLines:
 
     def __init__(self, path: str) -> None:
         # The handle closes the file when nobody reads it any more, though a new journal has begun since.
-        self._handle = os.fdopen(os.open(path, os.O_RDWR | os.O_CREAT | os.O_CLOEXEC, 0o600), "rb+", buffering=0)
+        try:
+            self._handle = os.fdopen(opened(path), "rb+", buffering=0)
+        except NotReadable as fault:
+            raise Unreadable(str(fault)) from None
         self._file = self._handle.fileno()
         self._ends = array("Q", [0])
         size = 0
@@ -118,6 +125,12 @@ class FileOfLines:
                 raise Broken(f"the journal couldn't be synced to the disk: {fault}") from None
         # Where each ends: the lengths before it with its own, and a line feed for each.
         self._ends.extend(map(add, accumulate(map(len, lines)), range(before + 1, before + 1 + len(lines))))
+
+    def sync(self) -> None:
+        try:
+            os.fdatasync(self._file)
+        except OSError as fault:
+            raise Broken(f"the file couldn't be synced to the disk: {fault}") from None
 
     def _write(self, data: bytes, at: int) -> None:
         view = memoryview(data)
@@ -248,6 +261,7 @@ class Folder:
         self.last = max((int(name) for name in os.listdir(path) if name.isascii() and name.isdigit()), default=0)
         if not self.last:
             self._begin({})
+        unpack_all(f"{path}/{self.last}")
 
     def journal(self, number: int | None = None) -> "Journal":
         """The last journal, or the one of a number."""
@@ -309,11 +323,26 @@ class Journal:
         checkpoint = f"{folder}/checkpoint.jsonl"
         self.checkpoint = checkpoint if os.path.exists(checkpoint) else None
         self.lines = FileOfLines(f"{folder}/journal.jsonl")
+        # A service that was killed while it synced may have left lines that are only in memory.
+        self.lines.sync()
         self.replies = KeptReplies(f"{folder}/replies.jsonl")
         if self.replies.last > self.lines.count:
             raise Unreadable(f"{folder}: line {self.replies.last} has a reply, but the journal ends with line {self.lines.count}")
         sync_folder(folder)
+        self.checksums = self._compared(folder)
+        self.sent = SentLines(FileOfLines(f"{folder}/senders.jsonl"), self.lines.count)
         self.last_line = self._last_line()
+
+    def _compared(self, folder: str) -> Checksums:
+        """The checksums, where the lines are still those that were written."""
+        before = b""
+        if self.checkpoint:
+            with open(self.checkpoint, "rb") as file:
+                before = file.read()
+        try:
+            return Checksums(f"{folder}/checksums.jsonl", before, self.lines)
+        except Changed as fault:
+            raise Unreadable(f"{folder}/journal.jsonl isn't what was written: {fault}; put a copy of it in its place") from None
 
     def _last_line(self) -> int:
         """The number of the last line that isn't blank, or 0."""
@@ -325,10 +354,16 @@ class Journal:
     def line(self, number: int) -> bytes:
         return self.lines.read(number, number)[:-1]
 
-    def add(self, lines: Sequence[bytes]) -> None:
-        """Adds lines and syncs them to the disk: all of them, or none."""
+    def add(self, lines: Sequence[bytes], requests: Sequence[tuple[str, int]] = ()) -> None:
+        """Adds lines and syncs them to the disk: all of them, or none. Of each request stands there who sends how many."""
         first = self.lines.count + 1
-        self.lines.append(lines, is_synced=True)
+        self.sent.add(first, requests)
+        try:
+            self.lines.append(lines, is_synced=True)
+        except NotKept:
+            self.sent.forget(first)
+            raise
+        self.checksums.add(lines)
         for number in range(self.lines.count, first - 1, -1):
             if not is_blank(lines[number - first]):
                 self.last_line = number
@@ -342,6 +377,8 @@ class Journal:
     def close(self) -> None:
         self.lines.close()
         self.replies.close()
+        self.checksums.close()
+        self.sent.close()
 
 
 def is_blank(line: bytes) -> bool:

@@ -10,9 +10,12 @@ from collections.abc import Sequence
 from aiohttp import web
 from aiohttp.http_exceptions import BadHttpMessage
 
-from . import options
+from . import commands, options
+from .archive import NotReadable, keep_small
+from .ending import end_on_signals
 from .identifiers import Identifiers
 from .journal import Broken, FolderInUse, Unreadable
+from .notify import notify, stand_up
 from .options import Options
 from .page import Page
 from .senders import BadTokens
@@ -46,27 +49,33 @@ async def serve(given: Options) -> None:
     """Runs until SIGTERM or SIGINT."""
     stop = asyncio.Event()
     loop = asyncio.get_running_loop()
-    for number in signal.SIGTERM, signal.SIGINT:
-        loop.add_signal_handler(number, stop.set)
+    end_on_signals(stop, loop)
     service = of_stream(given) if given.address else Service(given)
     server = Server(service, given.tokens)
     loop.add_signal_handler(signal.SIGHUP, server.read_tokens_again)
     app = server.application()
     Page(server).add_to(app)
-    if given.map:
-        XmlRoute(server, Map.read(given.map), Identifiers(f"{given.journal}/identifiers.jsonl")).add_to(app)
+    xml = XmlRoute(server, Map.read(given.map), Identifiers(f"{given.journal}/identifiers.jsonl")) if given.map else None
+    if xml:
+        xml.add_to(app)
     runner = web.AppRunner(app, access_log=None, auto_decompress=False, lingering_time=SECONDS_OF_LINGERING)
     await runner.setup()
     site = web.TCPSite(runner, given.host, given.port, shutdown_timeout=5)
     await site.start()
     service.start()
+    keep_small(service.folder, given.keep_days)
     gc.freeze()
     gc.set_threshold(OBJECTS_BETWEEN_SEARCHES)
     for host, port, *_ in runner.addresses:
         log.info("listens on http://%s:%d", f"[{host}]" if ":" in host else host, port)
+    signs = stand_up()
     await stop.wait()
+    signs.cancel()
+    notify("STOPPING=1")
     log.info("ends")
     server.end_streams()
+    if xml:
+        xml.end()
     await site.stop()
     await service.close()
     await runner.cleanup()
@@ -77,8 +86,11 @@ def main(arguments: Sequence[str]) -> int:
     logging.basicConfig(format="wagons-service: %(levelname)s: %(message)s", level=logging.INFO, stream=sys.stderr)
     logging.getLogger("aiohttp.server").addFilter(is_ours)
     try:
-        asyncio.run(serve(given))
-    except (FolderInUse, Unreadable, BadTokens, BadMap, Broken, OSError) as fault:
+        if given.command:
+            print(asyncio.run(commands.run(given)))
+        else:
+            asyncio.run(serve(given))
+    except (FolderInUse, Unreadable, NotReadable, BadTokens, BadMap, Broken, commands.Failed, OSError) as fault:
         print(f"wagons-service: {fault}", file=sys.stderr)
         return 2
     return 0

@@ -1,10 +1,15 @@
 """What is counted, as Prometheus reads it."""
 
+import re
 from collections import Counter
 from collections.abc import Iterator
 
 from .program import Replies
 
+# As a line names its company; what is counted needn't be right where it names several.
+COMPANY = re.compile(rb'"company"\s*:\s*"([0-9A-Z]{4})"')
+# So many pairs are told apart, since lines may name any company.
+MOST_REFUSALS = 2000
 # Upper bounds in seconds.
 BOUNDS = (0.001, 0.002, 0.005, 0.01, 0.02, 0.05, 0.1, 0.2, 0.5, 1.0, 5.0)
 
@@ -12,7 +17,8 @@ BOUNDS = (0.001, 0.002, 0.005, 0.01, 0.02, 0.05, 0.1, 0.2, 0.5, 1.0, 5.0)
 class Metrics:
     def __init__(self) -> None:
         self.replies: Counter[str] = Counter()
-        self.refusals: Counter[str] = Counter()
+        # By the refusal's number and the company that the line names.
+        self.refusals: Counter[tuple[str, str]] = Counter()
         self.requests: Counter[int] = Counter()
         self.restarts = 0
         self.sending = 0
@@ -23,8 +29,11 @@ class Metrics:
     def count(self, replies: Replies) -> None:
         for kind, times in Counter(replies.kinds).items():
             self.replies[kind.decode()] += times
-        for _, text in replies.refused:
-            self.refusals[code_of(text)] += 1
+
+    def count_refusal(self, text: bytes, line: bytes) -> None:
+        found = COMPANY.search(line)
+        key = code_of(text), found[1].decode() if found else ""
+        self.refusals[key if key in self.refusals or len(self.refusals) < MOST_REFUSALS else (key[0], "other")] += 1
 
     def time(self, lines: int, seconds: float) -> None:
         """So many lines had their replies so long after their request was read."""
@@ -41,7 +50,9 @@ class Metrics:
         yield from one("wagons_lines_total", "counter", "lines in the journal", lines)
         yield from one("wagons_journal_bytes", "gauge", "size of the journal", size)
         yield from many("wagons_replies_total", "replies by kind", "kind", self.replies)
-        yield from many("wagons_refusals_total", "refused lines by the refusal's number", "code", self.refusals)
+        yield from head("wagons_refusals_total", "counter", "refused lines by the refusal's number and the company that they name")
+        for (code, company), times in sorted(self.refusals.items()):
+            yield f'wagons_refusals_total{{code="{code}",company="{company}"}} {times}'
         yield from many("wagons_requests_total", "requests by status", "status", self.requests)
         yield from one("wagons_program_restarts_total", "counter", "restarts of the program", self.restarts)
         yield from one("wagons_senders", "gauge", "requests with lines that are open now", self.sending)
@@ -68,7 +79,7 @@ def head(name: str, kind: str, what: str) -> Iterator[str]:
     yield f"# TYPE {name} {kind}"
 
 
-def one(name: str, kind: str, what: str, value: int) -> Iterator[str]:
+def one(name: str, kind: str, what: str, value: float) -> Iterator[str]:
     yield from head(name, kind, what)
     yield f"{name} {value}"
 

@@ -10,12 +10,15 @@ import time
 from bisect import bisect_right
 from collections import deque
 from collections.abc import Sequence
+from contextlib import suppress
 from dataclasses import dataclass
+from datetime import datetime
 from enum import Enum
 
 from .journal import CHUNK, MOST_LINES, Broken, Journal, KeptReplies, NotKept
 from .metrics import Metrics
 from .program import DONE, NOTHING, Ended, Program, Replies
+from .sent import OURS
 
 log = logging.getLogger("wagons-service")
 
@@ -26,7 +29,8 @@ SECONDS_BETWEEN_DEATHS = 0.1
 LAST_REFUSALS = 50
 # The last line of a journal is left for the one by which a sheet ends.
 MOST_TAKEN = MOST_LINES - 1
-SECONDS_TO_END = 10
+SECONDS_TO_END = 8
+SECONDS_TO_WRITE = 3
 TURNS = "a new journal begins"
 SECONDS_BETWEEN_TRIES = 0.5
 
@@ -51,6 +55,7 @@ class Stopped(Exception):
 class _Request:
     lines: Sequence[bytes]
     numbers: "asyncio.Future[range]"
+    name: str = OURS
     is_ours: bool = False
 
     def refuse(self, why: Exception) -> None:
@@ -75,6 +80,8 @@ class Office:
         self._told = 0
         self._counted = 0
         self._full: str | None = None
+        # How many entries the book has.
+        self.entries = 0
         self._queue: list[_Request] = []
         self._is_writing = False
         self._is_paused = False
@@ -117,7 +124,9 @@ class Office:
     async def close(self) -> None:
         """Ends the program after the lines that were taken."""
         self._set(State.CLOSING, TURNS if self._is_paused else "the service is being stopped")
-        await self._until_written()
+        with suppress(TimeoutError):
+            async with asyncio.timeout(SECONDS_TO_WRITE):
+                await self._until_written()
         program = self._program
         if program:
             program.close()
@@ -126,6 +135,8 @@ class Office:
         for task in self._tasks:
             task.cancel()
         await asyncio.gather(*self._tasks, return_exceptions=True)
+        with suppress(Broken):
+            self.journal.sent.sync()
         self._is_over = True
         self._end_waiting(has_ended=True)
 
@@ -139,6 +150,11 @@ class Office:
         """The number of the last line whose reply is whole."""
         return self.journal.replies.last
 
+    def taken_at(self, number: int) -> float | None:
+        """When a line was taken, in seconds since 1970, where that is known."""
+        sent = self.journal.sent.find(number)
+        return datetime.fromisoformat(sent.taken).timestamp() if sent else None
+
     def may_take(self) -> None:
         """Raises `NotTaken` where no lines are taken now."""
         if self.state is not State.RUNNING:
@@ -146,12 +162,12 @@ class Office:
         if self._is_paused:
             raise NotTaken(TURNS)
 
-    async def take(self, lines: Sequence[bytes]) -> range:
-        """Puts lines into the journal, on the disk, and gives their numbers: all of them or, with `NotTaken`, none."""
+    async def take(self, lines: Sequence[bytes], name: str = OURS) -> range:
+        """Puts the lines of a sender into the journal, on the disk, and gives their numbers: all of them or, with `NotTaken`, none."""
         self.may_take()
         if not lines:
             return range(self.journal.lines.count + 1, self.journal.lines.count + 1)
-        request = _Request(lines, asyncio.get_running_loop().create_future())
+        request = _Request(lines, asyncio.get_running_loop().create_future(), name)
         self._queue.append(request)
         self._wake.set()
         return await request.numbers
@@ -185,6 +201,7 @@ class Office:
         while True:
             await asyncio.sleep(SECONDS_BETWEEN_TRIES)
             self._try_again()
+            await asyncio.to_thread(self.journal.sent.sync)
             now = time.monotonic()
             for done, (_, deadline) in self._waiting.items():
                 if deadline < now and not done.done():
@@ -224,7 +241,7 @@ class Office:
             return
         first = self.journal.lines.count + 1
         try:
-            await asyncio.to_thread(self.journal.add, lines)
+            await asyncio.to_thread(self.journal.add, lines, [(request.name, len(request.lines)) for request in batch])
         except NotKept as fault:
             log.error("lines couldn't be added to the journal: %s", fault)
             for request in batch:
@@ -387,7 +404,13 @@ class Office:
             return
         self._counted = replies.numbers[-1]
         self.metrics.count(replies)
-        for number, text in replies.refused:
+        if b"accepted" in replies.kinds:
+            place = next(place for place in reversed(range(len(replies.kinds))) if replies.kinds[place] == b"accepted")
+            self.entries = int(replies.texts[place].rsplit(b" ", 1)[1])
+        refused = replies.refused
+        lines = self.journal.lines.read(refused[0][0], refused[-1][0]).split(b"\n") if refused else []
+        for number, text in refused:
+            self.metrics.count_refusal(text, lines[number - refused[0][0]])
             if not self._is_our_line(number, text):
                 self.refused.append(number)
             if text.endswith(b" refused 72") and not self._full:

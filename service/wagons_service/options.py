@@ -14,6 +14,12 @@ DEFAULT_ENTRIES = 100_000
 DEFAULT_LEASE = 3000
 LEAST_LEASE = 100
 MOST_JOURNAL_LINES = 1_000_000
+DEFAULT_KEEP_DAYS = 30
+# What stands before the options where the service isn't to run.
+COMMANDS = {
+    "backup": "Copies the journals while the service runs, verifies the copy, and reads its last journal once more. The options are the service's.",
+    "next": "Begins a new journal while no service runs, as before another build of the program. The options are the service's.",
+}
 PAGE = "docs/SERVICE.md, and `man wagons-service`"
 
 
@@ -35,6 +41,9 @@ class Options:
     copy: str | None = None
     lease: int = DEFAULT_LEASE
     journal_lines: int | None = None
+    keep_days: int = DEFAULT_KEEP_DAYS
+    command: str | None = None
+    target: str | None = None
 
     def words(self, word: str, checkpoint: str | None) -> list[str]:
         """The command `wagons WORD` with the options that say which office it is; a journal's own checkpoint comes first."""
@@ -50,9 +59,13 @@ class Options:
 
 def read(arguments: Sequence[str]) -> Options:
     """Reads the arguments; what is wrong with them is said on standard error, with status 2."""
+    command = arguments[0] if arguments and arguments[0] in COMMANDS else None
     parser = argparse.ArgumentParser(
-        prog="wagons-service", description="Takes lines for `wagons run` over a network, and answers its replies.",
-        epilog=f"See {PAGE}.")
+        prog=f"wagons-service {command}" if command else "wagons-service",
+        description=COMMANDS[command] if command else "Takes lines for `wagons run` over a network, and answers its replies.",
+        epilog=f"See {PAGE}." if command else f"`wagons-service backup` and `wagons-service next` have help of their own. See {PAGE}.")
+    if command == "backup":
+        parser.add_argument("target", metavar="FOLDER", help="where the backup is to be; it must not be there yet")
     parser.add_argument("--journal", metavar="FOLDER", required=True,
                         help="the folder of the journal; it is made where it isn't there. Or redis://HOST:PORT/STREAM (docs/STREAMS.md)")
     start = parser.add_mutually_exclusive_group(required=True)
@@ -64,12 +77,15 @@ def read(arguments: Sequence[str]) -> Options:
     parser.add_argument("--workers", metavar="N", type=int, help="as `wagons run` has it")
     parser.add_argument("--program", metavar="FILE", default="", help="the program `wagons`; without it the one of this repository, or on the path")
     parser.add_argument("--listen", metavar="HOST:PORT", default="127.0.0.1:8080", help="where requests come; 127.0.0.1:8080 where nothing is said")
-    parser.add_argument("--tokens", metavar="FILE", help="who may send what: a line TOKEN ROLE [COMPANY] for each sender")
+    parser.add_argument("--tokens", metavar="FILE", help="who may send what: a line TOKEN ROLE [COMPANY] [name=..] [until=..] for each sender")
     parser.add_argument("--map", metavar="FILE", help="how the XML of `POST /xml` becomes lines")
     parser.add_argument("--copy", metavar="FOLDER", help="of a stream: where its journals are kept as files too")
     parser.add_argument("--lease", metavar="MILLISECONDS", type=int, default=DEFAULT_LEASE, help="of a stream: after so long without a sign another service answers")
     parser.add_argument("--journal-lines", metavar="N", type=int, help="of a new stream: after each N lines a checkpoint is made and a new journal begins")
-    given = parser.parse_args(arguments)
+    parser.add_argument("--keep-days", metavar="N", type=int, default=DEFAULT_KEEP_DAYS, help="journals that are over for longer are compressed; 30 where nothing is said")
+    given = parser.parse_args(arguments[1:] if command else arguments)
+    if given.keep_days < 1:
+        parser.error("argument --keep-days: 1 is the least")
     address = None
     if "://" in given.journal:
         try:
@@ -91,4 +107,5 @@ def read(arguments: Sequence[str]) -> Options:
     return Options(
         journal=given.journal, program=found(given.program), roster=given.roster, start=given.start, networks=given.network,
         entries=given.entries, kept=given.kept, workers=given.workers, host=host, port=int(port), tokens=given.tokens, map=given.map,
-        address=address, copy=given.copy, lease=given.lease, journal_lines=given.journal_lines)
+        address=address, copy=given.copy, lease=given.lease, journal_lines=given.journal_lines,
+        keep_days=given.keep_days, command=command, target=getattr(given, "target", None))

@@ -20,6 +20,7 @@ from typing import Any
 from .address import Address
 from .lost_lines import TooMuchLost, are_there, lost_lines, records_back
 from .redis_link import Link, Lost, Refused, number, pack
+from .router_metrics import MOST_HEAD_BYTES, answer, text_of
 from .senders import MESSAGES, read
 from .streams import LIBRARY, MOST_ENTRIES, START, Keys, Trimmed, add_copies, are_added, field, is_whole, last_id, order, read_behind, wait
 
@@ -147,6 +148,9 @@ class Router:
         self._complete = frozenset(complete)
         self._recorded = 0
         self._forget(START)
+
+    def metrics(self) -> str:
+        return text_of({name: len(office.owed) for name, office in self._by_name.items()}, self._lines[0].id if self._lines else None)
 
     def _forget(self, last: bytes) -> None:
         # All lines that have no record yet, and the last line that has one.
@@ -347,6 +351,9 @@ async def together(*works: Coroutine[Any, Any, None]) -> None:
         await asyncio.gather(*tasks, return_exceptions=True)
 
 
-async def run(address: Address, offices: Offices, hours: int, complete: Sequence[str]) -> None:
+async def run(address: Address, offices: Offices, hours: int, complete: Sequence[str] = (), metrics: tuple[str, int] | None = None) -> None:
     with suppress(asyncio.CancelledError):
-        await Router(address, offices, hours, complete).run()
+        router = Router(address, offices, hours, complete)
+        if metrics:
+            await asyncio.start_server(lambda reader, writer: answer(reader, writer, router.metrics()), *metrics, limit=MOST_HEAD_BYTES)
+        await router.run()

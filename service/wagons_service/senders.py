@@ -10,8 +10,9 @@ import json
 import logging
 import os
 import re
-from collections.abc import Mapping, Sequence
-from dataclasses import dataclass
+from collections.abc import Iterable, Mapping, Sequence
+from dataclasses import dataclass, replace
+from datetime import UTC, datetime
 from enum import Enum
 from typing import Any
 
@@ -20,6 +21,7 @@ log = logging.getLogger("wagons-service")
 MESSAGES = frozenset(
     ["release", "departure", "yard_arrival", "yard_departure", "exception", "arrival", "delivery"])
 COMPANY = re.compile("[0-9A-Z]{4}")
+NAME = re.compile("[A-Za-z0-9._-]{1,64}")
 LEAST_TOKEN = 16
 
 
@@ -45,6 +47,13 @@ class BadTokens(Exception):
 class Sender:
     role: Role
     company: str | None = None
+    # Who it is, for those who look later; and until when the token is good.
+    name: str = ""
+    until: datetime | None = None
+
+    @property
+    def has_expired(self) -> bool:
+        return self.until is not None and datetime.now(UTC) >= self.until
 
     @property
     def may_look(self) -> bool:
@@ -86,7 +95,7 @@ class Sender:
 
 
 # Without tokens only this machine is listened to, and whoever is on it may do all.
-ANYONE = Sender(Role.DISPATCHER)
+ANYONE = Sender(Role.DISPATCHER, name="anyone")
 
 
 def no_constant(_text: str) -> None:
@@ -112,7 +121,7 @@ class Tokens:
 
     @classmethod
     def read(cls, path: str) -> "Tokens":
-        """Reads lines `TOKEN ROLE [COMPANY]`; blank lines and those that begin with # are skipped."""
+        """Reads lines `TOKEN ROLE [COMPANY] [name=..] [until=..]`; blank lines and those that begin with # are skipped."""
         try:
             with open(path, encoding="utf-8") as file:
                 lines = file.read().split("\n")
@@ -133,8 +142,21 @@ class Tokens:
     def __len__(self) -> int:
         return len(self._senders)
 
+    @property
+    def senders(self) -> Iterable[Sender]:
+        return self._senders.values()
+
     def find(self, token: str) -> Sender | None:
-        """Whose token it is. All are compared, each in constant time."""
+        """Whose token it is; nobody's where it has expired."""
+        found = self._find(token)
+        return None if found is None or found.has_expired else found
+
+    def has_expired(self, token: str) -> bool:
+        found = self._find(token)
+        return found is not None and found.has_expired
+
+    def _find(self, token: str) -> Sender | None:
+        """All are compared, each in constant time."""
         digest, found = digest_of(token), None
         for known, sender in self._senders.items():
             if hmac.compare_digest(known, digest):
@@ -150,14 +172,32 @@ def sender_of(words: Sequence[str], where: str) -> Sender:
     token, *rest = words
     if len(token) < LEAST_TOKEN:
         raise BadTokens(f"{where} has a token of under {LEAST_TOKEN} characters")
-    match rest:
+    more = [word for word in rest if "=" in word]
+    match [word for word in rest if "=" not in word]:
         case ["railway", company] if COMPANY.fullmatch(company):
-            return Sender(Role.RAILWAY, company)
+            return named(Sender(Role.RAILWAY, company, f"railway-{company}"), more, where)
         case ["railway", *_]:
             raise BadTokens(f"{where}: behind `railway` stands one company of four characters 0-9, A-Z")
         case ["dispatcher" | "reader" as role]:
-            return Sender(Role(role))
+            return named(Sender(Role(role), name=role), more, where)
     raise BadTokens(f"{where} must be TOKEN dispatcher, TOKEN reader or TOKEN railway COMPANY")
+
+
+def named(sender: Sender, words: Sequence[str], where: str) -> Sender:
+    """The sender with its name and its expiry, where they are given."""
+    given = dict(word.split("=", 1) for word in words)
+    if len(given) < len(words) or given.keys() - {"name", "until"}:
+        raise BadTokens(f"{where}: only `name=` and `until=` may stand at the end, each once")
+    name = given.get("name", sender.name)
+    if not NAME.fullmatch(name):
+        raise BadTokens(f"{where}: a name has 1 to 64 letters, digits, dots, hyphens and underlines")
+    try:
+        until = datetime.fromisoformat(given["until"]) if "until" in given else None
+        if until and until.tzinfo is None:
+            raise ValueError
+    except ValueError:
+        raise BadTokens(f"{where}: behind `until=` stands a moment with Z or an offset, as 2027-01-31T00:00:00Z") from None
+    return replace(sender, name=name, until=until)
 
 
 def is_loopback(host: str) -> bool:

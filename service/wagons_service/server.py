@@ -12,7 +12,9 @@ from aiohttp import web, web_urldispatcher
 from aiohttp.http_exceptions import BadHttpMessage
 
 from .answers import JSON_LINES, MOST_BYTES_A_REQUEST, Refusal, cut, number_in, page_end, sentence, with_lines
-from .journal import MOST_LINES, Journal, is_blank
+from .gauges import gauges
+from .identifiers import Identifiers
+from .journal import MOST_LINES, Journal, Unreadable, is_blank
 from .office import NotTaken, Office, State, Stopped
 from .senders import ANYONE, BadTokens, Forbidden, NoLine, Role, Sender, Tokens, is_loopback
 from .service import Service
@@ -42,6 +44,8 @@ class Server:
         self.metrics = service.metrics
         self._tokens_file = tokens_file
         self._tokens = Tokens.read(tokens_file) if tokens_file else None
+        # Those of XML, where it is taken.
+        self.identifiers: Identifiers | None = None
         self._held = 0
         self._closing = asyncio.Event()
 
@@ -116,6 +120,8 @@ class Server:
         if sender is None and request.method == "GET" and request.path == "/":
             raise web.HTTPSeeOther("/login")
         if sender is None and request.path not in OPEN_PATHS and not request.path.startswith(OPEN_PREFIX):
+            if self._tokens.has_expired(token):
+                raise Refusal(401, "The token has expired.")
             raise Refusal(401, "A token is needed that this service knows: send `Authorization: Bearer TOKEN`.")
         return sender
 
@@ -182,7 +188,7 @@ class Server:
 
     async def answer(self, request: web.Request, lines: Sequence[bytes], start: float) -> web.StreamResponse:
         """Takes lines, and answers with their replies as they were kept."""
-        parts = await self.service.take(lines)
+        parts = await self.service.take(lines, request["sender"].name)
         number = (parts[0].office if parts else self.office).journal.number
         headers = {"Content-Type": JSON_LINES, "Journal": str(number)}
         kept = []
@@ -241,7 +247,7 @@ class Server:
         await response.prepare(request)
         while first <= last:
             end = page_end(journal, first, last)
-            records = [record + b"\n" for _, record in with_lines(journal, first, end, request["sender"])]
+            records = [shown(journal, *told, request["sender"]) + b"\n" for told in with_lines(journal, first, end, request["sender"])]
             await response.write(b"".join(records))
             first = end + 1
         return response
@@ -271,7 +277,7 @@ class Server:
 
     async def _tell(self, response: web.StreamResponse, office: Office, first: int, sender: Sender) -> None:
         await self._write(response, b"retry: 1000\n\n")
-        while not self._closing.is_set():
+        while not self._closing.is_set() and not sender.has_expired:
             while first <= office.answered:
                 end = page_end(office.journal, first, office.answered)
                 told = with_lines(office.journal, first, end, sender)
@@ -323,6 +329,7 @@ class Server:
             raise Forbidden("A railway's token doesn't see the metrics.")
         lines = self.office.journal.lines
         text = self.metrics.text(lines.count, lines.size, self.office.state is State.RUNNING)
+        text += "".join(f"{line}\n" for line in gauges(self.service, self._tokens, self.identifiers))
         return web.Response(body=text.encode(), headers={"Content-Type": "text/plain; version=0.0.4; charset=utf-8"})
 
 
@@ -331,6 +338,12 @@ async def expect(request: web.Request) -> None:
     if request.headers.get("Expect", "").lower() != "100-continue":
         raise web.HTTPExpectationFailed(text="The service knows `Expect: 100-continue` alone.\n")
     await request.writer.write(b"HTTP/1.1 100 Continue\r\n\r\n")
+
+
+def shown(journal: Journal, number: int, record: bytes, sender: Sender) -> bytes:
+    """A reply's record; a dispatcher sees who sent its line."""
+    sent = journal.sent.find(number) if sender.role is Role.DISPATCHER else None
+    return sent.added_to(record) if sent else record
 
 
 def last_number(numbers: range, lines: Sequence[bytes]) -> int | None:
@@ -356,7 +369,7 @@ def refusal_of(fault: Exception) -> Refusal | None:
             return Refusal(400, str(fault))
         case NotTaken():
             return Refusal(503, f"{fault}; nothing of the request was taken")
-        case Stopped():
+        case Stopped() | Unreadable():
             return Refusal(503, str(fault))
     return None
 

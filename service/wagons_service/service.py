@@ -24,6 +24,10 @@ class Part(NamedTuple):
 
 
 class Service:
+    # Of a stream: until when this one holds the lease, by the monotonic clock, and how many replicas its server has.
+    lease_until: float | None = None
+    replicas: int | None = None
+
     def __init__(self, options: Options) -> None:
         self.options = options
         self.metrics = Metrics()
@@ -40,10 +44,10 @@ class Service:
         """Whether this one of several services answers."""
         return None
 
-    async def take(self, lines: Sequence[bytes]) -> list[Part]:
-        """Puts the lines of a request into the journal."""
+    async def take(self, lines: Sequence[bytes], name: str) -> list[Part]:
+        """Puts the lines of a sender's request into the journal."""
         office = self.office
-        return [Part(office, await office.take(lines), lines)]
+        return [Part(office, await office.take(lines, name), lines)]
 
     def _open(self) -> None:
         journal = self.folder.journal()

@@ -13,7 +13,7 @@ from .journal import Broken, Journal, KeptReplies
 from .metrics import Metrics
 from .office import TURNS, NotTaken, Office, State
 from .program import NOTHING, Program, Replies
-from .streams import MOST_ENTRIES, Entries
+from .streams import MOST_ENTRIES, Entries, order
 
 NOT_READ = "the stream isn't read to its end yet"
 
@@ -57,6 +57,10 @@ class StreamOffice(Office):
         """Whether the stream is read and written now; where it isn't, no lines are taken."""
         self._why_not = why_not
         self._judge()
+
+    def taken_at(self, number: int) -> float | None:
+        # An id begins with the server's milliseconds.
+        return order(self.ids[number - 1])[0] / 1000 if number <= len(self.ids) else None
 
     @property
     def is_ready(self) -> bool:

@@ -8,6 +8,7 @@ service that believes it holds it and doesn't writes the same replies under the 
 import asyncio
 import logging
 import os
+import re
 import secrets
 import shutil
 import socket
@@ -110,7 +111,7 @@ class StreamService(Service):
 
     # Lines are appended.
 
-    async def take(self, lines: Sequence[bytes]) -> list[Part]:
+    async def take(self, lines: Sequence[bytes], _name: str) -> list[Part]:
         self.office.may_take()
         if not lines:
             return []
@@ -342,10 +343,15 @@ class StreamService(Service):
     # The lease.
 
     async def _hold(self, link: Link) -> None:
+        may_count = True
         while not self._is_caught_up:
             await asyncio.sleep(0.01)
         while True:
             is_held = await self._ask_lease(link)
+            self.lease_until = time.monotonic() + self.options.lease / 1000 if is_held else None
+            if may_count:
+                self.replicas = await count_replicas(link)
+                may_count = self.replicas is not None
             if is_held and not self.is_first:
                 log.info("this service writes the replies now")
                 if self._checkpoint:
@@ -371,3 +377,13 @@ class StreamService(Service):
             with suppress(Lost, Refused):
                 if await link.one(pack(b"GET", self._keys.lease)) == self._token:
                     await link.one(pack(b"DEL", self._keys.lease))
+
+
+async def count_replicas(link: Link) -> int | None:
+    """How many replicas the server has; not known where its access list doesn't let us ask."""
+    try:
+        said: bytes = await link.one(pack(b"INFO", b"replication"))
+    except Refused:
+        return None
+    found = re.search(rb"connected_slaves:([0-9]+)", said)
+    return int(found[1]) if found else None

@@ -9,7 +9,7 @@ import re
 import tomllib
 from collections.abc import Callable, Mapping, Sequence
 from dataclasses import dataclass
-from typing import Any
+from typing import Any, NamedTuple
 
 from lxml import etree  # type: ignore[import]
 
@@ -34,6 +34,9 @@ NUMBER = re.compile("0|[1-9][0-9]{0,18}")
 FLAGS = {"true": True, "1": True, "false": False, "0": False}
 
 Find = Callable[[Any], Any]
+# Stands in a line where the number of a textual identifier comes; no map gives a negative number.
+NO_NUMBER_YET = -1
+NUMBER_PLACE = f'"number":{NO_NUMBER_YET}'
 
 
 class BadMap(Exception):
@@ -60,10 +63,27 @@ class Kind:
     fields: Sequence[Field]
 
 
+class Row(NamedTuple):
+    """A line, and the company and the text of the identifier whose number it wants, if it wants one."""
+
+    line: str
+    company: str
+    text: str | None
+
+    def numbered(self, identifiers: Identifiers | None) -> bytes:
+        if self.text is None:
+            return self.line.encode()
+        if identifiers is None:
+            raise BadXml("`number` is an identifier, and no file keeps their numbers.")
+        before, _, after = self.line.partition(NUMBER_PLACE)
+        return f'{before}"number":{identifiers.number(self.company, self.text)}{after}'.encode()
+
+
 class Map:
     """How XML becomes lines."""
 
     def __init__(self, text: str) -> None:
+        self.text = text
         try:
             given = tomllib.loads(text)
         except tomllib.TOMLDecodeError as fault:
@@ -125,28 +145,39 @@ class Map:
 
     def lines(self, document: bytes, identifiers: Identifiers | None) -> list[bytes]:
         """The lines of a document's messages, in their order. New identifiers have numbers then, and must be kept."""
+        return [row.numbered(identifiers) for row in self.rows(document)]
+
+    def rows(self, document: bytes, begin: Callable[[str], None] = lambda _: None) -> list[Row]:
+        """The lines before identifiers have numbers; `begin` is told of each message before it is done."""
         root = parsed(document)
         found = self._messages(root.getroottree())
         if not isinstance(found, list) or not found:
             raise BadXml("There is no message in it.")
         if len(found) > MOST_MESSAGES:
             raise BadXml(f"There are {len(found):,} messages in it; {MOST_MESSAGES:,} are the most.")
-        return [self._line(element, identifiers) for element in found]
+        rows = []
+        for element in found:
+            begin(f"line {element.sourceline}, {etree.QName(element).localname}")
+            rows.append(self._row(element))
+        return rows
 
-    def _line(self, element: Any, identifiers: Identifiers | None) -> bytes:
+    def _row(self, element: Any) -> Row:
         kind = next((kind for kind in self._kinds if kind.holds(element)), None)
         if kind is None:
             raise BadXml(f"Line {element.sourceline}: the map has no kind for this {etree.QName(element).localname}.")
         line: dict[str, Any] = {"type": kind.name}
+        identifier = None
         for field in kind.fields:
             texts = texts_of(field.find(element))
             if texts:
                 where = f"Line {element.sourceline}: {field.name}"
-                line[field.name] = self._value(field, texts, where, line, identifiers)
-        return json.dumps(line, separators=(",", ":"), ensure_ascii=False).encode()
+                line[field.name] = self._value(field, texts, where)
+                if field.is_identifier:
+                    identifier, line[field.name] = line[field.name], NO_NUMBER_YET
+        return Row(json.dumps(line, separators=(",", ":"), ensure_ascii=False), str(line.get("company", "")), identifier)
 
     @staticmethod
-    def _value(field: Field, texts: list[str], where: str, line: Mapping[str, Any], identifiers: Identifiers | None) -> Any:
+    def _value(field: Field, texts: list[str], where: str) -> Any:
         if field.values is not None:
             for text in texts:
                 if text not in field.values:
@@ -160,9 +191,7 @@ class Map:
         if field.is_identifier:
             if len(text) > MOST_LENGTH:
                 raise BadXml(f"{where} has over {MOST_LENGTH} characters.")
-            if identifiers is None:
-                raise BadXml(f"{where} is an identifier, and no file keeps their numbers.")
-            return identifiers.number(str(line.get("company", "")), text)
+            return text
         # What is no number or flag goes on as it came, and the office refuses it by its own words.
         if field.kind == "number" and NUMBER.fullmatch(text):
             return int(text)

@@ -2,6 +2,7 @@
 
 import asyncio
 import time
+from weakref import WeakValueDictionary
 
 from aiohttp import web
 
@@ -10,39 +11,59 @@ from .identifiers import Identifiers, NoNumberLeft
 from .journal import Broken, NotKept
 from .senders import Sender
 from .server import Server
-from .xml_lines import BadXml, Map
+from .xml_lines import BadXml, Map, Row
+from .xml_process import Ended, TooMuch, XmlProcesses
 
 
 class XmlRoute:
     def __init__(self, server: Server, rules: Map, identifiers: Identifiers) -> None:
         self._server = server
-        self._rules = rules
-        self._identifiers = identifiers
+        self._identifiers = server.identifiers = identifiers
+        self._processes = XmlProcesses(rules)
+        # One document of a sender at a time is turned into lines, so that none has all processes.
+        self._senders: WeakValueDictionary[Sender, asyncio.Lock] = WeakValueDictionary()
         # One document at a time has new identifiers that may be taken back.
         self._turn = asyncio.Lock()
 
     def add_to(self, app: web.Application) -> None:
         app.router.add_post("/xml", self.post_xml)
 
+    def end(self) -> None:
+        """Ends what is going on, since a document may take longer than the service has to end."""
+        self._processes.end()
+
     async def post_xml(self, request: web.Request) -> web.StreamResponse:
         async with self._server.body(request) as body:
             start = time.monotonic()
+            sender: Sender = request["sender"]
+            async with self._senders.setdefault(sender, asyncio.Lock()):
+                rows = await self._rows(body)
             async with self._turn:
-                lines = await self._lines(body, request["sender"])
+                lines = await self._lines(rows, sender)
             return await self._server.answer(request, lines, start)
 
-    async def _lines(self, body: bytes, sender: Sender) -> list[bytes]:
+    async def _rows(self, body: bytes) -> list[Row]:
+        try:
+            return await self._processes.rows(body)
+        except BadXml as fault:
+            raise Refusal(400, str(fault)) from None
+        except TooMuch as fault:
+            raise Refusal(413, str(fault)) from None
+        except Ended:
+            raise Refusal(503, "the service is being stopped; nothing of the request was taken") from None
+        except (OSError, TimeoutError, asyncio.IncompleteReadError) as fault:
+            raise Refusal(503, f"no process could be started that reads XML: {fault!r}; nothing of the request was taken") from None
+
+    async def _lines(self, rows: list[Row], sender: Sender) -> list[bytes]:
         """The lines of a document, which the sender may send. Where it may not, no identifier is kept."""
         is_kept = False
         try:
-            lines = await asyncio.to_thread(self._rules.lines, body, self._identifiers)
+            lines = await asyncio.to_thread(lambda: [row.numbered(self._identifiers) for row in rows])
             judge_size(lines)
             sender.judge(lines)
             await asyncio.to_thread(self._identifiers.keep)
             is_kept = True
             return lines
-        except BadXml as fault:
-            raise Refusal(400, str(fault)) from None
         except (NoNumberLeft, NotKept, Broken) as fault:
             raise Refusal(503, f"{fault}; nothing of the request was taken") from None
         finally:
