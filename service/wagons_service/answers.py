@@ -21,14 +21,15 @@ class Refusal(Exception):
     def __init__(self, status: int, sentence: str) -> None:
         super().__init__(sentence)
         self.status = status
+        self.retry_after = 1
 
 
-def sentence(status: int, text: str) -> web.Response:
+def sentence(status: int, text: str, retry_after: int = 1) -> web.Response:
     headers = {}
     if status == 401:
         headers["WWW-Authenticate"] = "Bearer"
-    if status == 503:
-        headers["Retry-After"] = "1"
+    if status in (429, 503):
+        headers["Retry-After"] = str(retry_after)
     return web.Response(status=status, text=text + "\n", headers=headers)
 
 

@@ -54,7 +54,7 @@ async def serve(given: Options) -> None:
     app = server.application()
     Page(server).add_to(app)
     if given.map:
-        XmlRoute(server, Map.read(given.map), Identifiers(f"{given.journal}/identifiers.jsonl")).add_to(app)
+        XmlRoute(server, Map.read(given.map), Identifiers(f"{given.journal}/identifiers.jsonl", given.limits.share.identifiers)).add_to(app)
     runner = web.AppRunner(app, access_log=None, auto_decompress=False, lingering_time=SECONDS_OF_LINGERING)
     await runner.setup()
     site = web.TCPSite(runner, given.host, given.port, shutdown_timeout=5)

@@ -4,12 +4,13 @@ import argparse
 from collections.abc import Sequence
 from dataclasses import dataclass
 
+from . import limits
 from .address import Address, BadAddress
+from .limits import DEFAULT_ENTRIES as DEFAULT_ENTRIES
+from .limits import Limits
 from .program import found
 from .senders import is_loopback
 
-# As `wagons run` has it.
-DEFAULT_ENTRIES = 100_000
 # In milliseconds.
 DEFAULT_LEASE = 3000
 LEAST_LEASE = 100
@@ -35,6 +36,7 @@ class Options:
     copy: str | None = None
     lease: int = DEFAULT_LEASE
     journal_lines: int | None = None
+    limits: Limits = Limits()
 
     def words(self, word: str, checkpoint: str | None) -> list[str]:
         """The command `wagons WORD` with the options that say which office it is; a journal's own checkpoint comes first."""
@@ -69,6 +71,7 @@ def read(arguments: Sequence[str]) -> Options:
     parser.add_argument("--copy", metavar="FOLDER", help="of a stream: where its journals are kept as files too")
     parser.add_argument("--lease", metavar="MILLISECONDS", type=int, default=DEFAULT_LEASE, help="of a stream: after so long without a sign another service answers")
     parser.add_argument("--journal-lines", metavar="N", type=int, help="of a new stream: after each N lines a checkpoint is made and a new journal begins")
+    limits.add_arguments(parser)
     given = parser.parse_args(arguments)
     address = None
     if "://" in given.journal:
@@ -91,4 +94,5 @@ def read(arguments: Sequence[str]) -> Options:
     return Options(
         journal=given.journal, program=found(given.program), roster=given.roster, start=given.start, networks=given.network,
         entries=given.entries, kept=given.kept, workers=given.workers, host=host, port=int(port), tokens=given.tokens, map=given.map,
-        address=address, copy=given.copy, lease=given.lease, journal_lines=given.journal_lines)
+        address=address, copy=given.copy, lease=given.lease, journal_lines=given.journal_lines,
+        limits=Limits.of(given))

@@ -8,12 +8,15 @@ import hmac
 import ipaddress
 import json
 import logging
+import math
 import os
 import re
 from collections.abc import Mapping, Sequence
-from dataclasses import dataclass
+from dataclasses import dataclass, replace
 from enum import Enum
 from typing import Any
+
+from .moments import seconds_of
 
 log = logging.getLogger("wagons-service")
 
@@ -21,6 +24,8 @@ MESSAGES = frozenset(
     ["release", "departure", "yard_arrival", "yard_departure", "exception", "arrival", "delivery"])
 COMPANY = re.compile("[0-9A-Z]{4}")
 LEAST_TOKEN = 16
+# So many bytes of a line stand in a sentence about it.
+MOST_SAID = 300
 
 
 class Role(Enum):
@@ -37,6 +42,10 @@ class NoLine(Exception):
     """A line can't be judged; the text says why."""
 
 
+class Ahead(Exception):
+    """A line names a moment that is too far past the service's clock; the text says which line."""
+
+
 class BadTokens(Exception):
     """A file of tokens that can't be used; the text says why, and has no token."""
 
@@ -45,6 +54,8 @@ class BadTokens(Exception):
 class Sender:
     role: Role
     company: str | None = None
+    # Which token it is: a part of the token's digest, from which nobody finds the token. Empty where none is needed.
+    key: str = ""
 
     @property
     def may_look(self) -> bool:
@@ -56,14 +67,21 @@ class Sender:
         if self.role is Role.READER:
             raise Forbidden("A reader's token sends no lines.")
 
-    def judge(self, lines: Sequence[bytes]) -> None:
-        """Raises `Forbidden` or `NoLine` for the first line that the sender may not send."""
+    def judge(self, lines: Sequence[bytes], before: int = 0, latest: float = math.inf) -> None:
+        """Raises `Forbidden`, `NoLine` or `Ahead` for the first line that the sender may not send; so many stand before these.
+
+        A wagon whose last message is of a moment far ahead refuses all true ones, so no railway names a later one than `latest`.
+        """
         self.judge_role()
         if self.role is Role.RAILWAY:
-            for number, line in enumerate(lines, 1):
-                self._judge_message(number, line)
+            for number, line in enumerate(lines, before + 1):
+                moment = seconds_of(self._judge_message(number, line).get("moment"))
+                if moment is not None and moment > latest:
+                    text = line[:MOST_SAID].decode("utf-8", "replace")
+                    raise Ahead(f"Line {number} of the request names a moment that is too far past this service's clock: {text}")
 
-    def _judge_message(self, number: int, line: bytes) -> None:
+    def _judge_message(self, number: int, line: bytes) -> Mapping[str, Any]:
+        """The members of a line that the sender may send."""
         try:
             fields = read(line)
         except ValueError:
@@ -73,6 +91,8 @@ class Sender:
             raise Forbidden(f"Line {number} of the request isn't a movement message; a railway's token sends no other line.")
         if fields.get("company") != self.company:
             raise Forbidden(f"Line {number} of the request isn't a message of company {self.company}, which the token is for.")
+        members: Mapping[str, Any] = fields
+        return members
 
     def may_see(self, line: bytes) -> bool:
         """Whether the sender may see a line of the journal and its reply."""
@@ -127,7 +147,7 @@ class Tokens:
                 digest = digest_of(words[0])
                 if digest in senders:
                     raise BadTokens(f"{path}: line {number} has a token that stands there already")
-                senders[digest] = sender_of(words, f"{path}: line {number}")
+                senders[digest] = replace(sender_of(words, f"{path}: line {number}"), key=digest.hex()[:16])
         return cls(senders)
 
     def __len__(self) -> int:

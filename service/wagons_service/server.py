@@ -12,10 +12,12 @@ from aiohttp import web, web_urldispatcher
 from aiohttp.http_exceptions import BadHttpMessage
 
 from .answers import JSON_LINES, MOST_BYTES_A_REQUEST, Refusal, cut, number_in, page_end, sentence, with_lines
+from .corrections import Corrections
 from .journal import MOST_LINES, Journal, is_blank
 from .office import NotTaken, Office, State, Stopped
-from .senders import ANYONE, BadTokens, Forbidden, NoLine, Role, Sender, Tokens, is_loopback
+from .senders import ANYONE, Ahead, BadTokens, Forbidden, NoLine, Role, Sender, Tokens, is_loopback
 from .service import Service
+from .shares import Shares
 
 log = logging.getLogger("wagons-service")
 
@@ -24,6 +26,8 @@ COOKIE = "wagons_token"
 # Paths that need no token.
 OPEN_PATHS = ("/health", "/login")
 OPEN_PREFIX = "/static/"
+# What counts by itself in a token's share.
+OPEN_AT_ONCE = {"/events": "listeners", "/replies": "replies"}
 # Counted for a sender whose connection ended before its answer.
 GONE = 499
 SECONDS_FOR_A_BODY = 30
@@ -32,6 +36,8 @@ SECONDS_FOR_A_LISTENER = 60
 SECONDS_OF_SILENCE = 15
 MOST_HELD_BYTES = 64_000_000
 MOST_LISTENERS = 200
+# So many lines are judged at once.
+LINES_AT_ONCE = 500
 # Lines are numbered from 1 again.
 NEXT = b"event: next\ndata: a new journal begins\n\n"
 
@@ -42,6 +48,7 @@ class Server:
         self.metrics = service.metrics
         self._tokens_file = tokens_file
         self._tokens = Tokens.read(tokens_file) if tokens_file else None
+        self.shares = Shares(service.options.limits.share)
         self._held = 0
         self._closing = asyncio.Event()
 
@@ -85,7 +92,11 @@ class Server:
             self._judge_origin(request)
             if sender := self._sender(request):
                 request["sender"] = sender
-            response = await handler(request)
+                request["used"] = self.shares.of(sender.key)
+                with request["used"].one(OPEN_AT_ONCE.get(request.path, "requests")):
+                    response = await handler(request)
+            else:
+                response = await handler(request)
             status = response.status
             return closing(request, response)
         except web.HTTPException as known:
@@ -100,7 +111,7 @@ class Server:
             if refusal is None:
                 raise
             status = refusal.status
-            return closing(request, sentence(status, str(refusal)))
+            return closing(request, sentence(status, str(refusal), refusal.retry_after))
         finally:
             self.metrics.requests[status] += 1
 
@@ -132,22 +143,30 @@ class Server:
         async with self.body(request) as body:
             start = time.monotonic()
             lines = cut(body)
-            request["sender"].judge(lines)
+            await self.judge(request["sender"], lines)
             return await self.answer(request, lines, start)
+
+    async def judge(self, sender: Sender, lines: Sequence[bytes]) -> None:
+        """Raises where the sender may not send one of the lines. Others are answered in between."""
+        latest = time.time() + 3600 * self.service.options.limits.ahead
+        for first in range(0, len(lines), LINES_AT_ONCE):
+            sender.judge(lines[first:first + LINES_AT_ONCE], first, latest)
+            await asyncio.sleep(0)
 
     @asynccontextmanager
     async def body(self, request: web.Request) -> AsyncIterator[bytes]:
         """The body of a request that may send, where lines are taken now."""
         sender: Sender = request["sender"]
         sender.judge_role()
-        self.office.may_take()
+        request["used"].judge()
+        await self.service.until_open()
         body = bytearray()
         self.metrics.sending += 1
         try:
             await self._read(request, body)
             yield bytes(body)
         finally:
-            self._held -= len(body)
+            self._release(request, len(body))
             self.metrics.sending -= 1
 
     async def _read(self, request: web.Request, body: bytearray) -> None:
@@ -161,12 +180,12 @@ class Server:
             if content.is_eof():
                 # Mostly the body came with its head.
                 chunk = content.read_nowait()
-                self._hold(len(chunk))
+                self._hold(request, len(chunk))
                 body += chunk
                 return
             async with asyncio.timeout(SECONDS_FOR_A_BODY):
                 async for chunk in content.iter_any():
-                    self._hold(len(chunk))
+                    self._hold(request, len(chunk))
                     body += chunk
                     if len(body) > MOST_BYTES_A_REQUEST:
                         raise too_large
@@ -175,14 +194,20 @@ class Server:
         except (BadHttpMessage, web.RequestPayloadError):
             raise Refusal(400, "The body isn't sent as HTTP asks, or ended too early.") from None
 
-    def _hold(self, more: int) -> None:
+    def _hold(self, request: web.Request, more: int) -> None:
         if self._held + more > MOST_HELD_BYTES:
             raise NotTaken("too many requests are sent at once")
+        request["used"].hold(more)
         self._held += more
+
+    def _release(self, request: web.Request, size: int) -> None:
+        request["used"].release(size)
+        self._held -= size
 
     async def answer(self, request: web.Request, lines: Sequence[bytes], start: float) -> web.StreamResponse:
         """Takes lines, and answers with their replies as they were kept."""
-        parts = await self.service.take(lines)
+        request["used"].send(len(lines))
+        parts = await self.service.take(lines, request["sender"].role is Role.DISPATCHER)
         number = (parts[0].office if parts else self.office).journal.number
         headers = {"Content-Type": JSON_LINES, "Journal": str(number)}
         kept = []
@@ -308,21 +333,33 @@ class Server:
     async def post_next(self, request: web.Request) -> web.StreamResponse:
         if request["sender"].role is not Role.DISPATCHER:
             raise Forbidden("A dispatcher's token begins a new journal, and no other.")
-        return web.json_response({"journal": await self.service.begin_next()})
+        body = bytearray()
+        try:
+            await self._read(request, body)
+            corrections = Corrections.read(bytes(body))
+        finally:
+            self._release(request, len(body))
+        return web.json_response({"journal": await self.service.begin_next(corrections)})
 
     async def get_health(self, _request: web.Request) -> web.StreamResponse:
         office = self.office
-        state = {"state": office.state.value, "words": office.words, "journal": office.journal.number,
+        state: dict[str, object] = {"state": office.state.value, "words": office.words, "journal": office.journal.number,
                  "lines": office.journal.lines.count, "answered": office.answered}
         if self.service.role:
             state["role"] = self.service.role
-        return web.json_response(state, status=200 if office.state is State.RUNNING else 503)
+        state["oldest_unanswered_seconds"] = round(office.silence.age(office.answered), 1)
+        if office.room.warning:
+            state["warning"] = office.room.warning
+        if office.silence.is_long:
+            state["words"] = office.silence.words
+        return web.json_response(state, status=200 if office.is_up else 503)
 
     async def get_metrics(self, request: web.Request) -> web.StreamResponse:
         if not request["sender"].may_look:
             raise Forbidden("A railway's token doesn't see the metrics.")
         lines = self.office.journal.lines
-        text = self.metrics.text(lines.count, lines.size, self.office.state is State.RUNNING)
+        text = self.metrics.text(lines.count, lines.size, self.office.is_up)
+        text += "".join(f"{line}\n" for line in (*self.office.room.gauges(), *self.office.silence.gauges(self.office.answered)))
         return web.Response(body=text.encode(), headers={"Content-Type": "text/plain; version=0.0.4; charset=utf-8"})
 
 
@@ -354,6 +391,8 @@ def refusal_of(fault: Exception) -> Refusal | None:
             return Refusal(403, str(fault))
         case NoLine():
             return Refusal(400, str(fault))
+        case Ahead():
+            return Refusal(422, str(fault))
         case NotTaken():
             return Refusal(503, f"{fault}; nothing of the request was taken")
         case Stopped():

@@ -28,6 +28,7 @@ class XmlRoute:
         async with self._server.body(request) as body:
             start = time.monotonic()
             async with self._turn:
+                self._identifiers.owner = request["sender"].key
                 lines = await self._lines(body, request["sender"])
             return await self._server.answer(request, lines, start)
 
@@ -37,13 +38,15 @@ class XmlRoute:
         try:
             lines = await asyncio.to_thread(self._rules.lines, body, self._identifiers)
             judge_size(lines)
-            sender.judge(lines)
+            await self._server.judge(sender, lines)
             await asyncio.to_thread(self._identifiers.keep)
             is_kept = True
             return lines
         except BadXml as fault:
             raise Refusal(400, str(fault)) from None
-        except (NoNumberLeft, NotKept, Broken) as fault:
+        except NoNumberLeft as fault:
+            raise Refusal(403, f"{fault}; nothing of the request was taken.") from None
+        except (NotKept, Broken) as fault:
             raise Refusal(503, f"{fault}; nothing of the request was taken") from None
         finally:
             if not is_kept:

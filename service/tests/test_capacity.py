@@ -1,0 +1,76 @@
+"""A journal and its book are never full: a new one begins by itself."""
+
+import json
+import subprocess
+import threading
+import time
+
+from conftest import Start
+from running import WAGONS, Answer, Service, message
+
+
+def messages(first: int, many: int, company: str = "1001") -> list[bytes]:
+    return [message(company, first + k, WAGONS[(first + k) % 40]) for k in range(many)]
+
+
+def gauge(service: Service, name: str) -> int:
+    return int(service.get("/metrics").text.partition(f"\n{name} ")[2].partition("\n")[0])
+
+
+def test_new_journals_begin_while_all_send(start: Start) -> None:
+    service = start(options=["--entries", "100"]).until_running()
+    listener = subprocess.Popen(["curl", "-sN", f"http://127.0.0.1:{service.port}/events"], stdout=subprocess.PIPE, text=True)
+    while not gauge(service, "wagons_listeners"):
+        time.sleep(0.01)
+    answers: list[Answer] = []
+
+    def send(company: str) -> None:
+        for first in range(0, 105, 7):
+            answers.append(service.post(messages(first, 7, company)))
+
+    senders = [threading.Thread(target=send, args=(company,)) for company in ("1001", "1002", "1003")]
+    for sender in senders:
+        sender.start()
+    for sender in senders:
+        sender.join()
+    # All lines were taken and accepted, those of a request in one journal, and each journal holds what it was told.
+    assert [answer.status for answer in answers] == [200] * 45
+    assert all(reply.split(" ")[1] == "accepted" for answer in answers for reply in answer.replies)
+    folders = sorted(it for it in service.folder.iterdir() if it.name.isdigit())
+    counts = [len((folder / "journal.jsonl").read_bytes().splitlines()) for folder in folders]
+    assert sum(counts) == 315 and all(70 <= count <= 100 for count in counts[:-1]), counts
+    assert "event: next\ndata: a new journal begins\n" in listener.communicate(timeout=30)[0]
+    assert "".join(reply + "\n" for reply in service.kept) == service.run_again(options=["--entries", "100"])
+
+
+def test_a_request_that_does_not_fit_begins_a_new_journal(start: Start) -> None:
+    service = start(options=["--entries", "100", "--next-at", "100"]).until_running()
+    for first, many, journal in (0, 60, "1"), (60, 41, "2"), (101, 59, "2"), (160, 1, "3"), (161, 120, "4"):
+        answer = service.post(messages(first, many))
+        assert (answer.status, answer.headers["Journal"], len(answer.records)) == (200, journal, many), first
+    # The last one has more lines than any book has entries, so it was taken, and the program refused what was too much.
+    assert [reply.split(" ", 1)[1] for reply in answer.replies[99:]] == ["accepted 100"] + ["refused 72"] * 20
+    assert service.post(messages(281, 1)).headers["Journal"] == "5"
+
+
+def test_a_journal_that_is_nearly_full_at_a_start(start: Start) -> None:
+    service = start(options=["--entries", "100", "--next-at", "0"]).until_running()
+    service.post(messages(0, 85))
+    service.stop()
+    service = start(options=["--entries", "100"])
+    while json.loads(service.get("/health").body)["journal"] != 2:
+        time.sleep(0.01)
+    assert service.until_running().post(messages(85, 1)).replies == ["1 accepted 1"]
+
+
+def test_what_is_left_is_told(start: Start) -> None:
+    service = start(options=["--entries", "100", "--next-at", "0"]).until_running()
+    service.post(messages(0, 89))
+    # What is repeated or refused is no entry.
+    service.post([*messages(0, 5), b"x"])
+    assert (gauge(service, "wagons_entries_left"), gauge(service, "wagons_lines_left")) == (11, 999_904)
+    assert "warning" not in json.loads(service.get("/health").body)
+    service.post(messages(89, 1))
+    health = service.get("/health")
+    assert health.status == 200
+    assert json.loads(health.body)["warning"] == "the journal has room for 999,903 lines more, and its book for 10 entries"
