@@ -11,10 +11,12 @@ from aiohttp import web
 from aiohttp.http_exceptions import BadHttpMessage
 
 from . import options
+from .connections import Connections, raise_limit
 from .identifiers import Identifiers
 from .journal import Broken, FolderInUse, Unreadable
 from .options import Options
 from .page import Page
+from .seldom import Seldom
 from .senders import BadTokens
 from .server import Server
 from .service import Service
@@ -42,7 +44,14 @@ def of_stream(given: Options) -> Service:
     return StreamService(given, given.address)
 
 
-async def serve(given: Options) -> None:
+async def watching(connections: Connections, seldom: Seldom) -> None:
+    while True:
+        await asyncio.sleep(connections.seconds_between_looks)
+        connections.look()
+        seldom.say_counts()
+
+
+async def serve(given: Options, seldom: Seldom) -> None:
     """Runs until SIGTERM or SIGINT."""
     stop = asyncio.Event()
     loop = asyncio.get_running_loop()
@@ -57,6 +66,8 @@ async def serve(given: Options) -> None:
         XmlRoute(server, Map.read(given.map), Identifiers(f"{given.journal}/identifiers.jsonl", given.limits.share.identifiers)).add_to(app)
     runner = web.AppRunner(app, access_log=None, auto_decompress=False, lingering_time=SECONDS_OF_LINGERING)
     await runner.setup()
+    assert runner.server
+    watch = asyncio.create_task(watching(Connections(runner.server, server.busy, given.limits.patience), seldom))
     site = web.TCPSite(runner, given.host, given.port, shutdown_timeout=5)
     await site.start()
     service.start()
@@ -69,6 +80,7 @@ async def serve(given: Options) -> None:
     server.end_streams()
     await site.stop()
     await service.close()
+    watch.cancel()
     await runner.cleanup()
 
 
@@ -76,8 +88,12 @@ def main(arguments: Sequence[str]) -> int:
     given = options.read(arguments)
     logging.basicConfig(format="wagons-service: %(levelname)s: %(message)s", level=logging.INFO, stream=sys.stderr)
     logging.getLogger("aiohttp.server").addFilter(is_ours)
+    seldom = Seldom()
+    for handler in logging.getLogger().handlers:
+        handler.addFilter(seldom)
+    raise_limit()
     try:
-        asyncio.run(serve(given))
+        asyncio.run(serve(given, seldom))
     except (FolderInUse, Unreadable, BadTokens, BadMap, Broken, OSError) as fault:
         print(f"wagons-service: {fault}", file=sys.stderr)
         return 2

@@ -96,13 +96,7 @@ class Sender:
 
     def may_see(self, line: bytes) -> bool:
         """Whether the sender may see a line of the journal and its reply."""
-        if self.may_look:
-            return True
-        try:
-            self._judge_message(0, line)
-        except (Forbidden, NoLine):
-            return False
-        return True
+        return self.may_look or company_of(line) == self.company
 
 
 # Without tokens only this machine is listened to, and whoever is on it may do all.
@@ -122,6 +116,17 @@ def read(line: bytes) -> Any:
         return DECODER.decode(line.decode("utf-8"))
     except RecursionError:
         raise ValueError("nested too deep") from None
+
+
+def company_of(line: bytes) -> str | None:
+    """Whose message a line is; of no company where it is none."""
+    try:
+        fields = read(line)
+    except ValueError:
+        return None
+    kind = fields.get("type") if isinstance(fields, dict) else None
+    company = fields.get("company") if isinstance(kind, str) and kind in MESSAGES else None
+    return company if isinstance(company, str) and COMPANY.fullmatch(company) else None
 
 
 class Tokens:
@@ -152,6 +157,10 @@ class Tokens:
 
     def __len__(self) -> int:
         return len(self._senders)
+
+    def has(self, sender: Sender) -> bool:
+        """Whether a token is still known, with the same role."""
+        return sender in self._senders.values()
 
     def find(self, token: str) -> Sender | None:
         """Whose token it is. All are compared, each in constant time."""

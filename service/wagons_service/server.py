@@ -3,18 +3,25 @@
 import asyncio
 import logging
 import time
+from collections import OrderedDict
 from collections.abc import AsyncIterator, Awaitable, Callable, Sequence
-from contextlib import asynccontextmanager
+from contextlib import asynccontextmanager, suppress
+from dataclasses import dataclass
 from functools import lru_cache
+from http.cookies import CookieError, SimpleCookie
 from urllib.parse import urlsplit
+from weakref import WeakKeyDictionary
 
 from aiohttp import web, web_urldispatcher
 from aiohttp.http_exceptions import BadHttpMessage
 
 from .answers import JSON_LINES, MOST_BYTES_A_REQUEST, Refusal, cut, number_in, page_end, sentence, with_lines
+from .company_index import CompanyIndex
 from .corrections import Corrections
 from .journal import MOST_LINES, Journal, is_blank
 from .office import NotTaken, Office, State, Stopped
+from .old_journals import OldJournals
+from .pace import Pace
 from .senders import ANYONE, Ahead, BadTokens, Forbidden, NoLine, Role, Sender, Tokens, is_loopback
 from .service import Service
 from .shares import Shares
@@ -32,14 +39,29 @@ OPEN_AT_ONCE = {"/events": "listeners", "/replies": "replies"}
 GONE = 499
 SECONDS_FOR_A_BODY = 30
 SECONDS_FOR_REPLIES = 60
-SECONDS_FOR_A_LISTENER = 60
 SECONDS_OF_SILENCE = 15
 MOST_HELD_BYTES = 64_000_000
 MOST_LISTENERS = 200
+# So many lines of a company are read at once, each by itself.
+NUMBERS_A_PAGE = 200
+MOST_TOLD = 16
 # So many lines are judged at once.
 LINES_AT_ONCE = 500
 # Lines are numbered from 1 again.
 NEXT = b"event: next\ndata: a new journal begins\n\n"
+
+
+@dataclass(eq=False, slots=True)
+class _Stream:
+    """Events that someone listens to."""
+
+    response: web.StreamResponse
+    sender: Sender
+    over: "asyncio.Future[None]"
+
+    def end(self) -> None:
+        if not self.over.done():
+            self.over.set_result(None)
 
 
 class Server:
@@ -50,7 +72,14 @@ class Server:
         self._tokens = Tokens.read(tokens_file) if tokens_file else None
         self.shares = Shares(service.options.limits.share)
         self._held = 0
-        self._closing = asyncio.Event()
+        # The connections of which a request is being done.
+        self.busy: set[asyncio.BaseProtocol] = set()
+        self._streams: set[_Stream] = set()
+        self._pace = Pace()
+        self._indexes: WeakKeyDictionary[Journal, CompanyIndex] = WeakKeyDictionary()
+        self._old_journals = OldJournals(service.folder)
+        # Pages of events that were told last.
+        self._told: OrderedDict[tuple[Journal, int, int, str | None], tuple[bytes, int]] = OrderedDict()
 
     @property
     def office(self) -> Office:
@@ -74,6 +103,7 @@ class Server:
             try:
                 self._tokens = Tokens.read(self._tokens_file)
                 log.info("%d tokens were read", len(self._tokens))
+                self._end_unknown()
             except BadTokens as fault:
                 log.error("the tokens stay as they were: %s", fault)
 
@@ -81,13 +111,21 @@ class Server:
         return self._tokens is None or self._tokens.find(token) is not None
 
     def end_streams(self) -> None:
-        self._closing.set()
+        for stream in self._streams:
+            stream.end()
+
+    def _end_unknown(self) -> None:
+        """Ends the streams of those whose token isn't known any more."""
+        for stream in self._streams:
+            if self._tokens and not self._tokens.has(stream.sender):
+                stream.end()
 
     # Who asks, and what is answered where something is wrong.
 
     @web.middleware
     async def _answer_errors(self, request: web.Request, handler: Handler) -> web.StreamResponse:
         status = 500
+        self.busy.add(request.protocol)
         try:
             self._judge_origin(request)
             if sender := self._sender(request):
@@ -113,6 +151,7 @@ class Server:
             status = refusal.status
             return closing(request, sentence(status, str(refusal), refusal.retry_after))
         finally:
+            self.busy.discard(request.protocol)
             self.metrics.requests[status] += 1
 
     def _sender(self, request: web.Request) -> Sender | None:
@@ -122,7 +161,7 @@ class Server:
                 raise Refusal(403, "Without tokens the service is asked by a loopback address alone, as 127.0.0.1 or localhost.")
             return ANYONE
         scheme, _, token = request.headers.get("Authorization", "").partition(" ")
-        token = token.strip() if scheme.lower() == "bearer" else request.cookies.get(COOKIE, "")
+        token = token.strip() if scheme.lower() == "bearer" else token_in(request.headers.getall("Cookie", ()))
         sender = self._tokens.find(token)
         if sender is None and request.method == "GET" and request.path == "/":
             raise web.HTTPSeeOther("/login")
@@ -207,6 +246,7 @@ class Server:
     async def answer(self, request: web.Request, lines: Sequence[bytes], start: float) -> web.StreamResponse:
         """Takes lines, and answers with their replies as they were kept."""
         request["used"].send(len(lines))
+        self._pace.note_lines()
         parts = await self.service.take(lines, request["sender"].role is Role.DISPATCHER)
         number = (parts[0].office if parts else self.office).journal.number
         headers = {"Content-Type": JSON_LINES, "Journal": str(number)}
@@ -252,24 +292,28 @@ class Server:
             return await self._replies(request, now)
         if not self.service.folder.has(number):
             raise Refusal(400, f"The journal {number} isn't kept here.")
-        before = await asyncio.to_thread(self.service.folder.journal, number)
-        try:
-            return await self._replies(request, before)
-        finally:
-            before.close()
+        return await self._replies(request, await self._old_journals.find(number))
 
-    @staticmethod
-    async def _replies(request: web.Request, journal: Journal) -> web.StreamResponse:
+    async def _replies(self, request: web.Request, journal: Journal) -> web.StreamResponse:
         first = number_in(request.query.get("from"), "from", 1)
         last = min(number_in(request.query.get("to"), "to", MOST_LINES), journal.replies.last)
         response = web.StreamResponse(headers={"Content-Type": JSON_LINES, "Cache-Control": "no-store", "Journal": str(journal.number)})
         await response.prepare(request)
         while first <= last:
-            end = page_end(journal, first, last)
-            records = [record + b"\n" for _, record in with_lines(journal, first, end, request["sender"])]
-            await response.write(b"".join(records))
-            first = end + 1
+            page, first = await self._page(journal, first, last, request["sender"])
+            await response.write(b"".join(record + b"\n" for _, record in page))
+            await asyncio.sleep(0)
         return response
+
+    async def _page(self, journal: Journal, first: int, last: int, sender: Sender) -> tuple[list[tuple[int, bytes]], int]:
+        """The first of what the sender may see of the lines of these numbers, with their replies; and the number behind it."""
+        if sender.company is None:
+            end = page_end(journal, first, last)
+            return list(with_lines(journal, first, end, sender)), end + 1
+        index = self._indexes.setdefault(journal, CompanyIndex(journal.lines))
+        numbers = await index.numbers(sender.company, first, last, NUMBERS_A_PAGE)
+        page = [told for number in numbers for told in with_lines(journal, number, number, sender)]
+        return page, numbers[-1] + 1 if len(numbers) == NUMBERS_A_PAGE else last + 1
 
     async def get_events(self, request: web.Request) -> web.StreamResponse:
         office = self.office
@@ -283,50 +327,52 @@ class Server:
             "Content-Type": "text/event-stream", "Cache-Control": "no-store", "X-Accel-Buffering": "no", "Journal": str(office.journal.number)})
         await response.prepare(request)
         self.metrics.listening += 1
+        stream = _Stream(response, request["sender"], asyncio.get_running_loop().create_future())
+        self._streams.add(stream)
         try:
             if journal == office.journal.number:
-                await self._tell(response, office, first, request["sender"])
+                await self._tell(stream, office, first)
             else:
-                await self._write(response, NEXT)
-        except (ConnectionError, TimeoutError):
+                await response.write(NEXT)
+        except ConnectionError:
             pass  # The listener went away, or didn't read.
         finally:
+            self._streams.discard(stream)
             self.metrics.listening -= 1
         return response
 
-    async def _tell(self, response: web.StreamResponse, office: Office, first: int, sender: Sender) -> None:
-        await self._write(response, b"retry: 1000\n\n")
-        while not self._closing.is_set():
-            while first <= office.answered:
-                end = page_end(office.journal, first, office.answered)
-                told = with_lines(office.journal, first, end, sender)
-                await self._write(response, b"".join(b"id: %d-%d\ndata: %s\n\n" % (office.journal.number, *event) for event in told))
-                first = end + 1
+    async def _tell(self, stream: _Stream, office: Office, first: int) -> None:
+        await stream.response.write(b"retry: 1000\n\n")
+        while not stream.over.done():
+            if first <= office.answered:
+                await self._pace.until_free()
+                start = time.monotonic()
+                data, first = await self._events(office.journal, first, office.answered, stream.sender)
+                await stream.response.write(data)
+                self._pace.spend(time.monotonic() - start)
+                continue
+            beat = self._pace.beat(office)
+            either: list[asyncio.Future[None]] = [beat, stream.over]
+            await asyncio.wait(either, timeout=SECONDS_OF_SILENCE, return_when=asyncio.FIRST_COMPLETED)
             try:
-                async with asyncio.timeout(SECONDS_OF_SILENCE):
-                    await self._until_next(office, first)
-            except TimeoutError:
-                await self._write(response, b": nothing new\n\n")
+                if beat.done():
+                    beat.result()
+                elif not stream.over.done():
+                    await stream.response.write(b": nothing new\n\n")
+                    self._end_unknown()
             except Stopped as stopped:
-                await self._write(response, NEXT if office.has_turned else f"event: stopped\ndata: {one_line(str(stopped))}\n\n".encode())
+                await stream.response.write(NEXT if office.has_turned else f"event: stopped\ndata: {one_line(str(stopped))}\n\n".encode())
                 return
 
-    async def _until_next(self, office: Office, number: int) -> None:
-        """Waits for a reply, or for the service's end."""
-        closing = asyncio.create_task(self._closing.wait())
-        answered = asyncio.create_task(office.until_answered(number))
-        try:
-            await asyncio.wait([closing, answered], return_when=asyncio.FIRST_COMPLETED)
-            if answered.done():
-                answered.result()
-        finally:
-            closing.cancel()
-            answered.cancel()
-
-    @staticmethod
-    async def _write(response: web.StreamResponse, data: bytes) -> None:
-        async with asyncio.timeout(SECONDS_FOR_A_LISTENER):
-            await response.write(data)
+    async def _events(self, journal: Journal, first: int, last: int, sender: Sender) -> tuple[bytes, int]:
+        """A page of events, and the number behind it. Listeners who see the same are told the same, which is put together once."""
+        key = journal, first, last, sender.company
+        if key not in self._told:
+            page, behind = await self._page(journal, first, last, sender)
+            self._told[key] = b"".join(b"id: %d-%d\ndata: %s\n\n" % (journal.number, *event) for event in page), behind
+            while len(self._told) > MOST_TOLD:
+                self._told.popitem(last=False)
+        return self._told[key]
 
     # A new journal, and how the service is.
 
@@ -398,6 +444,15 @@ def refusal_of(fault: Exception) -> Refusal | None:
         case Stopped():
             return Refusal(503, str(fault))
     return None
+
+
+def token_in(cookies: Sequence[str]) -> str:
+    """The token that the page's cookie has. Other programs on the host have cookies of their own, of whatever form."""
+    for part in (part.strip() for header in cookies for part in header.split(";")):
+        if part.startswith(f"{COOKIE}="):
+            with suppress(CookieError, KeyError):
+                return SimpleCookie(part)[COOKIE].value
+    return ""
 
 
 @lru_cache(maxsize=64)
