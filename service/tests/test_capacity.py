@@ -1,6 +1,8 @@
 """A journal and its book are never full: a new one begins by itself."""
 
 import json
+import os
+import signal
 import subprocess
 import threading
 import time
@@ -51,6 +53,22 @@ def test_a_request_that_does_not_fit_begins_a_new_journal(start: Start) -> None:
     # The last one has more lines than any book has entries, so it was taken, and the program refused what was too much.
     assert [reply.split(" ", 1)[1] for reply in answer.replies[99:]] == ["accepted 100"] + ["refused 72"] * 20
     assert service.post(messages(281, 1)).headers["Journal"] == "5"
+
+
+def test_requests_that_wait_do_not_fill_a_book_together(start: Start) -> None:
+    service = start(options=["--entries", "100"]).until_running()
+    program = service.children[0]
+    os.kill(program, signal.SIGSTOP)
+    answers: list[Answer] = []
+    senders = [threading.Thread(target=lambda k=k: answers.append(service.post(messages(60 * k, 60)))) for k in range(3)]
+    for sender in senders:
+        sender.start()
+    time.sleep(0.5)
+    os.kill(program, signal.SIGCONT)
+    for sender in senders:
+        sender.join()
+    assert [answer.status for answer in answers] == [200] * 3 and {answer.headers["Journal"] for answer in answers} == {"1", "2", "3"}
+    assert all(reply.split(" ")[1] == "accepted" for answer in answers for reply in answer.replies)
 
 
 def test_a_journal_that_is_nearly_full_at_a_start(start: Start) -> None:

@@ -22,7 +22,7 @@ from wagons_service.senders import Role, Sender
 
 TOKENS = "railway-1001-token railway 1001\nrailway-1002-token railway 1002\ndispatcher-s-token dispatcher\n"
 ONE, FIRST = "railway-1001-token", "dispatcher-s-token"
-OTHERS = 120_000
+OTHERS = 80_000
 
 
 @pytest.fixture
@@ -106,10 +106,9 @@ def open_slowly(service: Service, path: str) -> socket.socket:
 
 def test_readers_that_stop_reading_are_cut_off(start: Start) -> None:
     service = start(options=["--patience", "1"]).until_running()
-    for _ in range(3):
-        service.post([b"x" * 60_000] * 60)
-    stopped = [open_slowly(service, path) for path in ("/replies", "/events?from=1", "/replies?to=150")]
-    reading = open_slowly(service, "/events?from=170")
+    service.post([b"x" * 60_000] * 100)
+    stopped = [open_slowly(service, path) for path in ("/replies", "/events?from=1", "/replies?to=90")]
+    reading = open_slowly(service, "/events?from=95")
     reading.settimeout(10)
     assert reading.recv(100).startswith(b"HTTP/1.1 200")
     time.sleep(2.5)
@@ -122,7 +121,7 @@ def test_readers_that_stop_reading_are_cut_off(start: Start) -> None:
                 size += len(data)
         except ConnectionResetError:
             pass
-        assert 0 < size < 8_000_000, size
+        assert 0 < size < 5_000_000, size
         connection.close()
     reading.settimeout(0.2)
     try:

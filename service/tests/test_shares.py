@@ -5,6 +5,7 @@ import signal
 import socket
 import threading
 import time
+from argparse import ArgumentTypeError
 from pathlib import Path
 
 import pytest
@@ -13,6 +14,7 @@ from conftest import Start
 from running import WAGONS, Answer, Service, message, order
 from test_xml import MAP, movement
 from wagons_service.identifiers import Identifiers, NoNumberLeft
+from wagons_service.limits import Share
 
 TOKENS = "railway-1001-token railway 1001\nrailway-1002-token railway 1002\nrailway-1003-token railway 1003\ndispatcher-s-token dispatcher\n"
 ONE, TWO = "railway-1001-token", "railway-1002-token"
@@ -29,16 +31,16 @@ def messages(company: str, first: int, many: int) -> list[bytes]:
 
 
 def test_lines_and_bytes_a_second(start: Start, tokens: list[str]) -> None:
-    service = start(options=[*tokens, "--share", "lines=100,bytes=20000"]).until_running()
+    service = start(options=[*tokens, "--share", "lines=10,bytes=20000"]).until_running()
     # Ten seconds' worth at once, and what is one request more.
-    assert [service.post(messages("1001", 500 * k, 500), ONE).status for k in range(3)] == [200, 200, 200]
-    answer = service.post(messages("1001", 1500, 1), ONE)
-    assert (answer.status, answer.text) == (429, "This token has sent more than its share, 100 lines a second. Nothing of the request was taken.\n")
-    assert 1 <= int(answer.headers["Retry-After"]) <= 5 and service.journal.count(b"\n") == 1500
+    assert [service.post(messages("1001", 50 * k, 50), ONE).status for k in range(3)] == [200, 200, 200]
+    answer = service.post(messages("1001", 150, 1), ONE)
+    assert (answer.status, answer.text) == (429, "This token has sent more than its share, 10 lines a second. Nothing of the request was taken.\n")
+    assert 1 <= int(answer.headers["Retry-After"]) <= 5 and service.journal.count(b"\n") == 150
     # Others go on, and it does after so long.
     assert service.post(messages("1002", 1, 5), TWO).status == 200
     time.sleep(int(answer.headers["Retry-After"]))
-    assert service.post(messages("1001", 1500, 1), ONE).status == 200
+    assert service.post(messages("1001", 150, 1), ONE).status == 200
     assert service.post(b'{"x":"%s"}' % (b"x" * 60_000) + b"\n" + b" " * 60_000, TWO).status == 403
     assert service.post(b'{"x":"%s"}' % (b"x" * 60_000) + b"\n" + b" " * 60_000, TWO).status == 403
     answer = service.post(messages("1002", 6, 1), TWO)
@@ -110,9 +112,9 @@ def test_a_dispatcher_comes_first(start: Start, tokens: list[str]) -> None:
     os.kill(program, signal.SIGSTOP)
     answers: list[Answer] = []
     railways = [threading.Thread(target=lambda: answers.append(service.post(wide, ONE))) for _ in range(6)]
-    wide = (b'{"type":"release","company":"1001"}' + b" " * 1000 + b"\n") * 500
+    wide = (b'{"type":"release","company":"1001"}' + b" " * 6000 + b"\n") * 100
     railways[0].start()
-    while service.journal.count(b"\n") < 500:
+    while service.journal.count(b"\n") < 100:
         time.sleep(0.01)
     for railway in railways[1:]:
         railway.start()
@@ -127,7 +129,7 @@ def test_a_dispatcher_comes_first(start: Start, tokens: list[str]) -> None:
     for sender in [dispatcher, *railways]:
         sender.join()
     assert [answer.status for answer in answers] == [200] * 7
-    assert service.journal.splitlines().index(order("O1")) == 500
+    assert service.journal.splitlines().index(order("O1")) == 100
 
 
 def test_textual_identifiers_are_kept_by_token(start: Start, tokens: list[str], tmp_path: Path) -> None:
@@ -143,6 +145,7 @@ def test_textual_identifiers_are_kept_by_token(start: Start, tokens: list[str], 
     assert [service.post(movement(text, company="1002"), TWO, "/xml").status for text in "CDE"] == [200, 200, 403]
     # What is refused uses up nothing.
     file = Identifiers(str(tmp_path / "more"), 1)
+    file.owner = "0123"
     for _ in range(2):
         file.number("1001", "A")
         file.forget()
@@ -151,7 +154,11 @@ def test_textual_identifiers_are_kept_by_token(start: Start, tokens: list[str], 
         file.number("1001", "B")
 
 
-@pytest.mark.parametrize("share", ["lines", "lines=0", "kings=4", "lines=1,,", "lines=x"])
-def test_a_share_that_is_none(start: Start, share: str) -> None:
-    service = start(options=["--share", share])
-    assert service.until_ended() == 2 and "is no NAME=N, where NAME is one of lines, bytes, requests, listeners, replies, identifiers" in service.log[-1]
+def test_a_share_that_is_none(start: Start) -> None:
+    said = "is no NAME=N, where NAME is one of lines, bytes, requests, listeners, replies, identifiers and N from 1 on"
+    for share in "lines", "lines=0", "kings=4", "lines=1,,", "lines=x", "":
+        with pytest.raises(ArgumentTypeError, match=said):
+            Share.read(share)
+    assert Share.read("lines=7,replies=1") == Share(lines=7, replies=1)
+    service = start(options=["--share", "kings=4"])
+    assert service.until_ended() == 2 and service.log[-1] == f"wagons-service: error: argument --share: 'kings=4' {said}"

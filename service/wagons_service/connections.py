@@ -46,12 +46,12 @@ class Connections:
                     sign = _Sign(size, now)
                 signs[connection] = sign
         self._signs = signs
-        # The oldest ones go first where there are so many that nobody else could come.
-        idle = sorted((sign.at, place) for place, (connection, sign) in enumerate(signs.items()) if connection not in self._busy)
-        too_many = max(len(idle) - resource.getrlimit(resource.RLIMIT_NOFILE)[0] // 2, 0)
-        connections = list(signs)
-        gone = {connections[place] for _, place in idle[:too_many]}
-        gone |= {connection for connection, sign in signs.items() if now - sign.at > self._patience}
+        # Where there are so many that nobody else could come, the oldest ones go first.
+        idle = [connection for connection in signs if connection not in self._busy]
+        too_many = len(idle) - resource.getrlimit(resource.RLIMIT_NOFILE)[0] // 2
+        if too_many > 0:
+            idle.sort(key=lambda connection: signs[connection].at)
+        gone = {*idle[:max(too_many, 0)], *(connection for connection, sign in signs.items() if now - sign.at > self._patience)}
         for connection in gone:
             if connection.transport is not None:
                 connection.transport.abort()

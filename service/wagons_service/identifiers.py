@@ -20,12 +20,13 @@ class NoNumberLeft(Exception):
 
 
 class Identifiers:
-    def __init__(self, path: str, most: int = MOST_IDENTIFIERS) -> None:
-        self._most = most
+    def __init__(self, path: str, share: int = MOST_IDENTIFIERS) -> None:
+        self._share = share
         self._file = FileOfLines(path)
         self._numbers: dict[tuple[str, str], int] = {}
-        # How many each token has, of which each has its share; those without one are of a start without tokens, or older.
+        # How many each token has. Those of no token are older, or were made without tokens.
         self._many: Counter[str] = Counter()
+        # The token that sends now, as `Sender.key` has it.
         self.owner = ""
         self._last: dict[str, int] = {}
         self._new: list[tuple[str, str]] = []
@@ -41,8 +42,9 @@ class Identifiers:
         if known is not None:
             return known
         number = self._last.get(company, FIRST_NUMBER - 1) + 1
-        if self._many[self.owner] >= self._most or number > LAST_NUMBER:
-            raise NoNumberLeft(f"this token has {self._most:,} textual identifiers already, which is its share")
+        most = self._share if self.owner else MOST_IDENTIFIERS
+        if self._many[self.owner] >= most or number > LAST_NUMBER:
+            raise NoNumberLeft(f"this token has {most:,} textual identifiers already, which is its share")
         self._many[self.owner] += 1
         self._numbers[company, text] = self._last[company] = number
         self._new.append((company, text))

@@ -242,7 +242,7 @@ class Office:
         queue, self._queue = queue[:many], queue[many:]
         if self.journal.replies.are_behind:
             self._try_again()
-        batch, room = [], self.room.for_lines(max(self.journal.last_line - self._told, 0))
+        batch, taken, unanswered = [], 0, max(self.journal.last_line - self._told, 0)
         for request in queue:
             if request.is_ours and self.state is not State.STOPPED:
                 batch.append(request)
@@ -250,11 +250,11 @@ class Office:
                 request.refuse(NotTaken(self.words))
             elif self.journal.replies.are_behind:
                 request.refuse(NotTaken("the disk is full: replies couldn't be kept"))
-            elif len(request.lines) > room:
+            elif not self.room.fits(len(request.lines), taken, unanswered):
                 request.refuse(Full(self.room.words(len(request.lines))))
             else:
                 batch.append(request)
-                room -= len(request.lines)
+                taken += len(request.lines)
         return batch
 
     async def _write(self, batch: list[_Request]) -> None:

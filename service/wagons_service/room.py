@@ -49,14 +49,15 @@ class Room:
             return None
         return f"the journal has room for {self.lines_left:,} lines more, and its book for {self.entries_left:,} entries"
 
-    def for_lines(self, unanswered: int) -> int:
-        """How many lines more surely fit, where each that has no reply yet may become an entry.
+    def fits(self, lines: int, taken: int, unanswered: int) -> bool:
+        """Whether so many lines surely fit behind those just taken, where each that has no reply yet may become an entry.
 
-        An empty book takes any request, since what is too much for it never fits.
+        An empty book takes any request, since one that has more lines than a book has entries never fits.
         """
-        if not self._limits.next_at or not (self._used or unanswered):
-            return self.lines_left
-        return min(self.lines_left, self.entries_left - unanswered)
+        if taken + lines > self.lines_left:
+            return False
+        before = taken + unanswered
+        return not self._limits.next_at or before + lines <= self.entries_left or not (self._used or before)
 
     def words(self, lines: int) -> str:
         """Why so many lines don't fit."""
