@@ -74,7 +74,7 @@ def with_lines(journal: Journal, first: int, last: int, sender: Sender) -> Itera
             yield number, b'%s,"line":%s}' % (record[:-1], json.dumps(line.decode("utf-8", "replace")).encode())
 
 
-def page_end(journal: Journal, first: int, last: int) -> int:
+def page_end(journal: Journal, first: int, last: int, page: int = PAGE) -> int:
     """The last line so that those from `first` on, with their replies, have about a page of bytes."""
-    end = min(journal.replies.until(first, last, PAGE), journal.lines.first_bytes(first, PAGE))
+    end = min(journal.replies.until(first, last, page), journal.lines.first_bytes(first, page))
     return max(first, min(end, last))

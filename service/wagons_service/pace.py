@@ -7,6 +7,8 @@ from .office import Office
 
 # A part of the time that is told of one listener's turn. More of it was spent by others while that one didn't read.
 MOST_SECONDS_A_TURN = 0.005
+# What a turn takes beside, to be woken and to wait again.
+SECONDS_BESIDE = 0.0004
 TIMES_FOR_OTHERS = 9
 # So long after a line others may want the time.
 SECONDS_BUSY = 1.0
@@ -23,7 +25,7 @@ class Pace:
 
     def spend(self, seconds: float) -> None:
         """A listener had its turn for so long."""
-        self._free_at = max(self._free_at, time.monotonic()) + TIMES_FOR_OTHERS * min(seconds, MOST_SECONDS_A_TURN)
+        self._free_at = max(self._free_at, time.monotonic()) + TIMES_FOR_OTHERS * (min(seconds, MOST_SECONDS_A_TURN) + SECONDS_BESIDE)
 
     async def until_free(self) -> None:
         now = time.monotonic()

@@ -15,7 +15,7 @@ from weakref import WeakKeyDictionary
 from aiohttp import web, web_urldispatcher
 from aiohttp.http_exceptions import BadHttpMessage
 
-from .answers import JSON_LINES, MOST_BYTES_A_REQUEST, Refusal, cut, number_in, page_end, sentence, with_lines
+from .answers import JSON_LINES, MOST_BYTES_A_REQUEST, PAGE, Refusal, cut, number_in, page_end, sentence, with_lines
 from .company_index import CompanyIndex
 from .corrections import Corrections
 from .journal import MOST_LINES, Journal, is_blank
@@ -45,6 +45,8 @@ MOST_LISTENERS = 200
 # So many lines of a company are read at once, each by itself.
 NUMBERS_A_PAGE = 200
 MOST_TOLD = 16
+# So much of it is sent at once as a connection mostly takes at once, so that its time is known.
+PAGE_OF_EVENTS = 1 << 15
 # So many lines are judged at once.
 LINES_AT_ONCE = 500
 # Lines are numbered from 1 again.
@@ -188,9 +190,10 @@ class Server:
     async def judge(self, sender: Sender, lines: Sequence[bytes]) -> None:
         """Raises where the sender may not send one of the lines. Others are answered in between."""
         latest = time.time() + 3600 * self.service.options.limits.ahead
-        for first in range(0, len(lines), LINES_AT_ONCE):
-            sender.judge(lines[first:first + LINES_AT_ONCE], first, latest)
+        sender.judge(lines[:LINES_AT_ONCE], 0, latest)
+        for first in range(LINES_AT_ONCE, len(lines), LINES_AT_ONCE):
             await asyncio.sleep(0)
+            sender.judge(lines[first:first + LINES_AT_ONCE], first, latest)
 
     @asynccontextmanager
     async def body(self, request: web.Request) -> AsyncIterator[bytes]:
@@ -305,15 +308,15 @@ class Server:
             await asyncio.sleep(0)
         return response
 
-    async def _page(self, journal: Journal, first: int, last: int, sender: Sender) -> tuple[list[tuple[int, bytes]], int]:
+    async def _page(self, journal: Journal, first: int, last: int, sender: Sender, page: int = PAGE) -> tuple[list[tuple[int, bytes]], int]:
         """The first of what the sender may see of the lines of these numbers, with their replies; and the number behind it."""
         if sender.company is None:
-            end = page_end(journal, first, last)
+            end = page_end(journal, first, last, page)
             return list(with_lines(journal, first, end, sender)), end + 1
         index = self._indexes.setdefault(journal, CompanyIndex(journal.lines))
         numbers = await index.numbers(sender.company, first, last, NUMBERS_A_PAGE)
-        page = [told for number in numbers for told in with_lines(journal, number, number, sender)]
-        return page, numbers[-1] + 1 if len(numbers) == NUMBERS_A_PAGE else last + 1
+        found = [told for number in numbers for told in with_lines(journal, number, number, sender)]
+        return found, numbers[-1] + 1 if len(numbers) == NUMBERS_A_PAGE else last + 1
 
     async def get_events(self, request: web.Request) -> web.StreamResponse:
         office = self.office
@@ -368,7 +371,7 @@ class Server:
         """A page of events, and the number behind it. Listeners who see the same are told the same, which is put together once."""
         key = journal, first, last, sender.company
         if key not in self._told:
-            page, behind = await self._page(journal, first, last, sender)
+            page, behind = await self._page(journal, first, last, sender, PAGE_OF_EVENTS)
             self._told[key] = b"".join(b"id: %d-%d\ndata: %s\n\n" % (journal.number, *event) for event in page), behind
             while len(self._told) > MOST_TOLD:
                 self._told.popitem(last=False)
