@@ -106,9 +106,10 @@ def open_slowly(service: Service, path: str) -> socket.socket:
 
 def test_readers_that_stop_reading_are_cut_off(start: Start) -> None:
     service = start(options=["--patience", "1"]).until_running()
-    service.post([b"x" * 60_000] * 100)
-    stopped = [open_slowly(service, path) for path in ("/replies", "/events?from=1", "/replies?to=90")]
-    reading = open_slowly(service, "/events?from=95")
+    # More than the system takes for a connection that nobody reads.
+    service.post([b"x" * 60_000] * 60)
+    stopped = [open_slowly(service, path) for path in ("/replies", "/events?from=1")]
+    reading = open_slowly(service, "/events?from=58")
     reading.settimeout(10)
     assert reading.recv(100).startswith(b"HTTP/1.1 200")
     time.sleep(2.5)
@@ -121,7 +122,7 @@ def test_readers_that_stop_reading_are_cut_off(start: Start) -> None:
                 size += len(data)
         except ConnectionResetError:
             pass
-        assert 0 < size < 5_000_000, size
+        assert 0 < size < 3_200_000, size
         connection.close()
     reading.settimeout(0.2)
     try:
@@ -208,7 +209,8 @@ def test_two_hundred_listeners_cost_little(start: Start) -> None:
 
 
 def test_a_repeated_fault_is_said_once_a_minute(caplog: pytest.LogCaptureFixture) -> None:
-    log, seldom = logging.getLogger("tried"), Seldom(seconds=0.2)
+    now = 0.0
+    log, seldom = logging.getLogger("tried"), Seldom(lambda: now)
     log.setLevel(logging.INFO)
     caplog.handler.addFilter(seldom)
     try:
@@ -219,7 +221,7 @@ def test_a_repeated_fault_is_said_once_a_minute(caplog: pytest.LogCaptureFixture
             log.info("as ever")
         seldom.say_counts()
         assert caplog.messages == ["nothing works: disk"] * 3 + ["another fault"] + ["as ever"] * 10
-        time.sleep(0.25)
+        now = 60.0
         for _ in range(3):
             seldom.say_counts()
         assert caplog.messages[14:] == ["nothing works: disk (997 times more within a minute)"]

@@ -2,6 +2,7 @@
 
 import logging
 import time
+from collections.abc import Callable
 from dataclasses import dataclass
 
 SECONDS = 60.0
@@ -21,9 +22,9 @@ class _Fault:
 
 
 class Seldom(logging.Filter):
-    def __init__(self, seconds: float = SECONDS) -> None:
+    def __init__(self, clock: Callable[[], float] = time.monotonic) -> None:
         super().__init__()
-        self._seconds = seconds
+        self._clock = clock
         self._faults: dict[tuple[str, str], _Fault] = {}
 
     def filter(self, record: logging.LogRecord) -> bool:
@@ -33,7 +34,7 @@ class Seldom(logging.Filter):
         fault = self._faults.get((record.name, text))
         if fault is None:
             if len(self._faults) < MOST_KEPT:
-                self._faults[record.name, text] = _Fault(record.name, record.levelno, text, time.monotonic())
+                self._faults[record.name, text] = _Fault(record.name, record.levelno, text, self._clock())
             return True
         is_said = fault.said < MOST_AT_ONCE
         fault.said += is_said
@@ -42,9 +43,9 @@ class Seldom(logging.Filter):
 
     def say_counts(self) -> None:
         """To be called now and then: says how often a fault came that wasn't said."""
-        now = time.monotonic()
+        now = self._clock()
         for key, fault in list(self._faults.items()):
-            if now - fault.since >= self._seconds:
+            if now - fault.since >= SECONDS:
                 if fault.kept_back:
                     logging.getLogger(fault.name).log(fault.level, "%s (%d times more within a minute)", fault.text, fault.kept_back, extra={"is_count": True})
                     # It goes on, so it isn't said at once again.
