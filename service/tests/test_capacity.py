@@ -6,9 +6,14 @@ import signal
 import subprocess
 import threading
 import time
+from pathlib import Path
 
 from conftest import Start
 from running import WAGONS, Answer, Service, message
+from wagons_service.journal import FileOfLines
+from wagons_service.limits import Limits
+from wagons_service.program import Replies
+from wagons_service.room import Room
 
 
 def messages(first: int, many: int, company: str = "1001") -> list[bytes]:
@@ -27,7 +32,7 @@ def test_new_journals_begin_while_all_send(start: Start) -> None:
     answers: list[Answer] = []
 
     def send(company: str) -> None:
-        for first in range(0, 105, 7):
+        for first in range(0, 84, 7):
             answers.append(service.post(messages(first, 7, company)))
 
     senders = [threading.Thread(target=send, args=(company,)) for company in ("1001", "1002", "1003")]
@@ -36,11 +41,11 @@ def test_new_journals_begin_while_all_send(start: Start) -> None:
     for sender in senders:
         sender.join()
     # All lines were taken and accepted, those of a request in one journal, and each journal holds what it was told.
-    assert [answer.status for answer in answers] == [200] * 45
+    assert [answer.status for answer in answers] == [200] * 36
     assert all(reply.split(" ")[1] == "accepted" for answer in answers for reply in answer.replies)
     folders = sorted(it for it in service.folder.iterdir() if it.name.isdigit())
     counts = [len((folder / "journal.jsonl").read_bytes().splitlines()) for folder in folders]
-    assert sum(counts) == 315 and all(70 <= count <= 100 for count in counts[:-1]), counts
+    assert sum(counts) == 252 and all(70 <= count <= 100 for count in counts[:-1]), counts
     assert "event: next\ndata: a new journal begins\n" in listener.communicate(timeout=30)[0]
     assert "".join(reply + "\n" for reply in service.kept) == service.run_again(options=["--entries", "100"])
 
@@ -79,6 +84,23 @@ def test_a_journal_that_is_nearly_full_at_a_start(start: Start) -> None:
     while json.loads(service.get("/health").body)["journal"] != 2:
         time.sleep(0.01)
     assert service.until_running().post(messages(85, 1)).replies == ["1 accepted 1"]
+
+
+def test_lines_count_as_entries_do(tmp_path: Path) -> None:
+    (tmp_path / "lines").write_bytes(b"\n" * 799_999)
+    lines = FileOfLines(str(tmp_path / "lines"))
+    room = Room(lines, Limits())
+    refused = Replies([1], [b"refused"], [b"1 refused 21"])
+    room.count(refused)
+    assert not room.is_scarce.is_set() and room.percent == 79
+    lines.append([b""], is_synced=False)
+    room.count(refused)
+    assert room.is_scarce.is_set() and room.lines_left == 199_999
+    assert [room.fits(many, 0, 0) for many in (199_999, 200_000)] == [True, False] and not room.fits(100_000, 100_000, 0)
+    # Never where that was said.
+    never = Room(lines, Limits(next_at=0))
+    never.count(refused)
+    assert not never.is_scarce.is_set()
 
 
 def test_what_is_left_is_told(start: Start) -> None:

@@ -40,7 +40,7 @@ def test_a_program_that_is_only_idle_is_left_alone(start: Start) -> None:
     service.post(order("O1"))
     service.post(b"\n \n")
     program = service.children[0]
-    time.sleep(2)
+    time.sleep(1.5)
     assert service.children == [program]
     health = json.loads(service.get("/health").body)
     assert (health["state"], health["oldest_unanswered_seconds"]) == ("running", 0)

@@ -47,8 +47,8 @@ NUMBERS_A_PAGE = 200
 MOST_TOLD = 16
 # So much of it is sent at once as a connection mostly takes at once, so that its time is known.
 PAGE_OF_EVENTS = 1 << 15
-# So many lines are judged at once.
-LINES_AT_ONCE = 500
+# So many lines are judged at once; each may have 64 kB.
+LINES_AT_ONCE = 50
 # Lines are numbered from 1 again.
 NEXT = b"event: next\ndata: a new journal begins\n\n"
 
@@ -190,10 +190,12 @@ class Server:
     async def judge(self, sender: Sender, lines: Sequence[bytes]) -> None:
         """Raises where the sender may not send one of the lines. Others are answered in between."""
         latest = time.time() + 3600 * self.service.options.limits.ahead
-        sender.judge(lines[:LINES_AT_ONCE], 0, latest)
-        for first in range(LINES_AT_ONCE, len(lines), LINES_AT_ONCE):
+        # Only a railway's lines are looked at one by one.
+        step = LINES_AT_ONCE if sender.role is Role.RAILWAY else len(lines) + 1
+        sender.judge(lines[:step], 0, latest)
+        for first in range(step, len(lines), step):
             await asyncio.sleep(0)
-            sender.judge(lines[first:first + LINES_AT_ONCE], first, latest)
+            sender.judge(lines[first:first + step], first, latest)
 
     @asynccontextmanager
     async def body(self, request: web.Request) -> AsyncIterator[bytes]:
