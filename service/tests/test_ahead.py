@@ -8,6 +8,7 @@ import pytest
 
 from conftest import Start
 from running import DAY, WAGONS, line, message, order
+from test_xml import MAP, movement
 from wagons_service.moments import seconds_of
 
 TOKENS = "railway-1001-token railway 1001\ndispatcher-s-token dispatcher\nreader-s-long-token reader\n"
@@ -25,7 +26,7 @@ def hours_ahead(hours: float) -> str:
 
 
 def test_a_railway_sends_no_moment_far_ahead(start: Start, tokens: Path) -> None:
-    service = start(options=["--tokens", str(tokens), "--ahead", "2"]).until_running()
+    service = start(options=["--tokens", str(tokens), "--ahead", "2", "--map", str(MAP)]).until_running()
     mine = "railway-1001-token"
     near, far = message("1001", 1, WAGONS[0], moment=hours_ahead(1.9)), message("1001", 2, WAGONS[0], moment=hours_ahead(2.1))
     answer = service.post([near, far], mine)
@@ -34,8 +35,10 @@ def test_a_railway_sends_no_moment_far_ahead(start: Start, tokens: Path) -> None
     for moment in ("2099-01-01T00:00:00Z", "20990101t00z", "2099-01-01 00:00+25:59:59[Europe/Berlin]", "+002099-01-01T00:00:00,5Z", r"209\u0039-01-01T00:00Z"):
         odd = message("1001", 3, WAGONS[0]).replace(b"2026-03-02T06:00:00Z", moment.encode())
         assert service.post(odd, mine).status == 422, moment
-        # The program would have taken it, from one who may send it.
-    assert service.journal == b""
+    xml = movement("A").replace(b"2026-03-02T06:00:00Z", b"2099-01-01T00:00:00Z")
+    answer = service.post(xml, mine, "/xml")
+    assert answer.status == 422 and answer.text.startswith("Line 1 of the request names a moment that is too far past this service's clock: {")
+    assert service.journal == b"" and not (service.folder / "identifiers.jsonl").read_bytes()
     assert service.post(near, mine).replies == ["1 accepted 1"]
     # What is no moment is the program's to refuse.
     none = [near.replace(hours_ahead(1.9)[:4].encode(), b"2099x"), line(kind="release", company="1001"), line(kind="release", company="1001", moment=4)]

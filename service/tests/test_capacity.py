@@ -25,15 +25,15 @@ def gauge(service: Service, name: str) -> int:
 
 
 def test_new_journals_begin_while_all_send(start: Start) -> None:
-    service = start(options=["--entries", "100"]).until_running()
+    service = start(options=["--entries", "40"]).until_running()
     listener = subprocess.Popen(["curl", "-sN", f"http://127.0.0.1:{service.port}/events"], stdout=subprocess.PIPE, text=True)
     while not gauge(service, "wagons_listeners"):
         time.sleep(0.01)
     answers: list[Answer] = []
 
     def send(company: str) -> None:
-        for first in range(0, 84, 7):
-            answers.append(service.post(messages(first, 7, company)))
+        for first in range(0, 36, 3):
+            answers.append(service.post(messages(first, 3, company)))
 
     senders = [threading.Thread(target=send, args=(company,)) for company in ("1001", "1002", "1003")]
     for sender in senders:
@@ -45,27 +45,27 @@ def test_new_journals_begin_while_all_send(start: Start) -> None:
     assert all(reply.split(" ")[1] == "accepted" for answer in answers for reply in answer.replies)
     folders = sorted(it for it in service.folder.iterdir() if it.name.isdigit())
     counts = [len((folder / "journal.jsonl").read_bytes().splitlines()) for folder in folders]
-    assert sum(counts) == 252 and all(70 <= count <= 100 for count in counts[:-1]), counts
+    assert sum(counts) == 108 and len(counts) >= 3 and all(24 <= count <= 40 for count in counts[:-1]), counts
     assert "event: next\ndata: a new journal begins\n" in listener.communicate(timeout=30)[0]
-    assert "".join(reply + "\n" for reply in service.kept) == service.run_again(options=["--entries", "100"])
+    assert "".join(reply + "\n" for reply in service.kept) == service.run_again(options=["--entries", "40"])
 
 
 def test_a_request_that_does_not_fit_begins_a_new_journal(start: Start) -> None:
-    service = start(options=["--entries", "100", "--next-at", "100"]).until_running()
-    for first, many, journal in (0, 60, "1"), (60, 41, "2"), (101, 59, "2"), (160, 1, "3"), (161, 120, "4"):
+    service = start(options=["--entries", "20", "--next-at", "100"]).until_running()
+    for first, many, journal in (0, 12, "1"), (12, 9, "2"), (21, 11, "2"), (32, 1, "3"), (33, 24, "4"):
         answer = service.post(messages(first, many))
         assert (answer.status, answer.headers["Journal"], len(answer.records)) == (200, journal, many), first
     # The last one has more lines than any book has entries, so it was taken, and the program refused what was too much.
-    assert [reply.split(" ", 1)[1] for reply in answer.replies[99:]] == ["accepted 100"] + ["refused 72"] * 20
-    assert service.post(messages(281, 1)).headers["Journal"] == "5"
+    assert [reply.split(" ", 1)[1] for reply in answer.replies[19:]] == ["accepted 20"] + ["refused 72"] * 4
+    assert service.post(messages(57, 1)).headers["Journal"] == "5"
 
 
 def test_requests_that_wait_do_not_fill_a_book_together(start: Start) -> None:
-    service = start(options=["--entries", "100"]).until_running()
+    service = start(options=["--entries", "20"]).until_running()
     program = service.children[0]
     os.kill(program, signal.SIGSTOP)
     answers: list[Answer] = []
-    senders = [threading.Thread(target=lambda k=k: answers.append(service.post(messages(60 * k, 60)))) for k in range(3)]
+    senders = [threading.Thread(target=lambda k=k: answers.append(service.post(messages(12 * k, 12)))) for k in range(3)]
     for sender in senders:
         sender.start()
     time.sleep(0.5)
@@ -77,13 +77,13 @@ def test_requests_that_wait_do_not_fill_a_book_together(start: Start) -> None:
 
 
 def test_a_journal_that_is_nearly_full_at_a_start(start: Start) -> None:
-    service = start(options=["--entries", "100", "--next-at", "0"]).until_running()
-    service.post(messages(0, 85))
+    service = start(options=["--entries", "20", "--next-at", "0"]).until_running()
+    service.post(messages(0, 17))
     service.stop()
-    service = start(options=["--entries", "100"])
+    service = start(options=["--entries", "20"])
     while json.loads(service.get("/health").body)["journal"] != 2:
         time.sleep(0.01)
-    assert service.until_running().post(messages(85, 1)).replies == ["1 accepted 1"]
+    assert service.until_running().post(messages(17, 1)).replies == ["1 accepted 1"]
 
 
 def test_lines_count_as_entries_do(tmp_path: Path) -> None:
@@ -104,13 +104,13 @@ def test_lines_count_as_entries_do(tmp_path: Path) -> None:
 
 
 def test_what_is_left_is_told(start: Start) -> None:
-    service = start(options=["--entries", "100", "--next-at", "0"]).until_running()
-    service.post(messages(0, 89))
+    service = start(options=["--entries", "50", "--next-at", "0"]).until_running()
+    service.post(messages(0, 44))
     # What is repeated or refused is no entry.
     service.post([*messages(0, 5), b"x"])
-    assert (gauge(service, "wagons_entries_left"), gauge(service, "wagons_lines_left")) == (11, 999_904)
+    assert (gauge(service, "wagons_entries_left"), gauge(service, "wagons_lines_left")) == (6, 999_949)
     assert "warning" not in json.loads(service.get("/health").body)
-    service.post(messages(89, 1))
+    service.post(messages(44, 1))
     health = service.get("/health")
     assert health.status == 200
-    assert json.loads(health.body)["warning"] == "the journal has room for 999,903 lines more, and its book for 10 entries"
+    assert json.loads(health.body)["warning"] == "the journal has room for 999,948 lines more, and its book for 5 entries"

@@ -18,6 +18,7 @@ from .journal import CHUNK, Broken, Journal, KeptReplies, NotKept
 from .limits import Limits
 from .metrics import Metrics
 from .program import DONE, NOTHING, Ended, Program, Replies
+from .room import MOST_TAKEN as MOST_TAKEN
 from .room import Room
 from .silence import Silence
 
@@ -324,6 +325,9 @@ class Office:
             # No reply will say whether the program can run at all, so it runs over no lines first.
             trial = await Program.start(self._command, lambda _: None)
             trial.close()
+            if not (await asyncio.wait([trial.ended], timeout=self.silence.most))[0]:
+                self._why_killed = f"the program hasn't ended over no lines within {self.silence.most:g} seconds"
+                trial.kill()
             ended = await trial.ended
             if ended.status not in DONE:
                 return ended, False

@@ -9,7 +9,7 @@ from .metrics import one
 
 class Silence:
     def __init__(self, most: float) -> None:
-        self._most = most
+        self.most = most
         # Counted by ticks, since a service that was stopped itself hasn't heard what the program said meanwhile.
         self._seconds = 0.0
         self._was_owed = False
@@ -32,11 +32,11 @@ class Silence:
     @property
     def is_long(self) -> bool:
         """Whether whoever keeps watch is to know of it."""
-        return self._seconds >= self._most / 2
+        return self._seconds >= self.most / 2
 
     @property
     def is_too_long(self) -> bool:
-        return self._seconds >= self._most
+        return self._seconds >= self.most
 
     @property
     def words(self) -> str:

@@ -18,6 +18,8 @@ from .options import Options
 from .program import DONE, NOTHING, Program, Replies
 
 SECONDS_TO_DRAW = 30
+# Over a whole journal.
+SECONDS_TO_PRINT = 300
 SHEET = b'{"type":"sheet"}'
 
 
@@ -156,8 +158,16 @@ class Viewer:
                 pass  # It stopped before; its own words say why.
 
         assert process.stdout is not None and process.stderr is not None
-        printed, said, _ = await asyncio.gather(process.stdout.read(), process.stderr.read(), feed())
-        if await process.wait() not in DONE:
+        try:
+            async with asyncio.timeout(SECONDS_TO_PRINT):
+                printed, said, _ = await asyncio.gather(process.stdout.read(), process.stderr.read(), feed())
+                await process.wait()
+        except TimeoutError:
+            raise Refusal(503, f"{command[0]} {command[1]} took over {SECONDS_TO_PRINT} seconds.") from None
+        finally:
+            if process.returncode is None:
+                process.kill()
+        if process.returncode not in DONE:
             raise Refusal(503, said.decode("utf-8", "replace").strip() or f"{command[0]} ended with {process.returncode}")
         return printed
 
