@@ -213,6 +213,15 @@ def test_the_day_by_clicks(start: Start, browse: Browse) -> None:
     page.until_says("#state", "0 lines in journal 2")
     page.until(lambda: page.rows("#orders-table")[0][0] == "MALT-1", "the open orders")
 
+    # A wagon that stands wrong is put right with the next one.
+    number, wagon_class = next(row[:2] for row in page.rows("#wagons-table") if not row[7])
+    page.click("#corrections summary")
+    page.fill("#correct-rows", f"{number},{wagon_class},51000,empty,DE10002,2026-03-02T16:00:00Z")
+    page.click("#next")
+    page.driver.switch_to.alert.accept()
+    page.until_says("#state", "0 lines in journal 3")
+    page.until(lambda: [number, wagon_class, "51000", "empty", "DE10002"] in [row[:5] for row in page.rows("#wagons-table")], "the wagon as it was put right")
+
 
 def test_what_comes_from_outside_is_text(start: Start, browse: Browse) -> None:
     service = start().until_running()

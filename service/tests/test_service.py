@@ -260,7 +260,7 @@ def test_a_new_journal(start: Start) -> None:
 
 
 def test_a_full_book_goes_on_in_a_new_journal(start: Start) -> None:
-    service = start(options=["--entries", "2"]).until_running()
+    service = start(options=["--entries", "2", "--next-at", "0"]).until_running()
     service.post([order("O1"), order("O2"), order("O3")])
     assert service.post(order("O3")).status == 503
     assert service.post(b"", path="/next").status == 200
@@ -467,7 +467,7 @@ def test_a_line_that_is_too_long_stops_the_office(start: Start, tmp_path: Path) 
 
 
 def test_a_full_book_is_said_to_all(start: Start, tmp_path: Path) -> None:
-    service = start(options=["--entries", "2"]).until_running()
+    service = start(options=["--entries", "2", "--next-at", "0"]).until_running()
     assert service.post([order("O1"), order("O2"), order("O3"), b"x"]).replies == ["1 accepted 1", "2 accepted 2", "3 refused 72", "4 refused 21"]
     for again in range(2):
         answer = service.post(order("O4"))
@@ -475,7 +475,7 @@ def test_a_full_book_is_said_to_all(start: Start, tmp_path: Path) -> None:
         assert len(service.get("/replies").records) == 4
         if not again:
             service.stop()
-            service = start(options=["--entries", "2"])
+            service = start(options=["--entries", "2", "--next-at", "0"])
             service.until_state("full")
 
 
@@ -483,7 +483,7 @@ def test_a_full_journal_is_said_to_all(start: Start, tmp_path: Path) -> None:
     folder = tmp_path / "journal" / "1"
     folder.mkdir(parents=True)
     (folder / "journal.jsonl").write_bytes(b'{"type":"x"}\n' * 999_997)
-    service = start()
+    service = start(options=["--next-at", "0"])
     service.until_running(100)
     answer = service.post([b"x"] * 3)
     assert answer.status == 503 and answer.text == "91: the journal would have over 999,999 lines; begin a new one; nothing of the request was taken\n"
@@ -496,7 +496,7 @@ def test_a_full_journal_is_said_to_all(start: Start, tmp_path: Path) -> None:
 
 
 def test_another_office_is_not_gone_on_with(start: Start) -> None:
-    service = start(options=["--entries", "2"]).until_running()
+    service = start(options=["--entries", "2", "--next-at", "0"]).until_running()
     service.post([order("O1"), order("O2"), order("O3")])
     service.stop()
     words = start(options=["--entries", "3"]).until_state("stopped")["words"]

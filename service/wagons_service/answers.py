@@ -21,14 +21,15 @@ class Refusal(Exception):
     def __init__(self, status: int, sentence: str) -> None:
         super().__init__(sentence)
         self.status = status
+        self.retry_after = 1
 
 
-def sentence(status: int, text: str) -> web.Response:
+def sentence(status: int, text: str, retry_after: int = 1) -> web.Response:
     headers = {}
     if status == 401:
         headers["WWW-Authenticate"] = "Bearer"
-    if status == 503:
-        headers["Retry-After"] = "1"
+    if status in (429, 503):
+        headers["Retry-After"] = str(retry_after)
     return web.Response(status=status, text=text + "\n", headers=headers)
 
 
@@ -73,7 +74,7 @@ def with_lines(journal: Journal, first: int, last: int, sender: Sender) -> Itera
             yield number, b'%s,"line":%s}' % (record[:-1], json.dumps(line.decode("utf-8", "replace")).encode())
 
 
-def page_end(journal: Journal, first: int, last: int) -> int:
+def page_end(journal: Journal, first: int, last: int, page: int = PAGE) -> int:
     """The last line so that those from `first` on, with their replies, have about a page of bytes."""
-    end = min(journal.replies.until(first, last, PAGE), journal.lines.first_bytes(first, PAGE))
+    end = min(journal.replies.until(first, last, page), journal.lines.first_bytes(first, page))
     return max(first, min(end, last))

@@ -6,22 +6,18 @@ from collections.abc import Iterator
 from contextlib import suppress
 
 from .identifiers import MOST_IDENTIFIERS, Identifiers
-from .journal import is_blank
 from .metrics import head, one
-from .office import MOST_TAKEN, Office
-from .options import DEFAULT_ENTRIES
 from .senders import Tokens
 from .service import Service
 
-STARTED = time.time()
 # Touched by `wagons-service backup`.
 BACKED_UP = "backed-up"
 
 
 def gauges(service: Service, tokens: Tokens | None, identifiers: Identifiers | None) -> Iterator[str]:
     office = service.office
-    yield from capacity(office, service.options.entries or DEFAULT_ENTRIES)
-    yield from one("wagons_oldest_unanswered_seconds", "gauge", "age of the oldest line without a reply", round(oldest_unanswered(office), 3))
+    yield from office.room.gauges()
+    yield from office.silence.gauges(office.answered)
     yield from one("wagons_is_first", "gauge", "1 where this service writes the replies, 0 where it is a standby", int(service.role != "standby"))
     if service.lease_until is not None:
         left = max(service.lease_until - time.monotonic(), 0)
@@ -37,25 +33,6 @@ def gauges(service: Service, tokens: Tokens | None, identifiers: Identifiers | N
         backed_up = os.stat(f"{service.folder.path}/{BACKED_UP}").st_mtime
         yield from one("wagons_backup_timestamp_seconds", "gauge", "when the last backup was made", round(backed_up))
     yield from expiries(tokens)
-
-
-def capacity(office: Office, most_entries: int) -> Iterator[str]:
-    lines, entries = MOST_TAKEN - office.journal.lines.count, most_entries - office.entries
-    yield from one("wagons_lines_left", "gauge", "lines for which the journal has room", lines)
-    yield from one("wagons_entries_left", "gauge", "entries for which the book has room", entries)
-    share = min(lines / MOST_TAKEN, entries / most_entries)
-    yield from one("wagons_capacity_left_ratio", "gauge", "the smaller share of both that is left", round(share, 6))
-
-
-def oldest_unanswered(office: Office) -> float:
-    """The age in seconds of the first line that should have a reply and has none; 0 where all are answered."""
-    number, last = office.answered + 1, office.journal.last_line
-    while number <= last and is_blank(office.journal.line(number)):
-        number += 1
-    if number > last:
-        return 0
-    taken = office.taken_at(number)
-    return max(time.time() - (STARTED if taken is None else taken), 0)
 
 
 def expiries(tokens: Tokens | None) -> Iterator[str]:

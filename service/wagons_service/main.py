@@ -12,12 +12,14 @@ from aiohttp.http_exceptions import BadHttpMessage
 
 from . import commands, options
 from .archive import NotReadable, keep_small
+from .connections import Connections, raise_limit
 from .ending import end_on_signals
 from .identifiers import Identifiers
 from .journal import Broken, FolderInUse, Unreadable
 from .notify import notify, stand_up
 from .options import Options
 from .page import Page
+from .seldom import Seldom
 from .senders import BadTokens
 from .server import Server
 from .service import Service
@@ -45,7 +47,14 @@ def of_stream(given: Options) -> Service:
     return StreamService(given, given.address)
 
 
-async def serve(given: Options) -> None:
+async def watching(connections: Connections, seldom: Seldom) -> None:
+    while True:
+        await asyncio.sleep(connections.seconds_between_looks)
+        connections.look()
+        seldom.say_counts()
+
+
+async def serve(given: Options, seldom: Seldom) -> None:
     """Runs until SIGTERM or SIGINT."""
     stop = asyncio.Event()
     loop = asyncio.get_running_loop()
@@ -55,11 +64,13 @@ async def serve(given: Options) -> None:
     loop.add_signal_handler(signal.SIGHUP, server.read_tokens_again)
     app = server.application()
     Page(server).add_to(app)
-    xml = XmlRoute(server, Map.read(given.map), Identifiers(f"{given.journal}/identifiers.jsonl")) if given.map else None
+    xml = XmlRoute(server, Map.read(given.map), Identifiers(f"{given.journal}/identifiers.jsonl", given.limits.share.identifiers)) if given.map else None
     if xml:
         xml.add_to(app)
     runner = web.AppRunner(app, access_log=None, auto_decompress=False, lingering_time=SECONDS_OF_LINGERING)
     await runner.setup()
+    assert runner.server
+    watch = asyncio.create_task(watching(Connections(runner.server, server.busy, given.limits.patience), seldom))
     site = web.TCPSite(runner, given.host, given.port, shutdown_timeout=5)
     await site.start()
     service.start()
@@ -78,6 +89,7 @@ async def serve(given: Options) -> None:
         xml.end()
     await site.stop()
     await service.close()
+    watch.cancel()
     await runner.cleanup()
 
 
@@ -85,11 +97,15 @@ def main(arguments: Sequence[str]) -> int:
     given = options.read(arguments)
     logging.basicConfig(format="wagons-service: %(levelname)s: %(message)s", level=logging.INFO, stream=sys.stderr)
     logging.getLogger("aiohttp.server").addFilter(is_ours)
+    seldom = Seldom()
+    for handler in logging.getLogger().handlers:
+        handler.addFilter(seldom)
+    raise_limit()
     try:
         if given.command:
             print(asyncio.run(commands.run(given)))
         else:
-            asyncio.run(serve(given))
+            asyncio.run(serve(given, seldom))
     except (FolderInUse, Unreadable, NotReadable, BadTokens, BadMap, Broken, commands.Failed, OSError) as fault:
         print(f"wagons-service: {fault}", file=sys.stderr)
         return 2

@@ -12,13 +12,17 @@ from collections import deque
 from collections.abc import Sequence
 from contextlib import suppress
 from dataclasses import dataclass
-from datetime import datetime
 from enum import Enum
+from itertools import accumulate
 
-from .journal import CHUNK, MOST_LINES, Broken, Journal, KeptReplies, NotKept
+from .journal import CHUNK, Broken, Journal, KeptReplies, NotKept
+from .limits import Limits
 from .metrics import Metrics
 from .program import DONE, NOTHING, Ended, Program, Replies
+from .room import MOST_TAKEN as MOST_TAKEN
+from .room import Room
 from .sent import OURS
+from .silence import Silence
 
 log = logging.getLogger("wagons-service")
 
@@ -27,8 +31,8 @@ MOST_DEATHS = 10
 SECONDS_OF_A_LIFE = 1.0
 SECONDS_BETWEEN_DEATHS = 0.1
 LAST_REFUSALS = 50
-# The last line of a journal is left for the one by which a sheet ends.
-MOST_TAKEN = MOST_LINES - 1
+# So many lines are written, synced and given to the program at once, so that who comes first waits for few others.
+MOST_LINES_AT_ONCE = 5_000
 SECONDS_TO_END = 8
 SECONDS_TO_WRITE = 3
 TURNS = "a new journal begins"
@@ -47,6 +51,10 @@ class NotTaken(Exception):
     """Nothing of a request is in the journal; the text says why."""
 
 
+class Full(NotTaken):
+    """They fit in a new journal."""
+
+
 class Stopped(Exception):
     """The lines are in the journal, but there are no replies to them now; the text says why."""
 
@@ -57,6 +65,7 @@ class _Request:
     numbers: "asyncio.Future[range]"
     name: str = OURS
     is_ours: bool = False
+    comes_first: bool = False
 
     def refuse(self, why: Exception) -> None:
         if not self.numbers.done():
@@ -68,20 +77,23 @@ class _Request:
 
 
 class Office:
-    def __init__(self, journal: Journal, command: Sequence[str], metrics: Metrics) -> None:
+    def __init__(self, journal: Journal, command: Sequence[str], metrics: Metrics, limits: Limits = Limits()) -> None:
         self.journal = journal
         self.metrics = metrics
+        self.room = Room(journal.lines, limits)
+        self.silence = Silence(limits.answer_within)
         self.state = State.STARTING
         self.words = "the office is starting: it reads its journal"
         self.refused: deque[int] = deque(maxlen=LAST_REFUSALS)
         self._command = command
         self._program: Program | None = None
+        # The same, also while it still reads the journal.
+        self._started: Program | None = None
+        self._why_killed: str | None = None
         self._sent = 0
         self._told = 0
         self._counted = 0
         self._full: str | None = None
-        # How many entries the book has.
-        self.entries = 0
         self._queue: list[_Request] = []
         self._is_writing = False
         self._is_paused = False
@@ -97,6 +109,7 @@ class Office:
         for name, torn in ("journal.jsonl", self.journal.lines.torn), ("replies.jsonl", self.journal.replies.torn):
             if torn:
                 log.warning("%s ended in the middle of a line, which was cut off: %r", name, torn[:200])
+        self.silence.take(self.journal.last_line)
         self._tasks = [asyncio.create_task(work) for work in (self._write_all(), self._keep_running(), self._tick())]
         for task in self._tasks:
             task.add_done_callback(self._judge_end)
@@ -146,28 +159,30 @@ class Office:
         return self._is_over and self._is_paused
 
     @property
+    def is_up(self) -> bool:
+        """Whether lines are taken, and their replies come."""
+        return self.state is State.RUNNING and not self.silence.is_long
+
+    @property
     def answered(self) -> int:
         """The number of the last line whose reply is whole."""
         return self.journal.replies.last
 
-    def taken_at(self, number: int) -> float | None:
-        """When a line was taken, in seconds since 1970, where that is known."""
-        sent = self.journal.sent.find(number)
-        return datetime.fromisoformat(sent.taken).timestamp() if sent else None
-
     def may_take(self) -> None:
         """Raises `NotTaken` where no lines are taken now."""
+        if self.state is State.FULL and not self._is_paused:
+            raise Full(self.words)
         if self.state is not State.RUNNING:
             raise NotTaken(self.words)
         if self._is_paused:
             raise NotTaken(TURNS)
 
-    async def take(self, lines: Sequence[bytes], name: str = OURS) -> range:
+    async def take(self, lines: Sequence[bytes], name: str = OURS, comes_first: bool = False) -> range:
         """Puts the lines of a sender into the journal, on the disk, and gives their numbers: all of them or, with `NotTaken`, none."""
         self.may_take()
         if not lines:
             return range(self.journal.lines.count + 1, self.journal.lines.count + 1)
-        request = _Request(lines, asyncio.get_running_loop().create_future(), name)
+        request = _Request(lines, asyncio.get_running_loop().create_future(), name, comes_first=comes_first)
         self._queue.append(request)
         self._wake.set()
         return await request.numbers
@@ -202,10 +217,23 @@ class Office:
             await asyncio.sleep(SECONDS_BETWEEN_TRIES)
             self._try_again()
             await asyncio.to_thread(self.journal.sent.sync)
+            self._judge_silence()
             now = time.monotonic()
             for done, (_, deadline) in self._waiting.items():
                 if deadline < now and not done.done():
-                    done.set_exception(Stopped("there is no reply yet"))
+                    done.set_exception(Stopped(f"there is no reply yet: {self.words}" if self.words else "there is no reply yet"))
+
+    def _judge_silence(self) -> None:
+        """A program that owes replies and gives none for too long hangs, and is killed; `_keep_running` starts it again."""
+        program = self._started
+        last = min(self._sent, self.journal.last_line)
+        # The end of a sheet may wait for room on the disk.
+        is_owed = program is not None and self._told < last and program.cutter.open_sheet != self.journal.last_line
+        self.silence.go_on(SECONDS_BETWEEN_TRIES, is_owed)
+        self.silence.age(self.answered)
+        if program and self.silence.is_too_long:
+            self._why_killed = self.silence.words
+            program.kill()
 
     def _try_again(self) -> None:
         """What couldn't be written when the disk was full."""
@@ -216,11 +244,15 @@ class Office:
         self._end_sheet()
 
     def _next(self) -> list[_Request]:
-        """The requests that are taken next; the others that wait are refused."""
-        queue, self._queue = self._queue, []
+        """The requests that are taken next: those that come first, and then others up to what is soon done. Those that can't be
+        taken are refused."""
+        queue = sorted(self._queue, key=lambda request: not (request.is_ours or request.comes_first))
+        ends = list(accumulate(len(request.lines) for request in queue))
+        many = max(bisect_right(ends, MOST_LINES_AT_ONCE), 1)
+        queue, self._queue = queue[:many], queue[many:]
         if self.journal.replies.are_behind:
             self._try_again()
-        batch, room = [], MOST_TAKEN - self.journal.lines.count
+        batch, taken, unanswered = [], 0, max(self.journal.last_line - self._told, 0)
         for request in queue:
             if request.is_ours and self.state is not State.STOPPED:
                 batch.append(request)
@@ -228,11 +260,11 @@ class Office:
                 request.refuse(NotTaken(self.words))
             elif self.journal.replies.are_behind:
                 request.refuse(NotTaken("the disk is full: replies couldn't be kept"))
-            elif len(request.lines) > room:
-                request.refuse(NotTaken(f"91: the journal would have over {MOST_TAKEN:,} lines; begin a new one"))
+            elif not self.room.fits(len(request.lines), taken, unanswered):
+                request.refuse(Full(self.room.words(len(request.lines))))
             else:
                 batch.append(request)
-                room -= len(request.lines)
+                taken += len(request.lines)
         return batch
 
     async def _write(self, batch: list[_Request]) -> None:
@@ -254,11 +286,11 @@ class Office:
             self._number(batch, first)
             await self._feed(first, lines)
 
-    @staticmethod
-    def _number(batch: list[_Request], first: int) -> None:
+    def _number(self, batch: list[_Request], first: int) -> None:
         for request in batch:
             request.take(first)
             first += len(request.lines)
+        self.silence.take(self.journal.last_line)
 
     async def _feed(self, first: int, lines: Sequence[bytes]) -> None:
         """Gives lines to the program, unless it still reads the journal and will come to them there."""
@@ -286,6 +318,8 @@ class Office:
             if not ended.by_signal:
                 self.stop(ended.words)
                 return
+            if self._why_killed:
+                ended, self._why_killed = Ended(self._why_killed, ended.status), None
             log.error("%s; it is started again", ended.words)
             self.metrics.restarts += 1
             lived = time.monotonic() - start >= SECONDS_OF_A_LIFE
@@ -300,16 +334,20 @@ class Office:
             # No reply will say whether the program can run at all, so it runs over no lines first.
             trial = await Program.start(self._command, lambda _: None)
             trial.close()
+            if not (await asyncio.wait([trial.ended], timeout=self.silence.most))[0]:
+                self._why_killed = f"the program hasn't ended over no lines within {self.silence.most:g} seconds"
+                trial.kill()
             ended = await trial.ended
             if ended.status not in DONE:
                 return ended, False
-        program = await Program.start(self._command, self._take_replies)
+        self._started = program = await Program.start(self._command, self._take_replies)
+        self.silence.end()
         replay = asyncio.create_task(self._replay(program))
         try:
             ended = await program.ended
             return ended, replay.done()
         finally:
-            self._program = None
+            self._program = self._started = None
             program.kill()
             replay.cancel()
             await asyncio.gather(replay, return_exceptions=True)
@@ -376,6 +414,7 @@ class Office:
             self.stop(str(fault))
             return
         self._told = numbers[-1]
+        self.silence.end()
         self._end_sheet()
         self._end_waiting()
 
@@ -404,9 +443,7 @@ class Office:
             return
         self._counted = replies.numbers[-1]
         self.metrics.count(replies)
-        if b"accepted" in replies.kinds:
-            place = next(place for place in reversed(range(len(replies.kinds))) if replies.kinds[place] == b"accepted")
-            self.entries = int(replies.texts[place].rsplit(b" ", 1)[1])
+        self.room.count(replies)
         refused = replies.refused
         lines = self.journal.lines.read(refused[0][0], refused[-1][0]).split(b"\n") if refused else []
         for number, text in refused:

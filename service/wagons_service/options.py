@@ -4,12 +4,13 @@ import argparse
 from collections.abc import Sequence
 from dataclasses import dataclass
 
+from . import limits
 from .address import Address, BadAddress
+from .limits import DEFAULT_ENTRIES as DEFAULT_ENTRIES
+from .limits import Limits
 from .program import found
 from .senders import is_loopback
 
-# As `wagons run` has it.
-DEFAULT_ENTRIES = 100_000
 # In milliseconds.
 DEFAULT_LEASE = 3000
 LEAST_LEASE = 100
@@ -44,6 +45,7 @@ class Options:
     keep_days: int = DEFAULT_KEEP_DAYS
     command: str | None = None
     target: str | None = None
+    limits: Limits = Limits()
 
     def words(self, word: str, checkpoint: str | None) -> list[str]:
         """The command `wagons WORD` with the options that say which office it is; a journal's own checkpoint comes first."""
@@ -83,6 +85,7 @@ def read(arguments: Sequence[str]) -> Options:
     parser.add_argument("--lease", metavar="MILLISECONDS", type=int, default=DEFAULT_LEASE, help="of a stream: after so long without a sign another service answers")
     parser.add_argument("--journal-lines", metavar="N", type=int, help="of a new stream: after each N lines a checkpoint is made and a new journal begins")
     parser.add_argument("--keep-days", metavar="N", type=int, default=DEFAULT_KEEP_DAYS, help="journals that are over for longer are compressed; 30 where nothing is said")
+    limits.add_arguments(parser)
     given = parser.parse_args(arguments[1:] if command else arguments)
     if given.keep_days < 1:
         parser.error("argument --keep-days: 1 is the least")
@@ -108,4 +111,4 @@ def read(arguments: Sequence[str]) -> Options:
         journal=given.journal, program=found(given.program), roster=given.roster, start=given.start, networks=given.network,
         entries=given.entries, kept=given.kept, workers=given.workers, host=host, port=int(port), tokens=given.tokens, map=given.map,
         address=address, copy=given.copy, lease=given.lease, journal_lines=given.journal_lines,
-        keep_days=given.keep_days, command=command, target=getattr(given, "target", None))
+        keep_days=given.keep_days, command=command, target=getattr(given, "target", None), limits=Limits.of(given))

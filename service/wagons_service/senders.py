@@ -8,6 +8,7 @@ import hmac
 import ipaddress
 import json
 import logging
+import math
 import os
 import re
 from collections.abc import Iterable, Mapping, Sequence
@@ -16,6 +17,8 @@ from datetime import UTC, datetime
 from enum import Enum
 from typing import Any
 
+from .moments import seconds_of
+
 log = logging.getLogger("wagons-service")
 
 MESSAGES = frozenset(
@@ -23,6 +26,8 @@ MESSAGES = frozenset(
 COMPANY = re.compile("[0-9A-Z]{4}")
 NAME = re.compile("[A-Za-z0-9._-]{1,64}")
 LEAST_TOKEN = 16
+# So many bytes of a line stand in a sentence about it.
+MOST_SAID = 300
 
 
 class Role(Enum):
@@ -39,6 +44,10 @@ class NoLine(Exception):
     """A line can't be judged; the text says why."""
 
 
+class Ahead(Exception):
+    """A line names a moment that is too far past the service's clock; the text says which line."""
+
+
 class BadTokens(Exception):
     """A file of tokens that can't be used; the text says why, and has no token."""
 
@@ -50,6 +59,8 @@ class Sender:
     # Who it is, for those who look later; and until when the token is good.
     name: str = ""
     until: datetime | None = None
+    # Which token it is: a part of the token's digest, from which nobody finds the token. Empty where none is needed.
+    key: str = ""
 
     @property
     def has_expired(self) -> bool:
@@ -65,14 +76,21 @@ class Sender:
         if self.role is Role.READER:
             raise Forbidden("A reader's token sends no lines.")
 
-    def judge(self, lines: Sequence[bytes]) -> None:
-        """Raises `Forbidden` or `NoLine` for the first line that the sender may not send."""
+    def judge(self, lines: Sequence[bytes], before: int = 0, latest: float = math.inf) -> None:
+        """Raises `Forbidden`, `NoLine` or `Ahead` for the first line that the sender may not send; so many stand before these.
+
+        A wagon whose last message is of a moment far ahead refuses all true ones, so no railway names a later one than `latest`.
+        """
         self.judge_role()
         if self.role is Role.RAILWAY:
-            for number, line in enumerate(lines, 1):
-                self._judge_message(number, line)
+            for number, line in enumerate(lines, before + 1):
+                moment = seconds_of(self._judge_message(number, line).get("moment"))
+                if moment is not None and moment > latest:
+                    text = line[:MOST_SAID].decode("utf-8", "replace")
+                    raise Ahead(f"Line {number} of the request names a moment that is too far past this service's clock: {text}")
 
-    def _judge_message(self, number: int, line: bytes) -> None:
+    def _judge_message(self, number: int, line: bytes) -> Mapping[str, Any]:
+        """The members of a line that the sender may send."""
         try:
             fields = read(line)
         except ValueError:
@@ -82,16 +100,12 @@ class Sender:
             raise Forbidden(f"Line {number} of the request isn't a movement message; a railway's token sends no other line.")
         if fields.get("company") != self.company:
             raise Forbidden(f"Line {number} of the request isn't a message of company {self.company}, which the token is for.")
+        members: Mapping[str, Any] = fields
+        return members
 
     def may_see(self, line: bytes) -> bool:
         """Whether the sender may see a line of the journal and its reply."""
-        if self.may_look:
-            return True
-        try:
-            self._judge_message(0, line)
-        except (Forbidden, NoLine):
-            return False
-        return True
+        return self.may_look or company_of(line) == self.company
 
 
 # Without tokens only this machine is listened to, and whoever is on it may do all.
@@ -111,6 +125,17 @@ def read(line: bytes) -> Any:
         return DECODER.decode(line.decode("utf-8"))
     except RecursionError:
         raise ValueError("nested too deep") from None
+
+
+def company_of(line: bytes) -> str | None:
+    """Whose message a line is; of no company where it is none."""
+    try:
+        fields = read(line)
+    except ValueError:
+        return None
+    kind = fields.get("type") if isinstance(fields, dict) else None
+    company = fields.get("company") if isinstance(kind, str) and kind in MESSAGES else None
+    return company if isinstance(company, str) and COMPANY.fullmatch(company) else None
 
 
 class Tokens:
@@ -136,7 +161,7 @@ class Tokens:
                 digest = digest_of(words[0])
                 if digest in senders:
                     raise BadTokens(f"{path}: line {number} has a token that stands there already")
-                senders[digest] = sender_of(words, f"{path}: line {number}")
+                senders[digest] = replace(sender_of(words, f"{path}: line {number}"), key=digest.hex()[:16])
         return cls(senders)
 
     def __len__(self) -> int:
@@ -145,6 +170,10 @@ class Tokens:
     @property
     def senders(self) -> Iterable[Sender]:
         return self._senders.values()
+
+    def has(self, sender: Sender) -> bool:
+        """Whether a token is still known, with the same role, and hasn't expired."""
+        return sender in self._senders.values() and not sender.has_expired
 
     def find(self, token: str) -> Sender | None:
         """Whose token it is; nobody's where it has expired."""

@@ -3,21 +3,30 @@
 import asyncio
 import logging
 import time
+from collections import OrderedDict
 from collections.abc import AsyncIterator, Awaitable, Callable, Sequence
-from contextlib import asynccontextmanager
+from contextlib import asynccontextmanager, suppress
+from dataclasses import dataclass
 from functools import lru_cache
+from http.cookies import CookieError, SimpleCookie
 from urllib.parse import urlsplit
+from weakref import WeakKeyDictionary
 
 from aiohttp import web, web_urldispatcher
 from aiohttp.http_exceptions import BadHttpMessage
 
-from .answers import JSON_LINES, MOST_BYTES_A_REQUEST, Refusal, cut, number_in, page_end, sentence, with_lines
+from .answers import JSON_LINES, MOST_BYTES_A_REQUEST, PAGE, Refusal, cut, number_in, page_end, sentence, with_lines
+from .company_index import CompanyIndex
+from .corrections import Corrections
 from .gauges import gauges
 from .identifiers import Identifiers
 from .journal import MOST_LINES, Journal, Unreadable, is_blank
 from .office import NotTaken, Office, State, Stopped
-from .senders import ANYONE, BadTokens, Forbidden, NoLine, Role, Sender, Tokens, is_loopback
+from .old_journals import OldJournals
+from .pace import Pace
+from .senders import ANYONE, Ahead, BadTokens, Forbidden, NoLine, Role, Sender, Tokens, is_loopback
 from .service import Service
+from .shares import Shares
 
 log = logging.getLogger("wagons-service")
 
@@ -26,16 +35,37 @@ COOKIE = "wagons_token"
 # Paths that need no token.
 OPEN_PATHS = ("/health", "/login")
 OPEN_PREFIX = "/static/"
+# What counts by itself in a token's share.
+OPEN_AT_ONCE = {"/events": "listeners", "/replies": "replies"}
 # Counted for a sender whose connection ended before its answer.
 GONE = 499
 SECONDS_FOR_A_BODY = 30
 SECONDS_FOR_REPLIES = 60
-SECONDS_FOR_A_LISTENER = 60
 SECONDS_OF_SILENCE = 15
 MOST_HELD_BYTES = 64_000_000
 MOST_LISTENERS = 200
+# So many lines of a company are read at once, each by itself.
+NUMBERS_A_PAGE = 200
+MOST_TOLD = 16
+# So much of it is sent at once as a connection mostly takes at once, so that its time is known.
+PAGE_OF_EVENTS = 1 << 15
+# So many lines are judged at once; each may have 64 kB.
+LINES_AT_ONCE = 50
 # Lines are numbered from 1 again.
 NEXT = b"event: next\ndata: a new journal begins\n\n"
+
+
+@dataclass(eq=False, slots=True)
+class _Stream:
+    """Events that someone listens to."""
+
+    response: web.StreamResponse
+    sender: Sender
+    over: "asyncio.Future[None]"
+
+    def end(self) -> None:
+        if not self.over.done():
+            self.over.set_result(None)
 
 
 class Server:
@@ -46,8 +76,16 @@ class Server:
         self._tokens = Tokens.read(tokens_file) if tokens_file else None
         # Those of XML, where it is taken.
         self.identifiers: Identifiers | None = None
+        self.shares = Shares(service.options.limits.share)
         self._held = 0
-        self._closing = asyncio.Event()
+        # The connections of which a request is being done.
+        self.busy: set[asyncio.BaseProtocol] = set()
+        self._streams: set[_Stream] = set()
+        self._pace = Pace()
+        self._indexes: WeakKeyDictionary[Journal, CompanyIndex] = WeakKeyDictionary()
+        self._old_journals = OldJournals(service.folder)
+        # Pages of events that were told last.
+        self._told: OrderedDict[tuple[Journal, int, int, str | None], tuple[bytes, int]] = OrderedDict()
 
     @property
     def office(self) -> Office:
@@ -71,6 +109,7 @@ class Server:
             try:
                 self._tokens = Tokens.read(self._tokens_file)
                 log.info("%d tokens were read", len(self._tokens))
+                self._end_unknown()
             except BadTokens as fault:
                 log.error("the tokens stay as they were: %s", fault)
 
@@ -78,18 +117,30 @@ class Server:
         return self._tokens is None or self._tokens.find(token) is not None
 
     def end_streams(self) -> None:
-        self._closing.set()
+        for stream in self._streams:
+            stream.end()
+
+    def _end_unknown(self) -> None:
+        """Ends the streams of those whose token isn't known any more."""
+        for stream in self._streams:
+            if self._tokens and not self._tokens.has(stream.sender):
+                stream.end()
 
     # Who asks, and what is answered where something is wrong.
 
     @web.middleware
     async def _answer_errors(self, request: web.Request, handler: Handler) -> web.StreamResponse:
         status = 500
+        self.busy.add(request.protocol)
         try:
             self._judge_origin(request)
             if sender := self._sender(request):
                 request["sender"] = sender
-            response = await handler(request)
+                request["used"] = self.shares.of(sender.key)
+                with request["used"].one(OPEN_AT_ONCE.get(request.path, "requests")):
+                    response = await handler(request)
+            else:
+                response = await handler(request)
             status = response.status
             return closing(request, response)
         except web.HTTPException as known:
@@ -104,8 +155,9 @@ class Server:
             if refusal is None:
                 raise
             status = refusal.status
-            return closing(request, sentence(status, str(refusal)))
+            return closing(request, sentence(status, str(refusal), refusal.retry_after))
         finally:
+            self.busy.discard(request.protocol)
             self.metrics.requests[status] += 1
 
     def _sender(self, request: web.Request) -> Sender | None:
@@ -115,7 +167,7 @@ class Server:
                 raise Refusal(403, "Without tokens the service is asked by a loopback address alone, as 127.0.0.1 or localhost.")
             return ANYONE
         scheme, _, token = request.headers.get("Authorization", "").partition(" ")
-        token = token.strip() if scheme.lower() == "bearer" else request.cookies.get(COOKIE, "")
+        token = token.strip() if scheme.lower() == "bearer" else token_in(request.headers.getall("Cookie", ()))
         sender = self._tokens.find(token)
         if sender is None and request.method == "GET" and request.path == "/":
             raise web.HTTPSeeOther("/login")
@@ -138,22 +190,33 @@ class Server:
         async with self.body(request) as body:
             start = time.monotonic()
             lines = cut(body)
-            request["sender"].judge(lines)
+            await self.judge(request["sender"], lines)
             return await self.answer(request, lines, start)
+
+    async def judge(self, sender: Sender, lines: Sequence[bytes]) -> None:
+        """Raises where the sender may not send one of the lines. Others are answered in between."""
+        latest = time.time() + 3600 * self.service.options.limits.ahead
+        # Only a railway's lines are looked at one by one.
+        step = LINES_AT_ONCE if sender.role is Role.RAILWAY else len(lines) + 1
+        sender.judge(lines[:step], 0, latest)
+        for first in range(step, len(lines), step):
+            await asyncio.sleep(0)
+            sender.judge(lines[first:first + step], first, latest)
 
     @asynccontextmanager
     async def body(self, request: web.Request) -> AsyncIterator[bytes]:
         """The body of a request that may send, where lines are taken now."""
         sender: Sender = request["sender"]
         sender.judge_role()
-        self.office.may_take()
+        request["used"].judge()
+        await self.service.until_open()
         body = bytearray()
         self.metrics.sending += 1
         try:
             await self._read(request, body)
             yield bytes(body)
         finally:
-            self._held -= len(body)
+            self._release(request, len(body))
             self.metrics.sending -= 1
 
     async def _read(self, request: web.Request, body: bytearray) -> None:
@@ -167,12 +230,12 @@ class Server:
             if content.is_eof():
                 # Mostly the body came with its head.
                 chunk = content.read_nowait()
-                self._hold(len(chunk))
+                self._hold(request, len(chunk))
                 body += chunk
                 return
             async with asyncio.timeout(SECONDS_FOR_A_BODY):
                 async for chunk in content.iter_any():
-                    self._hold(len(chunk))
+                    self._hold(request, len(chunk))
                     body += chunk
                     if len(body) > MOST_BYTES_A_REQUEST:
                         raise too_large
@@ -181,14 +244,22 @@ class Server:
         except (BadHttpMessage, web.RequestPayloadError):
             raise Refusal(400, "The body isn't sent as HTTP asks, or ended too early.") from None
 
-    def _hold(self, more: int) -> None:
+    def _hold(self, request: web.Request, more: int) -> None:
         if self._held + more > MOST_HELD_BYTES:
             raise NotTaken("too many requests are sent at once")
+        request["used"].hold(more)
         self._held += more
+
+    def _release(self, request: web.Request, size: int) -> None:
+        request["used"].release(size)
+        self._held -= size
 
     async def answer(self, request: web.Request, lines: Sequence[bytes], start: float) -> web.StreamResponse:
         """Takes lines, and answers with their replies as they were kept."""
-        parts = await self.service.take(lines, request["sender"].name)
+        request["used"].send(len(lines))
+        self._pace.note_lines()
+        sender: Sender = request["sender"]
+        parts = await self.service.take(lines, sender.name, sender.role is Role.DISPATCHER)
         number = (parts[0].office if parts else self.office).journal.number
         headers = {"Content-Type": JSON_LINES, "Journal": str(number)}
         kept = []
@@ -233,24 +304,28 @@ class Server:
             return await self._replies(request, now)
         if not self.service.folder.has(number):
             raise Refusal(400, f"The journal {number} isn't kept here.")
-        before = await asyncio.to_thread(self.service.folder.journal, number)
-        try:
-            return await self._replies(request, before)
-        finally:
-            before.close()
+        return await self._replies(request, await self._old_journals.find(number))
 
-    @staticmethod
-    async def _replies(request: web.Request, journal: Journal) -> web.StreamResponse:
+    async def _replies(self, request: web.Request, journal: Journal) -> web.StreamResponse:
         first = number_in(request.query.get("from"), "from", 1)
         last = min(number_in(request.query.get("to"), "to", MOST_LINES), journal.replies.last)
         response = web.StreamResponse(headers={"Content-Type": JSON_LINES, "Cache-Control": "no-store", "Journal": str(journal.number)})
         await response.prepare(request)
         while first <= last:
-            end = page_end(journal, first, last)
-            records = [shown(journal, *told, request["sender"]) + b"\n" for told in with_lines(journal, first, end, request["sender"])]
-            await response.write(b"".join(records))
-            first = end + 1
+            page, first = await self._page(journal, first, last, request["sender"])
+            await response.write(b"".join(shown(journal, *told, request["sender"]) + b"\n" for told in page))
+            await asyncio.sleep(0)
         return response
+
+    async def _page(self, journal: Journal, first: int, last: int, sender: Sender, page: int = PAGE) -> tuple[list[tuple[int, bytes]], int]:
+        """The first of what the sender may see of the lines of these numbers, with their replies; and the number behind it."""
+        if sender.company is None:
+            end = page_end(journal, first, last, page)
+            return list(with_lines(journal, first, end, sender)), end + 1
+        index = self._indexes.setdefault(journal, CompanyIndex(journal.lines))
+        numbers = await index.numbers(sender.company, first, last, NUMBERS_A_PAGE)
+        found = [told for number in numbers for told in with_lines(journal, number, number, sender)]
+        return found, numbers[-1] + 1 if len(numbers) == NUMBERS_A_PAGE else last + 1
 
     async def get_events(self, request: web.Request) -> web.StreamResponse:
         office = self.office
@@ -264,71 +339,84 @@ class Server:
             "Content-Type": "text/event-stream", "Cache-Control": "no-store", "X-Accel-Buffering": "no", "Journal": str(office.journal.number)})
         await response.prepare(request)
         self.metrics.listening += 1
+        stream = _Stream(response, request["sender"], asyncio.get_running_loop().create_future())
+        self._streams.add(stream)
         try:
             if journal == office.journal.number:
-                await self._tell(response, office, first, request["sender"])
+                await self._tell(stream, office, first)
             else:
-                await self._write(response, NEXT)
-        except (ConnectionError, TimeoutError):
+                await response.write(NEXT)
+        except ConnectionError:
             pass  # The listener went away, or didn't read.
         finally:
+            self._streams.discard(stream)
             self.metrics.listening -= 1
         return response
 
-    async def _tell(self, response: web.StreamResponse, office: Office, first: int, sender: Sender) -> None:
-        await self._write(response, b"retry: 1000\n\n")
-        while not self._closing.is_set() and not sender.has_expired:
-            while first <= office.answered:
-                end = page_end(office.journal, first, office.answered)
-                told = with_lines(office.journal, first, end, sender)
-                await self._write(response, b"".join(b"id: %d-%d\ndata: %s\n\n" % (office.journal.number, *event) for event in told))
-                first = end + 1
+    async def _tell(self, stream: _Stream, office: Office, first: int) -> None:
+        await stream.response.write(b"retry: 1000\n\n")
+        while not stream.over.done() and not stream.sender.has_expired:
+            if first <= office.answered:
+                await self._pace.until_free()
+                start = time.monotonic()
+                data, first = await self._events(office.journal, first, office.answered, stream.sender)
+                await stream.response.write(data)
+                self._pace.spend(time.monotonic() - start)
+                continue
+            beat = self._pace.beat(office)
+            either: list[asyncio.Future[None]] = [beat, stream.over]
+            await asyncio.wait(either, timeout=SECONDS_OF_SILENCE, return_when=asyncio.FIRST_COMPLETED)
             try:
-                async with asyncio.timeout(SECONDS_OF_SILENCE):
-                    await self._until_next(office, first)
-            except TimeoutError:
-                await self._write(response, b": nothing new\n\n")
+                if beat.done():
+                    beat.result()
+                elif not stream.over.done():
+                    await stream.response.write(b": nothing new\n\n")
+                    self._end_unknown()
             except Stopped as stopped:
-                await self._write(response, NEXT if office.has_turned else f"event: stopped\ndata: {one_line(str(stopped))}\n\n".encode())
+                await stream.response.write(NEXT if office.has_turned else f"event: stopped\ndata: {one_line(str(stopped))}\n\n".encode())
                 return
 
-    async def _until_next(self, office: Office, number: int) -> None:
-        """Waits for a reply, or for the service's end."""
-        closing = asyncio.create_task(self._closing.wait())
-        answered = asyncio.create_task(office.until_answered(number))
-        try:
-            await asyncio.wait([closing, answered], return_when=asyncio.FIRST_COMPLETED)
-            if answered.done():
-                answered.result()
-        finally:
-            closing.cancel()
-            answered.cancel()
-
-    @staticmethod
-    async def _write(response: web.StreamResponse, data: bytes) -> None:
-        async with asyncio.timeout(SECONDS_FOR_A_LISTENER):
-            await response.write(data)
+    async def _events(self, journal: Journal, first: int, last: int, sender: Sender) -> tuple[bytes, int]:
+        """A page of events, and the number behind it. Listeners who see the same are told the same, which is put together once."""
+        key = journal, first, last, sender.company
+        if key not in self._told:
+            page, behind = await self._page(journal, first, last, sender, PAGE_OF_EVENTS)
+            self._told[key] = b"".join(b"id: %d-%d\ndata: %s\n\n" % (journal.number, *event) for event in page), behind
+            while len(self._told) > MOST_TOLD:
+                self._told.popitem(last=False)
+        return self._told[key]
 
     # A new journal, and how the service is.
 
     async def post_next(self, request: web.Request) -> web.StreamResponse:
         if request["sender"].role is not Role.DISPATCHER:
             raise Forbidden("A dispatcher's token begins a new journal, and no other.")
-        return web.json_response({"journal": await self.service.begin_next()})
+        body = bytearray()
+        try:
+            await self._read(request, body)
+            corrections = Corrections.read(bytes(body))
+        finally:
+            self._release(request, len(body))
+        return web.json_response({"journal": await self.service.begin_next(corrections)})
 
     async def get_health(self, _request: web.Request) -> web.StreamResponse:
         office = self.office
-        state = {"state": office.state.value, "words": office.words, "journal": office.journal.number,
+        state: dict[str, object] = {"state": office.state.value, "words": office.words, "journal": office.journal.number,
                  "lines": office.journal.lines.count, "answered": office.answered}
         if self.service.role:
             state["role"] = self.service.role
-        return web.json_response(state, status=200 if office.state is State.RUNNING else 503)
+        state["oldest_unanswered_seconds"] = round(office.silence.age(office.answered), 1)
+        if office.room.warning:
+            state["warning"] = office.room.warning
+        if office.silence.is_long:
+            state["words"] = office.silence.words
+        return web.json_response(state, status=200 if office.is_up else 503)
 
     async def get_metrics(self, request: web.Request) -> web.StreamResponse:
         if not request["sender"].may_look:
             raise Forbidden("A railway's token doesn't see the metrics.")
         lines = self.office.journal.lines
-        text = self.metrics.text(lines.count, lines.size, self.office.state is State.RUNNING)
+        text = self.metrics.text(lines.count, lines.size, self.office.is_up)
         text += "".join(f"{line}\n" for line in gauges(self.service, self._tokens, self.identifiers))
         return web.Response(body=text.encode(), headers={"Content-Type": "text/plain; version=0.0.4; charset=utf-8"})
 
@@ -367,11 +455,22 @@ def refusal_of(fault: Exception) -> Refusal | None:
             return Refusal(403, str(fault))
         case NoLine():
             return Refusal(400, str(fault))
+        case Ahead():
+            return Refusal(422, str(fault))
         case NotTaken():
             return Refusal(503, f"{fault}; nothing of the request was taken")
         case Stopped() | Unreadable():
             return Refusal(503, str(fault))
     return None
+
+
+def token_in(cookies: Sequence[str]) -> str:
+    """The token that the page's cookie has. Other programs on the host have cookies of their own, of whatever form."""
+    for part in (part.strip() for header in cookies for part in header.split(";")):
+        if part.startswith(f"{COOKIE}="):
+            with suppress(CookieError, KeyError):
+                return SimpleCookie(part)[COOKIE].value
+    return ""
 
 
 @lru_cache(maxsize=64)

@@ -6,13 +6,20 @@ from collections.abc import Sequence
 from typing import NamedTuple
 
 from .answers import Refusal
+from .corrections import Corrections
 from .journal import Folder
 from .metrics import Metrics
-from .office import Office, State, Stopped
+from .office import TURNS, Full, NotTaken, Office, State, Stopped
 from .options import Options
 from .viewer import Viewer
 
 log = logging.getLogger("wagons-service")
+
+SECONDS_TO_TURN = 60
+# Where no new journal could begin by itself, it is tried again after so long.
+SECONDS_BETWEEN_TURNS = 10
+# So many new journals a request waits for, where others always fill them before.
+MOST_TURNS = 3
 
 
 class Part(NamedTuple):
@@ -33,6 +40,7 @@ class Service:
         self.metrics = Metrics()
         self.folder = Folder(self._path)
         self._turn = asyncio.Lock()
+        self._turning: asyncio.Task[None] | None = None
         self._open()
 
     @property
@@ -44,44 +52,98 @@ class Service:
         """Whether this one of several services answers."""
         return None
 
-    async def take(self, lines: Sequence[bytes], name: str) -> list[Part]:
-        """Puts the lines of a sender's request into the journal."""
+    async def take(self, lines: Sequence[bytes], name: str, comes_first: bool = False) -> list[Part]:
+        """Puts the lines of a sender's request into the journal; into a new one where they don't fit any more."""
+        for _ in range(MOST_TURNS):
+            await self.until_open()
+            office = self.office
+            try:
+                return [Part(office, await office.take(lines, name, comes_first), lines)]
+            except Full as full:
+                await self._begin_behind(office, full)
+        raise NotTaken("others fill each new journal")
+
+    async def until_open(self) -> None:
+        """Waits while a new journal begins. Raises `NotTaken` where no lines are taken now."""
+        if self._turn.locked():
+            try:
+                async with asyncio.timeout(SECONDS_TO_TURN), self._turn:
+                    pass
+            except TimeoutError:
+                raise NotTaken(TURNS) from None
         office = self.office
-        return [Part(office, await office.take(lines, name), lines)]
+        try:
+            office.may_take()
+        except Full as full:
+            await self._begin_behind(office, full)
+
+    async def _begin_behind(self, office: Office, full: Full) -> None:
+        """Begins a new journal by itself, unless another one has begun behind this office's since."""
+        if not self.options.limits.next_at:
+            raise full
+        try:
+            async with self._turn:
+                if self.office is office:
+                    await self._begin_next()
+        except Refusal as fault:
+            raise NotTaken(str(fault)) from None
+
+    async def _begin_by_itself(self) -> None:
+        """Begins a new journal before this one or its book is full, so that nobody has to see to it."""
+        while True:
+            office = self.office
+            await office.room.is_scarce.wait()
+            while office.state is State.STARTING:
+                await asyncio.sleep(0.02)
+            try:
+                await self._begin_behind(office, Full(""))
+            except NotTaken as fault:
+                log.error("no new journal begins by itself: %s", fault)
+                await asyncio.sleep(SECONDS_BETWEEN_TURNS)
 
     def _open(self) -> None:
         journal = self.folder.journal()
-        self.office = Office(journal, self.options.words("run", journal.checkpoint), self.metrics)
+        self.office = Office(journal, self.options.words("run", journal.checkpoint), self.metrics, self.options.limits)
         self.viewer = Viewer(self.office, self.options)
 
     def start(self) -> None:
         self.office.start()
+        if self.options.limits.next_at:
+            self._turning = asyncio.create_task(self._begin_by_itself())
 
-    async def begin_next(self) -> int:
+    async def begin_next(self, corrections: Corrections = Corrections()) -> int:
         """Saves the office as a checkpoint, and begins a new journal from it: the journal's number."""
         async with self._turn:
-            try:
-                await self.office.pause()
-                self.folder.begin_next(await self.viewer.checkpoint())
-            except (Stopped, OSError) as fault:
-                self.office.resume()
-                raise Refusal(503, f"no new journal begins: {fault}") from None
-            except Refusal:
-                self.office.resume()
-                raise
-            await self._close()
-            self._open()
-            self.office.start()
-            while self.office.state is State.STARTING:
-                await asyncio.sleep(0.005)
-            log.info("journal %d begins from a checkpoint of the one before", self.folder.last)
-            return self.folder.last
+            return await self._begin_next(corrections)
+
+    async def _begin_next(self, corrections: Corrections = Corrections()) -> int:
+        office = self.office
+        try:
+            await office.pause()
+            self.folder.begin_next(await self.viewer.checkpoint(corrections))
+        except (Stopped, OSError) as fault:
+            office.resume()
+            raise Refusal(503, f"no new journal begins: {fault}") from None
+        except Refusal:
+            office.resume()
+            raise
+        await self._close()
+        self._open()
+        self.office.start()
+        while self.office.state is State.STARTING:
+            await asyncio.sleep(0.005)
+        log.info("journal %d begins from a checkpoint of the one before, which has %d lines", self.folder.last, office.journal.lines.count)
+        # Who waits for room in the journal before looks at this one.
+        office.room.is_scarce.set()
+        return self.folder.last
 
     async def _close(self) -> None:
         self.viewer.end()
         await self.office.close()
 
     async def close(self) -> None:
+        if self._turning:
+            self._turning.cancel()
         async with self._turn:
             await self._close()
             self.folder.close()

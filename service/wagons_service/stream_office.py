@@ -10,6 +10,7 @@ from collections.abc import Callable, Sequence
 from typing import NamedTuple
 
 from .journal import Broken, Journal, KeptReplies
+from .limits import Limits
 from .metrics import Metrics
 from .office import TURNS, NotTaken, Office, State
 from .program import NOTHING, Program, Replies
@@ -24,8 +25,9 @@ class Unwritten(NamedTuple):
 
 
 class StreamOffice(Office):
-    def __init__(self, journal: Journal, command: Sequence[str], metrics: Metrics, grew: Callable[[], None], append: Callable[[bytes], None]) -> None:
-        super().__init__(journal, command, metrics)
+    def __init__(self, journal: Journal, command: Sequence[str], metrics: Metrics, grew: Callable[[], None], append: Callable[[bytes], None],
+                 limits: Limits = Limits()) -> None:
+        super().__init__(journal, command, metrics, limits)
         self.ids: list[bytes] = []
         # The replies to the lines behind the last one whose reply is in the stream.
         self._kinds: list[bytes] = []
@@ -46,6 +48,7 @@ class StreamOffice(Office):
         """Takes the next entries of the stream; `feed` hands them on."""
         first = self.journal.lines.count + 1
         self.journal.copy(entries.lines)
+        self.silence.take(self.journal.last_line)
         self.ids += entries.ids
         self._refusals |= {first + index: refusal for index, refusal in entries.refusals.items()}
 
@@ -57,10 +60,6 @@ class StreamOffice(Office):
         """Whether the stream is read and written now; where it isn't, no lines are taken."""
         self._why_not = why_not
         self._judge()
-
-    def taken_at(self, number: int) -> float | None:
-        # An id begins with the server's milliseconds.
-        return order(self.ids[number - 1])[0] / 1000 if number <= len(self.ids) else None
 
     @property
     def is_ready(self) -> bool:
@@ -94,6 +93,7 @@ class StreamOffice(Office):
             return
         self._count(replies.part(bisect_right(numbers, self._counted)))
         self._told = numbers[-1]
+        self.silence.end()
         if before < len(numbers):
             self._kinds += replies.kinds[before:]
             self._texts += replies.texts[before:]

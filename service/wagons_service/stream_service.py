@@ -22,6 +22,7 @@ from typing import Any
 from . import temporary
 from .address import Address
 from .answers import Refusal
+from .corrections import Corrections
 from .journal import NotKept
 from .office import NotTaken, State, Stopped
 from .options import DEFAULT_ENTRIES, Options
@@ -50,6 +51,7 @@ class Unfit(Exception):
 class _Request:
     lines: Sequence[bytes]
     ids: "asyncio.Future[list[bytes]]"
+    comes_first: bool = False
 
     def refuse(self, why: Exception) -> None:
         if not self.ids.done():
@@ -88,13 +90,16 @@ class StreamService(Service):
 
     def _open(self) -> None:
         journal = self.folder.journal()
-        self.office = StreamOffice(journal, self.options.words("run", journal.checkpoint), self.metrics, self._grew.set, self._append_ours)
+        self.office = StreamOffice(journal, self.options.words("run", journal.checkpoint), self.metrics, self._grew.set, self._append_ours, self.options.limits)
         self.viewer = Viewer(self.office, self.options)
+
+    async def until_open(self) -> None:
+        self.office.may_take()
 
     def start(self) -> None:
         self._task = asyncio.create_task(self._serve())
 
-    async def begin_next(self) -> int:
+    async def begin_next(self, corrections: Corrections = Corrections()) -> int:
         raise Refusal(400, "The journals of a stream begin by themselves.")
 
     async def close(self) -> None:
@@ -111,11 +116,11 @@ class StreamService(Service):
 
     # Lines are appended.
 
-    async def take(self, lines: Sequence[bytes], _name: str) -> list[Part]:
+    async def take(self, lines: Sequence[bytes], name: str, comes_first: bool = False) -> list[Part]:
         self.office.may_take()
         if not lines:
             return []
-        ids = await self._append(lines)
+        ids = await self._append(lines, comes_first)
         office, first = await self._place(ids[0])
         last_office, last = await self._place(ids[-1])
         if office is last_office:
@@ -124,8 +129,8 @@ class StreamService(Service):
         many = len(office.ids) + 1 - first
         return [Part(office, range(first, first + many), lines[:many]), Part(last_office, range(1, last + 1), lines[many:])]
 
-    async def _append(self, lines: Sequence[bytes]) -> list[bytes]:
-        request = _Request(lines, asyncio.get_running_loop().create_future())
+    async def _append(self, lines: Sequence[bytes], comes_first: bool) -> list[bytes]:
+        request = _Request(lines, asyncio.get_running_loop().create_future(), comes_first)
         self._to_append.put_nowait(request)
         return await request.ids
 
@@ -156,6 +161,7 @@ class StreamService(Service):
             requests = [await self._to_append.get()]
             while not self._to_append.empty():
                 requests.append(self._to_append.get_nowait())
+            requests.sort(key=lambda request: not request.comes_first)
             try:
                 for request in requests:
                     ids = await link.transaction(add_lines(self._target, request.lines, self._address.inbox and self._address.stream))

@@ -11,12 +11,15 @@ from collections.abc import Sequence
 from typing import Any
 
 from .answers import Refusal
+from .corrections import Corrections
 from .journal import CHUNK, MOST_LINES, FileOfLines
 from .office import Office
 from .options import Options
 from .program import DONE, NOTHING, Program, Replies
 
 SECONDS_TO_DRAW = 30
+# Over a whole journal.
+SECONDS_TO_PRINT = 300
 SHEET = b'{"type":"sheet"}'
 
 
@@ -90,10 +93,14 @@ class Viewer:
     def _words(self, word: str) -> list[str]:
         return self._options.words(word, self._journal.checkpoint)
 
-    async def checkpoint(self) -> bytes:
+    async def checkpoint(self, corrections: Corrections = Corrections()) -> bytes:
         """The office as it is now, as `wagons save` prints it."""
         async with self._turn:
-            return await self._print(self._words("save"), self._lines.count)
+            with corrections.options() as (options, files):
+                try:
+                    return await self._print([*self._words("save"), *options], self._lines.count, files)
+                except Refusal as fault:
+                    raise Refusal(422, f"{fault}\nNo new journal begins.") if corrections else fault from None
 
     async def office(self) -> dict[str, Any]:
         """The wagons and orders as they are now, and the line of the journal after which they are so."""
@@ -133,9 +140,9 @@ class Viewer:
             self._entries[code] = read_entry(code, entry.decode())
         return self._entries[code]
 
-    async def _print(self, command: Sequence[str], upto: int) -> bytes:
+    async def _print(self, command: Sequence[str], upto: int, files: Sequence[int] = ()) -> bytes:
         """What a command prints over the first lines of the journal."""
-        process = await start(command)
+        process = await start(command, files)
 
         async def feed() -> None:
             assert process.stdin is not None
@@ -151,8 +158,16 @@ class Viewer:
                 pass  # It stopped before; its own words say why.
 
         assert process.stdout is not None and process.stderr is not None
-        printed, said, _ = await asyncio.gather(process.stdout.read(), process.stderr.read(), feed())
-        if await process.wait() not in DONE:
+        try:
+            async with asyncio.timeout(SECONDS_TO_PRINT):
+                printed, said, _ = await asyncio.gather(process.stdout.read(), process.stderr.read(), feed())
+                await process.wait()
+        except TimeoutError:
+            raise Refusal(503, f"{command[0]} {command[1]} took over {SECONDS_TO_PRINT} seconds.") from None
+        finally:
+            if process.returncode is None:
+                process.kill()
+        if process.returncode not in DONE:
             raise Refusal(503, said.decode("utf-8", "replace").strip() or f"{command[0]} ended with {process.returncode}")
         return printed
 
@@ -160,10 +175,10 @@ class Viewer:
         self._follower.end()
 
 
-async def start(command: Sequence[str]) -> asyncio.subprocess.Process:
+async def start(command: Sequence[str], files: Sequence[int] = ()) -> asyncio.subprocess.Process:
     pipe = asyncio.subprocess.PIPE
     try:
-        return await asyncio.create_subprocess_exec(*command, stdin=pipe, stdout=pipe, stderr=pipe)
+        return await asyncio.create_subprocess_exec(*command, stdin=pipe, stdout=pipe, stderr=pipe, pass_fds=files)
     except OSError as fault:
         raise Refusal(503, f"{command[0]} couldn't be started: {fault}") from None
 

@@ -39,6 +39,7 @@ class XmlRoute:
             async with self._senders.setdefault(sender, asyncio.Lock()):
                 rows = await self._rows(body)
             async with self._turn:
+                self._identifiers.owner = sender.key
                 lines = await self._lines(rows, sender)
             return await self._server.answer(request, lines, start)
 
@@ -60,11 +61,13 @@ class XmlRoute:
         try:
             lines = await asyncio.to_thread(lambda: [row.numbered(self._identifiers) for row in rows])
             judge_size(lines)
-            sender.judge(lines)
+            await self._server.judge(sender, lines)
             await asyncio.to_thread(self._identifiers.keep)
             is_kept = True
             return lines
-        except (NoNumberLeft, NotKept, Broken) as fault:
+        except NoNumberLeft as fault:
+            raise Refusal(403, f"{fault}; nothing of the request was taken.") from None
+        except (NotKept, Broken) as fault:
             raise Refusal(503, f"{fault}; nothing of the request was taken") from None
         finally:
             if not is_kept:

@@ -7,6 +7,7 @@ const PLACE = /^[A-Z]{2}[0-9]{5}$/;
 const WAIT = 250;
 const REDRAW = 1500;
 const MOST_REFUSALS = 20;
+const ROSTER = "wagon,class,load,status,place,moment";
 
 const byId = (id) => document.getElementById(id);
 const text = (key, values = {}) => (TEXTS[key] ?? key).replace(/\{(\w+)\}/g, (whole, name) => String(values[name] ?? whole));
@@ -405,10 +406,16 @@ function follow(from) {
   events.onerror = () => { if (isLive) { isLive = false; showState(text("lost")); } };
 }
 
+function corrections() { // Corrected rows and wagons that leave, where there are any.
+  const rows = byId("correct-rows").value.trim();
+  const leaving = byId("correct-leaving").value.split(",").map((word) => word.trim()).filter(Boolean);
+  return rows || leaving.length ? JSON.stringify({ with: rows && `${ROSTER}\n${rows}\n`, without: leaving }) : "";
+}
+
 async function beginNext() {
   if (!confirm(text("next_sure"))) return;
   await doing(async () => {
-    const answer = await fetch("/next", { method: "POST", credentials: "same-origin" });
+    const answer = await fetch("/next", { method: "POST", body: corrections(), credentials: "same-origin" });
     if (!answer.ok) throw new Error((await answer.text()).trim());
   });
 }
