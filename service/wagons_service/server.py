@@ -21,7 +21,7 @@ from .corrections import Corrections
 from .gauges import gauges
 from .identifiers import Identifiers
 from .journal import MOST_LINES, Journal, Unreadable, is_blank
-from .office import NotTaken, Office, State, Stopped
+from .office import NotTaken, Office, Stopped
 from .old_journals import OldJournals
 from .pace import Pace
 from .senders import ANYONE, Ahead, BadTokens, Forbidden, NoLine, Role, Sender, Tokens, is_loopback

@@ -14,7 +14,7 @@ from .limits import Limits
 from .metrics import Metrics
 from .office import TURNS, NotTaken, Office, State
 from .program import NOTHING, Program, Replies
-from .streams import MOST_ENTRIES, Entries, order
+from .streams import MOST_ENTRIES, Entries
 
 NOT_READ = "the stream isn't read to its end yet"
 
