@@ -9,10 +9,11 @@ from bisect import bisect_right
 from collections.abc import Callable, Sequence
 from typing import NamedTuple
 
-from .journal import Broken, Journal, KeptReplies
+from .journal import Broken, FileOfLines, Journal, KeptReplies, NotKept
 from .metrics import Metrics
 from .office import TURNS, NotTaken, Office, State
 from .program import NOTHING, Program, Replies
+from .stream_copy import Known
 from .streams import MOST_ENTRIES, Entries
 
 NOT_READ = "the stream isn't read to its end yet"
@@ -24,15 +25,18 @@ class Unwritten(NamedTuple):
 
 
 class StreamOffice(Office):
-    def __init__(self, journal: Journal, command: Sequence[str], metrics: Metrics, grew: Callable[[], None], append: Callable[[bytes], None]) -> None:
+    def __init__(self, journal: Journal, command: Sequence[str], metrics: Metrics, grew: Callable[[], None], append: Callable[[bytes], None],
+                 ids: FileOfLines, known: Known) -> None:
         super().__init__(journal, command, metrics)
-        self.ids: list[bytes] = []
+        # Those of the lines, in memory and beside the journal.
+        self.ids = known.ids
+        self._kept_ids = ids
         # The replies to the lines behind the last one whose reply is in the stream.
         self._kinds: list[bytes] = []
         self._texts: list[bytes] = []
         self._grew = grew
         self._append = append
-        self._refusals: dict[int, bytes] = {}
+        self._refusals = known.refusals
         self._why_not: str | None = NOT_READ
         self._is_up = False
         self._ended_sheet = 0
@@ -45,7 +49,12 @@ class StreamOffice(Office):
     def add(self, entries: Entries) -> None:
         """Takes the next entries of the stream; `feed` hands them on."""
         first = self.journal.lines.count + 1
-        self.journal.copy(entries.lines)
+        self._kept_ids.append(entries.ids, is_synced=False)
+        try:
+            self.journal.copy(entries.lines)
+        except NotKept:
+            self._kept_ids.cut(first - 1)
+            raise
         self.ids += entries.ids
         self._refusals |= {first + index: refusal for index, refusal in entries.refusals.items()}
 
