@@ -36,21 +36,18 @@ def restore(folder: Path, address: str) -> "subprocess.CompletedProcess[str]":
 
 
 def test_a_copy_outlives_a_wrong_stream(server: RedisServer, start_office: StartOffice, program: str, tmp_path: Path) -> None:
-    """A mistyped name and an emptied server leave the last copy of an office as it is, and it can be put back."""
+    """A mistyped name leaves the last copy of an office as it is, and where the server is emptied it can be put back."""
     folder = tmp_path / "copy"
     office, told = copied(server, start_office, folder, 50)
     assert office.stop() == 0
     before = files(folder)
-    for stream in "nort", "north":
-        if stream == "north":
-            server.client.flushall()
-        wrong = start_office(server.address(stream), options=[*OPTIONS, "--copy", str(folder)]).until_listening()
-        words = wrong.until_state("stopped")["words"]
-        assert f"{folder} is of another stream" in words and "wagons-service restore" in words
-        assert not server.client.keys(f"{{{stream}}}:*")
-        assert "another service has the folder" in restore(folder, server.address("north")).stderr
-        wrong.end()
-        assert files(folder) == before
+    wrong = start_office(server.address("nort"), options=[*OPTIONS, "--copy", str(folder)]).until_listening()
+    words = wrong.until_state("stopped")["words"]
+    assert f"the copy {folder} is of another stream" in words and "wagons-service restore" in words
+    assert not server.client.keys("{nort}:*") and files(folder) == before
+    assert "another service has the folder" in restore(folder, server.address("north")).stderr
+    wrong.end()
+    server.client.flushall()
     done = restore(folder, server.address("north"))
     assert done.returncode == 0 and "{north}:lines has the 30 lines of journal 2 and 3 again, and 30 replies" in done.stdout, done.stderr
     assert "isn't empty" in restore(folder, server.address("north")).stderr and files(folder) == before
@@ -83,20 +80,28 @@ def test_a_restore_that_was_ended(server: RedisServer, start_office: StartOffice
 def test_a_copy_goes_on_where_it_ends(server: RedisServer, start_office: StartOffice, tmp_path: Path) -> None:
     """What was read while its service was away is added; the files are the same ones, and none is renamed."""
     folder = tmp_path / "copy"
+    (folder / "1").mkdir(parents=True)
+    # A copy without a line is anybody's.
+    (folder / "1" / "stream.json").write_text('{"identity":"other","after":"0-0","journal_lines":20}')
     office, _ = copied(server, start_office, folder, 30)
     office.stop()
+    identity = server.client.get("{north}:identity")
+    assert identity and json.loads((folder / "1" / "stream.json").read_text())["identity"] == identity.decode()
     before, files_before = files(folder), {it: it.stat().st_ino for it in folder.rglob("*.jsonl")}
-    # As a machine that fails may leave it: a line without its id, and a reply without its line.
+    # As a machine that fails may leave it: lines without their ids.
     ids = (folder / "2" / "ids").read_bytes()
     (folder / "2" / "ids").write_bytes(b"".join(ids.splitlines(keepends=True)[:-2]))
     start_office(server.address("north"), options=OPTIONS).until_first()
     answered(server, appended(server, lines(30, 55))[-1:])
+    # The last checkpoint has the identity too.
+    server.client.delete("{north}:identity")
     start_office(server.address("north"), options=[*OPTIONS, "--copy", str(folder)]).until_ready()
     until("the copy has all", lambda: sum(it.read_bytes().count(b"\n") for it in folder.glob("*/replies.jsonl")) == 55)
     now = files(folder)
     assert all(now[name].startswith(content) for name, content in before.items()) and now["2/ids"].startswith(ids)
     assert all(it.stat().st_ino == number for it, number in files_before.items())
     assert b"".join(now[f"{k}/journal.jsonl"] for k in (1, 2, 3)).splitlines() == lines(0, 55)
+    assert server.client.get("{north}:identity") == identity
     assert not list(folder.glob("*replaced*")) and not list(folder.glob("*/*replaced*"))
 
 

@@ -336,7 +336,7 @@ def test_the_page(server: RedisServer, start_office: StartOffice) -> None:
 
 # As docs/STREAMS.md has them.
 RAILWAY = "on >secret -@all +ping +xadd +xread +xrange +fcall +get +set %RW~{north}:lines %R~{north}:replies %RW~{north}:sent:1001".split()
-OFFICE = ("on >hidden -@all +xlen +xadd +xread +xrange +xrevrange +xtrim +xinfo +exists +get +set +del +multi +exec +function|load "
+OFFICE = ("on >hidden -@all +xadd +xread +xrange +xrevrange +xtrim +xinfo +exists +get +set +del +watch +unwatch +wait +multi +exec +function|load "
           "~{north}:*").split()
 
 

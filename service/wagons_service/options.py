@@ -35,6 +35,7 @@ class Options:
     copy: str | None = None
     lease: int = DEFAULT_LEASE
     journal_lines: int | None = None
+    replicas: int = 0
 
     def words(self, word: str, checkpoint: str | None) -> list[str]:
         """The command `wagons WORD` with the options that say which office it is; a journal's own checkpoint comes first."""
@@ -52,9 +53,9 @@ def read(arguments: Sequence[str]) -> Options:
     """Reads the arguments; what is wrong with them is said on standard error, with status 2."""
     parser = argparse.ArgumentParser(
         prog="wagons-service", description="Takes lines for `wagons run` over a network, and answers its replies.",
-        epilog=f"See {PAGE}.")
+        epilog=f"`wagons-service restore` puts the copy of a stream back. See {PAGE}.")
     parser.add_argument("--journal", metavar="FOLDER", required=True,
-                        help="the folder of the journal; it is made where it isn't there. Or redis://HOST:PORT/STREAM (docs/STREAMS.md)")
+                        help="the folder of the journal; it is made where it isn't there. Or redis://HOST:PORT[,HOST:PORT..]/STREAM (docs/STREAMS.md)")
     start = parser.add_mutually_exclusive_group(required=True)
     start.add_argument("--roster", metavar="FILE", help="the fleet at the start")
     start.add_argument("--from", metavar="FILE", dest="start", help="the office at the start: a checkpoint of `wagons save`")
@@ -69,6 +70,7 @@ def read(arguments: Sequence[str]) -> Options:
     parser.add_argument("--copy", metavar="FOLDER", help="of a stream: where its journals are kept as files too")
     parser.add_argument("--lease", metavar="MILLISECONDS", type=int, default=DEFAULT_LEASE, help="of a stream: after so long without a sign another service answers")
     parser.add_argument("--journal-lines", metavar="N", type=int, help="of a new stream: after each N lines a checkpoint is made and a new journal begins")
+    parser.add_argument("--replicas", metavar="N", type=int, default=0, help="of a stream: a line is answered when so many replicas of the server have it")
     given = parser.parse_args(arguments)
     address = None
     if "://" in given.journal:
@@ -82,6 +84,8 @@ def read(arguments: Sequence[str]) -> Options:
             parser.error(f"argument --lease: {LEAST_LEASE} milliseconds are the least")
         if given.journal_lines is not None and not 0 < given.journal_lines <= MOST_JOURNAL_LINES:
             parser.error(f"argument --journal-lines: 1 to {MOST_JOURNAL_LINES}")
+    if given.replicas < 0 or (given.replicas and not address):
+        parser.error("argument --replicas: 0 or more, of a stream")
     host, _, port = given.listen.rpartition(":")
     host = host.strip("[]")
     if not host or not (port.isascii() and port.isdigit() and int(port) < 65536):
@@ -91,4 +95,4 @@ def read(arguments: Sequence[str]) -> Options:
     return Options(
         journal=given.journal, program=found(given.program), roster=given.roster, start=given.start, networks=given.network,
         entries=given.entries, kept=given.kept, workers=given.workers, host=host, port=int(port), tokens=given.tokens, map=given.map,
-        address=address, copy=given.copy, lease=given.lease, journal_lines=given.journal_lines)
+        address=address, copy=given.copy, lease=given.lease, journal_lines=given.journal_lines, replicas=given.replicas)

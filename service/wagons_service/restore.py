@@ -9,17 +9,22 @@ import argparse
 import asyncio
 import json
 import os
+import secrets
 import sys
+import time
 from collections.abc import Iterator, Sequence
 from typing import NamedTuple
 
 from .address import Address, BadAddress
 from .journal import MOST_LINE_BYTES, Folder, FolderInUse, Journal, Unreadable
+from .lease import Lease
+from .options import DEFAULT_LEASE
 from .redis_link import Link, Lost, Refused, number, pack
 from .stream_copy import RESTORING, Origin, Unfit, checkpoint_of, ids_of, open_journal
 from .streams import MOST_ENTRIES, NO_LINE, START, TOO_LONG, Checkpoint, Keys, add_checkpoint, add_copies, add_replies, are_added, order
 
 PAGE = "docs/STREAMS.md"
+SECONDS_BETWEEN_LOOKS = 0.2
 
 
 class Part(NamedTuple):
@@ -82,13 +87,17 @@ class Restore:
     def __init__(self, link: Link, keys: Keys, parts: Sequence[Part], before: tuple[bytes, bytes]) -> None:
         self._link, self._keys, self._parts, self._before = link, keys, parts, before
         self._origin = parts[0].origin
+        self.lease = Lease(keys.lease, f"restore:{secrets.token_hex(8)}".encode(), DEFAULT_LEASE)
         self.replies = 0
 
     async def judge(self) -> None:
         """Raises `Unfit` where the stream isn't empty, or a service runs over it."""
         keys, asked = self._keys, RESTORING + self._origin.identity
-        if await self._link.one(pack(b"EXISTS", keys.lease)):
-            raise Unfit(f"a service runs over {keys.lines.decode()}, or did until now; stop it first")
+        end = time.monotonic() + 2 * DEFAULT_LEASE / 1000
+        while not await self.lease.ask(self._link):
+            if time.monotonic() > end:
+                raise Unfit(f"a service runs over {keys.lines.decode()}; stop it first")
+            await asyncio.sleep(SECONDS_BETWEEN_LOOKS)
         if await self._link.one(pack(b"GET", keys.identity)) == asked.encode():
             return
         if await self._link.one(pack(b"EXISTS", keys.lines, keys.replies, keys.checkpoints)):
@@ -139,8 +148,11 @@ async def restore(folder: Folder, address: Address) -> str:
     link = await Link.open(address, keys.lines)
     try:
         work = Restore(link, keys, parts, entry_before(folder, parts[0]))
-        await work.judge()
-        await work.run()
+        try:
+            await work.judge()
+            await work.run()
+        finally:
+            await work.lease.release(link)
     finally:
         link.close()
     journals = " and ".join(str(part.journal.number) for part in parts)

@@ -52,8 +52,8 @@ class Origin(NamedTuple):
         return json.dumps(self._asdict() | {"after": self.after.decode()}).encode() + b"\n"
 
     def keep(self, folder: str) -> None:
-        """Writes it into a journal's folder that has none yet: wholly or not at all."""
-        if not os.path.exists(f"{folder}/{ORIGIN}"):
+        """Writes it into a journal's folder, wholly or not at all. A folder without a line may have that of another stream."""
+        if Origin.read(folder) != self:
             with open(f"{folder}/{ORIGIN}.new", "wb") as file:
                 file.write(self.text)
                 file.flush()
@@ -110,19 +110,24 @@ def identity_of(folder: Folder) -> str | None:
     return None if is_empty else next(iter(found.values()), None)
 
 
-async def identity(link: Link, keys: Keys, known: str | None, whose: str) -> str:
-    """The identity of the stream, which must be the known one; a stream that has none gets one."""
+async def identity(link: Link, keys: Keys, known: str | None, copy: str | None) -> str:
+    """The identity of the stream, which must be the known one, that of the copy or of what was read before. A stream that
+    has none gets one."""
     there = await link.one(pack(b"GET", keys.identity))
     if there and there.startswith(RESTORING.encode()):
         raise Unfit(f"a copy is being put back into {keys.lines.decode()}; where `wagons-service restore` was ended, begin it once more")
+    last = await link.one(pack(b"XREVRANGE", keys.checkpoints, b"+", b"-", b"COUNT", b"1"))
+    kept = field(last[0][1], b"identity") if last else b""
+    if there and kept not in (b"", there):
+        raise Unfit(f"{keys.checkpoints.decode()} is of another stream: it has the identity {kept.decode()}, and {keys.identity.decode()} is {there.decode()}")
+    there = there or kept
     if known is not None and there != known.encode():
+        whose, advice = (f"the copy {copy}", ADVICE) if copy else ("what this service has read", "Start it again to serve what is there now")
         raise Unfit(f"{whose} is of another stream: {keys.lines.decode()} has {f'the identity {there.decode()}' if there else 'no identity'}, "
-                    f"and not {known}. {ADVICE}")
-    if there is None:
-        await link.one(pack(b"SET", keys.identity, secrets.token_hex(16).encode(), b"NX"))
-        there = await link.one(pack(b"GET", keys.identity))
-    found: str = there.decode()
-    return found
+                    f"and not {known}. {advice}")
+    await link.one(pack(b"SET", keys.identity, there or secrets.token_hex(16).encode(), b"NX"))
+    found: bytes = await link.one(pack(b"GET", keys.identity))
+    return found.decode()
 
 
 def start_for(folder: Folder, found: Sequence[Checkpoint]) -> Checkpoint:

@@ -22,6 +22,7 @@ from typing import Any
 from .address import Address
 from .answers import Refusal
 from .journal import NotKept
+from .lease import Lease
 from .office import NotTaken, State, Stopped
 from .options import DEFAULT_ENTRIES, Options
 from .redis_link import Link, Lost, Refused, good, number, pack
@@ -30,7 +31,7 @@ from .stream_copy import (
     ORIGIN, Known, Origin, Unfit, checkpoint_of, identity, identity_of, ids_of, known_from, nothing_known, open_journal, start_for)
 from .stream_office import NOT_READ, StreamOffice
 from .streams import (
-    LIBRARY, MOST_ENTRIES, START, Checkpoint, Keys, Mark, Trimmed, add_lines, add_replies, are_added, field,
+    LIBRARY, MOST_ENTRIES, START, Checkpoint, Keys, Mark, Trimmed, add_lines, add_replies, are_added, count_replicas, field,
     keep_checkpoint, last_id, lines_of, mark_at, order, read_behind, starts, wait)
 from .viewer import Viewer
 
@@ -62,7 +63,8 @@ class StreamService(Service):
         self._target = Keys(address.inbox or address.stream).lines
         self._is_temporary = not options.copy
         self._copy = options.copy or tempfile.mkdtemp(prefix="wagons-service-")
-        self._token = f"{socket.gethostname()}:{os.getpid()}:{secrets.token_hex(8)}".encode()
+        token = f"{socket.gethostname()}:{os.getpid()}:{secrets.token_hex(8)}".encode()
+        self._lease = Lease(self._keys.lease, token, options.lease)
         self._task: asyncio.Task[None] | None = None
         self._grew = asyncio.Event()
         self._to_append: asyncio.Queue[_Request] = asyncio.Queue()
@@ -80,6 +82,7 @@ class StreamService(Service):
         self._is_caught_up = False
         self._checkpoint: Checkpoint | None = None
         self._journal_lines = 0
+        self._lacks_replicas = False
         self.is_first = False
         super().__init__(options)
 
@@ -207,24 +210,26 @@ class StreamService(Service):
         links: list[Link] = []
         try:
             # The one that reads comes first, so that it isn't newer than the one by which all is compared.
-            for key in self._keys.lines, self._keys.lines, self._target:
+            for key in self._keys.lines, self._keys.lines, self._keys.lines, self._target:
                 links.append(await Link.open(self._address, key))
-            reader, writer, appender = links
+            reader, writer, keeper, appender = links
+            if not reader.peer == writer.peer == keeper.peer:
+                raise Lost("another server took over just now")
             await self._begin(writer)
-            works = [self._follow(reader), self._write(writer), self._hold(writer), self._append_all(appender), appender.until_lost()]
+            works = [self._follow(reader), self._write(writer), self._hold(keeper, writer), self._append_all(appender), appender.until_lost()]
             tasks = [asyncio.create_task(work) for work in works]
+            done: set[asyncio.Task[None]] = set()
             try:
                 done, _ = await asyncio.wait(tasks, return_when=asyncio.FIRST_COMPLETED)
-                for task in done:
-                    task.result()
-                await self._release(writer)
-            except asyncio.CancelledError:
-                await self._release(writer)
-                raise
             finally:
                 for task in tasks:
                     task.cancel()
                 await asyncio.gather(*tasks, return_exceptions=True)
+                # Where a connection broke, the others may be silent.
+                if not any(task.exception() for task in done):
+                    await self._release(keeper)
+            for task in done:
+                task.result()
         finally:
             for link in links:
                 link.close()
@@ -233,8 +238,7 @@ class StreamService(Service):
         """Compares what was read before with what is there; where it isn't there any more, all is read anew."""
         if not self._is_temporary and self._identity is None:
             self._identity = identity_of(self.folder)
-        whose = "what this service has read" if self._is_temporary else f"the copy {self._copy}"
-        self._identity = await identity(link, self._keys, self._identity, whose)
+        self._identity = await identity(link, self._keys, self._identity, None if self._is_temporary else self._copy)
         await self._agree(link)
         if not self._is_new:
             for key, last in (self._keys.lines, self._line), (self._keys.replies, self._reply):
@@ -370,6 +374,8 @@ class StreamService(Service):
             self._grew.clear()
             while self.is_first and (replies := self.office.unwritten()).ids:
                 office, last = self.office, self._reply
+                if not await self._are_on_replicas(link, replies.ids[-1]):
+                    continue
                 are_new = are_added(await link.transaction(add_replies(self._keys, replies.ids, replies.texts)))
                 if are_new and self._reply == last:
                     office.confirm(replies.ids, replies.texts)
@@ -378,16 +384,28 @@ class StreamService(Service):
                     # Another service has written some of them.
                     await self._read_replies(office, link)
 
+    async def _are_on_replicas(self, link: Link, id: bytes) -> bool:
+        """Whether as many replicas as are wanted have the lines up to one, so that they may be answered."""
+        wanted = self.options.replicas
+        count = await count_replicas(link, self._keys, id, wanted, MILLISECONDS_OF_WAITING) if wanted else 0
+        if count < wanted and not self._lacks_replicas:
+            log.warning("lines wait for their replies: %d of %d replicas have them", count, wanted)
+        elif count >= wanted and self._lacks_replicas:
+            log.info("%d replicas have the lines again", count)
+        self._lacks_replicas = count < wanted
+        return count >= wanted
+
     # The lease.
 
-    async def _hold(self, link: Link) -> None:
+    async def _hold(self, keeper: Link, writer: Link) -> None:
+        """Renews the lease, or waits for it, over a connection of its own: nothing that takes long may hold it up."""
         while not self._is_caught_up:
             await asyncio.sleep(0.01)
         while True:
-            is_held = await self._ask_lease(link)
+            is_held = await self._lease.ask(keeper)
             if is_held and not self.is_first:
                 log.info("this service writes the replies now")
-                await self._keep_checkpoint(link)
+                await self._keep_checkpoint(writer)
             elif self.is_first and not is_held:
                 log.info("another service writes the replies now")
             self.is_first = is_held
@@ -395,17 +413,9 @@ class StreamService(Service):
                 self._grew.set()
             await asyncio.sleep(self.options.lease / 3000)
 
-    async def _ask_lease(self, link: Link) -> bool:
-        there = await link.one(pack(b"GET", self._keys.lease))
-        if there is not None and there != self._token:
-            return False
-        how = b"NX" if there is None else b"XX"
-        return await link.one(pack(b"SET", self._keys.lease, self._token, how, b"PX", number(self.options.lease))) is not None
-
-    async def _release(self, link: Link) -> None:
+    async def _release(self, keeper: Link) -> None:
         """Lets another service write at once."""
         if self.is_first:
             self.is_first = False
             with suppress(Lost, Refused):
-                if await link.one(pack(b"GET", self._keys.lease)) == self._token:
-                    await link.one(pack(b"DEL", self._keys.lease))
+                await self._lease.release(keeper)

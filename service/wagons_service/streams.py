@@ -102,6 +102,11 @@ class Keys:
         return self._key("identity")
 
     @property
+    def awaited(self) -> bytes:
+        """The last line that replicas were asked for."""
+        return self._key("awaited")
+
+    @property
     def journal_lines(self) -> bytes:
         """How many lines a journal of this stream has, for good."""
         return self._key("journal-lines")
@@ -242,6 +247,13 @@ async def keep_checkpoint(link: Link, keys: Keys, checkpoint: Checkpoint, identi
 def add_checkpoint(keys: Keys, checkpoint: Checkpoint, identity: str) -> bytes:
     words = b"journal", number(checkpoint.journal), b"identity", identity.encode(), b"text", checkpoint.text
     return pack(b"XADD", keys.checkpoints, checkpoint.id, *words)
+
+
+async def count_replicas(link: Link, keys: Keys, id: bytes, many: int, milliseconds: int) -> int:
+    """How many replicas have all lines up to one, once so many have them, or after that time. Redis tells for a connection's
+    own writes, and all that came before them: so something is written."""
+    answers = await link.ask(pack(b"SET", keys.awaited, id) + pack(b"WAIT", number(many), number(milliseconds)), 2)
+    return int([good(answer) for answer in answers][-1])
 
 
 def are_added(answers: Sequence[Any]) -> bool:
