@@ -53,28 +53,29 @@ def test_a_copy_outlives_a_wrong_stream(server: RedisServer, start_office: Start
     assert "isn't empty" in restore(folder, server.address("north")).stderr and files(folder) == before
     # Each reply stands under its line's id again, and the next line is answered as if nothing had been.
     assert replies(server) == told
-    again = start_office(server.address("north"), options=[*OPTIONS, "--copy", str(folder)]).until_first()
+    start_office(server.address("north"), options=[*OPTIONS, "--copy", str(folder)]).until_first()
     ids = appended(server, lines(50, 60))
     assert answered(server, ids) == run(program, lines(40, 60), ["--from", str(folder / "3" / "checkpoint.jsonl")])[10:]
-    # A service without a copy reads the same office.
-    other = start_office(server.address("north")).until_ready()
-    until("it has read all", lambda: other.health() | {"role": ""} == again.health() | {"role": ""})
 
 
-def test_a_restore_that_was_ended(server: RedisServer, start_office: StartOffice, tmp_path: Path) -> None:
-    """No service begins with a part of the lines, and the restore is begun once more."""
+def test_an_emptied_stream_is_put_back(server: RedisServer, start_office: StartOffice, tmp_path: Path) -> None:
+    """A service whose stream is emptied stops. Where its restore is ended, no service begins with a part of the lines, and the
+    restore is begun once more."""
     folder = tmp_path / "copy"
     office, told = copied(server, start_office, folder, 30)
-    office.stop()
-    identity = json.loads((folder / "1" / "stream.json").read_text())["identity"]
+    before = files(folder)
     server.client.flushall()
+    assert "{north}:lines has no identity" in office.until_state("stopped")["words"] and files(folder) == before
+    office.end()
+    identity = json.loads((folder / "1" / "stream.json").read_text())["identity"]
     server.client.xadd(LINES, {"line": lines(0, 1)[0]}, id=next(iter(told)).decode())
     server.client.set("{north}:identity", f"restoring {identity}")
     early = start_office(server.address("north"), options=OPTIONS).until_listening()
     assert "is being put back" in early.until_state("stopped")["words"]
     assert "the 30 lines of journal 1 and 2 again" in restore(folder, server.address("north")).stdout
-    start_office(server.address("north"), options=[*OPTIONS, "--copy", str(folder)]).until_first()
-    assert replies(server) == told
+    # A service without a copy reads the same office.
+    again = start_office(server.address("north")).until_first()
+    assert replies(server) == told and again.health()["lines"] == 10
 
 
 def test_a_copy_goes_on_where_it_ends(server: RedisServer, start_office: StartOffice, tmp_path: Path) -> None:
@@ -129,15 +130,6 @@ def test_a_copy_with_more_than_its_stream(start_server: StartServer, start_offic
     office.end()
     office = start_office(server.address("north"), options=[*OPTIONS, "--copy", str(folder)]).until_listening()
     assert f"line 6 of journal 2 of the copy {folder} isn't the one" in office.until_state("stopped")["words"] and files(folder) == before
-
-
-def test_an_emptied_stream_stops_its_service(server: RedisServer, start_office: StartOffice, tmp_path: Path) -> None:
-    """So does a stream whose keys went while the service runs."""
-    folder = tmp_path / "copy"
-    office, _ = copied(server, start_office, folder, 30)
-    before = files(folder)
-    server.client.flushall()
-    assert "{north}:lines has no identity" in office.until_state("stopped")["words"] and files(folder) == before
 
 
 def test_a_lost_line_whose_id_came_again(start_server: StartServer, start_office: StartOffice, program: str) -> None:
