@@ -79,7 +79,7 @@ def test_an_emptied_stream_is_put_back(server: RedisServer, start_office: StartO
 
 
 def test_a_copy_goes_on_where_it_ends(server: RedisServer, start_office: StartOffice, tmp_path: Path) -> None:
-    """What was read while its service was away is added; the files are the same ones, and none is renamed."""
+    """What was read while its service was away is added, and the journals' files are the same ones."""
     folder = tmp_path / "copy"
     (folder / "1").mkdir(parents=True)
     # A copy without a line is anybody's.
@@ -88,10 +88,10 @@ def test_a_copy_goes_on_where_it_ends(server: RedisServer, start_office: StartOf
     office.stop()
     identity = server.client.get("{north}:identity")
     assert identity and json.loads((folder / "1" / "stream.json").read_text())["identity"] == identity.decode()
-    before, files_before = files(folder), {it: it.stat().st_ino for it in folder.rglob("*.jsonl")}
-    # As a machine that fails may leave it: lines without their ids.
-    ids = (folder / "2" / "ids").read_bytes()
-    (folder / "2" / "ids").write_bytes(b"".join(ids.splitlines(keepends=True)[:-2]))
+    before, files_before = files(folder), {it: it.stat().st_ino for it in folder.rglob("journal.jsonl")}
+    # As a machine that fails may leave it, since nothing of a copy is synced: lines without ids, and replies without lines.
+    for name, lost in ("2/ids", 2), ("2/journal.jsonl", 1):
+        (folder / name).write_bytes(b"".join(before[name].splitlines(keepends=True)[:-lost]))
     start_office(server.address("north"), options=OPTIONS).until_first()
     answered(server, appended(server, lines(30, 55))[-1:])
     # The last checkpoint has the identity too.
@@ -99,11 +99,12 @@ def test_a_copy_goes_on_where_it_ends(server: RedisServer, start_office: StartOf
     start_office(server.address("north"), options=[*OPTIONS, "--copy", str(folder)]).until_ready()
     until("the copy has all", lambda: sum(it.read_bytes().count(b"\n") for it in folder.glob("*/replies.jsonl")) == 55)
     now = files(folder)
-    assert all(now[name].startswith(content) for name, content in before.items()) and now["2/ids"].startswith(ids)
+    assert all(now[name].startswith(content) for name, content in before.items())
     assert all(it.stat().st_ino == number for it, number in files_before.items())
     assert b"".join(now[f"{k}/journal.jsonl"] for k in (1, 2, 3)).splitlines() == lines(0, 55)
     assert server.client.get("{north}:identity") == identity
-    assert not list(folder.glob("*replaced*")) and not list(folder.glob("*/*replaced*"))
+    (replaced,) = folder.rglob("*replaced*")
+    assert replaced.name.startswith("replies.jsonl.") and replaced.read_bytes() == before["2/replies.jsonl"]
 
 
 def test_a_copy_with_more_than_its_stream(start_server: StartServer, start_office: StartOffice, tmp_path: Path) -> None:

@@ -40,6 +40,10 @@ class Unreadable(Exception):
     """The files of the folder don't belong together."""
 
 
+class RepliesAhead(Unreadable):
+    """A journal has replies to lines that it hasn't."""
+
+
 class FileOfLines:
     """A file that grows by whole lines, and where each of its lines ends."""
 
@@ -325,7 +329,7 @@ class Journal:
         self.lines = FileOfLines(f"{folder}/journal.jsonl")
         self.replies = KeptReplies(f"{folder}/replies.jsonl")
         if self.replies.last > self.lines.count:
-            raise Unreadable(f"{folder}: line {self.replies.last} has a reply, but the journal ends with line {self.lines.count}")
+            raise RepliesAhead(f"{folder}: line {self.replies.last} has a reply, but the journal ends with line {self.lines.count}")
         sync_folder(folder)
         self.last_line = self._last_line()
 

@@ -11,7 +11,7 @@ import secrets
 from collections.abc import Sequence
 from typing import NamedTuple
 
-from .journal import FileOfLines, Folder, Journal, KeptReplies, Unreadable, replace, sync_folder
+from .journal import FileOfLines, Folder, Journal, KeptReplies, RepliesAhead, replace, sync_folder
 from .redis_link import Link, pack
 from .streams import MOST_ENTRIES, START, Checkpoint, Keys, field, lines_of, read_behind
 
@@ -85,7 +85,7 @@ def open_journal(folder: Folder, number: int) -> Journal:
     there; the stream has both."""
     try:
         return folder.journal(number)
-    except Unreadable as fault:
+    except RepliesAhead as fault:
         log.warning("%s; the replies are read anew", fault)
         replace(f"{folder.path}/{number}/replies.jsonl")
         return folder.journal(number)

@@ -31,8 +31,8 @@ from .stream_copy import (
     ORIGIN, Known, Origin, Unfit, checkpoint_of, identity, identity_of, ids_of, known_from, nothing_known, open_journal, start_for)
 from .stream_office import NOT_READ, StreamOffice
 from .streams import (
-    LIBRARY, MOST_ENTRIES, START, Checkpoint, Keys, Mark, Trimmed, add_lines, add_replies, are_added, count_replicas, field,
-    keep_checkpoint, last_id, lines_of, mark_at, order, read_behind, starts, wait)
+    LIBRARY, MOST_ENTRIES, START, Checkpoint, Keys, Mark, Trimmed, add_lines, add_replies, are_added, field,
+    keep_checkpoint, last_id, lines_of, mark_at, order, read_behind, starts, wait, wait_for_replicas)
 from .viewer import Viewer
 
 log = logging.getLogger("wagons-service")
@@ -387,7 +387,7 @@ class StreamService(Service):
     async def _are_on_replicas(self, link: Link, id: bytes) -> bool:
         """Whether as many replicas as are wanted have the lines up to one, so that they may be answered."""
         wanted = self.options.replicas
-        count = await count_replicas(link, self._keys, id, wanted, MILLISECONDS_OF_WAITING) if wanted else 0
+        count = await wait_for_replicas(link, self._keys, id, wanted, MILLISECONDS_OF_WAITING) if wanted else 0
         if count < wanted and not self._lacks_replicas:
             log.warning("lines wait for their replies: %d of %d replicas have them", count, wanted)
         elif count >= wanted and self._lacks_replicas:

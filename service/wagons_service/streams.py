@@ -249,7 +249,7 @@ def add_checkpoint(keys: Keys, checkpoint: Checkpoint, identity: str) -> bytes:
     return pack(b"XADD", keys.checkpoints, checkpoint.id, *words)
 
 
-async def count_replicas(link: Link, keys: Keys, id: bytes, many: int, milliseconds: int) -> int:
+async def wait_for_replicas(link: Link, keys: Keys, id: bytes, many: int, milliseconds: int) -> int:
     """How many replicas have all lines up to one, once so many have them, or after that time. Redis tells for a connection's
     own writes, and all that came before them: so something is written."""
     answers = await link.ask(pack(b"SET", keys.awaited, id) + pack(b"WAIT", number(many), number(milliseconds)), 2)
