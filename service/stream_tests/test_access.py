@@ -17,7 +17,7 @@ MARK = "{north}:sent:1001"
 # As docs/STREAMS.md has them.
 RAILWAY = ["on", ">SECRET", "-@all", "+ping", "(+xadd %W~{north}:lines)", "(+xread +xrange %R~{north}:lines %R~{north}:replies)",
            "(+fcall %RW~{north}:lines %RW~{north}:sent:1001)", "(+get +set %RW~{north}:sent:1001)"]
-OFFICE = ("on >SECRET -@all +xlen +xadd +xread +xrange +xrevrange +xtrim +xinfo +exists +get +set +del +multi +exec +function|load "
+OFFICE = ("on >SECRET -@all +xadd +xread +xrange +xrevrange +xtrim +xinfo +exists +get +set +del +watch +unwatch +wait +multi +exec +function|load "
           "~{north}:*").split()
 ROUTER = ["on", ">SECRET", "-@all", "+multi", "+exec", "+function|load",
           "(+xlen +xadd +xread +xrange +xrevrange +xtrim +xinfo +exists +hmget +hsetnx ~{fleet}:*)",

@@ -10,7 +10,6 @@ import pytest
 
 from conftest import Start
 from running import order
-from wagons_service.identifiers import Identifiers
 from wagons_service.journal import Journal, Unreadable
 
 

@@ -75,17 +75,22 @@ def test_a_new_journal_is_there_wholly_or_not_at_all(tmp_path: Path) -> None:
 
 
 def test_a_journal_begins_again(tmp_path: Path) -> None:
+    """What stands in its place is renamed, and what stands behind it; a cache alone drops them."""
     folder = Folder(str(tmp_path))
     folder.begin_next(b"two")
     folder.begin_next(b"three")
     folder.journal(2).add([b"{}"])
-    folder.begin_again(2, b"other")
-    assert folder.last == 2 and folder.has(1) and not folder.has(3)
-    journal = folder.journal()
-    assert journal.lines.count == 0 and journal.checkpoint and Path(journal.checkpoint).read_bytes() == b"other"
+    for number, text in (2, b"other"), (2, b"again"):
+        folder.begin_again(number, {"checkpoint.jsonl": text})
+        assert folder.last == 2 and folder.has(1) and not folder.has(3)
+        journal = folder.journal()
+        assert journal.lines.count == 0 and journal.checkpoint and Path(journal.checkpoint).read_bytes() == text
+    replaced = sorted((it.name.partition(".replaced-")[0], (it / "checkpoint.jsonl").read_bytes(), (it / "journal.jsonl").read_bytes())
+                      for it in tmp_path.glob("*.replaced-*") if (it / "journal.jsonl").exists())
+    assert replaced == [("2", b"other", b""), ("2", b"two", b"{}\n")] and len(list(tmp_path.glob("3.replaced-*"))) == 1
     folder.drop_before(2)
-    assert not folder.has(1) and folder.has(2)
-    folder.begin_again(1, None)
+    assert sorted(it.name for it in tmp_path.iterdir()) == ["2", "lock"]
+    folder.begin_again(1, {})
     assert folder.last == 1 and folder.journal().checkpoint is None
 
 

@@ -15,7 +15,7 @@ from pathlib import Path
 import pytest
 
 from conftest import ROOT, Start
-from running import DAY, NETWORKS, Service, line, order
+from running import DAY, NETWORKS, Service, line
 
 LINES = (DAY / "day.jsonl").read_bytes()
 # It is refused, so the sheet stays as it is.

@@ -10,6 +10,7 @@ import json
 import os
 import re
 import shutil
+import time
 from array import array
 from collections.abc import Iterator, Sequence
 from itertools import accumulate
@@ -41,6 +42,10 @@ class FolderInUse(Exception):
 
 class Unreadable(Exception):
     """The files of the folder don't belong together."""
+
+
+class RepliesAhead(Unreadable):
+    """A journal has replies to lines that it hasn't."""
 
 
 class FileOfLines:
@@ -271,18 +276,20 @@ class Folder:
         """Begins a new journal from a checkpoint. It is there wholly or, with `OSError`, not at all."""
         self._begin({"checkpoint.jsonl": checkpoint})
 
-    def begin_again(self, number: int, checkpoint: bytes | None) -> None:
-        """Begins the journal of a number from nothing; those behind it go with what it had."""
+    def begin_again(self, number: int, files: dict[str, bytes]) -> None:
+        """Begins the journal of a number with these files. What stands in its place, and behind it, is renamed."""
         while self.last >= number:
-            shutil.rmtree(f"{self.path}/{self.last}", ignore_errors=True)
+            if self.has(self.last):
+                replace(f"{self.path}/{self.last}")
             self.last -= 1
         self.last = number - 1
-        self._begin({"checkpoint.jsonl": checkpoint} if checkpoint is not None else {})
+        self._begin(files)
 
     def drop_before(self, number: int) -> None:
-        """Drops the journals before the one of a number."""
+        """Drops the journals before the one of a number, and those that were renamed. Only a cache is treated so."""
         for name in os.listdir(self.path):
-            if name.isascii() and name.isdigit() and int(name) < number:
+            first = name.partition(".")[0]
+            if first.isascii() and first.isdigit() and (first != name or int(name) < number):
                 shutil.rmtree(f"{self.path}/{name}", ignore_errors=True)
 
     def has(self, number: int) -> bool:
@@ -307,6 +314,17 @@ class Folder:
         os.close(self._lock)
 
 
+def replace(path: str) -> None:
+    """Makes room for another file or folder: what is there is renamed, since it may be the last of its kind."""
+    new = name = f"{path}.replaced-{time.strftime('%Y-%m-%dT%H:%M:%SZ', time.gmtime())}"
+    turn = 1
+    while os.path.exists(new):
+        turn += 1
+        new = f"{name}-{turn}"
+    os.rename(path, new)
+    sync_folder(os.path.dirname(path))
+
+
 def sync_folder(path: str) -> None:
     at = os.open(path, os.O_RDONLY | os.O_DIRECTORY)
     try:
@@ -327,7 +345,7 @@ class Journal:
         self.lines.sync()
         self.replies = KeptReplies(f"{folder}/replies.jsonl")
         if self.replies.last > self.lines.count:
-            raise Unreadable(f"{folder}: line {self.replies.last} has a reply, but the journal ends with line {self.lines.count}")
+            raise RepliesAhead(f"{folder}: line {self.replies.last} has a reply, but the journal ends with line {self.lines.count}")
         sync_folder(folder)
         self.checksums = self._compared(folder)
         self.sent = SentLines(FileOfLines(f"{folder}/senders.jsonl"), self.lines.count)

@@ -94,6 +94,9 @@ async def serve(given: Options, seldom: Seldom) -> None:
 
 
 def main(arguments: Sequence[str]) -> int:
+    if arguments[:1] == ["restore"]:
+        from . import restore
+        return restore.main(arguments[1:])
     given = options.read(arguments)
     logging.basicConfig(format="wagons-service: %(levelname)s: %(message)s", level=logging.INFO, stream=sys.stderr)
     logging.getLogger("aiohttp.server").addFilter(is_ours)

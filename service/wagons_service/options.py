@@ -46,6 +46,7 @@ class Options:
     command: str | None = None
     target: str | None = None
     limits: Limits = Limits()
+    replicas: int = 0
 
     def words(self, word: str, checkpoint: str | None) -> list[str]:
         """The command `wagons WORD` with the options that say which office it is; a journal's own checkpoint comes first."""
@@ -65,11 +66,11 @@ def read(arguments: Sequence[str]) -> Options:
     parser = argparse.ArgumentParser(
         prog=f"wagons-service {command}" if command else "wagons-service",
         description=COMMANDS[command] if command else "Takes lines for `wagons run` over a network, and answers its replies.",
-        epilog=f"See {PAGE}." if command else f"`wagons-service backup` and `wagons-service next` have help of their own. See {PAGE}.")
+        epilog=f"See {PAGE}." if command else f"`wagons-service backup`, `next` and `restore` have help of their own. See {PAGE}.")
     if command == "backup":
         parser.add_argument("target", metavar="FOLDER", help="where the backup is to be; it must not be there yet")
     parser.add_argument("--journal", metavar="FOLDER", required=True,
-                        help="the folder of the journal; it is made where it isn't there. Or redis://HOST:PORT/STREAM (docs/STREAMS.md)")
+                        help="the folder of the journal; it is made where it isn't there. Or redis://HOST:PORT[,HOST:PORT..]/STREAM (docs/STREAMS.md)")
     start = parser.add_mutually_exclusive_group(required=True)
     start.add_argument("--roster", metavar="FILE", help="the fleet at the start")
     start.add_argument("--from", metavar="FILE", dest="start", help="the office at the start: a checkpoint of `wagons save`")
@@ -84,6 +85,7 @@ def read(arguments: Sequence[str]) -> Options:
     parser.add_argument("--copy", metavar="FOLDER", help="of a stream: where its journals are kept as files too")
     parser.add_argument("--lease", metavar="MILLISECONDS", type=int, default=DEFAULT_LEASE, help="of a stream: after so long without a sign another service answers")
     parser.add_argument("--journal-lines", metavar="N", type=int, help="of a new stream: after each N lines a checkpoint is made and a new journal begins")
+    parser.add_argument("--replicas", metavar="N", type=int, default=0, help="of a stream: a line is answered when so many replicas of the server have it")
     parser.add_argument("--keep-days", metavar="N", type=int, default=DEFAULT_KEEP_DAYS, help="journals that are over for longer are compressed; 30 where nothing is said")
     limits.add_arguments(parser)
     given = parser.parse_args(arguments[1:] if command else arguments)
@@ -101,6 +103,8 @@ def read(arguments: Sequence[str]) -> Options:
             parser.error(f"argument --lease: {LEAST_LEASE} milliseconds are the least")
         if given.journal_lines is not None and not 0 < given.journal_lines <= MOST_JOURNAL_LINES:
             parser.error(f"argument --journal-lines: 1 to {MOST_JOURNAL_LINES}")
+    if given.replicas < 0 or (given.replicas and not address):
+        parser.error("argument --replicas: 0 or more, of a stream")
     host, _, port = given.listen.rpartition(":")
     host = host.strip("[]")
     if not host or not (port.isascii() and port.isdigit() and int(port) < 65536):
@@ -110,5 +114,5 @@ def read(arguments: Sequence[str]) -> Options:
     return Options(
         journal=given.journal, program=found(given.program), roster=given.roster, start=given.start, networks=given.network,
         entries=given.entries, kept=given.kept, workers=given.workers, host=host, port=int(port), tokens=given.tokens, map=given.map,
-        address=address, copy=given.copy, lease=given.lease, journal_lines=given.journal_lines,
+        address=address, copy=given.copy, lease=given.lease, journal_lines=given.journal_lines, replicas=given.replicas,
         keep_days=given.keep_days, command=command, target=getattr(given, "target", None), limits=Limits.of(given))

@@ -17,6 +17,8 @@ from .address import Address, host_of
 CHUNK = 1 << 18
 SECONDS_TO_CONNECT = 5
 SECONDS_FOR_A_REPLY = 15
+# So often one server may name another one as the key's.
+MOST_MOVES = 5
 
 
 class Lost(Exception):
@@ -42,6 +44,8 @@ MULTI, EXEC = pack(b"MULTI"), pack(b"EXEC")
 class Link:
     def __init__(self, reader: asyncio.StreamReader, writer: asyncio.StreamWriter) -> None:
         self._reader, self._writer = reader, writer
+        # The server's address.
+        self.peer = writer.get_extra_info("peername")
         self._parser = hiredis.Reader()
         # What was asked and isn't answered yet: how many replies are still to come, those that came, and who waits.
         self._asked: deque[tuple[int, list[Any], asyncio.Future[list[Any]]]] = deque()
@@ -50,15 +54,29 @@ class Link:
 
     @classmethod
     async def open(cls, address: Address, key: bytes) -> "Link":
-        """A connection to the server that has the key; in a cluster the first one that answers says which it is."""
+        """A connection to the server that has the key and takes writes: the first host that is that one, or says which is."""
         faults = []
         for host, port in address.hosts:
             try:
-                link = await cls._connect(address, host, port)
-                return await link._moved(address, host, key)
+                return await cls._follow(address, host, port, key)
             except (Lost, Refused) as fault:
                 faults.append(f"{host}:{port}: {fault}")
         raise Lost("; ".join(faults))
+
+    @classmethod
+    async def _follow(cls, address: Address, host: str, port: int, key: bytes) -> "Link":
+        for _ in range(MOST_MOVES):
+            link = await cls._connect(address, host, port)
+            try:
+                there = await link._elsewhere(address, host, key)
+            except (Lost, Refused):
+                link.close()
+                raise
+            if there is None:
+                return link
+            link.close()
+            host, port = there
+        raise Lost("one server names another, and none has the stream")
 
     @classmethod
     async def _connect(cls, address: Address, host: str, port: int) -> "Link":
@@ -73,28 +91,35 @@ class Link:
             try:
                 await link.one(pack(b"AUTH", *(word.encode() for word in words)))
             except Refused:
-                link.close()
-                raise
+                # A Sentinel may have no password, or another one.
+                if await link._watched() is None:
+                    link.close()
+                    raise
         return link
 
-    async def _moved(self, address: Address, host: str, key: bytes) -> "Link":
-        """This connection, or one to the server that this one names as the key's."""
+    async def _elsewhere(self, address: Address, host: str, key: bytes) -> tuple[str, int] | None:
+        """Which server has the key, where it isn't this one. A write that changes nothing is asked for: a node of a cluster
+        names the key's, and one that takes no writes now, as a replica, says so."""
         try:
-            await self.one(pack(b"XLEN", key))
-            return self
+            await self.one(pack(b"XTRIM", key, b"MINID", b"0"))
+            return None
         except Refused as refusal:
-            self.close()
             words = str(refusal).split()
-            if words[0] != "MOVED":
+            if words[0] == "MOVED":
+                return host_of(words[2] if not words[2].startswith(":") else host + words[2], words[2])
+            masters = await self._watched()
+            if masters is None:
                 raise
-        there, port = host_of(words[2] if not words[2].startswith(":") else host + words[2], words[2])
-        link = await self._connect(address, there, port)
-        try:
-            await link.one(pack(b"XLEN", key))
-        except Refused:
-            link.close()
-            raise
-        return link
+        if address.stream not in masters and len(masters) != 1:
+            raise Lost(f"this Sentinel has the masters {', '.join(masters)}, and none is called {address.stream}")
+        name = address.stream if address.stream in masters else masters[0]
+        found = await self.one(pack(b"SENTINEL", b"GET-MASTER-ADDR-BY-NAME", name.encode()))
+        return found[0].decode(), int(found[1])
+
+    async def _watched(self) -> list[str] | None:
+        """Which masters this Sentinel watches; nothing where it is none."""
+        role = (await self.ask(pack(b"ROLE")))[0]
+        return [name.decode() for name in role[1]] if isinstance(role, list) and role[0] == b"sentinel" else None
 
     async def ask(self, data: bytes, count: int = 1) -> list[Any]:
         """Sends packed commands, and gives so many replies to them. A refusal among them is a value of `hiredis.ReplyError`."""

@@ -9,11 +9,12 @@ from bisect import bisect_right
 from collections.abc import Callable, Sequence
 from typing import NamedTuple
 
-from .journal import Broken, Journal, KeptReplies
+from .journal import Broken, FileOfLines, Journal, KeptReplies, NotKept
 from .limits import Limits
 from .metrics import Metrics
 from .office import TURNS, NotTaken, Office, State
 from .program import NOTHING, Program, Replies
+from .stream_copy import Known
 from .streams import MOST_ENTRIES, Entries
 
 NOT_READ = "the stream isn't read to its end yet"
@@ -26,15 +27,17 @@ class Unwritten(NamedTuple):
 
 class StreamOffice(Office):
     def __init__(self, journal: Journal, command: Sequence[str], metrics: Metrics, grew: Callable[[], None], append: Callable[[bytes], None],
-                 limits: Limits = Limits()) -> None:
+                 ids: FileOfLines, known: Known, limits: Limits = Limits()) -> None:
         super().__init__(journal, command, metrics, limits)
-        self.ids: list[bytes] = []
+        # Those of the lines, in memory and beside the journal.
+        self.ids = known.ids
+        self._kept_ids = ids
         # The replies to the lines behind the last one whose reply is in the stream.
         self._kinds: list[bytes] = []
         self._texts: list[bytes] = []
         self._grew = grew
         self._append = append
-        self._refusals: dict[int, bytes] = {}
+        self._refusals = known.refusals
         self._why_not: str | None = NOT_READ
         self._is_up = False
         self._ended_sheet = 0
@@ -47,7 +50,12 @@ class StreamOffice(Office):
     def add(self, entries: Entries) -> None:
         """Takes the next entries of the stream; `feed` hands them on."""
         first = self.journal.lines.count + 1
-        self.journal.copy(entries.lines)
+        self._kept_ids.append(entries.ids, is_synced=False)
+        try:
+            self.journal.copy(entries.lines)
+        except NotKept:
+            self._kept_ids.cut(first - 1)
+            raise
         self.silence.take(self.journal.last_line)
         self.ids += entries.ids
         self._refusals |= {first + index: refusal for index, refusal in entries.refusals.items()}

@@ -24,14 +24,17 @@ from .address import Address
 from .answers import Refusal
 from .corrections import Corrections
 from .journal import NotKept
+from .lease import Lease
 from .office import NotTaken, State, Stopped
 from .options import DEFAULT_ENTRIES, Options
 from .redis_link import Link, Lost, Refused, good, number, pack
 from .service import Part, Service
+from .stream_copy import (
+    ORIGIN, Known, Origin, Unfit, checkpoint_of, identity, identity_of, ids_of, known_from, nothing_known, open_journal, start_for)
 from .stream_office import NOT_READ, StreamOffice
 from .streams import (
-    LIBRARY, MOST_ENTRIES, START, Checkpoint, Keys, Trimmed, add_lines, add_replies, are_added, field, is_whole,
-    keep_checkpoint, last_checkpoint, last_id, lines_of, order, read_behind, wait)
+    LIBRARY, MOST_ENTRIES, START, Checkpoint, Keys, Mark, Trimmed, add_lines, add_replies, are_added, field,
+    keep_checkpoint, last_id, lines_of, mark_at, order, read_behind, starts, wait, wait_for_replicas)
 from .viewer import Viewer
 
 log = logging.getLogger("wagons-service")
@@ -41,10 +44,6 @@ SECONDS_BETWEEN_LOOKS = 0.002
 SECONDS_BETWEEN_SESSIONS = 0.2
 MOST_SECONDS_BETWEEN_SESSIONS = 1.0
 SECONDS_TO_BE_READ = 60
-
-
-class Unfit(Exception):
-    """The stream can't be served with these options; the text says why."""
 
 
 @dataclass(eq=False, slots=True)
@@ -67,7 +66,8 @@ class StreamService(Service):
         self._target = Keys(address.inbox or address.stream).lines
         self._is_temporary = not options.copy
         self._copy = temporary.folder(options.copy)
-        self._token = f"{socket.gethostname()}:{os.getpid()}:{secrets.token_hex(8)}".encode()
+        token = f"{socket.gethostname()}:{os.getpid()}:{secrets.token_hex(8)}".encode()
+        self._lease = Lease(self._keys.lease, token, options.lease)
         self._task: asyncio.Task[None] | None = None
         self._grew = asyncio.Event()
         self._to_append: asyncio.Queue[_Request] = asyncio.Queue()
@@ -76,11 +76,16 @@ class StreamService(Service):
         # The office of the journal before.
         self._before: StreamOffice | None = None
         # What was read last, and up to which line is read before anything is written.
-        self._line = self._reply = self._end = START
+        self._line = self._reply = Mark(START, b"")
+        self._end = START
+        # Of the stream that is read, and what it has of the copy's journals that weren't opened yet.
+        self._identity: str | None = None
+        self._known: dict[int, Known] = {}
         self._is_new = True
         self._is_caught_up = False
         self._checkpoint: Checkpoint | None = None
         self._journal_lines = 0
+        self._lacks_replicas = False
         self.is_first = False
         super().__init__(options)
 
@@ -89,8 +94,13 @@ class StreamService(Service):
         return self._copy
 
     def _open(self) -> None:
-        journal = self.folder.journal()
-        self.office = StreamOffice(journal, self.options.words("run", journal.checkpoint), self.metrics, self._grew.set, self._append_ours, self.options.limits)
+        self._open_journal(self.folder.last, nothing_known())
+
+    def _open_journal(self, number: int, known: Known) -> None:
+        journal = open_journal(self.folder, number)
+        self.office = StreamOffice(
+            journal, self.options.words("run", journal.checkpoint), self.metrics, self._grew.set, self._append_ours, ids_of(self.folder, number), known,
+            self.options.limits)
         self.viewer = Viewer(self.office, self.options)
 
     async def until_open(self) -> None:
@@ -208,40 +218,42 @@ class StreamService(Service):
         links: list[Link] = []
         try:
             # The one that reads comes first, so that it isn't newer than the one by which all is compared.
-            for key in self._keys.lines, self._keys.lines, self._target:
+            for key in self._keys.lines, self._keys.lines, self._keys.lines, self._target:
                 links.append(await Link.open(self._address, key))
-            reader, writer, appender = links
+            reader, writer, keeper, appender = links
+            if not reader.peer == writer.peer == keeper.peer:
+                raise Lost("another server took over just now")
             await self._begin(writer)
-            works = [self._follow(reader), self._write(writer), self._hold(writer), self._append_all(appender), appender.until_lost()]
+            works = [self._follow(reader), self._write(writer), self._hold(keeper, writer), self._append_all(appender), appender.until_lost()]
             tasks = [asyncio.create_task(work) for work in works]
+            done: set[asyncio.Task[None]] = set()
             try:
                 done, _ = await asyncio.wait(tasks, return_when=asyncio.FIRST_COMPLETED)
-                for task in done:
-                    task.result()
-                await self._release(writer)
-            except asyncio.CancelledError:
-                await self._release(writer)
-                raise
             finally:
                 for task in tasks:
                     task.cancel()
                 await asyncio.gather(*tasks, return_exceptions=True)
+                # Where a connection broke, the others may be silent.
+                if not any(task.exception() for task in done):
+                    await self._release(keeper)
+            for task in done:
+                task.result()
         finally:
             for link in links:
                 link.close()
 
     async def _begin(self, link: Link) -> None:
         """Compares what was read before with what is there; where it isn't there any more, all is read anew."""
+        if not self._is_temporary and self._identity is None:
+            self._identity = identity_of(self.folder)
+        self._identity = await identity(link, self._keys, self._identity, None if self._is_temporary else self._copy)
         await self._agree(link)
         if not self._is_new:
             for key, last in (self._keys.lines, self._line), (self._keys.replies, self._reply):
-                if last != START:
-                    await read_behind(link, key, last, 0)
+                if last.id != START:
+                    await read_behind(link, key, last.id, 0, said=last.text)
         else:
-            checkpoint = await last_checkpoint(link, self._keys)
-            if checkpoint is None and not (await is_whole(link, self._keys.lines) and await is_whole(link, self._keys.replies)):
-                raise Unfit(f"{self._keys.lines.decode()} doesn't begin with its first line any more, and there is no checkpoint")
-            await self._open_office(checkpoint)
+            await self._open_first(link)
             self._is_new = False
         self._end = await last_id(link, self._keys.lines)
         self.office.forget_sheet()
@@ -258,34 +270,61 @@ class StreamService(Service):
             raise Unfit(f"a journal of this stream has {self._journal_lines} lines, so the book must have room for as many: --entries {self._journal_lines}")
         await link.one(pack(b"FUNCTION", b"LOAD", b"REPLACE", LIBRARY))
 
-    async def _open_office(self, checkpoint: Checkpoint | None) -> None:
-        """Begins a journal: from a checkpoint, or the first one."""
+    async def _open_first(self, link: Link) -> None:
+        """Begins where the stream can be read from, or goes on where the copy ends."""
+        found = await starts(link, self._keys)
+        if not found:
+            raise Unfit(f"{self._keys.lines.decode()} doesn't begin with its first line any more, and there is no checkpoint")
+        start, self._known = found[-1], {}
+        if not self._is_temporary:
+            start = start_for(self.folder, found)
+            self._judge_gap(start.journal)
+            self._known = await known_from(link, self._keys, self.folder, start, self._journal_lines)
+        await self._open_office(link, start)
+
+    def _judge_gap(self, first: int) -> None:
+        last = self.folder.last
+        if first > last + 1 or (first > last and self.office.journal.lines.count < self._journal_lines):
+            log.warning("the copy %s ends in journal %d, and what follows is in the stream from journal %d on alone", self._copy, last, first)
+
+    async def _open_office(self, link: Link, start: Checkpoint) -> None:
+        """Begins a journal, or goes on with what the copy has of it."""
+        assert self._identity is not None
+        origin = Origin(self._identity, start.id, self._journal_lines)
+        known = self._known.pop(start.journal, None)
+        is_there = known is not None and checkpoint_of(self.folder, start.journal) == start.text
+        if known is None or not is_there:
+            known = nothing_known()
+        line = await mark_at(link, self._keys.lines, known.ids[-1] if known.ids else start.id)
+        reply = await mark_at(link, self._keys.replies, known.ids[known.replies - 1] if known.replies else start.id)
         self._before = self.office
         await self._close()
-        number = checkpoint.journal if checkpoint else 1
-        self.folder.begin_again(number, checkpoint.text if checkpoint else None)
+        if is_there:
+            origin.keep(f"{self.folder.path}/{start.journal}")
+        else:
+            self.folder.begin_again(start.journal, {ORIGIN: origin.text} | ({"checkpoint.jsonl": start.text} if start.text else {}))
         if self._is_temporary:
-            self.folder.drop_before(number - 1)
-        self._open()
+            self.folder.drop_before(start.journal - 1)
+        self._open_journal(start.journal, known)
         self.office.start()
-        self._line = self._reply = checkpoint.id if checkpoint else START
+        self._line, self._reply = line, reply
 
     async def _follow(self, link: Link) -> None:
         """Reads lines; and replies, while another service writes them."""
         while (office := self.office).state is not State.STOPPED:
             room = min(MOST_ENTRIES, self._journal_lines - len(office.ids))
-            keys = {self._keys.lines: self._line} if room else {}
+            keys = {self._keys.lines: self._line.id} if room else {}
             if not self.is_first:
-                keys[self._keys.replies] = self._reply
+                keys[self._keys.replies] = self._reply.id
             if keys:
                 waited = wait(list(keys), list(keys.values()), MILLISECONDS_OF_WAITING)
-                await self._read(office, await read_behind(link, self._keys.lines, self._line, room, waited))
+                await self._read(office, await read_behind(link, self._keys.lines, self._line.id, room, waited, self._line.text))
             else:
                 await asyncio.sleep(SECONDS_BETWEEN_LOOKS)
             if self._keys.replies in keys:
                 await self._read_replies(office, link)
             # A journal that is full is left when its replies are written, by whoever writes.
-            if not self._is_caught_up and (not room or order(self._line) >= order(self._end)):
+            if not self._is_caught_up and (not room or order(self._line.id) >= order(self._end)):
                 self._is_caught_up = True
                 office.may_lead(None)
             if not room and office.is_computed:
@@ -298,7 +337,7 @@ class StreamService(Service):
         first = len(office.ids) + 1
         # Both before anything is waited for: a session may end there, and no line may be read twice.
         office.add(read)
-        self._line = read.ids[-1]
+        self._line = Mark(read.ids[-1], read.lines[-1])
         for id in self._awaited.keys() & set(read.ids) if self._awaited else ():
             if not self._awaited[id].done():
                 self._awaited[id].set_result((office, first + read.ids.index(id)))
@@ -306,12 +345,13 @@ class StreamService(Service):
 
     async def _read_replies(self, office: StreamOffice, link: Link) -> None:
         last = self._reply
-        entries = await read_behind(link, self._keys.replies, last, MOST_ENTRIES)
+        entries = await read_behind(link, self._keys.replies, last.id, MOST_ENTRIES, said=last.text)
         # A reply may have been read whose line comes with the next ones.
         entries = entries[:len(office.ids) - office.answered]
         if entries and self._reply == last:
-            office.confirm([id for id, _ in entries], [field(fields, b"reply") for _, fields in entries])
-            self._reply = entries[-1][0]
+            texts = [field(fields, b"reply") for _, fields in entries]
+            office.confirm([id for id, _ in entries], texts)
+            self._reply = Mark(entries[-1][0], texts[-1])
 
     async def _next_journal(self, office: StreamOffice, link: Link) -> None:
         """The journal has all its lines: when each has its reply, the next one begins from a checkpoint."""
@@ -324,12 +364,16 @@ class StreamService(Service):
         except Refusal as fault:
             office.stop(f"no new journal begins: {fault}")
             return
-        self._checkpoint = Checkpoint(self._line, office.journal.number + 1, text)
-        await self._open_office(self._checkpoint)
+        self._checkpoint = Checkpoint(self._line.id, office.journal.number + 1, text)
+        await self._open_office(link, self._checkpoint)
         self.office.may_lead(None if self._is_caught_up else NOT_READ)
         log.info("journal %d begins from a checkpoint of the one before", self._checkpoint.journal)
         if self.is_first:
-            await keep_checkpoint(link, self._keys, self._checkpoint)
+            await self._keep_checkpoint(link)
+
+    async def _keep_checkpoint(self, link: Link) -> None:
+        if self._checkpoint:
+            await keep_checkpoint(link, self._keys, self._checkpoint, self._identity or "")
 
     async def _write(self, link: Link) -> None:
         """Writes the replies that aren't in the stream yet, where this service holds the lease."""
@@ -338,30 +382,43 @@ class StreamService(Service):
             self._grew.clear()
             while self.is_first and (replies := self.office.unwritten()).ids:
                 office, last = self.office, self._reply
+                if not await self._are_on_replicas(link, replies.ids[-1]):
+                    continue
                 are_new = are_added(await link.transaction(add_replies(self._keys, replies.ids, replies.texts)))
                 if are_new and self._reply == last:
                     office.confirm(replies.ids, replies.texts)
-                    self._reply = replies.ids[-1]
+                    self._reply = Mark(replies.ids[-1], replies.texts[-1])
                 else:
                     # Another service has written some of them.
                     await self._read_replies(office, link)
 
+    async def _are_on_replicas(self, link: Link, id: bytes) -> bool:
+        """Whether as many replicas as are wanted have the lines up to one, so that they may be answered."""
+        wanted = self.options.replicas
+        count = await wait_for_replicas(link, self._keys, id, wanted, MILLISECONDS_OF_WAITING) if wanted else 0
+        if count < wanted and not self._lacks_replicas:
+            log.warning("lines wait for their replies: %d of %d replicas have them", count, wanted)
+        elif count >= wanted and self._lacks_replicas:
+            log.info("%d replicas have the lines again", count)
+        self._lacks_replicas = count < wanted
+        return count >= wanted
+
     # The lease.
 
-    async def _hold(self, link: Link) -> None:
+    async def _hold(self, keeper: Link, writer: Link) -> None:
+        """Renews the lease, or waits for it, over a connection of its own: nothing that takes long may hold it up."""
         may_count = True
         while not self._is_caught_up:
             await asyncio.sleep(0.01)
         while True:
-            is_held = await self._ask_lease(link)
+            is_held = await self._lease.ask(keeper)
             self.lease_until = time.monotonic() + self.options.lease / 1000 if is_held else None
             if may_count:
-                self.replicas = await count_replicas(link)
+                self.replicas = await count_replicas(keeper)
                 may_count = self.replicas is not None
             if is_held and not self.is_first:
                 log.info("this service writes the replies now")
-                if self._checkpoint:
-                    await keep_checkpoint(link, self._keys, self._checkpoint)
+                await self._keep_checkpoint(writer)
             elif self.is_first and not is_held:
                 log.info("another service writes the replies now")
             self.is_first = is_held
@@ -369,20 +426,12 @@ class StreamService(Service):
                 self._grew.set()
             await asyncio.sleep(self.options.lease / 3000)
 
-    async def _ask_lease(self, link: Link) -> bool:
-        there = await link.one(pack(b"GET", self._keys.lease))
-        if there is not None and there != self._token:
-            return False
-        how = b"NX" if there is None else b"XX"
-        return await link.one(pack(b"SET", self._keys.lease, self._token, how, b"PX", number(self.options.lease))) is not None
-
-    async def _release(self, link: Link) -> None:
+    async def _release(self, keeper: Link) -> None:
         """Lets another service write at once."""
         if self.is_first:
             self.is_first = False
             with suppress(Lost, Refused):
-                if await link.one(pack(b"GET", self._keys.lease)) == self._token:
-                    await link.one(pack(b"DEL", self._keys.lease))
+                await self._lease.release(keeper)
 
 
 async def count_replicas(link: Link) -> int | None:

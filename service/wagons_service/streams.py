@@ -91,10 +91,20 @@ class Entries(NamedTuple):
 
 
 class Checkpoint(NamedTuple):
-    """The office after the line of an id, with which a journal of this number begins."""
+    """The office after the line of an id, with which a journal of this number begins. The first journal has no text."""
 
     id: bytes
     journal: int
+    text: bytes
+
+
+FIRST = Checkpoint(START, 1, b"")
+
+
+class Mark(NamedTuple):
+    """The last entry that was read of a stream: its id, and what it says."""
+
+    id: bytes
     text: bytes
 
 
@@ -120,6 +130,16 @@ class Keys:
     @property
     def lease(self) -> bytes:
         return self._key("lease")
+
+    @property
+    def identity(self) -> bytes:
+        """A random name of this stream, which its first service gives it for good."""
+        return self._key("identity")
+
+    @property
+    def awaited(self) -> bytes:
+        """The last line that replicas were asked for."""
+        return self._key("awaited")
 
     @property
     def journal_lines(self) -> bytes:
@@ -185,6 +205,11 @@ def field(fields: Sequence[bytes], name: bytes) -> bytes:
     return next((fields[index + 1] for index in range(0, len(fields), 2) if fields[index] == name), b"")
 
 
+def text_of(key: bytes, entry: Any) -> bytes:
+    """What an entry says: its reply, or its line as the program is given it."""
+    return field(entry[1], b"reply") if key.endswith(b":replies") else lines_of([entry]).lines[0]
+
+
 def order(id: bytes) -> tuple[int, int]:
     """What an id is compared by."""
     milliseconds, _, rest = id.partition(b"-")
@@ -206,11 +231,12 @@ async def is_whole(link: Link, key: bytes) -> bool:
     return bool(known[b"length"] == known[b"entries-added"])
 
 
-async def read_behind(link: Link, key: bytes, last: bytes, most: int, waited: bytes = b"") -> list[Any]:
+async def read_behind(link: Link, key: bytes, last: bytes, most: int, waited: bytes = b"", said: bytes | None = None) -> list[Any]:
     """The entries behind the last one, after what is waited for.
 
-    The last one must be there still. A server loses its newest entries and trims its oldest ones, so then none is missing
-    in between. Before the first entry nothing can be looked at, so there the stream must be whole, once it was read.
+    The last one must be there still, and say what it said. A server loses its newest entries and trims its oldest ones, so
+    then none is missing in between. Before the first entry nothing can be looked at, so there the stream must be whole, once
+    it was read.
     """
     answers = await link.ask(waited + read_on(key, last, most), 2 if waited else 1)
     entries: list[Any] = [good(answer) for answer in answers][-1]
@@ -220,21 +246,34 @@ async def read_behind(link: Link, key: bytes, last: bytes, most: int, waited: by
         return entries
     if not entries or entries[0][0] != last:
         raise Trimmed(f"the entry {last.decode()} isn't there any more")
+    # A lost entry's id may have come again, with another entry.
+    if said is not None and text_of(key, entries[0]) != said:
+        raise Trimmed(f"the entry {last.decode()} isn't the one that was read: the server lost that one")
     return entries[1:]
 
 
-async def last_checkpoint(link: Link, keys: Keys) -> Checkpoint | None:
-    found = await link.one(pack(b"XREVRANGE", keys.checkpoints, b"+", b"-", b"COUNT", b"1"))
+async def mark_at(link: Link, key: bytes, id: bytes) -> Mark:
+    """The entry of an id."""
+    if id == START:
+        return Mark(START, b"")
+    found = await link.one(pack(b"XRANGE", key, id, id))
     if not found:
-        return None
-    id, fields = found[0]
-    return Checkpoint(id, int(field(fields, b"journal")), field(fields, b"text"))
+        raise Trimmed(f"the entry {id.decode()} isn't there any more")
+    return Mark(id, text_of(key, found[0]))
 
 
-async def keep_checkpoint(link: Link, keys: Keys, checkpoint: Checkpoint) -> None:
+async def starts(link: Link, keys: Keys) -> list[Checkpoint]:
+    """From where the stream can be read, the oldest first: its beginning, where that is there, and its checkpoints."""
+    found = await link.one(pack(b"XRANGE", keys.checkpoints, b"-", b"+"))
+    kept = [Checkpoint(id, int(field(fields, b"journal")), field(fields, b"text")) for id, fields in found]
+    is_there = await is_whole(link, keys.lines) and await is_whole(link, keys.replies)
+    return [FIRST, *kept] if is_there else kept
+
+
+async def keep_checkpoint(link: Link, keys: Keys, checkpoint: Checkpoint, identity: str) -> None:
     """Keeps a checkpoint, unless a later one is there; drops all but two, and the lines and replies before those."""
     try:
-        await link.one(pack(b"XADD", keys.checkpoints, checkpoint.id, b"journal", number(checkpoint.journal), b"text", checkpoint.text))
+        await link.one(add_checkpoint(keys, checkpoint, identity))
     except Refused as fault:
         if not str(fault).startswith(NOT_ABOVE):
             raise
@@ -243,6 +282,18 @@ async def keep_checkpoint(link: Link, keys: Keys, checkpoint: Checkpoint) -> Non
         oldest = kept[1][0]
         for key in keys.checkpoints, keys.lines, keys.replies:
             await link.one(pack(b"XTRIM", key, b"MINID", oldest))
+
+
+def add_checkpoint(keys: Keys, checkpoint: Checkpoint, identity: str) -> bytes:
+    words = b"journal", number(checkpoint.journal), b"identity", identity.encode(), b"text", checkpoint.text
+    return pack(b"XADD", keys.checkpoints, checkpoint.id, *words)
+
+
+async def wait_for_replicas(link: Link, keys: Keys, id: bytes, many: int, milliseconds: int) -> int:
+    """How many replicas have all lines up to one, once so many have them, or after that time. Redis tells for a connection's
+    own writes, and all that came before them: so something is written."""
+    answers = await link.ask(pack(b"SET", keys.awaited, id) + pack(b"WAIT", number(many), number(milliseconds)), 2)
+    return int([good(answer) for answer in answers][-1])
 
 
 def are_added(answers: Sequence[Any]) -> bool:
