@@ -70,7 +70,7 @@ def test_a_connection_that_dies_finds_its_replies_again(start: Start) -> None:
     with socket.create_connection(("127.0.0.1", service.port)) as connection:
         connection.sendall(b"POST /lines HTTP/1.1\r\nHost: 127.0.0.1\r\nContent-Length: %d\r\n\r\n%s" % (len(lines), lines))
     for _ in range(500):
-        if found := service.get("/replies?from=1").replies:
+        if len(found := service.get("/replies?from=1").replies) == 2:
             break
         time.sleep(0.01)
     assert found == ["1 accepted 1", "2 accepted 2"] and service.journal == lines
