@@ -3,6 +3,8 @@
 import asyncio
 import json
 import random
+import subprocess
+from array import array
 
 import aiohttp
 import pytest
@@ -63,6 +65,56 @@ def test_each_sender_gets_just_its_replies(start: Start, lines: int) -> None:
     told = {record["number"]: record["reply"] for sender in senders for record in sender.records}
     printed = service.run_again(options=["--entries", "1000000"]).splitlines()
     assert [told[k + 1] for k in range(len(journal))] == printed == service.kept
+
+
+class Told:
+    """A hash of each reply that senders were told, by journal and number, and the hash of the line that each is for."""
+
+    def __init__(self) -> None:
+        self.journals: dict[int, array[int]] = {}
+
+    def add(self, journal: int, number: int, sent: bytes, reply: str) -> None:
+        told = self.journals.setdefault(journal, array("q"))
+        if len(told) < number:
+            told.extend([0] * (number - len(told)))
+        assert not told[number - 1], "told twice"
+        told[number - 1] = hash((sent, reply))
+
+
+async def send_many(service: Service, k: int, lines: int, told: Told) -> None:
+    """Sends so many lines of a company; each must come back with one reply."""
+    draw, number = random.Random(k), 0
+    async with aiohttp.ClientSession(f"http://127.0.0.1:{service.port}") as session:
+        while number < lines:
+            part = [message(company(k), n, WAGONS[n % 40]) for n in range(number, min(number + draw.choice([100, 500]), lines))]
+            number += len(part)
+            async with session.post("/lines", data=b"\n".join(part)) as answer:
+                assert answer.status == 200, await answer.text()
+                records = [json.loads(it) for it in (await answer.read()).splitlines()]
+            for sent, record in zip(part, records, strict=True):
+                told.add(int(answer.headers["Journal"]), int(str(record["number"])), sent, str(record["reply"]))
+
+
+def test_senders_over_many_journals(start: Start, lines: int) -> None:
+    """Each line that was answered is in one journal, with its reply, however many journals begin meanwhile."""
+    entries = ["--entries", str(max(lines // 100, 8_000))]
+    service = start(options=[*entries, "--share", "lines=1000000,bytes=100000000"]).until_running()
+    told = Told()
+
+    async def all_at_once() -> None:
+        await asyncio.gather(*(send_many(service, k, lines // SENDERS, told) for k in range(SENDERS)))
+
+    asyncio.run(all_at_once())
+    folders = sorted((it for it in service.folder.iterdir() if it.name.isdigit()), key=lambda it: int(it.name))
+    assert len(folders) >= 4 and sum(map(len, told.journals.values())) == lines // SENDERS * SENDERS
+    for folder in folders:
+        journal = (folder / "journal.jsonl").read_bytes().splitlines()
+        replies = [str(json.loads(record)["reply"]) for record in (folder / "replies.jsonl").read_text().splitlines()]
+        assert [hash(both) for both in zip(journal, replies, strict=True)] == told.journals.get(int(folder.name), array("q")).tolist()
+        checkpoint = folder / "checkpoint.jsonl"
+        office = ["--from", str(checkpoint), *service.office[2:]] if checkpoint.exists() else service.office
+        printed = subprocess.run([service.program, "run", *office, *entries], input=b"\n".join([*journal, b""]), stdout=subprocess.PIPE, check=False).stdout
+        assert printed.decode() == "".join(reply + "\n" for reply in replies)
 
 
 def test_plans_and_sheets_among_others(start: Start) -> None:
