@@ -14,8 +14,8 @@ OPTIONS = ["--journal-lines", str(JOURNAL_LINES)]
 
 
 def files(folder: Path) -> dict[str, bytes]:
-    """What a copy has, as it stands on the disk."""
-    return {str(it.relative_to(folder)): it.read_bytes() for it in folder.rglob("*") if it.is_file() and it.name != "lock"}
+    """What a copy has, as it stands on the disk. A start adds the checksums of lines that have none yet."""
+    return {str(it.relative_to(folder)): it.read_bytes() for it in folder.rglob("*") if it.is_file() and it.name not in ("lock", "checksums.jsonl")}
 
 
 def lines(first: int, last: int) -> list[bytes]:
