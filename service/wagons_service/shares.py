@@ -2,7 +2,7 @@
 
 import math
 import time
-from collections import Counter
+from collections import Counter, defaultdict
 from collections.abc import Iterator
 from contextlib import contextmanager
 from dataclasses import fields
@@ -93,8 +93,7 @@ class Shares:
     """What each token uses, by the digest that it is known by. Who needs no token has no share."""
 
     def __init__(self, share: Share) -> None:
-        self._share = share
-        self._used: dict[str, Used] = {"": Used(Share(*[NO_LIMIT] * len(fields(Share))), NO_LIMIT)}
+        self._used = defaultdict(lambda: Used(share), {"": Used(Share(*[NO_LIMIT] * len(fields(Share))), NO_LIMIT)})
 
     def of(self, key: str) -> Used:
-        return self._used.setdefault(key, Used(self._share))
+        return self._used[key]
