@@ -179,7 +179,7 @@ while told < many:
         told += b'"number":%d,' % LAST in key.fileobj.recv(1 << 20)
 print("told", flush=True)
 """
-REQUESTS = 60
+REQUESTS = 600
 
 
 def processor_seconds(pid: int) -> float:

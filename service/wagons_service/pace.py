@@ -8,7 +8,7 @@ from .office import Office
 # A part of the time that is told of one listener's turn. More of it was spent by others while that one didn't read.
 MOST_SECONDS_A_TURN = 0.005
 # What a turn takes beside, to be woken and to wait again.
-SECONDS_BESIDE = 0.0004
+SECONDS_BESIDE = 0.001
 TIMES_FOR_OTHERS = 9
 # So long after a line others may want the time.
 SECONDS_BUSY = 1.0

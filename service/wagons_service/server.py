@@ -137,7 +137,8 @@ class Server:
             if sender := self._sender(request):
                 request["sender"] = sender
                 request["used"] = self.shares.of(sender.key)
-                with request["used"].one(OPEN_AT_ONCE.get(request.path, "requests")):
+                resource = request.match_info.route.resource
+                with request["used"].one(OPEN_AT_ONCE.get(resource.canonical if resource else "", "requests")):
                     response = await handler(request)
             else:
                 response = await handler(request)

@@ -34,14 +34,19 @@ class Bucket:
         self._level = float(rate * SECONDS_AT_ONCE)
         self._at = time.monotonic()
 
-    def seconds_until(self) -> float:
-        """How long it takes until something is in it."""
+    def _fill(self) -> None:
         now = time.monotonic()
         self._level = min(self._level + (now - self._at) * self._rate, self._rate * SECONDS_AT_ONCE)
         self._at = now
+
+    def seconds_until(self) -> float:
+        """How long it takes until something is in it."""
+        if self._level < 0:
+            self._fill()
         return max(-self._level / self._rate, 0.0)
 
     def take(self, amount: int) -> None:
+        self._fill()
         self._level -= amount
 
 
