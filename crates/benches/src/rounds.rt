@@ -4,7 +4,7 @@ use crate::growth::{Growth, SUITED, entered};
 use crate::times::KINDS;
 use anyhow::{Context, Result};
 use assignment::certified_plan;
-use commit_book::Snap;
+use commit_book::{BegunProblem, Snap};
 use cost_table::Cells;
 use move_messages::CommitText;
 use problem_table::cells;
@@ -70,8 +70,8 @@ fn timed_revision(rt: &HostRuntime, alloc: Global, growth: &mut Growth) -> Resul
 
 /// A problem is begun, its table made and its plan promised.
 fn timed_plan(rt: &HostRuntime, alloc: Global, growth: &mut Growth) -> Result<(u128, u128, u128)> {
-    let (begin, snap) = timed_begin(rt, alloc, growth)?;
-    let (table, commit) = timed_planning(rt, alloc, growth, &snap)?;
+    let (begin, begun) = timed_begin(rt, alloc, growth)?;
+    let (table, commit) = timed_planning(rt, alloc, growth, begun.snap())?;
     Ok((begin, table, timed_commit(rt, alloc, growth, &commit)?))
 }
 
@@ -87,11 +87,15 @@ fn timed_planning(
 }
 
 /// A problem is begun, with its table.
-fn timed_begin(rt: &HostRuntime, alloc: Global, growth: &mut Growth) -> Result<(u128, Snap)> {
+fn timed_begin(
+    rt: &HostRuntime,
+    alloc: Global,
+    growth: &mut Growth,
+) -> Result<(u128, BegunProblem)> {
     let at = growth.at()?;
     let start = Instant::now(rt)?;
-    let (snap, _made) = growth.book.begin_with_table(alloc, at)?;
-    Ok((since(rt, start)?, snap))
+    let begun = growth.book.begin_with_table(alloc, at)?;
+    Ok((since(rt, start)?, begun))
 }
 
 /// The table of a problem is made.

@@ -1,3 +1,4 @@
+pub mod BegunProblems
 pub mod BookCalls
 pub mod BookParts
 pub mod Books

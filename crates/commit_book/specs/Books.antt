@@ -1,6 +1,7 @@
 -- Books as contracts see them: what a book is given and keeps, its answers to single calls, and its entries by number.
 use Rattle.std.specs.Prelude.{ℕ, List, length, Option, None, Result, Ok, Err, slice_get, zero, suc}
 use Rattle.move_messages.specs.declared.event.Event.{Event}
+use Rattle.commit_book.specs.BegunProblem.{BegunValue}
 use Rattle.commit_book.specs.Setting.{Setting}
 use Rattle.commit_book.specs.History.{replay}
 use Rattle.commit_book.specs.declared.answer.Answer.{Answer}
@@ -37,8 +38,8 @@ abbrev pub begun_of : Result SnapValue AllocError → Answer
 begun_of (Ok snap) = Begun snap.version
 begun_of (Err error) = Refused OutOfMemory
 
-abbrev pub begun_with : {A : Type 0} → Result (SnapValue × A) AllocError → Answer
-begun_with (Ok begun) = Begun begun.0.version
+abbrev pub begun_with : Result BegunValue AllocError → Answer
+begun_with (Ok begun) = Begun begun.snap.version
 begun_with (Err error) = Refused OutOfMemory
 
 -- no entry comes of a call: it is refused, or its message is an entry already

@@ -1,3 +1,4 @@
+pub mod BegunProblem
 pub mod BookStep
 pub mod Books
 pub mod Commits

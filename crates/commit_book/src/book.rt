@@ -21,6 +21,7 @@ ghost use Rattle.commit_book.specs.declared.answer.Answer.TheVariants.{Refused};
 ghost use Rattle.commit_book.specs.declared.call.Call.TheVariants as call;
 
 use crate::ascending_problem::AscendingProblem;
+use crate::begun_problem::BegunProblem;
 use crate::commits::judge;
 use crate::entry::Entry;
 use crate::kept_problems::{
@@ -278,25 +279,27 @@ impl Book {
         Ok(snap)
     }
 
-    /// The same, with what has the problem's table over the network in force. Where a kept problem of this version has a
-    /// table that is that of this moment too, the two share it, and none is made.
+    /// The same, with the problem's table over the network in force. Where a kept problem of this version has a table that is
+    /// that of this moment too, the two share it, and none is made.
     pub fn begin_with_table(
         &mut self,
         alloc: Global,
         at: Moment,
-    ) -> Result<(Snap, Arc<MadeProblem>), AllocError>
+    ) -> Result<BegunProblem, AllocError>
         ensures call { IsCall self.old.setting self.old.state (call.Begin at) (begun_with result) self.new.state }
-        ensures snap { IfOk result (λ begun. begun.0 ≡ snap_of self.old.setting self.old.state.history at) }
-        ensures table { IfOk result (λ begun. IsTableAt self.old.setting self.old.state.history (length self.old.state.history) at begun.1.value.timed.cells) }
+        ensures snap { IfOk result (λ begun. begun.snap ≡ snap_of self.old.setting self.old.state.history at) }
+        ensures networks { IfOk result (λ begun. begun.networks ≡ self.old.setting.networks) }
+        ensures table { IfOk result (λ begun. IsTableAt self.old.setting self.old.state.history (length self.old.state.history) at begun.table) }
         ensures kept { OnOk result (is_kept self.new.state.kept (length self.old.state.history, at) ≡ true) }
         ensures setting { self.new.setting ≡ self.old.setting }
     {
         let snap = self.snap(alloc, at)?;
         let made = self.made_for(alloc, self.len(), self.state().network(), snap.problem())?;
         let shared = Arc::try_clone(&made)?;
+        let networks = Arc::try_clone(&self.networks)?;
         let index = self.keep_present(snap.problem())?;
         self.put(index, shared);
-        Ok((snap, made))
+        Ok(BegunProblem::new(snap, made, networks))
     }
 
     /// What has the table of the problem of a version at a moment, over the network in force in that version; none where that

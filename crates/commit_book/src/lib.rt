@@ -4,6 +4,7 @@
 
 mod answer;
 mod ascending_problem;
+mod begun_problem;
 mod book;
 mod call;
 mod call_runs;
@@ -21,6 +22,7 @@ mod rising_ids;
 mod same_problem;
 
 pub use answer::Answer;
+pub use begun_problem::BegunProblem;
 pub use book::Book;
 pub use call::Call;
 pub use entry::Entry;

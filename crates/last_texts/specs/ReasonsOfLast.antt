@@ -14,9 +14,8 @@ use Rattle.office_files.specs.declared.stop.Stop.TheVariants as stop
 use Rattle.place_names.specs.declared.named_place.NamedPlace.{NamedPlace}
 use Rattle.plan_bounds.specs.PricedPlan.{IsCertified, PricedPlan}
 use Rattle.plan_reasons.specs.PairLists.{IsOrderText, IsWagonText}
-use Rattle.plan_reasons.specs.Planned.{priced_plan}
 use Rattle.plan_reasons.specs.WhyText.{IsWhyText}
-use Rattle.plan_reasons.specs.declared.planned_problem.PlannedProblem.{PlannedProblem}
+use Rattle.plan_reasons.specs.CertifiedPlan.{CertifiedPlanValue}
 use Rattle.plan_reasons.specs.declared.style.Style.{Style}
 use Rattle.plan_reasons.specs.declared.style.Style.TheVariants.{Text, Json}
 use Rattle.problem_table.specs.Allowed.{IsTableOf}
@@ -42,9 +41,9 @@ IsLacking (Order id) problem why = ((j : ℕ) → slice_get (order_names problem
 IsLacking (Wagon number) problem why = ((i : ℕ) → slice_get (wagon_names problem.wagons) i ≢ Some number) × (why ≡ stop.WagonNotInProblem number)
 
 -- the same of a planned problem, by the options of `why`
-abbrev pub IsAnswerFor : WhyOptions → (names : Option (List NamedPlace)) → (last : ℕ) → PlannedProblem → (text : List ℕ) → Type 0
+abbrev pub IsAnswerFor : WhyOptions → (names : Option (List NamedPlace)) → (last : ℕ) → CertifiedPlanValue → (text : List ℕ) → Type 0
 IsAnswerFor options names last planned text =
-    IsAnswer (style_of options.json) names options.asked last planned.tables.now planned.problem.now (priced_plan planned) text
+    IsAnswer (style_of options.json) names options.asked last planned.network planned.problem planned.priced text
 
 -- The problem of the last version at a moment, over the network in force, has a plan whose prices show that none costs less;
 -- and the text answers what is asked about that plan.

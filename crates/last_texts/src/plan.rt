@@ -1,19 +1,16 @@
 //! The plan of a book's last version, for people.
-ghost use Rattle.std.specs.Prelude.{◌≡◌, ◌≤◌, IfErr, IfOk, Some, length, option_copied};
+ghost use Rattle.std.specs.Prelude.{◌≡◌, IfErr, IfOk, option_copied};
 ghost use Rattle.last_texts.specs.PlanOfLast.{IsPlanOfLast, IsPlanTextOfLast, IsPrinted, IsPrintedIn};
 ghost use Rattle.last_texts.specs.ZoneClock.{HasZoneFor, IsNoClock, IsReadFor, name_of};
-ghost use Rattle.line_network.specs.Networks.{network_at};
 ghost use Rattle.office_files.specs.declared.stop.Stop.TheVariants.{OutOfMemory};
-ghost use Rattle.plan_reasons.specs.Planned.{IsPlannedProblem, priced_plan};
 ghost use Rattle.plan_table.specs.ListOf.{IsListOf};
 
 use crate::zone::{ZoneFile, clock_of};
 use command_line::PlanOptions;
 use commit_book::Book;
-use line_network::{Networks, Tables};
 use office_files::Stop;
 use place_names::Places;
-use plan_reasons::PlannedProblem;
+use plan_reasons::CertifiedPlan;
 use plan_table::{Clock, PlanList, csv_text, list_of_plan, table_text};
 use rail_codes::Moment;
 use std::alloc::Global;
@@ -24,58 +21,33 @@ use std::alloc::Global;
 pub fn last_plan_text(
     alloc: Global,
     book: &mut Book,
-    distances: &Networks,
     options: &PlanOptions<'_>,
     places: &Places,
     zone: &ZoneFile<'_>,
 ) -> Result<Vec<u8>, Stop>
-    requires distances { distances.now ≡ book.old.setting.networks }
     requires zone { IsReadFor (option_copied options.now.zone) zone.now }
     ensures plan { IfOk result (λ text. IsPlanTextOfLast book.old.setting book.old.state.history options.now places.now text.items) }
     ensures refused { IfErr result IsNoClock }
 {
-    let list = last_plan(alloc, book, distances, options.problem.at)?;
+    let list = last_plan(alloc, book, options.problem.at)?;
     printed_in(alloc, options.csv, places, zone, &list)
 }
 
 /// A plan of a book's last version at a moment, over the network in force, as a list.
-fn last_plan(
-    alloc: Global,
-    book: &mut Book,
-    distances: &Networks,
-    at: Moment,
-) -> Result<PlanList, Stop>
-    requires { distances.now ≡ book.old.setting.networks }
+fn last_plan(alloc: Global, book: &mut Book, at: Moment) -> Result<PlanList, Stop>
     ensures plan { IfOk result (IsPlanOfLast book.old.setting book.old.state.history at) }
     ensures refused { IfErr result (λ why. why ≡ OutOfMemory) }
 {
-    let tables = tables_in(distances, book.state().network());
-    let (snap, made) = book.begin_with_table(alloc, at)?;
-    let cells = made.cells();
-    let (plan, prices) = assignment::plan(alloc, cells)?;
-    let planned = PlannedProblem {
-        problem: snap.problem(),
-        tables,
-        cells,
-        plan: &plan,
-        prices: &prices,
-    };
-    listed(alloc, snap.version(), &planned)
-}
-
-/// The distances in the network of a number, counted from 1.
-pub(crate) fn tables_in(distances: &Networks, number: u32) -> &Tables
-    requires from_one { 1 ≤ number }
-    requires few { number ≤ length distances.now }
-    ensures { network_at distances.now number ≡ Some result.now }
-{
-    distances.get(number).unwrap()
+    let begun = book.begin_with_table(alloc, at)?;
+    let (plan, prices) = assignment::plan(alloc, begun.cells())?;
+    let (problem, tables) = (begun.snap().problem(), begun.tables());
+    let planned = CertifiedPlan::new(problem, tables, begun.cells(), &plan, &prices);
+    listed(alloc, begun.snap().version(), &planned)
 }
 
 /// A plan of a version as a list.
-fn listed(alloc: Global, version: u64, planned: &PlannedProblem<'_>) -> Result<PlanList, Stop>
-    requires { IsPlannedProblem planned.now }
-    ensures list { IfOk result (IsListOf version planned.now.tables.now planned.now.problem.now (priced_plan planned.now)) }
+fn listed(alloc: Global, version: u64, planned: &CertifiedPlan<'_>) -> Result<PlanList, Stop>
+    ensures list { IfOk result (IsListOf version planned.now.network planned.now.problem planned.now.priced) }
     ensures refused { IfErr result (λ why. why ≡ OutOfMemory) }
 {
     Ok(list_of_plan(alloc, version, planned)?)

@@ -1,6 +1,5 @@
 //! The run that brings command lines to a book.
 ghost use Rattle.std.specs.Prelude.{◌≡◌, ◌≢◌, ◌≤◌, ◌++◌, false, true, List, ℕ, IfOk, IsOk, OnErr, OnOk, length};
-ghost use Rattle.commit_book.specs.History.{IsTableAt};
 ghost use Rattle.commit_book.specs.Books.{answer_of};
 ghost use Rattle.commit_book.specs.Headline.{IsProved};
 ghost use Rattle.commit_book.specs.declared.answer.Answer.TheVariants.{Refused};
@@ -12,11 +11,11 @@ ghost use Rattle.line_engine.specs.Runs.{RunsOver};
 ghost use Rattle.cost_table.specs.Plan.{IsOptimal};
 ghost use Rattle.price_checker.specs.Certificate.{IsCertificate};
 ghost use Rattle.dispatch_sheet.specs.PlanText.{FitsProblem};
-ghost use Rattle.office.specs.CommandReplies.{IsLedTo, IsPlanOf, IsPlanned, LeavesOutOfMemory, LineRunsOutOfMemory, RepliesToCommand, RepliesToLine, ToCommands, answer_text, begun_reply, is_refused, present};
+ghost use Rattle.office.specs.CommandReplies.{IsLedTo, IsPlanned, LeavesOutOfMemory, LineRunsOutOfMemory, RepliesToCommand, RepliesToLine, ToCommands, answer_text, begun_reply, is_refused};
 ghost use Rattle.office.specs.inner.OutOfMemory.{MayAnswerOutOfMemory};
 
 use assignment::plan;
-use commit_book::{Book, Refusal, Reply, Snap};
+use commit_book::{BegunProblem, Book, Refusal, Reply, Snap};
 use cost_table::{Cells, Plan};
 use dispatch_sheet::{certificate_line, certified_plan_text, sheet_text};
 use line_engine::{
@@ -78,8 +77,8 @@ fn answer_command(
             push_begun_reply(reply, &snap)?;
         }
         Command::Plan(at) => {
-            let (snap, made) = book.begin_with_table(alloc, at)?;
-            push_plan(alloc, reply, book, &snap, made.cells())?;
+            let begun = book.begin_with_table(alloc, at)?;
+            push_plan(alloc, reply, &begun)?;
         }
         Command::Sheet => reply.push_str(&sheet_text(alloc, book.len(), book.state())?)?,
     }
@@ -125,21 +124,13 @@ fn push_begun_reply(reply: &mut ReplyText, snap: &Snap) -> Result<(), AllocError
     )
 }
 
-/// Plans the problem just begun, whose table is handed in, and adds the plan and its certificate. The book is for the prover
-/// alone.
-fn push_plan(
-    alloc: Global,
-    reply: &mut ReplyText,
-    _book: &Book,
-    snap: &Snap,
-    cells: &Cells,
-) -> Result<(), AllocError>
-    requires present { snap.now ≡ present _book.now snap.now.problem.at }
-    requires table { IsTableAt _book.now.setting _book.now.state.history (length _book.now.state.history) snap.now.problem.at cells.now }
-    ensures { OnOk result ((body : List ℕ) × (reply.new ≡ reply.old ++ body) × IsPlanOf _book.now snap.now.problem.at body) }
+/// Plans a begun problem, and adds the plan and its certificate.
+fn push_plan(alloc: Global, reply: &mut ReplyText, begun: &BegunProblem) -> Result<(), AllocError>
+    ensures { OnOk result ((body : List ℕ) × (reply.new ≡ reply.old ++ body) × IsPlanned begun.now.snap begun.now.table body) }
 {
+    let cells = begun.cells();
     let (plan, prices) = plan(alloc, cells)?;
-    push_planned_reply(alloc, reply, snap, cells, &plan, &prices)
+    push_planned_reply(alloc, reply, begun.snap(), cells, &plan, &prices)
 }
 
 /// Adds the reply to a plan line: its head, the plan and its certificate.

@@ -19,7 +19,7 @@ use Rattle.cost_table.specs.Plan.{AllAllowed, IsAllowed}
 use Rattle.plan_bounds.specs.PricedPlan.{PricedPlan}
 use Rattle.reply_texts.specs.Lines.{Adds, AreLines}
 use Rattle.plan_reasons.specs.declared.style.Style.{Style}
-use Rattle.plan_reasons.specs.declared.planned_problem.PlannedProblem.{PlannedProblem}
+use Rattle.plan_reasons.specs.CertifiedPlan.{CertifiedPlanValue}
 use Rattle.plan_reasons.specs.WhyText.{IsOrderLine, IsWagonLine}
 use Rattle.plan_reasons.specs.Pairs.{IsFailedLine, IsFitsLine, more_of}
 use Rattle.plan_reasons.specs.PairLists.{AreByMore, ArePairLines, IsOrderText, IsOwnLine, IsWagonText, pairs_of_order, pairs_of_wagon, passes_all, stays_line}
@@ -31,17 +31,17 @@ not_true : (b : Bool) → not b ≡ true → b ≡ false
 not_true true h = absurd cc
 not_true false h = refl
 
-module _ (planned : PlannedProblem) (pairs : List (ℕ × ℕ)) (all : All (IsPairOf planned.problem.now) pairs) where
-  pub all_fitting : (fits : List (ℕ × ℕ)) → IsPermutation (filter (passes_all planned.cells.now) pairs) fits → All (IsFitting planned) fits
+module _ (planned : CertifiedPlanValue) (pairs : List (ℕ × ℕ)) (all : All (IsPairOf planned.problem) pairs) where
+  pub all_fitting : (fits : List (ℕ × ℕ)) → IsPermutation (filter (passes_all planned.priced.table) pairs) fits → All (IsFitting planned) fits
   all_fitting fits same =
-      let inside = All-filter (passes_all planned.cells.now) (IsPairOf planned.problem.now) pairs all in
-      let passes = filter_passes (passes_all planned.cells.now) pairs in
-      All-permutation (IsFitting planned) (filter (passes_all planned.cells.now) pairs) fits same (λ k d lt. (inside k d lt, passes k d lt))
+      let inside = All-filter (passes_all planned.priced.table) (IsPairOf planned.problem) pairs all in
+      let passes = filter_passes (passes_all planned.priced.table) pairs in
+      All-permutation (IsFitting planned) (filter (passes_all planned.priced.table) pairs) fits same (λ k d lt. (inside k d lt, passes k d lt))
 
-  pub all_failing : All (IsFailing planned) (filter (λ pair. not (passes_all planned.cells.now pair)) pairs)
+  pub all_failing : All (IsFailing planned) (filter (λ pair. not (passes_all planned.priced.table pair)) pairs)
   all_failing k d lt =
-      let fails = λ (pair : ℕ × ℕ). not (passes_all planned.cells.now pair) in
-      let inside = All-filter fails (IsPairOf planned.problem.now) pairs all k d lt in
+      let fails = λ (pair : ℕ × ℕ). not (passes_all planned.priced.table pair) in
+      let inside = All-filter fails (IsPairOf planned.problem) pairs all k d lt in
       (inside, not_true _ (filter_passes fails pairs k d lt))
 
 pub all_of_range : (P : ℕ × ℕ → Type 0) (pair_at : ℕ → ℕ × ℕ) (n : ℕ) → ((k : ℕ) → k < n → P (pair_at k)) → All P (map pair_at (range_with_len 0 n))

@@ -2,7 +2,7 @@ pub mod Reasons
 pub mod OrderCounts
 pub mod Fields
 pub mod PlaceFields
-pub mod Planned
+pub mod CertifiedPlan
 pub mod Journeys
 pub mod WhyText
 pub mod Pairs

@@ -12,12 +12,11 @@ use Rattle.price_checker.specs.NamedFaults.{name_at}
 use Rattle.plan_bounds.specs.PricedPlan.{PricedPlan}
 use Rattle.reply_texts.specs.Lines.{AreLines}
 use Rattle.plan_reasons.specs.declared.line_form.LineForm.{LineForm}
-use Rattle.plan_reasons.specs.declared.planned_problem.PlannedProblem.{PlannedProblem}
+use Rattle.plan_reasons.specs.CertifiedPlan.{CertifiedPlanValue}
 use Rattle.plan_reasons.specs.declared.style.Style.{Style}
 use Rattle.plan_reasons.specs.Fields.{ending, first_field, quoted}
 use Rattle.plan_reasons.specs.WhyText.{IsOrderLine, IsWagonLine}
 use Rattle.plan_reasons.specs.PlaceFields.{names_of}
-use Rattle.plan_reasons.specs.Planned.{priced_plan}
 use Rattle.plan_reasons.specs.Pairs.{IsFailedLine, IsFitsLine, more_of}
 
 -- each free wagon with order j, and each order with wagon i, as placed
@@ -82,11 +81,11 @@ pub record IsWagonText (style : Style) (names : Option (List NamedPlace)) (net :
   pub whole : text ≡ own ++ rest
 
 -- the text about order j of what is asked about, written in this form
-abbrev pub IsOrderTextOf : LineForm → PlannedProblem → (j : ℕ) → (text : List ℕ) → Type 0
+abbrev pub IsOrderTextOf : LineForm → CertifiedPlanValue → (j : ℕ) → (text : List ℕ) → Type 0
 IsOrderTextOf form planned j text =
-    IsOrderText form.style (names_of form) planned.tables.now planned.problem.now (priced_plan planned) j text
+    IsOrderText form.style (names_of form) planned.network planned.problem planned.priced j text
 
 -- the text about wagon i of what is asked about, written in this form
-abbrev pub IsWagonTextOf : LineForm → PlannedProblem → (i : ℕ) → (text : List ℕ) → Type 0
+abbrev pub IsWagonTextOf : LineForm → CertifiedPlanValue → (i : ℕ) → (text : List ℕ) → Type 0
 IsWagonTextOf form planned i text =
-    IsWagonText form.style (names_of form) planned.tables.now planned.problem.now (priced_plan planned) i text
+    IsWagonText form.style (names_of form) planned.network planned.problem planned.priced i text

@@ -1,9 +1,8 @@
 //! The journey of a wagon that goes.
 ghost use Rattle.cost_table.specs.Plan.{IsAllowed};
 ghost use Rattle.plan_reasons.specs.Journeys.{IsJourney};
-ghost use Rattle.plan_reasons.specs.Planned.{IsPlannedProblem};
 
-use crate::planned_problem::PlannedProblem;
+use crate::certified_plan::CertifiedPlan;
 use crate::reasons::{arrival, way_of};
 use rail_codes::{ClassCode, Moment, OrderId, Place, WagonNumber};
 
@@ -29,17 +28,17 @@ pub struct Journey {
 }
 
 /// The wagon of a pair on its way to the order: it starts at the problem's moment, or when it is ready.
-pub fn journey_of(planned: &PlannedProblem, pair: (usize, usize)) -> Journey
-    requires planned { IsPlannedProblem planned.now }
-    requires allowed { IsAllowed planned.now.cells.now pair }
-    ensures { IsJourney planned.now.tables.now planned.now.problem.now pair result }
+pub fn journey_of(planned: &CertifiedPlan, pair: (usize, usize)) -> Journey
+    requires { IsAllowed planned.now.priced.table pair }
+    ensures { IsJourney planned.now.network planned.now.problem pair result }
 {
-    let wagon = &planned.problem.wagons()[pair.0];
-    let order = planned.problem.orders()[pair.1].order();
+    let problem = planned.problem();
+    let wagon = &problem.wagons()[pair.0];
+    let order = problem.orders()[pair.1].order();
     // The latest moment is one of the years that a moment may be of.
     order.latest().for_the_prover();
-    let (km, minutes) = way_of(planned.tables, wagon, order);
-    let at = Moment::from_seconds(arrival(planned.problem.at(), wagon, minutes)).unwrap();
+    let (km, minutes) = way_of(planned.tables(), wagon, order);
+    let at = Moment::from_seconds(arrival(problem.at(), wagon, minutes)).unwrap();
     Journey {
         wagon: wagon.number,
         class: wagon.class,

@@ -6,6 +6,7 @@
 #![tactic(auto)]
 
 mod cell_counts;
+mod certified_plan;
 mod counts_by_order;
 mod failed_line;
 mod finders;
@@ -17,7 +18,6 @@ mod order_line;
 mod pair_line;
 mod pair_lists;
 mod place_fields;
-mod planned_problem;
 mod reasons;
 mod style;
 mod tallies;
@@ -25,13 +25,13 @@ mod tested_wagons;
 mod wagon_line;
 mod why_lines;
 
+pub use certified_plan::CertifiedPlan;
 pub use counts_by_order::order_counts;
 pub use finders::{find_order, find_wagon};
 pub use journey::{Journey, journey_of};
 pub use laws::{fits_are_cheaper, in_time_are_allowed, numbers_are_bounds, tests_narrow};
 pub use line_form::LineForm;
 pub use one_text::{order_text, wagon_text};
-pub use planned_problem::PlannedProblem;
 pub use reasons::{Counts, way_of};
 pub use style::Style;
 pub use why_lines::why_text;

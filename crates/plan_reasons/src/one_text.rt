@@ -2,13 +2,12 @@
 ghost use Rattle.std.specs.Prelude.{◌≡◌, ◌==◌, ◌<◌, ◌++◌, IfOk, OnOk, length, string_bytes};
 ghost use Rattle.std.specs.List.{find};
 ghost use Rattle.plan_reasons.specs.PairLists.{IsOrderTextOf, IsWagonTextOf, pairs_of_order, pairs_of_wagon, stays_line};
-ghost use Rattle.plan_reasons.specs.Planned.{IsPlannedProblem};
 ghost use Rattle.plan_reasons.specs.inner.AddedPairs.{AddsOwnLine};
 
+use crate::certified_plan::CertifiedPlan;
 use crate::line_form::LineForm;
 use crate::order_line::push_order_line;
 use crate::pair_lists::push_pairs;
-use crate::planned_problem::PlannedProblem;
 use crate::style::{Style, end_line, first_code};
 use crate::tallies::Tallies;
 use crate::wagon_line::push_wagon_line;
@@ -32,14 +31,13 @@ use std::alloc::{AllocError, Global};
 pub fn order_text(
     alloc: Global,
     form: &LineForm<'_>,
-    planned: &PlannedProblem,
+    planned: &CertifiedPlan,
     j: usize,
 ) -> Result<String, AllocError>
-    requires planned { IsPlannedProblem planned.now }
-    requires order { j < length planned.now.problem.now.orders }
+    requires { j < length planned.now.problem.orders }
     ensures { IfOk result (λ text. IsOrderTextOf form.now planned.now j (string_bytes text)) }
 {
-    let pairs = pairs_of_order(alloc, planned.problem, j)?;
+    let pairs = pairs_of_order(alloc, planned.problem(), j)?;
     let tallies = Tallies::new(alloc, planned)?;
     let mut text = String::new(alloc);
     push_order_line(alloc, &mut text, form.style, planned, &tallies, j)?;
@@ -52,14 +50,13 @@ pub fn order_text(
 pub fn wagon_text(
     alloc: Global,
     form: &LineForm<'_>,
-    planned: &PlannedProblem,
+    planned: &CertifiedPlan,
     i: usize,
 ) -> Result<String, AllocError>
-    requires planned { IsPlannedProblem planned.now }
-    requires wagon { i < length planned.now.problem.now.wagons }
+    requires { i < length planned.now.problem.wagons }
     ensures { IfOk result (λ text. IsWagonTextOf form.now planned.now i (string_bytes text)) }
 {
-    let pairs = pairs_of_wagon(alloc, planned.problem, i)?;
+    let pairs = pairs_of_wagon(alloc, planned.problem(), i)?;
     let mut text = String::new(alloc);
     push_own_line(&mut text, form.style, planned, i)?;
     push_pairs(alloc, &mut text, form, planned, &pairs)?;
@@ -70,16 +67,15 @@ pub fn wagon_text(
 fn push_own_line(
     text: &mut String,
     style: Style,
-    planned: &PlannedProblem,
+    planned: &CertifiedPlan,
     i: usize,
 ) -> Result<(), AllocError>
-    requires planned { IsPlannedProblem planned.now }
-    requires wagon { i < length planned.now.problem.now.wagons }
+    requires { i < length planned.now.problem.wagons }
     ensures { OnOk result (AddsOwnLine style planned.now i (string_bytes text.old) (string_bytes text.new)) }
 {
-    match pair_with(planned.plan.pairs(), i) {
+    match pair_with(planned.plan().pairs(), i) {
         Some(pair) => push_wagon_line(text, style, planned, pair),
-        None => push_stays(text, style, planned.problem, i),
+        None => push_stays(text, style, planned.problem(), i),
     }
 }
 

@@ -5,12 +5,11 @@ ghost use Rattle.plan_bounds.specs.Bounds.{AllCostMore};
 ghost use Rattle.plan_bounds.specs.Changes.{with_lack};
 ghost use Rattle.plan_bounds.specs.Slack.{missed};
 ghost use Rattle.plan_reasons.specs.Fields.{field, quoted};
-ghost use Rattle.plan_reasons.specs.Planned.{IsPlannedProblem, priced_plan};
 ghost use Rattle.plan_reasons.specs.WhyText.{count_fields, further_value, order_fields, price_fields};
 ghost use Rattle.plan_reasons.specs.inner.Added.{AddsOrderLine};
 ghost use Rattle.plan_reasons.specs.inner.Tallied.{AreTallies};
 
-use crate::planned_problem::PlannedProblem;
+use crate::certified_plan::CertifiedPlan;
 use crate::reasons::Counts;
 use crate::style::{Style, code_field, end_line, first_code, nothing, number_field, push_field};
 use crate::tallies::Tallies;
@@ -23,13 +22,12 @@ pub(crate) fn push_order_line(
     alloc: Global,
     text: &mut String,
     style: Style,
-    planned: &PlannedProblem,
+    planned: &CertifiedPlan,
     tallies: &Tallies,
     j: usize,
 ) -> Result<(), AllocError>
-    requires planned { IsPlannedProblem planned.now }
     requires tallies { AreTallies planned.now tallies.now }
-    requires order { j < length planned.now.problem.now.orders }
+    requires order { j < length planned.now.problem.orders }
     ensures { OnOk result (AddsOrderLine style planned.now j (string_bytes text.old) (string_bytes text.new)) }
 {
     let counts = tallies.counts(alloc, planned, j)?;
@@ -42,22 +40,21 @@ pub(crate) fn push_order_line(
 fn push_order_fields(
     text: &mut String,
     style: Style,
-    planned: &PlannedProblem,
+    planned: &CertifiedPlan,
     tallies: &Tallies,
     j: usize,
 ) -> Result<(), AllocError>
-    requires planned { IsPlannedProblem planned.now }
     requires tallies { AreTallies planned.now tallies.now }
-    requires order { j < length planned.now.problem.now.orders }
-    ensures { OnOk result (string_bytes text.new ≡ string_bytes text.old ++ order_fields style planned.now.problem.now (priced_plan planned.now) j) }
+    requires order { j < length planned.now.problem.orders }
+    ensures { OnOk result (string_bytes text.new ≡ string_bytes text.old ++ order_fields style planned.now.problem planned.now.priced j) }
 {
     first_code(
         text,
         style,
         "order",
-        order_name(planned.problem, j).as_bytes(),
+        order_name(planned.problem(), j).as_bytes(),
     )?;
-    number_field(text, style, "lacks", u64::from(planned.cells.lack(j)))?;
+    number_field(text, style, "lacks", u64::from(planned.cells().lack(j)))?;
     number_field(text, style, "gets", tallies.given(planned, j))?;
     number_field(text, style, "misses", missed(planned, tallies, j))
 }
@@ -77,16 +74,15 @@ fn push_counts(text: &mut String, style: Style, counts: Counts) -> Result<(), Al
 fn push_prices(
     text: &mut String,
     style: Style,
-    planned: &PlannedProblem,
+    planned: &CertifiedPlan,
     tallies: &Tallies,
     j: usize,
 ) -> Result<(), AllocError>
-    requires planned { IsPlannedProblem planned.now }
     requires tallies { AreTallies planned.now tallies.now }
-    requires order { j < order_count planned.now.cells.now }
-    ensures { OnOk result (string_bytes text.new ≡ string_bytes text.old ++ price_fields style (priced_plan planned.now) j) }
+    requires order { j < length planned.now.problem.orders }
+    ensures { OnOk result (string_bytes text.new ≡ string_bytes text.old ++ price_fields style planned.now.priced j) }
 {
-    let bounds = Bounds::new(planned.cells, planned.plan, planned.prices);
+    let bounds = planned.bounds();
     number_field(text, style, "price", price(&bounds, j))?;
     push_further(text, style, planned, tallies, &bounds, j)?;
     end_line(text, style)
@@ -96,15 +92,15 @@ fn push_prices(
 fn push_further(
     text: &mut String,
     style: Style,
-    planned: &PlannedProblem,
+    planned: &CertifiedPlan,
     tallies: &Tallies,
     bounds: &Bounds,
     j: usize,
 ) -> Result<(), AllocError>
     requires tallies { AreTallies planned.now tallies.now }
-    requires order { j < order_count planned.now.cells.now }
-    requires bounds { bounds.now ≡ priced_plan planned.now }
-    ensures { OnOk result (string_bytes text.new ≡ string_bytes text.old ++ field style (codes "further") (further_value style (priced_plan planned.now) j)) }
+    requires order { j < order_count planned.now.priced.table }
+    requires bounds { bounds.now ≡ planned.now.priced }
+    ensures { OnOk result (string_bytes text.new ≡ string_bytes text.old ++ field style (codes "further") (further_value style planned.now.priced j)) }
 {
     if missed(planned, tallies, j) == 0 {
         return push_field(text, style, "further", nothing(style));
@@ -135,11 +131,11 @@ fn price(bounds: &Bounds, j: usize) -> u64
 }
 
 /// How many wagons order `j` misses.
-pub(crate) fn missed(planned: &PlannedProblem, tallies: &Tallies, j: usize) -> u64
+pub(crate) fn missed(planned: &CertifiedPlan, tallies: &Tallies, j: usize) -> u64
     requires tallies { AreTallies planned.now tallies.now }
-    requires order { j < order_count planned.now.cells.now }
-    ensures value { result ≡ missed (priced_plan planned.now) planned.now.plan.now j }
+    requires order { j < order_count planned.now.priced.table }
+    ensures value { result ≡ missed planned.now.priced planned.now.priced.pairs j }
     ensures limit { result ≤ 20 }
 {
-    u64::from(planned.cells.lack(j)).saturating_sub(tallies.given(planned, j))
+    u64::from(planned.cells().lack(j)).saturating_sub(tallies.given(planned, j))
 }

@@ -3,12 +3,11 @@ ghost use Rattle.std.specs.Prelude.{◌≡◌, ◌++◌, IsTrue, OnOk, false, st
 ghost use Rattle.plan_reasons.specs.declared.style.Style.TheVariants.{Text};
 ghost use Rattle.plan_reasons.specs.Pairs.{cost_fields, more_of, planned_field, truth};
 ghost use Rattle.plan_reasons.specs.PairLists.{passes_all};
-ghost use Rattle.plan_reasons.specs.Planned.{IsPlannedProblem, priced_plan};
 ghost use Rattle.plan_reasons.specs.inner.AddedPairs.{AddsFailedLine, AddsFitsLine, IsPairOf};
 
+use crate::certified_plan::CertifiedPlan;
 use crate::failed_line::{push_pair, push_test_line};
 use crate::line_form::LineForm;
-use crate::planned_problem::PlannedProblem;
 use crate::reasons::first_failed;
 use crate::style::{Style, end_line, number_field, push_field};
 use plan_bounds::{Bounds, has_pair};
@@ -18,16 +17,16 @@ use std::alloc::AllocError;
 pub(crate) fn push_fits_line(
     text: &mut String,
     style: Style,
-    planned: &PlannedProblem,
+    planned: &CertifiedPlan,
     pair: (usize, usize),
 ) -> Result<(), AllocError>
-    requires planned { IsPlannedProblem planned.now }
-    requires pair { IsPairOf planned.now.problem.now pair }
-    requires passes { IsTrue (passes_all planned.now.cells.now pair) }
+    requires pair { IsPairOf planned.now.problem pair }
+    requires passes { IsTrue (passes_all planned.now.priced.table pair) }
     ensures { OnOk result (AddsFitsLine style planned.now pair (string_bytes text.old) (string_bytes text.new)) }
 {
-    let wagon = &planned.problem.wagons()[pair.0];
-    let order = planned.problem.orders()[pair.1].order();
+    let problem = planned.problem();
+    let wagon = &problem.wagons()[pair.0];
+    let order = problem.orders()[pair.1].order();
     push_pair(text, style, "fits", wagon, order)?;
     push_costs(text, style, planned, pair)?;
     end_line(text, style)
@@ -37,37 +36,37 @@ pub(crate) fn push_fits_line(
 pub(crate) fn push_failed_line(
     text: &mut String,
     form: &LineForm<'_>,
-    planned: &PlannedProblem,
+    planned: &CertifiedPlan,
     pair: (usize, usize),
 ) -> Result<(), AllocError>
-    requires planned { IsPlannedProblem planned.now }
-    requires pair { IsPairOf planned.now.problem.now pair }
-    requires fails { passes_all planned.now.cells.now pair ≡ false }
+    requires pair { IsPairOf planned.now.problem pair }
+    requires fails { passes_all planned.now.priced.table pair ≡ false }
     ensures { OnOk result (AddsFailedLine form.now planned.now pair (string_bytes text.old) (string_bytes text.new)) }
 {
-    let at = planned.problem.at();
-    let wagon = &planned.problem.wagons()[pair.0];
-    let order = planned.problem.orders()[pair.1].order();
-    let test = first_failed(planned.tables, at, wagon, order);
-    push_test_line(text, form, planned.tables, at, wagon, order, test)
+    let problem = planned.problem();
+    let at = problem.at();
+    let wagon = &problem.wagons()[pair.0];
+    let order = problem.orders()[pair.1].order();
+    let tables = planned.tables();
+    let test = first_failed(tables, at, wagon, order);
+    push_test_line(text, form, tables, at, wagon, order, test)
 }
 
 /// Adds the kilometres of a pair, what plans with it cost more, and whether the plan has it.
 fn push_costs(
     text: &mut String,
     style: Style,
-    planned: &PlannedProblem,
+    planned: &CertifiedPlan,
     pair: (usize, usize),
 ) -> Result<(), AllocError>
-    requires { IsPlannedProblem planned.now }
-    ensures { OnOk result (string_bytes text.new ≡ string_bytes text.old ++ cost_fields style (priced_plan planned.now) pair) }
+    ensures { OnOk result (string_bytes text.new ≡ string_bytes text.old ++ cost_fields style planned.now.priced pair) }
 {
     let (i, j) = pair;
-    let bounds = Bounds::new(planned.cells, planned.plan, planned.prices);
+    let bounds = planned.bounds();
     let more = more_of(&bounds, pair);
-    number_field(text, style, "km", planned.cells.cell(i, j).unwrap_or(0))?;
+    number_field(text, style, "km", planned.cells().cell(i, j).unwrap_or(0))?;
     number_field(text, style, "more", more)?;
-    push_planned(text, style, more, has_pair(planned.plan.pairs(), i, j))
+    push_planned(text, style, more, has_pair(planned.plan().pairs(), i, j))
 }
 
 /// What every plan costs more, at least, that has a pair.

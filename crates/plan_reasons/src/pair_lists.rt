@@ -2,7 +2,6 @@
 ghost use Rattle.std.specs.Prelude.{◌≡◌, All, IfOk, OnOk, not, string_bytes};
 ghost use Rattle.std.specs.List.{filter};
 ghost use Rattle.plan_reasons.specs.PairLists.{AreByMore, passes_all};
-ghost use Rattle.plan_reasons.specs.Planned.{IsPlannedProblem, priced_plan};
 ghost use Rattle.plan_reasons.specs.inner.AddedPairs.{
   AddsFailedLines,
   AddsFitsLines,
@@ -12,12 +11,11 @@ ghost use Rattle.plan_reasons.specs.inner.AddedPairs.{
   IsPairOf,
 };
 
+use crate::certified_plan::CertifiedPlan;
 use crate::line_form::LineForm;
 use crate::pair_line::{more_of, push_failed_line, push_fits_line};
-use crate::planned_problem::PlannedProblem;
 use crate::style::Style;
 use cost_table::Cells;
-use plan_bounds::Bounds;
 use std::alloc::{AllocError, Global};
 
 /// Adds the lines of pairs: first those that fail no test, by what plans with them cost more; then the others.
@@ -25,15 +23,14 @@ pub(crate) fn push_pairs(
     alloc: Global,
     text: &mut String,
     form: &LineForm<'_>,
-    planned: &PlannedProblem,
+    planned: &CertifiedPlan,
     pairs: &[(usize, usize)],
 ) -> Result<(), AllocError>
-    requires planned { IsPlannedProblem planned.now }
-    requires pairs { All (IsPairOf planned.now.problem.now) pairs.now }
+    requires { All (IsPairOf planned.now.problem) pairs.now }
     ensures { OnOk result (AddsPairLines form.now planned.now pairs.now (string_bytes text.old) (string_bytes text.new)) }
 {
     let fits = fits_by_more(alloc, planned, pairs)?;
-    let failing = failing(alloc, planned.cells, pairs)?;
+    let failing = failing(alloc, planned.cells(), pairs)?;
     push_fits(text, form.style, planned, &fits)?;
     push_failing(text, form, planned, &failing)
 }
@@ -41,14 +38,13 @@ pub(crate) fn push_pairs(
 /// Those of the pairs that fail no test, by what plans with them cost more.
 fn fits_by_more(
     alloc: Global,
-    planned: &PlannedProblem,
+    planned: &CertifiedPlan,
     pairs: &[(usize, usize)],
 ) -> Result<Vec<(usize, usize)>, AllocError>
-    requires { IsPlannedProblem planned.now }
-    ensures { IfOk result (λ fits. AreByMore (priced_plan planned.now) pairs.now fits.items) }
+    ensures { IfOk result (λ fits. AreByMore planned.now.priced pairs.now fits.items) }
 {
-    let bounds = Bounds::new(planned.cells, planned.plan, planned.prices);
-    let mut fits = fitting(alloc, planned.cells, pairs)?;
+    let bounds = planned.bounds();
+    let mut fits = fitting(alloc, planned.cells(), pairs)?;
     fits.sort_by_key(|pair| more_of(&bounds, *pair))?;
     Ok(fits)
 }
@@ -94,11 +90,10 @@ fn passes_all(cells: &Cells, pair: (usize, usize)) -> bool
 fn push_fits(
     text: &mut String,
     style: Style,
-    planned: &PlannedProblem,
+    planned: &CertifiedPlan,
     fits: &[(usize, usize)],
 ) -> Result<(), AllocError>
-    requires planned { IsPlannedProblem planned.now }
-    requires fits { All (IsFitting planned.now) fits.now }
+    requires { All (IsFitting planned.now) fits.now }
     ensures { OnOk result (AddsFitsLines style planned.now fits.now (string_bytes text.old) (string_bytes text.new)) }
 {
     for pair in fits {
@@ -111,11 +106,10 @@ fn push_fits(
 fn push_failing(
     text: &mut String,
     form: &LineForm<'_>,
-    planned: &PlannedProblem,
+    planned: &CertifiedPlan,
     failing: &[(usize, usize)],
 ) -> Result<(), AllocError>
-    requires planned { IsPlannedProblem planned.now }
-    requires failing { All (IsFailing planned.now) failing.now }
+    requires { All (IsFailing planned.now) failing.now }
     ensures { OnOk result (AddsFailedLines form.now planned.now failing.now (string_bytes text.old) (string_bytes text.new)) }
 {
     for pair in failing {

@@ -8,7 +8,7 @@ ghost use Rattle.cost_table.specs.Names.{is_name};
 ghost use Rattle.plan_reasons.specs.Reasons.{HasWay, IsCount};
 ghost use Rattle.plan_reasons.specs.inner.Tallied.{AreSeen, AreTested, KeepsClasses, has_load, is_of_class};
 
-use crate::planned_problem::PlannedProblem;
+use crate::certified_plan::CertifiedPlan;
 use cost_table::Problem;
 use line_network::{Network, Tables};
 use move_messages::OrderText;
@@ -115,20 +115,20 @@ pub(crate) fn count_suited(wagons: &[TestedWagon], listed: &[bool], load: u32) -
 
 /// From how many of these a way leads to the order's place.
 pub(crate) fn with_way(
-    planned: &PlannedProblem,
+    planned: &CertifiedPlan,
     wagons: &[TestedWagon],
     listed: &[bool],
     order: &OrderText,
 ) -> u64
-    requires { AreSeen planned.now.tables.now planned.now.problem.now.wagons order.now listed.now wagons.now }
-    ensures { IsCount (λ wagon. HasWay planned.now.tables.now wagon order.now) planned.now.problem.now.wagons result }
+    requires { AreSeen planned.now.network planned.now.problem.wagons order.now listed.now wagons.now }
+    ensures { IsCount (λ wagon. HasWay planned.now.network wagon order.now) planned.now.problem.wagons result }
 {
-    let to = planned.tables.network().index_of(order.place());
+    let tables = planned.tables();
+    let to = tables.network().index_of(order.place());
     let load = order.load();
     let mut count = 0;
     for wagon in wagons {
-        let has_way = has_load(listed, load, wagon)
-            && way(planned.tables, wagon.place, to).is_some();
+        let has_way = has_load(listed, load, wagon) && way(tables, wagon.place, to).is_some();
         count += u64::from(has_way);
     }
     count

@@ -3,14 +3,12 @@ ghost use Rattle.std.specs.Prelude.{◌≡◌, ◌++◌, ◌<◌, OnOk, slice_in
 ghost use Rattle.cost_table.specs.Plan.{IsAllowed};
 ghost use Rattle.cost_table.specs.Table.{wagon_count};
 ghost use Rattle.plan_bounds.specs.Bounds.{CostsMore, IsIdle};
-ghost use Rattle.plan_reasons.specs.Planned.{IsPlannedProblem, priced_plan};
 ghost use Rattle.plan_reasons.specs.WhyText.{wagon_fields, without_fields};
 ghost use Rattle.plan_reasons.specs.inner.Added.{AddsWagonLine};
 
+use crate::certified_plan::CertifiedPlan;
 use crate::journey::journey_of;
-use crate::planned_problem::PlannedProblem;
 use crate::style::{Style, code_field, end_line, first_code, moment_field, number_field};
-use plan_bounds::Bounds;
 use price_checker::{order_name, wagon_name};
 use std::alloc::AllocError;
 
@@ -18,11 +16,10 @@ use std::alloc::AllocError;
 pub(crate) fn push_wagon_line(
     text: &mut String,
     style: Style,
-    planned: &PlannedProblem,
+    planned: &CertifiedPlan,
     pair: (usize, usize),
 ) -> Result<(), AllocError>
-    requires planned { IsPlannedProblem planned.now }
-    requires allowed { IsAllowed planned.now.cells.now pair }
+    requires { IsAllowed planned.now.priced.table pair }
     ensures { OnOk result (AddsWagonLine style planned.now pair (string_bytes text.old) (string_bytes text.new)) }
 {
     push_wagon_fields(text, style, planned, pair)?;
@@ -35,50 +32,47 @@ pub(crate) fn push_wagon_line(
 fn push_wagon_fields(
     text: &mut String,
     style: Style,
-    planned: &PlannedProblem,
+    planned: &CertifiedPlan,
     pair: (usize, usize),
 ) -> Result<(), AllocError>
-    requires planned { IsPlannedProblem planned.now }
-    requires allowed { IsAllowed planned.now.cells.now pair }
-    ensures { OnOk result (string_bytes text.new ≡ string_bytes text.old ++ wagon_fields style planned.now.problem.now (priced_plan planned.now) pair) }
+    requires { IsAllowed planned.now.priced.table pair }
+    ensures { OnOk result (string_bytes text.new ≡ string_bytes text.old ++ wagon_fields style planned.now.problem planned.now.priced pair) }
 {
     let (i, j) = pair;
     first_code(
         text,
         style,
         "wagon",
-        wagon_name(planned.problem, i).digits(),
+        wagon_name(planned.problem(), i).digits(),
     )?;
     code_field(
         text,
         style,
         "order",
-        order_name(planned.problem, j).as_bytes(),
+        order_name(planned.problem(), j).as_bytes(),
     )?;
-    number_field(text, style, "km", planned.cells.cell(i, j).unwrap_or(0))
+    number_field(text, style, "km", planned.cells().cell(i, j).unwrap_or(0))
 }
 
 /// Adds what every plan in which wagon `i` stays costs more, at least.
 fn push_without(
     text: &mut String,
     style: Style,
-    planned: &PlannedProblem,
+    planned: &CertifiedPlan,
     i: usize,
 ) -> Result<(), AllocError>
-    requires planned { IsPlannedProblem planned.now }
-    requires wagon { i < wagon_count planned.now.cells.now }
-    ensures { OnOk result (string_bytes text.new ≡ string_bytes text.old ++ without_fields style (priced_plan planned.now) i) }
+    requires { i < wagon_count planned.now.priced.table }
+    ensures { OnOk result (string_bytes text.new ≡ string_bytes text.old ++ without_fields style planned.now.priced i) }
 {
     number_field(text, style, "without", without(planned, i))?;
     end_line(text, style)
 }
 
 /// What every plan in which wagon `i` stays costs more, at least.
-fn without(planned: &PlannedProblem, i: usize) -> u64
-    requires planned { IsPlannedProblem planned.now }
-    requires wagon { i < wagon_count planned.now.cells.now }
-    ensures value { result ≡ slice_index planned.now.prices.now.u.items i }
-    ensures bound { CostsMore (priced_plan planned.now) (IsIdle i) result }
+fn without(planned: &CertifiedPlan, i: usize) -> u64
+    requires { i < wagon_count planned.now.priced.table }
+    ensures value { result ≡ slice_index planned.now.priced.u i }
+    ensures bound { CostsMore planned.now.priced (IsIdle i) result }
 {
-    Bounds::new(planned.cells, planned.plan, planned.prices).idle_bound(i)
+    planned.bounds().idle_bound(i)
 }

@@ -1,13 +1,12 @@
 //! The text that says why a plan is as it is.
 ghost use Rattle.std.specs.Prelude.{◌≡◌, ◌-◌, ◌++◌, ◌≤◌, ◌*◌, IfOk, OnOk, length, string_bytes};
 ghost use Rattle.cost_table.specs.Table.{order_count};
-ghost use Rattle.plan_reasons.specs.Planned.{IsPlannedProblem, priced_plan};
 ghost use Rattle.plan_reasons.specs.WhyText.{IsWhyText, missed_in_all, plan_fields, problem_fields, why_line};
 ghost use Rattle.plan_reasons.specs.inner.Added.{AddsOrderLines, AddsWagonLines};
 ghost use Rattle.plan_reasons.specs.inner.Tallied.{AreTallies};
 
+use crate::certified_plan::CertifiedPlan;
 use crate::order_line::{missed, push_order_line};
-use crate::planned_problem::PlannedProblem;
 use crate::style::{Style, end_line, first_number, number_field, push_field};
 use crate::tallies::Tallies;
 use crate::wagon_line::push_wagon_line;
@@ -29,10 +28,9 @@ pub fn why_text(
     alloc: Global,
     style: Style,
     version: u64,
-    planned: &PlannedProblem,
+    planned: &CertifiedPlan,
 ) -> Result<String, AllocError>
-    requires { IsPlannedProblem planned.now }
-    ensures { IfOk result (λ text. IsWhyText style version planned.now.tables.now planned.now.problem.now (priced_plan planned.now) (string_bytes text)) }
+    ensures { IfOk result (λ text. IsWhyText style version planned.now.network planned.now.problem planned.now.priced (string_bytes text)) }
 {
     let mut text = String::new(alloc);
     let tallies = Tallies::new(alloc, planned)?;
@@ -47,12 +45,11 @@ fn push_why_line(
     text: &mut String,
     style: Style,
     version: u64,
-    planned: &PlannedProblem,
+    planned: &CertifiedPlan,
     tallies: &Tallies,
 ) -> Result<(), AllocError>
-    requires planned { IsPlannedProblem planned.now }
-    requires tallies { AreTallies planned.now tallies.now }
-    ensures { OnOk result (string_bytes text.new ≡ string_bytes text.old ++ why_line style version planned.now.problem.now (priced_plan planned.now)) }
+    requires { AreTallies planned.now tallies.now }
+    ensures { OnOk result (string_bytes text.new ≡ string_bytes text.old ++ why_line style version planned.now.problem planned.now.priced) }
 {
     push_problem(text, style, version, planned)?;
     push_plan(text, style, planned, tallies)?;
@@ -64,33 +61,37 @@ fn push_problem(
     text: &mut String,
     style: Style,
     version: u64,
-    planned: &PlannedProblem,
+    planned: &CertifiedPlan,
 ) -> Result<(), AllocError>
-    ensures { OnOk result (string_bytes text.new ≡ string_bytes text.old ++ problem_fields style version planned.now.problem.now) }
+    ensures { OnOk result (string_bytes text.new ≡ string_bytes text.old ++ problem_fields style version planned.now.problem) }
 {
     first_number(text, style, "why", version)?;
-    number_field(text, style, "free", planned.problem.wagons().len() as u64)?;
-    number_field(text, style, "orders", planned.problem.orders().len() as u64)
+    number_field(text, style, "free", planned.problem().wagons().len() as u64)?;
+    number_field(
+        text,
+        style,
+        "orders",
+        planned.problem().orders().len() as u64,
+    )
 }
 
 /// Adds what the plan costs, how many wagons go and stay, and how many the orders miss.
 fn push_plan(
     text: &mut String,
     style: Style,
-    planned: &PlannedProblem,
+    planned: &CertifiedPlan,
     tallies: &Tallies,
 ) -> Result<(), AllocError>
-    requires planned { IsPlannedProblem planned.now }
-    requires tallies { AreTallies planned.now tallies.now }
-    ensures { OnOk result (string_bytes text.new ≡ string_bytes text.old ++ plan_fields style planned.now.problem.now (priced_plan planned.now)) }
+    requires { AreTallies planned.now tallies.now }
+    ensures { OnOk result (string_bytes text.new ≡ string_bytes text.old ++ plan_fields style planned.now.problem planned.now.priced) }
 {
-    let pairs = planned.plan.pairs();
+    let pairs = planned.plan().pairs();
     let mut digits = Buffer::new();
     push_field(
         text,
         style,
         "cost",
-        digits.format(cost(planned.cells, pairs)),
+        digits.format(cost(planned.cells(), pairs)),
     )?;
     number_field(text, style, "go", pairs.len() as u64)?;
     number_field(text, style, "stay", staying(planned) as u64)?;
@@ -98,20 +99,20 @@ fn push_plan(
 }
 
 /// How many free wagons stay.
-fn staying(planned: &PlannedProblem) -> usize
-    ensures { result ≡ length planned.now.problem.now.wagons - length planned.now.plan.now }
+fn staying(planned: &CertifiedPlan) -> usize
+    ensures { result ≡ length planned.now.problem.wagons - length planned.now.priced.pairs }
 {
-    let free = planned.problem.wagons().len();
-    free.saturating_sub(planned.plan.pairs().len())
+    let free = planned.problem().wagons().len();
+    free.saturating_sub(planned.plan().pairs().len())
 }
 
 /// How many wagons the orders miss in all.
-fn missed_in_all(planned: &PlannedProblem, tallies: &Tallies) -> u64
+fn missed_in_all(planned: &CertifiedPlan, tallies: &Tallies) -> u64
     requires { AreTallies planned.now tallies.now }
-    ensures { result ≡ missed_in_all (priced_plan planned.now) }
+    ensures { result ≡ missed_in_all planned.now.priced }
 {
     let mut all = 0;
-    for j in 0..planned.cells.orders() {
+    for j in 0..planned.cells().orders() {
         all += missed(planned, tallies, j);
     }
     all
@@ -122,25 +123,23 @@ fn push_orders(
     alloc: Global,
     text: &mut String,
     style: Style,
-    planned: &PlannedProblem,
+    planned: &CertifiedPlan,
     tallies: &Tallies,
 ) -> Result<(), AllocError>
-    requires planned { IsPlannedProblem planned.now }
-    requires tallies { AreTallies planned.now tallies.now }
-    ensures { OnOk result (AddsOrderLines style planned.now (length planned.now.problem.now.orders) (string_bytes text.old) (string_bytes text.new)) }
+    requires { AreTallies planned.now tallies.now }
+    ensures { OnOk result (AddsOrderLines style planned.now (length planned.now.problem.orders) (string_bytes text.old) (string_bytes text.new)) }
 {
-    for j in 0..planned.problem.orders().len() {
+    for j in 0..planned.problem().orders().len() {
         push_order_line(alloc, text, style, planned, tallies, j)?;
     }
     Ok(())
 }
 
 /// Adds the line of each wagon that goes.
-fn push_wagons(text: &mut String, style: Style, planned: &PlannedProblem) -> Result<(), AllocError>
-    requires { IsPlannedProblem planned.now }
-    ensures { OnOk result (AddsWagonLines style planned.now planned.now.plan.now (string_bytes text.old) (string_bytes text.new)) }
+fn push_wagons(text: &mut String, style: Style, planned: &CertifiedPlan) -> Result<(), AllocError>
+    ensures { OnOk result (AddsWagonLines style planned.now planned.now.priced.pairs (string_bytes text.old) (string_bytes text.new)) }
 {
-    for pair in planned.plan.pairs() {
+    for pair in planned.plan().pairs() {
         push_wagon_line(text, style, planned, *pair)?;
     }
     Ok(())

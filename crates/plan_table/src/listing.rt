@@ -4,13 +4,12 @@ ghost use Rattle.std.specs.List.{AllZip};
 ghost use Rattle.cost_table.specs.Plan.{serves};
 ghost use Rattle.plan_reasons.specs.Journeys.{IsJourney};
 ghost use Rattle.plan_reasons.specs.OrderCounts.{AreOrderCounts};
-ghost use Rattle.plan_reasons.specs.Planned.{IsPlannedProblem, priced_plan};
 ghost use Rattle.plan_table.specs.ListOf.{IsListOf, IsShortfall, reason_of};
 ghost use Rattle.plan_table.specs.inner.Listed.{AreShortfalls, with_missing};
 
 use crate::plan_list::{PlanList, Reason, Shortfall};
 use cost_table::cost;
-use plan_reasons::{Counts, Journey, PlannedProblem, journey_of, order_counts};
+use plan_reasons::{CertifiedPlan, Counts, Journey, journey_of, order_counts};
 use std::alloc::{AllocError, Global};
 
 /// A plan of a version as a list: each wagon that goes with its way, in the plan's order; each order that misses wagons as
@@ -18,42 +17,39 @@ use std::alloc::{AllocError, Global};
 pub fn list_of_plan(
     alloc: Global,
     version: u64,
-    planned: &PlannedProblem,
+    planned: &CertifiedPlan,
 ) -> Result<PlanList, AllocError>
-    requires { IsPlannedProblem planned.now }
-    ensures { IfOk result (IsListOf version planned.now.tables.now planned.now.problem.now (priced_plan planned.now)) }
+    ensures { IfOk result (IsListOf version planned.now.network planned.now.problem planned.now.priced) }
 {
     let journeys = all_journeys(alloc, planned)?;
     let shortfalls = all_shortfalls(alloc, planned)?;
     Ok(PlanList {
         version,
-        at: planned.problem.at(),
+        at: planned.problem().at(),
         journeys,
         shortfalls,
-        sum: cost(planned.cells, planned.plan.pairs()),
+        sum: cost(planned.cells(), planned.plan().pairs()),
     })
 }
 
 /// Each wagon that goes.
-fn all_journeys(alloc: Global, planned: &PlannedProblem) -> Result<Vec<Journey>, AllocError>
-    requires { IsPlannedProblem planned.now }
-    ensures { IfOk result (λ journeys. AllZip (IsJourney planned.now.tables.now planned.now.problem.now) planned.now.plan.now journeys.items) }
+fn all_journeys(alloc: Global, planned: &CertifiedPlan) -> Result<Vec<Journey>, AllocError>
+    ensures { IfOk result (λ journeys. AllZip (IsJourney planned.now.network planned.now.problem) planned.now.priced.pairs journeys.items) }
 {
     let mut journeys = Vec::new(alloc);
-    for pair in planned.plan.pairs() {
+    for pair in planned.plan().pairs() {
         journeys.push(journey_of(planned, *pair))?;
     }
     Ok(journeys)
 }
 
 /// Each order that misses wagons.
-fn all_shortfalls(alloc: Global, planned: &PlannedProblem) -> Result<Vec<Shortfall>, AllocError>
-    requires { IsPlannedProblem planned.now }
-    ensures { IfOk result (λ shortfalls. AreShortfalls planned.now (length planned.now.problem.now.orders) shortfalls.items) }
+fn all_shortfalls(alloc: Global, planned: &CertifiedPlan) -> Result<Vec<Shortfall>, AllocError>
+    ensures { IfOk result (λ shortfalls. AreShortfalls planned.now (length planned.now.problem.orders) shortfalls.items) }
 {
     let counts = order_counts(alloc, planned)?;
     let mut shortfalls = Vec::new(alloc);
-    for j in 0..planned.problem.orders().len() {
+    for j in 0..planned.problem().orders().len() {
         push_missing(&mut shortfalls, shortfall_of(planned, &counts, j))?;
     }
     Ok(shortfalls)
@@ -71,20 +67,19 @@ fn push_missing(shortfalls: &mut Vec<Shortfall>, shortfall: Shortfall) -> Result
 }
 
 /// How many wagons order `j` gets and misses, and why.
-fn shortfall_of(planned: &PlannedProblem, counts: &[Counts], j: usize) -> Shortfall
-    requires planned { IsPlannedProblem planned.now }
-    requires counts { AreOrderCounts planned.now.tables.now planned.now.problem.now counts.now }
-    requires order { j < length planned.now.problem.now.orders }
-    ensures { IsShortfall planned.now.tables.now planned.now.problem.now (priced_plan planned.now) j result }
+fn shortfall_of(planned: &CertifiedPlan, counts: &[Counts], j: usize) -> Shortfall
+    requires counts { AreOrderCounts planned.now.network planned.now.problem counts.now }
+    requires order { j < length planned.now.problem.orders }
+    ensures { IsShortfall planned.now.network planned.now.problem planned.now.priced j result }
 {
-    let order = planned.problem.orders()[j].order();
-    let gets = given(planned.plan.pairs(), j);
+    let order = planned.problem().orders()[j].order();
+    let gets = given(planned.plan().pairs(), j);
     let passed = passed_at(counts, j);
     Shortfall {
         order: order.id(),
         place: order.place(),
         gets,
-        missing: u64::from(planned.cells.lack(j)).saturating_sub(gets),
+        missing: u64::from(planned.cells().lack(j)).saturating_sub(gets),
         penalty: order.penalty(),
         reason: reason_of(gets, &passed),
     }

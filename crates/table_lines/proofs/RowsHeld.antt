@@ -1,13 +1,16 @@
 -- A table whose costs are written out is stated as that very table.
-use Rattle.std.proofs.Common.{◌≡◌, ℕ, true, false, List, [], ◌∷◌, All, length, map, Option, None, Ok, refl, sym, subst, arith}
-use Rattle.std.specs.Prelude.{◌==◌, nat_lt, sum}
-use Rattle.std.specs.List.{list_all, AllByRecursion}
+use Rattle.std.proofs.Common.{◌≡◌, ◌∙◌, ◌<◌, ◌+◌, ◌++◌, ap, take, ℕ, true, false, List, [], ◌∷◌, All, length, map, Option, None, Ok, refl, sym, subst, arith}
+use Rattle.std.specs.Prelude.{◌==◌, nat_lt, sum, Vec}
+use Rattle.std.specs.declared.alloc.Global.{Global}
+use Rattle.std.specs.List.{list_all, range_with_len, AllByRecursion}
 use Rattle.std.proofs.lemmas.Bool.Decides.{nat_tests}
+use Rattle.std.proofs.lemmas.List.{map-append, take_more}
+use Rattle.std.proofs.lemmas.List.FromFn.{fill_by_all}
 use Rattle.std.proofs.lemmas.List.Elements.{All-from_recursion, recursion_from_All}
 use Rattle.cost_table.specs.Names.{NameLists}
 use Rattle.cost_table.specs.DistinctNames.{first_repeated}
 use Rattle.cost_table.specs.Rows.{Rows}
-use Rattle.cost_table.specs.Table.{Table, order_count, wagon_count}
+use Rattle.cost_table.specs.Table.{Table, cost_at, costs_at, order_count, wagon_count}
 use Rattle.cost_table.specs.TableLimits.{IsNumber, IsTable, max_table_lack, max_table_orders, max_table_wagons}
 use Rattle.table_lines.specs.ProblemText.{text_of_table}
 use Rattle.table_lines.specs.StatedTable.{stated_in}
@@ -22,6 +25,21 @@ pub costs_within : (t : Table) (rows : Rows) → IsTable t → map (λ row. row.
 costs_within t rows legal is =
     let within : AllByRecursion (All IsNumber) t.costs = recursion_from_All (All IsNumber) t.costs legal.costs in
     All-from_recursion (λ row. All IsNumber row.items) rows (under_items rows (subst (AllByRecursion (All IsNumber)) (sym is) within))
+
+-- the costs of a wagon are its cost for each order
+pub costs_by_order : (t : Table) (i : ℕ) → IsTable t → i < wagon_count t → map (cost_at t i) (range_with_len 0 (order_count t)) ≡ costs_at t i
+costs_by_order t i legal there =
+    let long : length (costs_at t i) ≡ order_count t = legal.even i [] there in
+    sym (fill_by_all (cost_at t i) (costs_at t i) (order_count t) None long (λ k l. refl))
+
+-- rows with the costs of the first wagons, and one more
+pub one_more_row : (t : Table) (rows more : Rows) (row : Vec (Option ℕ) Global) (i : ℕ) → IsTable t → i < wagon_count t → map (λ row. row.items) rows ≡ take i t.costs
+    → row.items ≡ map (cost_at t i) (range_with_len 0 (order_count t)) → more ≡ rows ++ row ∷ [] → map (λ row. row.items) more ≡ take (i + 1) t.costs
+one_more_row t rows more row i legal there before is pushed =
+    let items = λ (row : Vec (Option ℕ) Global). row.items in
+    let parts = ap (map items) pushed ∙ map-append items rows (row ∷ []) in
+    let last = ap (λ (costs : List (Option ℕ)). take i t.costs ++ costs ∷ []) (is ∙ costs_by_order t i legal there) in
+    parts ∙ ap (λ (costs : List (List (Option ℕ))). costs ++ row.items ∷ []) before ∙ last ∙ sym (take_more t.costs i [] there)
 
 -- ---- what is stated
 

@@ -1,7 +1,8 @@
 //! The table of a problem, as a table line.
-ghost use Rattle.std.specs.Prelude.{◌≡◌, ◌<◌, ◌≤◌, All, IfOk, length, map, string_bytes};
+ghost use Rattle.std.specs.Prelude.{◌≡◌, ◌≤◌, All, IfOk, length, map, string_bytes};
+ghost use Rattle.std.specs.List.{range_with_len};
 ghost use Rattle.cost_table.specs.Problem.{names_of_problem, order_names, wagon_names};
-ghost use Rattle.cost_table.specs.Table.{costs_at, order_count, wagon_count};
+ghost use Rattle.cost_table.specs.Table.{cost_at, order_count, wagon_count};
 ghost use Rattle.cost_table.specs.TableLimits.{IsNumber, max_cost};
 ghost use Rattle.wagons_and_orders.specs.WantedLimits.{IsLack};
 ghost use Rattle.table_lines.specs.TableLine.{IsWithinLimits, table_text};
@@ -91,8 +92,7 @@ fn rows_of(alloc: Global, cells: &Cells) -> Result<Vec<Vec<Option<u64>>>, AllocE
 
 /// What one wagon of a table costs for each order.
 fn row_of(alloc: Global, cells: &Cells, i: usize) -> Result<Vec<Option<u64>>, AllocError>
-    requires { i < wagon_count cells.now }
-    ensures { IfOk result (λ row. row.items ≡ costs_at cells.now i) }
+    ensures { IfOk result (λ row. row.items ≡ map (cost_at cells.now i) (range_with_len 0 (order_count cells.now))) }
 {
     let orders = cells.orders();
     let mut row = Vec::with_capacity(alloc, orders)?;

@@ -9,10 +9,9 @@ use Rattle.wagons_and_orders.specs.declared.free_wagon.FreeWagon.{FreeWagon}
 use Rattle.plan_reasons.specs.declared.line_form.LineForm.{LineForm}
 use Rattle.plan_reasons.specs.declared.reasons.Test.{Test}
 use Rattle.plan_reasons.specs.declared.style.Style.{Style}
-use Rattle.plan_reasons.specs.declared.planned_problem.PlannedProblem.{PlannedProblem}
+use Rattle.plan_reasons.specs.CertifiedPlan.{CertifiedPlanValue}
 use Rattle.plan_reasons.specs.Fields.{field}
 use Rattle.plan_reasons.specs.PlaceFields.{names_of}
-use Rattle.plan_reasons.specs.Planned.{priced_plan}
 use Rattle.plan_reasons.specs.Pairs.{IsArrivalValue, IsFailedLine, IsFitsLine, IsTestLine}
 use Rattle.plan_reasons.specs.PairLists.{ArePairLines, IsOwnLine, passes_all}
 
@@ -21,11 +20,11 @@ abbrev pub IsPairOf : ProblemValue → ℕ × ℕ → Type 0
 IsPairOf problem pair = (pair.0 < length problem.wagons) × (pair.1 < length problem.orders)
 
 -- one that fails no test, or fails one
-abbrev pub IsFitting : PlannedProblem → ℕ × ℕ → Type 0
-IsFitting planned pair = IsPairOf planned.problem.now pair × IsTrue (passes_all planned.cells.now pair)
+abbrev pub IsFitting : CertifiedPlanValue → ℕ × ℕ → Type 0
+IsFitting planned pair = IsPairOf planned.problem pair × IsTrue (passes_all planned.priced.table pair)
 
-abbrev pub IsFailing : PlannedProblem → ℕ × ℕ → Type 0
-IsFailing planned pair = IsPairOf planned.problem.now pair × (passes_all planned.cells.now pair ≡ false)
+abbrev pub IsFailing : CertifiedPlanValue → ℕ × ℕ → Type 0
+IsFailing planned pair = IsPairOf planned.problem pair × (passes_all planned.priced.table pair ≡ false)
 
 -- what stands before the item at k of a list
 abbrev pub comma : (k : ℕ) → List ℕ
@@ -42,23 +41,23 @@ abbrev pub AddsTestLine : LineForm → NetworkValue → (at : ℕ) → FreeWagon
 AddsTestLine form net at wagon order test = Adds (IsTestLine form.style (names_of form) net at wagon order test)
 
 -- the line of a pair was added to a text
-abbrev pub AddsFitsLine : Style → PlannedProblem → (pair : ℕ × ℕ) → (old new : List ℕ) → Type 0
-AddsFitsLine style planned pair = Adds (IsFitsLine style planned.tables.now planned.problem.now (priced_plan planned) pair)
+abbrev pub AddsFitsLine : Style → CertifiedPlanValue → (pair : ℕ × ℕ) → (old new : List ℕ) → Type 0
+AddsFitsLine style planned pair = Adds (IsFitsLine style planned.network planned.problem planned.priced pair)
 
-abbrev pub AddsFailedLine : LineForm → PlannedProblem → (pair : ℕ × ℕ) → (old new : List ℕ) → Type 0
-AddsFailedLine form planned pair = Adds (IsFailedLine form.style (names_of form) planned.tables.now planned.problem.now pair)
+abbrev pub AddsFailedLine : LineForm → CertifiedPlanValue → (pair : ℕ × ℕ) → (old new : List ℕ) → Type 0
+AddsFailedLine form planned pair = Adds (IsFailedLine form.style (names_of form) planned.network planned.problem pair)
 
 -- the lines of pairs
-abbrev pub AddsFitsLines : Style → PlannedProblem → (pairs : List (ℕ × ℕ)) → (old new : List ℕ) → Type 0
-AddsFitsLines style planned pairs = Adds (AreLines (IsFitsLine style planned.tables.now planned.problem.now (priced_plan planned)) pairs)
+abbrev pub AddsFitsLines : Style → CertifiedPlanValue → (pairs : List (ℕ × ℕ)) → (old new : List ℕ) → Type 0
+AddsFitsLines style planned pairs = Adds (AreLines (IsFitsLine style planned.network planned.problem planned.priced) pairs)
 
-abbrev pub AddsFailedLines : LineForm → PlannedProblem → (pairs : List (ℕ × ℕ)) → (old new : List ℕ) → Type 0
-AddsFailedLines form planned pairs = Adds (AreLines (IsFailedLine form.style (names_of form) planned.tables.now planned.problem.now) pairs)
+abbrev pub AddsFailedLines : LineForm → CertifiedPlanValue → (pairs : List (ℕ × ℕ)) → (old new : List ℕ) → Type 0
+AddsFailedLines form planned pairs = Adds (AreLines (IsFailedLine form.style (names_of form) planned.network planned.problem) pairs)
 
-abbrev pub AddsPairLines : LineForm → PlannedProblem → (pairs : List (ℕ × ℕ)) → (old new : List ℕ) → Type 0
-AddsPairLines form planned pairs = Adds (ArePairLines form.style (names_of form) planned.tables.now planned.problem.now (priced_plan planned) pairs)
+abbrev pub AddsPairLines : LineForm → CertifiedPlanValue → (pairs : List (ℕ × ℕ)) → (old new : List ℕ) → Type 0
+AddsPairLines form planned pairs = Adds (ArePairLines form.style (names_of form) planned.network planned.problem planned.priced pairs)
 
 -- the line of a wagon
-abbrev pub AddsOwnLine : Style → PlannedProblem → (i : ℕ) → (old new : List ℕ) → Type 0
+abbrev pub AddsOwnLine : Style → CertifiedPlanValue → (i : ℕ) → (old new : List ℕ) → Type 0
 AddsOwnLine style planned i =
-    Adds (IsOwnLine style planned.tables.now planned.problem.now (priced_plan planned) i (find (λ pair. pair.0 == i) planned.plan.now))
+    Adds (IsOwnLine style planned.network planned.problem planned.priced i (find (λ pair. pair.0 == i) planned.priced.pairs))

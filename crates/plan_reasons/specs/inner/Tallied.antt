@@ -9,7 +9,7 @@ use Rattle.line_network.specs.Network.{NetworkValue, place_index}
 use Rattle.cost_table.specs.Plan.{serves}
 use Rattle.cost_table.specs.Table.{Table, order_count, penalty_at}
 use Rattle.plan_reasons.specs.declared.reasons.Counts.{Counts}
-use Rattle.plan_reasons.specs.declared.planned_problem.PlannedProblem.{PlannedProblem}
+use Rattle.plan_reasons.specs.CertifiedPlan.{CertifiedPlanValue}
 use Rattle.plan_reasons.specs.declared.tallies.Tallies.{Tallies}
 use Rattle.plan_reasons.specs.declared.tested_wagons.TestedWagon.{TestedWagon}
 use Rattle.plan_reasons.specs.Reasons.{AreCounts}
@@ -71,14 +71,14 @@ pub record AreSeen (net : NetworkValue) (wagons : List FreeWagon) (order : Order
 
 -- ---- all of it
 
-pub record AreTallies (planned : PlannedProblem) (tallies : Tallies) : Type 0 where
-  pub tested : AreTested planned.tables.now planned.problem.now.wagons tallies.tested.classes.items tallies.tested.wagons.items
-  pub in_time : AreNumbers (order_count planned.cells.now) (cells_of_order planned.cells.now) tallies.in_time.items
-  pub cheaper : AreNumbers (order_count planned.cells.now) (cheaper_cells planned.cells.now) tallies.cheaper.items
-  pub given : AreNumbers (order_count planned.cells.now) (λ j. serves j planned.plan.now) tallies.given.items
+pub record AreTallies (planned : CertifiedPlanValue) (tallies : Tallies) : Type 0 where
+  pub tested : AreTested planned.network planned.problem.wagons tallies.tested.classes.items tallies.tested.wagons.items
+  pub in_time : AreNumbers (order_count planned.priced.table) (cells_of_order planned.priced.table) tallies.in_time.items
+  pub cheaper : AreNumbers (order_count planned.priced.table) (cheaper_cells planned.priced.table) tallies.cheaper.items
+  pub given : AreNumbers (order_count planned.priced.table) (λ j. serves j planned.priced.pairs) tallies.given.items
 
 -- the counts of order j
-abbrev pub AreCountsOf : PlannedProblem → (j : ℕ) → Counts → Type 0
+abbrev pub AreCountsOf : CertifiedPlanValue → (j : ℕ) → Counts → Type 0
 AreCountsOf planned j counts =
-    (wanted : WantedOrder) → slice_get planned.problem.now.orders j ≡ Some wanted
-    → AreCounts planned.tables.now planned.problem.now.at planned.problem.now.wagons wanted.order counts
+    (wanted : WantedOrder) → slice_get planned.problem.orders j ≡ Some wanted
+    → AreCounts planned.network planned.problem.at planned.problem.wagons wanted.order counts

@@ -6,7 +6,7 @@ use Rattle.plan_reasons.proofs.pair_lists.push_failing.Goals as goal
 
 pub loop-pair-preserved : goal.loop-pair-preserved
 loop-pair-preserved c =
-    let is_line = IsFailedLine c.args.form.now.style (names_of c.args.form.now) c.args.planned.now.tables.now c.args.planned.now.problem.now in
+    let is_line = IsFailedLine c.args.form.now.style (names_of c.args.form.now) c.args.planned.now.network c.args.planned.now.problem in
     let pairs = c.args.failing.now in
     let i = c.loop-pair.pair-index in
     let pair : ℕ × ℕ = get_or pairs i (0, 0) in

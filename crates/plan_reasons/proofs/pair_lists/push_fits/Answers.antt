@@ -1,12 +1,11 @@
 use Rattle.std.proofs.Common.{◌+◌, ℕ, take, get_or, refl, sym, string_bytes, arith}
 use Rattle.reply_texts.proofs.Lines.{Adds-line, Adds-lines-along, taken_more}
 use Rattle.plan_reasons.specs.Pairs.{IsFitsLine}
-use Rattle.plan_reasons.specs.Planned.{priced_plan}
 use Rattle.plan_reasons.proofs.pair_lists.push_fits.Goals as goal
 
 pub loop-pair-preserved : goal.loop-pair-preserved
 loop-pair-preserved c =
-    let is_line = IsFitsLine c.args.style c.args.planned.now.tables.now c.args.planned.now.problem.now (priced_plan c.args.planned.now) in
+    let is_line = IsFitsLine c.args.style c.args.planned.now.network c.args.planned.now.problem c.args.planned.now.priced in
     let pairs = c.args.fits.now in
     let i = c.loop-pair.pair-index in
     let pair : ℕ × ℕ = get_or pairs i (0, 0) in

@@ -1,20 +1,19 @@
-use Rattle.std.proofs.Common.{◌+◌, ℕ, take, get_or, refl, sym, subst, string_bytes, arith}
+use Rattle.std.proofs.Common.{◌∙◌, ◌+◌, ℕ, take, get_or, refl, sym, subst, string_bytes, arith}
 use Rattle.cost_table.specs.Plan.{AllAllowed}
 use Rattle.reply_texts.proofs.Lines.{Adds-line, Adds-lines-along, taken_more}
 use Rattle.plan_bounds.proofs.NewPairs.{allowed_at}
 use Rattle.plan_reasons.specs.WhyText.{IsWagonLine}
-use Rattle.plan_reasons.specs.Planned.{priced_plan}
 use Rattle.plan_reasons.proofs.why_lines.push_wagons.Goals as goal
 
-pub push_wagon_line-requires-clause-allowed : goal.push_wagon_line-requires-clause-allowed
-push_wagon_line-requires-clause-allowed c =
-    let cells = c.args.planned.now.cells.now in
-    let allowed = subst (AllAllowed cells) (sym c.pairs-pair-items.ensures.pairs) c.requires.certified.plan.allowed in
+pub push_wagon_line-requires : goal.push_wagon_line-requires
+push_wagon_line-requires c =
+    let cells = c.args.planned.now.priced.table in
+    let allowed = subst (AllAllowed cells) (sym (c.pairs-pair-items.ensures.pairs ∙ c.plan.ensures.value)) c.plan.ensures.certified.plan.allowed in
     allowed_at cells c.pairs-pair-items.result.now c.loop-pair.pair-index (0, 0) allowed (omega arith)
 
 pub loop-pair-preserved : goal.loop-pair-preserved
 loop-pair-preserved c =
-    let is_line = IsWagonLine c.args.style c.args.planned.now.tables.now c.args.planned.now.problem.now (priced_plan c.args.planned.now) in
+    let is_line = IsWagonLine c.args.style c.args.planned.now.network c.args.planned.now.problem c.args.planned.now.priced in
     let pairs = c.pairs-pair-items.result.now in
     let i = c.loop-pair.pair-index in
     let pair : ℕ × ℕ = get_or pairs i (0, 0) in

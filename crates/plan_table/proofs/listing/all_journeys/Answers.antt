@@ -1,4 +1,4 @@
-use Rattle.std.proofs.Common.{◌+◌, ℕ, take, get_or, refl, sym, subst, arith}
+use Rattle.std.proofs.Common.{◌∙◌, ◌+◌, ℕ, take, get_or, refl, sym, subst, arith}
 use Rattle.std.specs.List.{AllZip}
 use Rattle.cost_table.specs.Plan.{AllAllowed}
 use Rattle.plan_bounds.proofs.NewPairs.{allowed_at}
@@ -6,15 +6,15 @@ use Rattle.plan_reasons.proofs.OrderCounts.{AllZip-taken_more}
 use Rattle.plan_reasons.specs.Journeys.{IsJourney}
 use Rattle.plan_table.proofs.listing.all_journeys.Goals as goal
 
-pub journey_of-requires-clause-allowed : goal.journey_of-requires-clause-allowed
-journey_of-requires-clause-allowed c =
-    let cells = c.args.planned.now.cells.now in
-    let allowed = subst (AllAllowed cells) (sym c.pairs-pair-items.ensures.pairs) c.requires.certified.plan.allowed in
+pub journey_of-requires : goal.journey_of-requires
+journey_of-requires c =
+    let cells = c.args.planned.now.priced.table in
+    let allowed = subst (AllAllowed cells) (sym (c.pairs-pair-items.ensures.pairs ∙ c.plan.ensures.value)) c.plan.ensures.certified.plan.allowed in
     allowed_at cells c.pairs-pair-items.result.now c.loop-pair.pair-index (0, 0) allowed (omega arith)
 
 pub loop-pair-preserved : goal.loop-pair-preserved
 loop-pair-preserved c =
-    let is_journey = IsJourney c.args.planned.now.tables.now c.args.planned.now.problem.now in
+    let is_journey = IsJourney c.args.planned.now.network c.args.planned.now.problem in
     let pairs = c.pairs-pair-items.result.now in
     let i = c.loop-pair.pair-index in
     let pair : ℕ × ℕ = get_or pairs i (0, 0) in

@@ -4,4 +4,4 @@ use Rattle.plan_reasons.specs.Journeys.{IsJourney}
 use Rattle.plan_table.proofs.listing.all_journeys.Given as goal
 
 abbrev pub invariant-loop-pair : goal.invariant-loop-pair
-invariant-loop-pair l = AllZip (IsJourney l.planned.tables.now l.planned.problem.now) (take l.pair-index l.pair-items) l.journeys.items
+invariant-loop-pair l = AllZip (IsJourney l.planned.network l.planned.problem) (take l.pair-index l.pair-items) l.journeys.items

@@ -2,6 +2,7 @@ use Rattle.std.proofs.Common.{◌≡◌, ◌∙◌, ◌-◌, ℕ, Some, ap, ap�
 use Rattle.std.specs.Prelude.{slice_get}
 use Rattle.move_messages.specs.Order.{Order}
 use Rattle.cost_table.specs.Plan.{serves}
+use Rattle.cost_table.specs.Problem.{ProblemValue}
 use Rattle.plan_reasons.specs.Reasons.{AreCounts}
 use Rattle.plan_table.specs.ListOf.{reason_of}
 use Rattle.plan_reasons.proofs.Arrivals.{order_count-table, standing}
@@ -10,23 +11,23 @@ use Rattle.plan_table.proofs.listing.shortfall_of.Goals as goal
 
 pub passed_at-passed-requires : goal.passed_at-passed-requires
 passed_at-passed-requires c =
-    let net = c.args.planned.now.tables.now in
-    let problem = c.args.planned.now.problem.now in
+    let net = c.args.planned.now.network in
+    let problem = c.args.planned.now.problem in
     omega (arith, c.requires.order, AllZip-length (λ wanted passed. AreCounts net problem.at problem.wagons wanted.order passed) problem.orders c.args.counts.now c.requires.counts)
 
 pub lack-requires : goal.lack-requires
 lack-requires c =
-    omega (arith, c.requires.order, order_count-table c.args.planned.now.tables.now c.args.planned.now.problem.now c.args.planned.now.cells.now c.requires.planned.table)
+    omega (arith, c.requires.order, order_count-table c.args.planned.now.network c.args.planned.now.problem c.args.planned.now.priced.table c.problem.ensures.table)
 
 pub returns : goal.returns
 returns c =
-    let net = c.args.planned.now.tables.now in
-    let problem = c.args.planned.now.problem.now in
+    let net = c.args.planned.now.network in
+    let problem = c.args.planned.now.problem in
     let j = c.args.j in
     let wanted = c.index-orders-j.result in
-    let order : slice_get problem.orders j ≡ Some wanted = standing c.orders.result.now problem.orders j wanted c.orders.ensures.orders c.requires.order c.index-orders-j.is in
+    let order : slice_get problem.orders j ≡ Some wanted = standing c.orders.result.now problem.orders j wanted (c.orders.ensures.orders ∙ ap (λ (p : ProblemValue). p.orders) c.problem.ensures.value) c.requires.order c.index-orders-j.is in
     let same = c.order-order.ensures in
-    let gets = c.given-gets.ensures ∙ ap (serves j) c.pairs.ensures.pairs in
+    let gets = c.given-gets.ensures ∙ ap (serves j) (c.pairs.ensures.pairs ∙ c.plan.ensures.value) in
     record {
       wanted = wanted;
       order = order;

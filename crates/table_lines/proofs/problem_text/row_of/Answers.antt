@@ -1,6 +1,7 @@
-use Rattle.std.proofs.Common.{◌≡◌, ◌∙◌, [], None, arith, length, refl, sym}
-use Rattle.std.proofs.lemmas.List.FromFn.{fill_by_all, map-range_with_len_more}
-use Rattle.cost_table.specs.Table.{cost_at, costs_at}
+use Rattle.std.proofs.Common.{◌≡◌, ◌∙◌, ap, arith, map}
+use Rattle.std.specs.List.{range_with_len}
+use Rattle.std.proofs.lemmas.List.FromFn.{map-range_with_len_more}
+use Rattle.cost_table.specs.Table.{cost_at, order_count}
 use Rattle.table_lines.proofs.problem_text.row_of.Goals as goal
 
 pub loop-j-preserved : goal.loop-j-preserved
@@ -11,6 +12,5 @@ loop-j-preserved c =
 pub returns : goal.returns
 returns c =
     let t = c.args.cells.now in
-    let i = c.args.i in
-    let long : length (costs_at t i) ≡ c.loop-j.j = omega (arith, c.orders-orders.ensures.table.even i [] c.requires, c.orders-orders.ensures.count, c.loop-j-test.false) in
-    c.loop-j.invariant ∙ sym (fill_by_all (cost_at t i) (costs_at t i) c.loop-j.j None long (λ k l. refl))
+    let all : c.loop-j.j ≡ order_count t = omega (arith, c.orders-orders.ensures.count, c.loop-j-test.false) in
+    c.loop-j.invariant ∙ ap (λ n. map (cost_at t c.args.i) (range_with_len 0 n)) all
