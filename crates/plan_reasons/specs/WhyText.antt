@@ -1,6 +1,6 @@
 -- The text that says why a plan is as it is: a line for the whole, one for each order as placed, and one for each wagon that
 -- goes, in the plan's order.
-use Rattle.std.specs.Prelude.{◌≡◌, ◌+◌, ◌-◌, ℕ, List, ◌++◌, length, Option, Some, None, slice_get, slice_index, codes, decimal, if◌then◌else◌, ◌==◌}
+use Rattle.std.specs.Prelude.{◌≡◌, ◌-◌, ℕ, List, ◌++◌, length, Option, Some, None, slice_get, slice_index, codes, decimal, if◌then◌else◌, ◌==◌}
 use Rattle.std.specs.List.{range_with_len}
 use Rattle.rail_codes.specs.Moment.{IsMomentText}
 use Rattle.wagons_and_orders.specs.Wanted.{WantedOrder}

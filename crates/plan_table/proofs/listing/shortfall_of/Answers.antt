@@ -3,6 +3,7 @@ use Rattle.std.specs.Prelude.{slice_get}
 use Rattle.move_messages.specs.Order.{Order}
 use Rattle.cost_table.specs.Plan.{serves}
 use Rattle.cost_table.specs.Problem.{ProblemValue}
+use Rattle.cost_table.specs.Table.{Table, lack_at}
 use Rattle.plan_reasons.specs.Reasons.{AreCounts}
 use Rattle.plan_table.specs.ListOf.{reason_of}
 use Rattle.plan_reasons.proofs.Arrivals.{order_count-table, standing}
@@ -17,7 +18,7 @@ passed_at-passed-requires c =
 
 pub lack-requires : goal.lack-requires
 lack-requires c =
-    omega (arith, c.requires.order, order_count-table c.args.planned.now.network c.args.planned.now.problem c.args.planned.now.priced.table c.problem.ensures.table)
+    rw c.cells.ensures (omega (arith, c.requires.order, order_count-table c.args.planned.now.network c.args.planned.now.problem c.args.planned.now.priced.table c.problem.ensures.table))
 
 pub returns : goal.returns
 returns c =
@@ -35,7 +36,7 @@ returns c =
       place = c.place.ensures ∙ ap (λ (o : Order). o.place) same;
       penalty = c.penalty.ensures.value ∙ ap (λ (o : Order). o.penalty) same;
       gets = gets;
-      missing = c.saturating_sub.ensures ∙ ap₂ (λ (a b : ℕ). a - b) (c.from.ensures ∙ c.lack.ensures.value) gets;
+      missing = c.saturating_sub.ensures ∙ ap₂ (λ (a b : ℕ). a - b) (c.from.ensures ∙ c.lack.ensures.value ∙ ap (λ (t : Table). lack_at t j) c.cells.ensures) gets;
       passed = c.passed_at-passed.result;
       counted = AllZip-both (λ wanted passed. AreCounts net problem.at problem.wagons wanted.order passed) problem.orders c.args.counts.now j wanted c.passed_at-passed.result c.requires.counts order c.passed_at-passed.ensures;
       reason = c.reason_of.ensures ∙ ap (λ (g : ℕ). reason_of g c.passed_at-passed.result) gets;
