@@ -4,17 +4,17 @@ ghost use Rattle.line_engine.specs.Lines.{max_line_bytes};
 ghost use Rattle.office.specs.CommandReplies.{ToCommands};
 ghost use Rattle.wagons_program.specs.Brought.{AreAnswered, AreStopped, IsBroughtTo, lines_over};
 
-use crate::opening::{NewBook, leave_book, new_book};
+use crate::opening::{leave_book, new_book};
 use crate::status::status_of_run;
 use command_line::OfficeOptions;
 use commit_book::Book;
 use line_engine::{LineLimit, StdDevice};
-use line_network::{Network, Networks};
+use line_network::Network;
 use office_files::{OfficeFiles, Stop, Stopped, read_files, told_of_lines};
 use std::alloc::Global;
 use std::io::{Read, Write};
 use std::rt::Files;
-use std::sync::{Arc, Wait};
+use std::sync::Wait;
 use std::thread::Threads;
 
 /// An office as the lines of an input left it.
@@ -22,8 +22,6 @@ use std::thread::Threads;
 pub(crate) struct Brought {
     pub(crate) book: Book,
     pub(crate) networks: Vec<Network>,
-    /// The distances in each network.
-    pub(crate) distances: Arc<Networks>,
     /// 0, or 1 where a line was refused.
     pub(crate) status: u8,
 }
@@ -35,20 +33,15 @@ pub(crate) fn bring<R: Files + Threads + Wait + AllocGlobal, I: Read + Drop, O: 
     input: I,
     output: O,
 ) -> Result<Brought, Stopped>
-    ensures distances { IfOk result (λ brought. brought.distances.value ≡ brought.book.setting.networks) }
     ensures networks { IfOk result (λ brought. brought.networks.items ≡ brought.book.setting.networks) }
     ensures brought { IfOk result (λ brought. IsBroughtTo options.now brought.networks.items (I.remaining input) (O.contents output) brought.book brought.status) }
 {
     let OfficeFiles { first, networks } = read_files(rt, options)?;
-    let NewBook {
-        mut book,
-        networks: distances,
-    } = new_book(rt, options, first, &networks)?;
+    let mut book = new_book(rt, options, first, &networks)?;
     match bring_told_lines(rt.alloc(), input, output, &mut book) {
         Ok(status) => Ok(Brought {
             book,
             networks,
-            distances,
             status,
         }),
         Err(stopped) => {

@@ -3,7 +3,7 @@ ghost use Rattle.std.specs.Prelude.{◌≡◌, nat_lt, is_some, All, IfOk, false
 ghost use Rattle.std.specs.List.{list_any};
 ghost use Rattle.wagons_program.specs.Status.{status_of_files};
 
-use crate::opening::{NewBook, leave_book, leave_office, new_book};
+use crate::opening::{leave_book, leave_office, new_book};
 use crate::printing::print_whole;
 use crate::status::{DONE, REFUSED, STOPPED};
 use command_line::FeedOptions;
@@ -32,7 +32,7 @@ where
             return Err(stopped);
         }
     };
-    let NewBook { book, networks: _ } = new_book(rt, &options.office, first, &networks)?;
+    let book = new_book(rt, &options.office, first, &networks)?;
     // The command line lets 1 to 16 files through.
     if readers.is_empty() || readers.len() > MAX_FILES {
         leave_book(book);

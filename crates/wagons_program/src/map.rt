@@ -22,7 +22,6 @@ pub(crate) fn map<R: Print + Files + Threads + Wait + AllocGlobal, I: Read + Dro
     let Brought {
         book,
         networks,
-        distances: _,
         status,
     } = bring(rt, &options.office, input, io::sink())?;
     let text = last_map(rt.alloc(), &book, &networks, &places, &choice_of(options));

@@ -11,31 +11,22 @@ use std::mem;
 use std::sync::{Arc, Wait};
 use std::thread::Threads;
 
-/// A book, and its networks.
-#[derive(Drop)]
-pub(crate) struct NewBook {
-    pub(crate) book: Book,
-    pub(crate) networks: Arc<Networks>,
-}
-
 /// A book without entries over this office and these networks, whose distances are worked out here.
 pub(crate) fn new_book<R: Threads + Wait + AllocGlobal>(
     rt: &R,
     options: &OfficeOptions<'_>,
     first: OfficeState,
     networks: &[Network],
-) -> Result<NewBook, Stop>
+) -> Result<Book, Stop>
     requires { first.networks ≡ length networks.now }
-    ensures book { IfOk result (λ new. IsFirstBook first.office networks.now options.now.limits new.book) }
-    ensures networks { IfOk result (λ new. new.networks.value ≡ networks.now) }
+    ensures { IfOk result (IsFirstBook first.office networks.now options.now.limits) }
 {
     let tables = make_tables(rt, networks, options.workers)?;
     let networks = match Networks::new(tables) {
         Ok(networks) => Arc::new(rt.alloc(), networks)?,
         Err(fault) => return Err(Stop::Networks(fault)),
     };
-    let book = Book::from_office(rt.alloc(), first, networks.clone()?, options.limits)?;
-    Ok(NewBook { book, networks })
+    Ok(Book::from_office(rt.alloc(), first, networks, options.limits)?)
 }
 
 /// The distances in each network.

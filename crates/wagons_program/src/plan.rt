@@ -25,10 +25,9 @@ pub(crate) fn plan<R: Print + Files + Threads + Wait + AllocGlobal, I: Read + Dr
     let Brought {
         mut book,
         networks: _,
-        distances,
         status,
     } = bring(rt, &options.problem.office, input, io::sink())?;
-    let text = last_plan_text(rt.alloc(), &mut book, &distances, options, &places, &zone);
+    let text = last_plan_text(rt.alloc(), &mut book, options, &places, &zone);
     leave_book(book);
     print_bytes(rt, &text?)?;
     Ok(status)

@@ -7,7 +7,7 @@ ghost use Rattle.office_files.specs.declared.stop.Stop.TheVariants as stop;
 ghost use Rattle.wagons_program.specs.Brought.{lines_over};
 ghost use Rattle.wagons_program.specs.Reviewed.{AreReviewed, IsFirstReviewFor, IsInputReviewed, IsReviewStopped, status_of_notes};
 
-use crate::opening::{NewBook, leave_book, new_book};
+use crate::opening::{leave_book, new_book};
 use crate::printing::write_whole;
 use crate::status::{REFUSED, status_of_run};
 use command_line::{OfficeOptions, ReviewOptions};
@@ -47,7 +47,7 @@ fn begin_review<R: Files + Threads + Wait + AllocGlobal>(
     ensures { IfOk result (IsFirstReviewFor options.now named) }
 {
     let OfficeFiles { first, networks } = read_files(rt, options)?;
-    let NewBook { book, networks: _ } = new_book(rt, options, first, &networks)?;
+    let book = new_book(rt, options, first, &networks)?;
     Ok(Review::new(book, networks, options.limits, named))
 }
 

@@ -23,7 +23,6 @@ pub(crate) fn run<R: Print + Files + Threads + Wait + AllocGlobal, I: Read + Dro
     let Brought {
         book,
         networks: _,
-        distances: _,
         status,
     } = bring(rt, options, input, io::writer(rt))?;
     leave_book(book);

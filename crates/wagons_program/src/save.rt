@@ -27,7 +27,6 @@ pub(crate) fn save<R: Print + Files + Threads + Wait + AllocGlobal, I: Read + Dr
     let Brought {
         book,
         networks: _,
-        distances: _,
         status,
     } = match options.upto {
         Some(lines) => {

@@ -21,7 +21,6 @@ pub(crate) fn table<R: Print + Files + Threads + Wait + AllocGlobal, I: Read + D
     let Brought {
         mut book,
         networks: _,
-        distances: _,
         status,
     } = bring(rt, &options.office, input, io::sink())?;
     let text = last_table(rt.alloc(), &mut book, options.at);

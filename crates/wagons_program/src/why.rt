@@ -23,9 +23,8 @@ pub(crate) fn why<R: Print + Files + Threads + Wait + AllocGlobal, I: Read + Dro
     let Brought {
         mut book,
         networks: _,
-        distances,
         status,
     } = bring(rt, &options.problem.office, input, io::sink())?;
-    let text = last_reasons(rt.alloc(), &mut book, &distances, options, names.as_ref());
+    let text = last_reasons(rt.alloc(), &mut book, options, names.as_ref());
     print_last(rt, book, text, status)
 }
