@@ -42,6 +42,7 @@ $(BUILT): $(SOURCES)
 # commands, by hostile use, in the benches at their smallest size, and under the service; Python's types come first. `make`
 # need not build it again. The last line is that of `rt ci`.
 test:
+	@tools/part --pace
 	@tools/try_pages
 	@sed '1,/^\$$ wagons explain$$/d;$$d' crates/wagons_scripts/data/explain.script | cmp docs/REFUSALS.md -
 	@tools/try_make
@@ -49,25 +50,26 @@ test:
 	@tools/claim
 	@tools/wrong_bodies --read
 	@mkdir -p out && touch out/tested
-	@echo "== rt ci: every proof from nothing (bench/README.md has its time)"
+	@tools/part "rt ci: every proof from nothing (bench/README.md has its time)"
 	@rt ci | tee out/test.log
 	@for program in wagons benches; do \
 	  cp crates/$$program/out/$$program out/$$program.new && touch -r out/tested out/$$program.new && mv out/$$program.new out/$$program || exit 1; \
 	done
-	@echo "== the types of the Python files, by mypy"
+	@tools/part "the types of the Python files, by mypy"
 	@tools/try_types
-	@echo "== each line gets its reply at once; the scripts; the commands of the examples' pages"
+	@tools/part "each line gets its reply at once; the scripts; the commands of the examples' pages"
 	@tools/try_replies $(BUILT)
 	@tools/scripts $(BUILT)
 	@WAGONS= examples/try
-	@echo "== the short form of make hostile: refused memory, failing devices, broken bytes, checkpoints, problems, threads, keys"
+	@tools/part "the short form of make hostile: refused memory, failing devices, broken bytes, checkpoints, problems, threads, keys"
 	@WAGONS= hostile/run --short
-	@echo "== the service with the program, a disk and a browser"
+	@tools/part "the service with the program, a disk and a browser"
 	@WAGONS= service/tests/run
-	@echo "== wrong bodies, many in one check"
+	@tools/part "wrong bodies, many in one check"
 	@tools/wrong_bodies --built
-	@echo "== beside each other: calls whose requests for memory are refused; the benches at their smallest size, and then Redis Streams, with two kills of each kind"
+	@tools/part "beside each other: calls whose requests for memory are refused; the benches at their smallest size, and then Redis Streams, with two kills of each kind"
 	@WAGONS= BENCH= TESTS=$(CURDIR)/crates/library_tests/out/library_tests_tests tools/side_by_side "hostile/run calls" "bench/smoke && service/stream_tests/run --kills 2"
+	@tools/part "all parts have passed"
 	@tail -n 1 out/test.log
 
 # Writes out/claim.md: all that one must believe of the headline beside the kit, on one page.
