@@ -61,12 +61,12 @@ def test_the_same_number_with_other_lines(client: "redis.Redis[bytes]") -> None:
 def test_the_mark_names_the_sender(client: "redis.Redis[bytes]") -> None:
     """Each entry has the NAME of the mark, and nothing where the key has none. What is sent is the same as ever."""
     ids = client.execute_command(*WORDS, 5, b"{}", b"[]")
-    for key in "{north}:sent:a:sent:b.c", "{north}:sent:", "{north}:other":
+    for key in "{north}:sent:a:sent:b.c", "{north}:sent:", "{north}:other", "{north:sent:a}:other", "other:sent:a":
         ids += client.execute_command("FCALL", "append", 2, LINES, key, 5, b"{}")
     assert client.execute_command(*WORDS, 5, b"{}", b"[]") == ids[:2]
     named = {b"line": b"{}", b"sender": b"R001"}
     bare = {b"line": b"{}"}
-    assert client.xrange(LINES) == list(zip(ids, [named, named | {b"line": b"[]"}, bare | {b"sender": b"a:sent:b.c"}, bare, bare]))
+    assert client.xrange(LINES) == list(zip(ids, [named, named | {b"line": b"[]"}, bare | {b"sender": b"a:sent:b.c"}, bare, bare, bare, bare]))
 
 
 def test_marks_of_before(client: "redis.Redis[bytes]") -> None:

@@ -51,7 +51,7 @@ end
 
 -- The fields that say who sends.
 local function sender_of(mark)
-  local name = string.match(mark, ':sent:(.+)$')
+  local name = string.match(mark, '^{[^{}]+}:sent:(.+)$')
   return name and {'sender', name} or {}
 end
 
