@@ -92,10 +92,15 @@ class SentLines:
             self._append(sent)
             self._is_synced = False
 
+    @property
+    def last(self) -> int:
+        """The number of the last line of which something is said."""
+        found = self._read(self._places[-1]) if self._places else None
+        return found.last if found else 0
+
     def copy(self, sent: Sequence[Sent]) -> None:
         """Says who sent lines that are kept elsewhere, so that nothing is synced; what is said of lines already stays."""
-        found = self._read(self._places[-1]) if self._places else None
-        last = found.last if found else 0
+        last = self.last
         if new := [it if it.first > last else it._replace(first=last + 1) for it in sent if it.last > last]:
             self._append(new)
 
