@@ -255,6 +255,9 @@ def test_an_office_with_a_copy_that_is_killed(server: RedisServer, start_office:
     last = max(ids, key=lambda id: list(map(int, id.split(b"-"))))
     answered(server, [last])
     office.stop()
+    companies: list[str] = []
     for journal in sorted(int(it.name) for it in folder.iterdir() if it.name.isdigit()):
-        companies = [json.loads(it)["company"] for it in (folder / str(journal) / "journal.jsonl").read_bytes().splitlines()]
-        assert records(folder, journal) == companies and companies
+        there = [json.loads(it)["company"] for it in (folder / str(journal) / "journal.jsonl").read_bytes().splitlines()]
+        assert records(folder, journal) == there
+        companies += there
+    assert len(companies) == sum(len(railway.sent) for railway in senders)
