@@ -36,7 +36,7 @@ def test_numbers_are_texts(client: "redis.Redis[bytes]") -> None:
     """Numbers that Lua's own can't tell apart are two; what is no such text is refused."""
     numbers = ["0", "9", "10", "9007199254740992", "9007199254740993", "9" * 17 + "8", "9" * 18]
     ids = [client.execute_command(*WORDS, number, number) for number in numbers]
-    assert [entry for entry in client.xrange(LINES)] == [(id, {b"line": number.encode()}) for (id,), number in zip(ids, numbers)]
+    assert [entry for entry in client.xrange(LINES)] == [(id, {b"line": number.encode(), b"sender": b"R001"}) for (id,), number in zip(ids, numbers)]
     for number in numbers[:-1]:
         with pytest.raises(redis.ResponseError, match=f"number {number} is below the last one, {'9' * 18}"):
             client.execute_command(*WORDS, number, "{}")
@@ -56,6 +56,17 @@ def test_the_same_number_with_other_lines(client: "redis.Redis[bytes]") -> None:
         with pytest.raises(redis.ResponseError, match="number 5 was sent with other lines"):
             client.execute_command(*WORDS, 5, *others)
     assert client.execute_command(*WORDS, 5, b"{}", b"[]") == ids and client.xlen(LINES) == 2
+
+
+def test_the_mark_names_the_sender(client: "redis.Redis[bytes]") -> None:
+    """Each entry has the NAME of the mark, and nothing where the key has none. What is sent is the same as ever."""
+    ids = client.execute_command(*WORDS, 5, b"{}", b"[]")
+    for key in "{north}:sent:a:sent:b.c", "{north}:sent:", "{north}:other", "{north:sent:a}:other", "other:sent:a":
+        ids += client.execute_command("FCALL", "append", 2, LINES, key, 5, b"{}")
+    assert client.execute_command(*WORDS, 5, b"{}", b"[]") == ids[:2]
+    named = {b"line": b"{}", b"sender": b"R001"}
+    bare = {b"line": b"{}"}
+    assert client.xrange(LINES) == list(zip(ids, [named, named | {b"line": b"[]"}, bare | {b"sender": b"a:sent:b.c"}, bare, bare, bare, bare]))
 
 
 def test_marks_of_before(client: "redis.Redis[bytes]") -> None:

@@ -99,7 +99,8 @@ def test_a_copy_goes_on_where_it_ends(server: RedisServer, start_office: StartOf
     start_office(server.address("north"), options=[*OPTIONS, "--copy", str(folder)]).until_ready()
     until("the copy has all", lambda: sum(it.read_bytes().count(b"\n") for it in folder.glob("*/replies.jsonl")) == 55)
     now = files(folder)
-    assert all(now[name].startswith(content) for name, content in before.items())
+    # Of how many lines together it is said who sent them may differ now.
+    assert all(now[name].startswith(content) for name, content in before.items() if not name.endswith("/senders.jsonl"))
     assert all(it.stat().st_ino == number for it, number in files_before.items())
     assert b"".join(now[f"{k}/journal.jsonl"] for k in (1, 2, 3)).splitlines() == lines(0, 55)
     assert server.client.get("{north}:identity") == identity

@@ -15,7 +15,7 @@ from running import DAY, NETWORKS, ROOT, WAGONS, line, message, order
 from servers import RedisServer, until
 from wagons_service.address import Address, BadAddress
 from wagons_service.redis_link import Link, Lost, Refused, pack
-from wagons_service.streams import add_copies, are_added
+from wagons_service.streams import Entry, add_copies, are_added
 
 LINES, REPLIES = keys("north")
 ID = re.compile(r"[0-9]{13}-[0-9]+")
@@ -283,7 +283,7 @@ def test_a_server_without_room_leaves_no_gap(server: RedisServer, start_office: 
 def test_a_transaction_is_done_wholly_or_not_at_all(server: RedisServer) -> None:
     async def tried() -> None:
         link = await Link.open(Address.read(server.address("north")), LINES.encode())
-        add = add_copies(LINES.encode(), [b"1-1", b"1-2"], [b"{}", b"{}"])
+        add = add_copies(LINES.encode(), [Entry(b"1-1", b"{}"), Entry(b"1-2", b"{}", b"R001")])
         with pytest.raises(Refused):
             await link.transaction([add[0], pack(b"NOSUCH"), add[1]])
         assert server.client.xlen(LINES) == 0

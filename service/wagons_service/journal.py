@@ -18,7 +18,7 @@ from operator import add
 
 from .archive import NotReadable, opened, unpack_all
 from .checksums import Changed, Checksums
-from .sent import SentLines
+from .sent import Sent, SentLines
 
 # What one input of `wagons run` may have; past it the program stops with 91 or 92.
 MOST_LINES = 1_000_000
@@ -387,9 +387,15 @@ class Journal:
                 self.last_line = number
                 return
 
-    def copy(self, lines: Sequence[bytes]) -> None:
-        """Adds lines that are kept elsewhere; none of them is blank."""
-        self.lines.append(lines, is_synced=False)
+    def copy(self, lines: Sequence[bytes], sent: Sequence[Sent]) -> None:
+        """Adds lines that are kept elsewhere, and who sent them; none of them is blank."""
+        first = self.lines.count + 1
+        self.sent.copy(sent)
+        try:
+            self.lines.append(lines, is_synced=False)
+        except NotKept:
+            self.sent.forget(first)
+            raise
         self.last_line = self.lines.count
 
     def close(self) -> None:

@@ -9,7 +9,7 @@ from itertools import zip_longest
 from typing import Any
 
 from .redis_link import Link, good, number, pack
-from .streams import MOST_ENTRIES, Keys, field, is_whole, order
+from .streams import MOST_ENTRIES, Entry, Keys, field, is_whole, order
 
 
 class TooMuchLost(Exception):
@@ -36,15 +36,15 @@ async def records_back(inbox: Link, keys: Keys, last: bytes) -> AsyncIterator[li
         last = b"(" + records[-1][0]
 
 
-async def lost_lines(inbox: Link, keys: Keys, last: bytes, office: str, link: Link, is_complete: bool) -> list[tuple[bytes, bytes]]:
-    """The lines up to the last record that an office was brought and its stream has lost, each with its id before it; not
-    those of which that is said already."""
-    lost: list[tuple[bytes, bytes]] = []
+async def lost_lines(inbox: Link, keys: Keys, last: bytes, office: str, link: Link, is_complete: bool) -> list[Entry]:
+    """The lines up to the last record that an office was brought and its stream has lost, as the inbox has them; not those of
+    which that is said already."""
+    lost: list[Entry] = []
     async for records in records_back(inbox, keys, last):
         ids = [id for id, name in records if name == office]
         there = await are_there(link, Keys(office).lines, ids) if ids else []
         many = there.index(True) if True in there else len(ids)
-        lost += await _texts(inbox, keys, office, ids[:many])
+        lost += await _entries(inbox, keys, office, ids[:many])
         if many < len(ids):
             return lost[::-1]
     if not is_complete and not await is_whole(inbox, keys.replies):
@@ -52,14 +52,14 @@ async def lost_lines(inbox: Link, keys: Keys, last: bytes, office: str, link: Li
     return lost[::-1]
 
 
-async def _texts(inbox: Link, keys: Keys, office: str, ids: Sequence[bytes]) -> list[tuple[bytes, bytes]]:
-    """Lines of the inbox with their ids, but for those that are said to be lost."""
+async def _entries(inbox: Link, keys: Keys, office: str, ids: Sequence[bytes]) -> list[Entry]:
+    """Lines of the inbox, but for those that are said to be lost."""
     told = await inbox.one(pack(b"HMGET", keys.lost, *ids)) if ids else []
     wanted = [id for id, words in zip(ids, told) if words is None]
     found: list[Any] = await inbox.ask(b"".join(pack(b"XRANGE", keys.lines, id, id) for id in wanted), len(wanted)) if wanted else []
     if not all(map(good, found)):
         raise _unknown(office)
-    return [(id, field(entries[0][1], b"line")) for id, entries in zip(wanted, found)]
+    return [Entry(id, field(fields, b"line"), field(fields, b"sender")) for ((id, fields),) in found]
 
 
 def _unknown(office: str) -> TooMuchLost:

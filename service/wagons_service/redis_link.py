@@ -31,7 +31,12 @@ class Refused(Exception):
 
 def pack(*words: bytes) -> bytes:
     """A command as Redis reads it."""
-    return b"*%d\r\n" % len(words) + b"".join(b"$%d\r\n%b\r\n" % (len(word), word) for word in words)
+    return b"*%d\r\n" % len(words) + packed(words)
+
+
+def packed(words: Sequence[bytes]) -> bytes:
+    """Words of a command."""
+    return b"".join(b"$%d\r\n%b\r\n" % (len(word), word) for word in words)
 
 
 def number(value: int) -> bytes:

@@ -21,7 +21,8 @@ from .lease import Lease
 from .options import DEFAULT_LEASE
 from .redis_link import Link, Lost, Refused, number, pack
 from .stream_copy import RESTORING, Origin, Unfit, checkpoint_of, ids_of, open_journal
-from .streams import MOST_ENTRIES, NO_LINE, START, TOO_LONG, Checkpoint, Keys, add_checkpoint, add_copies, add_replies, are_added, order
+from .streams import (
+    MOST_ENTRIES, NO_LINE, START, TOO_LONG, Checkpoint, Entry, Keys, add_checkpoint, add_copies, add_replies, are_added, order)
 
 PAGE = "docs/STREAMS.md"
 SECONDS_BETWEEN_LOOKS = 0.2
@@ -39,13 +40,19 @@ class Part(NamedTuple):
         kept = self.journal.replies
         return [json.loads(record)["reply"].encode() for record in kept.read(1, kept.last).split(b"\n")[:-1]]
 
-    def lines(self, replies: Sequence[bytes]) -> list[bytes]:
-        """The lines. One that was too long isn't kept; another such line has the same reply."""
+    def entries(self, replies: Sequence[bytes]) -> list[Entry]:
+        """The lines with who sent them. One that was too long isn't kept; another such line has the same reply."""
         lines = list(self.journal.lines.lines())
         for index, reply in enumerate(replies):
             if lines[index] == NO_LINE and reply.endswith(TOO_LONG):
                 lines[index] = NO_LINE * (MOST_LINE_BYTES + 1)
-        return lines
+        return list(map(Entry, self.ids, lines, self._senders()))
+
+    def _senders(self) -> Iterator[bytes]:
+        """Who sent each line; nobody where the copy doesn't know it."""
+        for number, _ in enumerate(self.ids, 1):
+            sent = self.journal.sent.find(number)
+            yield sent.name.encode() if sent else b""
 
 
 def part_of(folder: Folder, journal: int) -> Part | None:
@@ -75,16 +82,16 @@ def parts_of(folder: Folder) -> list[Part]:
     return [part for part in (part_before(folder, last), last) if part]
 
 
-def entry_before(folder: Folder, part: Part) -> tuple[bytes, bytes]:
+def entry_before(folder: Folder, part: Part) -> tuple[Entry, bytes]:
     """The line before a journal's first one, and its reply; where the copy hasn't that, what stands for them."""
     if before := part_before(folder, part):
         replies = before.replies()
-        return before.lines(replies)[-1], (replies or [b""])[-1]
-    return NO_LINE, b""
+        return before.entries(replies)[-1], (replies or [b""])[-1]
+    return Entry(part.origin.after, NO_LINE), b""
 
 
 class Restore:
-    def __init__(self, link: Link, keys: Keys, parts: Sequence[Part], before: tuple[bytes, bytes]) -> None:
+    def __init__(self, link: Link, keys: Keys, parts: Sequence[Part], before: tuple[Entry, bytes]) -> None:
         self._link, self._keys, self._parts, self._before = link, keys, parts, before
         self._origin = parts[0].origin
         self.lease = Lease(keys.lease, f"restore:{secrets.token_hex(8)}".encode(), DEFAULT_LEASE)
@@ -109,8 +116,8 @@ class Restore:
         await self._link.one(pack(b"SET", keys.journal_lines, number(self._origin.journal_lines)))
         if self._parts[0].checkpoint:
             # The line before the first one must be there, as it is where a stream was trimmed.
-            line, reply = self._before
-            await self._add(add_copies(keys.lines, [self._origin.after], [line]) + add_replies(keys, [self._origin.after], [reply]))
+            entry, reply = self._before
+            await self._add(add_copies(keys.lines, [entry]) + add_replies(keys, [entry.id], [reply]))
         for part in self._parts:
             await self._restore(part)
         await self._count()
@@ -121,7 +128,7 @@ class Restore:
             await self._add([add_checkpoint(self._keys, Checkpoint(part.origin.after, part.journal.number, part.checkpoint), part.origin.identity)])
         replies = part.replies()
         self.replies += len(replies)
-        await self._add(add_copies(self._keys.lines, part.ids, part.lines(replies)))
+        await self._add(add_copies(self._keys.lines, part.entries(replies)))
         await self._add(add_replies(self._keys, part.ids, replies))
 
     async def _add(self, commands: Sequence[bytes]) -> None:

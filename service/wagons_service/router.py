@@ -22,7 +22,8 @@ from .lost_lines import TooMuchLost, are_there, lost_lines, records_back
 from .redis_link import Link, Lost, Refused, number, pack
 from .router_metrics import MOST_HEAD_BYTES, answer, text_of
 from .senders import MESSAGES, read
-from .streams import LIBRARY, MOST_ENTRIES, START, Keys, Trimmed, add_copies, are_added, field, is_whole, last_id, order, read_behind, wait
+from .streams import (
+    LIBRARY, MOST_ENTRIES, START, Entry, Keys, Trimmed, add_copies, are_added, field, is_whole, last_id, order, read_behind, wait)
 
 log = logging.getLogger("wagons-router")
 
@@ -106,6 +107,7 @@ def plain(wagon: str) -> str:
 class _Line:
     id: bytes
     line: bytes
+    sender: bytes
     office: str | None
     refusal: str
     is_done: bool
@@ -216,7 +218,7 @@ class Router:
     def _take(self, id: bytes, fields: Sequence[bytes]) -> None:
         line = field(fields, b"line")
         office, refusal = self._offices.office_of(field(fields, b"office").decode("utf-8", "replace"), line)
-        taken = _Line(id, line, office, refusal, is_done=office is None)
+        taken = _Line(id, line, field(fields, b"sender"), office, refusal, is_done=office is None)
         self._lines.append(taken)
         if office is None:
             self._done.set()
@@ -265,13 +267,13 @@ class Router:
             line.is_done = False
         there = await last_id(link, office.key)
         lost = await lost_lines(inbox, self._keys, last, office.name, link, office.name in self._complete)
-        office.owed.extendleft(_Line(id, line, office.name, "", is_done=False, is_recorded=True) for id, line in reversed(lost))
+        office.owed.extendleft(_Line(*entry, office.name, "", is_done=False, is_recorded=True) for entry in reversed(lost))
         office.last = there
         log.warning("the stream of office %s has lost what was behind %s, and gets it again: %d lines", office.name, there.decode(), len(office.owed))
 
     async def _bring_part(self, office: _Office, inbox: Link, link: Link) -> None:
         part = list(islice(office.owed, MOST_ENTRIES))
-        answers = await link.transaction(add_copies(office.key, [line.id for line in part], [line.line for line in part]))
+        answers = await link.transaction(add_copies(office.key, [Entry(line.id, line.line, line.sender) for line in part]))
         late: set[bytes] = set()
         if not are_added(answers):
             known = [line for line, answer in zip(part, answers) if not isinstance(answer, bytes)]

@@ -17,11 +17,11 @@ if TYPE_CHECKING:
 
 # The name of the line by which a sheet ends.
 OURS = "wagons-service"
-RECORD = re.compile(rb'\{"first":([0-9]{1,7}),"last":([0-9]{1,7}),"sender":"([A-Za-z0-9._-]{1,64})","taken":"([0-9T:.Z-]{1,30})"\}')
+RECORD = re.compile(rb'\{"first":([0-9]{1,7}),"last":([0-9]{1,7}),"sender":"([A-Za-z0-9._-]{0,64})","taken":"([0-9T:.Z-]{1,30})"\}')
 
 
 class Sent(NamedTuple):
-    """The lines of these numbers were sent by this name, and taken at this moment."""
+    """The lines of these numbers were sent by this name, and taken at this moment. Of a stream the name may be empty."""
 
     first: int
     last: int
@@ -34,6 +34,11 @@ class Sent(NamedTuple):
     def added_to(self, record: bytes) -> bytes:
         """A reply's record with who sent its line."""
         return b'%b,"sender":"%b","taken":"%b"}' % (record[:-1], self.name.encode(), self.taken.encode())
+
+
+def written(moment: datetime) -> str:
+    """A moment as a record has it."""
+    return moment.isoformat(timespec="milliseconds").replace("+00:00", "Z")
 
 
 class SentLines:
@@ -57,6 +62,7 @@ class SentLines:
             self._keep_first(len(self._places) - 1)
             if last.first <= lines:
                 self._append([last._replace(last=lines)])
+                self._is_synced = False
 
     def _keep_first(self, count: int) -> None:
         if count < len(self._places):
@@ -69,7 +75,6 @@ class SentLines:
         self._file.append([it.record() for it in sent], is_synced=False)
         self._places.extend(range(place, place + len(sent)))
         self._firsts.extend(it.first for it in sent)
-        self._is_synced = False
 
     def _read(self, place: int) -> Sent | None:
         found = RECORD.fullmatch(self._file.read(place, place)[:-1])
@@ -77,7 +82,7 @@ class SentLines:
 
     def add(self, first: int, requests: Sequence[tuple[str, int]]) -> None:
         """Says who sends the next lines: of each request the name, and how many lines it has."""
-        taken = datetime.now(UTC).isoformat(timespec="milliseconds").replace("+00:00", "Z")
+        taken = written(datetime.now(UTC))
         sent = []
         for name, count in requests:
             if count:
@@ -85,6 +90,19 @@ class SentLines:
             first += count
         if sent:
             self._append(sent)
+            self._is_synced = False
+
+    @property
+    def last(self) -> int:
+        """The number of the last line of which something is said."""
+        found = self._read(self._places[-1]) if self._places else None
+        return found.last if found else 0
+
+    def copy(self, sent: Sequence[Sent]) -> None:
+        """Says who sent lines that are kept elsewhere, so that nothing is synced; what is said of lines already stays."""
+        last = self.last
+        if new := [it if it.first > last else it._replace(first=last + 1) for it in sent if it.last > last]:
+            self._append(new)
 
     def forget(self, first: int) -> None:
         """The lines from this number on weren't added."""

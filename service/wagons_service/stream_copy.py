@@ -13,6 +13,8 @@ from typing import NamedTuple
 
 from .journal import FileOfLines, Folder, Journal, KeptReplies, RepliesAhead, replace, sync_folder
 from .redis_link import Link, pack
+from .sent import Sent
+from .stream_senders import sent_of
 from .streams import MOST_ENTRIES, Checkpoint, Keys, field, lines_of, read_behind
 
 log = logging.getLogger("wagons-service")
@@ -159,8 +161,10 @@ async def known_from(link: Link, keys: Keys, folder: Folder, start: Checkpoint, 
 
 
 async def compare_lines(link: Link, keys: Keys, folder: Folder, journal: Journal, ids: FileOfLines, last: bytes) -> Known:
-    """Compares each line of a journal, and its id where that is known, with the stream. The ids that are missing are added."""
+    """Compares each line of a journal, and its id where that is known, with the stream. The ids that are missing are added,
+    and who sent lines of which the copy doesn't say it."""
     known, count = nothing_known(), journal.lines.count
+    sent: list[Sent] = []
     what = f"journal {journal.number} of the copy {folder.path}"
     if ids.count > count:
         ids.cut(count)
@@ -175,10 +179,13 @@ async def compare_lines(link: Link, keys: Keys, folder: Folder, journal: Journal
             same = count_same(kept, there)
             if same < len(kept):
                 raise Unfit(f"line {done + same + 1} of {what} isn't the one that {keys.lines.decode()} has as {read.ids[same].decode()}. {ADVICE}")
+        if journal.sent.last < done + len(read.ids):
+            sent += sent_of(done + 1, read)
         known.refusals.update((done + 1 + index, refusal) for index, refusal in read.refusals.items())
         known.ids.extend(read.ids)
         last = read.ids[-1]
     ids.append(known.ids[ids.count:], is_synced=False)
+    journal.sent.copy(sent)
     return known
 
 

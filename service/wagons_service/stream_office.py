@@ -15,6 +15,7 @@ from .metrics import Metrics
 from .office import TURNS, NotTaken, Office, State
 from .program import NOTHING, Program, Replies
 from .stream_copy import Known
+from .stream_senders import sent_of
 from .streams import MOST_ENTRIES, Entries
 
 NOT_READ = "the stream isn't read to its end yet"
@@ -52,7 +53,7 @@ class StreamOffice(Office):
         first = self.journal.lines.count + 1
         self._kept_ids.append(entries.ids, is_synced=False)
         try:
-            self.journal.copy(entries.lines)
+            self.journal.copy(entries.lines, sent_of(first, entries))
         except NotKept:
             self._kept_ids.cut(first - 1)
             raise

@@ -28,6 +28,7 @@ from .lease import Lease
 from .office import NotTaken, State, Stopped
 from .options import DEFAULT_ENTRIES, Options
 from .redis_link import Link, Lost, Refused, good, number, pack
+from .sent import OURS
 from .service import Part, Service
 from .stream_copy import (
     ORIGIN, Known, Origin, Unfit, checkpoint_of, identity, identity_of, ids_of, known_from, nothing_known, open_journal, start_for)
@@ -49,6 +50,7 @@ SECONDS_TO_BE_READ = 60
 @dataclass(eq=False, slots=True)
 class _Request:
     lines: Sequence[bytes]
+    name: str
     ids: "asyncio.Future[list[bytes]]"
     comes_first: bool = False
 
@@ -130,7 +132,7 @@ class StreamService(Service):
         self.office.may_take()
         if not lines:
             return []
-        ids = await self._append(lines, comes_first)
+        ids = await self._append(lines, name, comes_first)
         office, first = await self._place(ids[0])
         last_office, last = await self._place(ids[-1])
         if office is last_office:
@@ -139,15 +141,15 @@ class StreamService(Service):
         many = len(office.ids) + 1 - first
         return [Part(office, range(first, first + many), lines[:many]), Part(last_office, range(1, last + 1), lines[many:])]
 
-    async def _append(self, lines: Sequence[bytes], comes_first: bool) -> list[bytes]:
-        request = _Request(lines, asyncio.get_running_loop().create_future(), comes_first)
+    async def _append(self, lines: Sequence[bytes], name: str, comes_first: bool) -> list[bytes]:
+        request = _Request(lines, name, asyncio.get_running_loop().create_future(), comes_first)
         self._to_append.put_nowait(request)
         return await request.ids
 
     def _append_ours(self, line: bytes) -> None:
         """The line by which a sheet ends; where another service appends it too, it does no harm."""
         if self.is_first:
-            request = _Request([line], asyncio.get_running_loop().create_future())
+            request = _Request([line], OURS, asyncio.get_running_loop().create_future())
             request.ids.add_done_callback(lambda done: done.cancelled() or done.exception())
             self._to_append.put_nowait(request)
 
@@ -174,7 +176,7 @@ class StreamService(Service):
             requests.sort(key=lambda request: not request.comes_first)
             try:
                 for request in requests:
-                    ids = await link.transaction(add_lines(self._target, request.lines, self._address.inbox and self._address.stream))
+                    ids = await link.transaction(add_lines(self._target, request.lines, request.name, self._address.inbox and self._address.stream))
                     for id in ids:
                         good(id)
                     if not request.ids.done():

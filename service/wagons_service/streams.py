@@ -1,16 +1,17 @@
 """The streams of an office in Redis, and how they are read and written.
 
-`{north}:lines` has the lines of the office north, an entry each, with the field `line`. `{north}:replies` has the reply to
-each of them under the line's own id. Redis refuses an id that isn't above all before it, so each reply is there once,
-whoever wrote it and however often. The braces keep the keys of an office on one server of a cluster.
+`{north}:lines` has the lines of the office north, an entry each, with the field `line`, and with `sender` where it is known
+who sent it. `{north}:replies` has the reply to each of them under the line's own id. Redis refuses an id that isn't above
+all before it, so each reply is there once, whoever wrote it and however often. The braces keep the keys of an office on one
+server of a cluster.
 """
 
-from collections.abc import Sequence
+from collections.abc import Iterable, Sequence
 from dataclasses import dataclass
 from typing import Any, NamedTuple
 
 from .journal import MOST_LINE_BYTES, is_blank
-from .redis_link import Link, Refused, good, number, pack
+from .redis_link import Link, Refused, good, number, pack, packed
 
 # Before the first entry.
 START = b"0-0"
@@ -25,6 +26,7 @@ TOO_LONG = b"refused 92"
 # Appends lines once for each number of a sender: KEYS are the lines and the sender's mark, ARGV its number and the lines.
 # The answer is the ids of the lines. The number that was last once more gives the same ids and appends nothing, where its
 # lines are the same: the mark has their digest. A number is compared as a text, since Lua has none above 2^53 but roughly.
+# Who sent them is the NAME of a mark {north}:sent:NAME.
 LIBRARY = b"""#!lua name=wagons
 local function is_number(text)
   return text == '0' or #text <= 18 and string.match(text, '^[1-9]%d*$') ~= nil
@@ -45,6 +47,12 @@ local function read_mark(mark)
   local last, words = string.match(mark, '^0*(%d+) ?(.*)$')
   local known, ids = string.match(words or '', '^(' .. string.rep('%x', 40) .. ') ?(.*)$')
   return last, known, ids or words
+end
+
+-- The fields that say who sends.
+local function sender_of(mark)
+  local name = string.match(mark, '^{[^{}]+}:sent:(.+)$')
+  return name and {'sender', name} or {}
 end
 
 redis.register_function('append', function(keys, arguments)
@@ -73,20 +81,29 @@ redis.register_function('append', function(keys, arguments)
       return ids
     end
   end
-  local ids = {}
-  for index = 2, #arguments do ids[#ids + 1] = redis.call('XADD', keys[1], '*', 'line', arguments[index]) end
+  local ids, sender = {}, sender_of(keys[2])
+  for index = 2, #arguments do ids[#ids + 1] = redis.call('XADD', keys[1], '*', 'line', arguments[index], unpack(sender)) end
   redis.call('SET', keys[2], number .. ' ' .. sum .. ' ' .. table.concat(ids, ' '))
   return ids
 end)
 """
 
 
+class Entry(NamedTuple):
+    """A line as it stands in a stream: its id, and who sent it where the entry says so."""
+
+    id: bytes
+    line: bytes
+    sender: bytes = b""
+
+
 class Entries(NamedTuple):
-    """Entries that were read: their ids, the lines that the program is given, and the refusals of those that are no lines
-    for it, by their indices."""
+    """Entries that were read: their ids, the lines that the program is given, who sent them, and the refusals of those that
+    are no lines for it, by their indices."""
 
     ids: list[bytes]
     lines: list[bytes]
+    senders: list[bytes]
     refusals: dict[int, bytes]
 
 
@@ -156,9 +173,9 @@ class Trimmed(Exception):
     """What was read last isn't there any more, so what came behind it may be missing: the server lost it, or trimmed it."""
 
 
-def add_copies(key: bytes, ids: Sequence[bytes], lines: Sequence[bytes]) -> list[bytes]:
+def add_copies(key: bytes, entries: Iterable[Entry]) -> list[bytes]:
     """The commands that append lines under ids which they have already."""
-    return [pack(b"XADD", key, id, b"line", line) for id, line in zip(ids, lines)]
+    return [pack(b"XADD", key, id, b"line", line, *((b"sender", sender) if sender else ())) for id, line, sender in entries]
 
 
 def add_replies(keys: Keys, ids: Sequence[bytes], texts: Sequence[bytes]) -> list[bytes]:
@@ -167,10 +184,12 @@ def add_replies(keys: Keys, ids: Sequence[bytes], texts: Sequence[bytes]) -> lis
     return [form % (len(id), id, len(text), text) for id, text in zip(ids, texts)]
 
 
-def add_lines(key: bytes, lines: Sequence[bytes], office: str | None = None) -> list[bytes]:
-    """The commands that append lines; to an inbox with the office that they are for."""
-    more = [b"office", office.encode()] if office else []
-    return [pack(b"XADD", key, b"*", *more, b"line", line) for line in lines]
+def add_lines(key: bytes, lines: Sequence[bytes], sender: str, office: str | None = None) -> list[bytes]:
+    """The commands that append a sender's lines; to an inbox with the office that they are for."""
+    before = [b"XADD", key, b"*", *([b"office", office.encode()] if office else []), b"line"]
+    behind = [b"sender", sender.encode()]
+    head, tail = b"*%d\r\n%b" % (len(before) + 1 + len(behind), packed(before)), packed(behind)
+    return [head + packed([line]) + tail for line in lines]
 
 
 def read_on(key: bytes, last: bytes, most: int) -> bytes:
@@ -187,6 +206,7 @@ def wait(keys: Sequence[bytes], lasts: Sequence[bytes], milliseconds: int) -> by
 def lines_of(entries: list[Any]) -> Entries:
     ids = [id for id, _ in entries]
     lines = [field(fields, b"line") for _, fields in entries]
+    senders = [field(fields, b"sender") for _, fields in entries]
     refusals: dict[int, bytes] = {}
     longest = max(map(len, lines), default=0)
     if longest > MOST_LINE_BYTES or b"\n" in b"".join(lines) or any(map(is_blank, lines)):
@@ -195,14 +215,15 @@ def lines_of(entries: list[Any]) -> Entries:
                 lines[index], refusals[index] = NO_LINE, TOO_LONG
             elif b"\n" in line or is_blank(line):
                 lines[index] = NO_LINE
-    return Entries(ids, lines, refusals)
+    return Entries(ids, lines, senders, refusals)
 
 
 def field(fields: Sequence[bytes], name: bytes) -> bytes:
     """A field of an entry, or nothing; of a field given twice the first counts."""
     if fields[0] == name:
         return fields[1]
-    return next((fields[index + 1] for index in range(0, len(fields), 2) if fields[index] == name), b"")
+    names = fields[::2]
+    return fields[2 * names.index(name) + 1] if name in names else b""
 
 
 def text_of(key: bytes, entry: Any) -> bytes:
