@@ -1,2 +1,5 @@
 pub mod Outcomes
+pub mod Printed
 pub mod Faults
+pub mod FirstLineLemmas
+pub mod EntryLemmas

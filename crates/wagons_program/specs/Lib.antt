@@ -1,5 +1,11 @@
+pub mod Streams
 pub mod FirstBook
 pub mod Status
 pub mod Brought
 pub mod Laws
 pub mod Reviewed
+pub mod FirstLines
+pub mod OfLast
+pub mod Fed
+pub mod Explanation
+pub mod Words

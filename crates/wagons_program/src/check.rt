@@ -1,24 +1,42 @@
 //! The word `check`.
-ghost use Rattle.std.specs.Prelude.{IfOk};
+ghost use Rattle.std.specs.Prelude.{◌≡◌, false, IfErr, IfOk};
 ghost use Rattle.table_lines.specs.Checking.{ToPlans};
-ghost use Rattle.wagons_program.specs.Brought.{IsInputAnswered};
+ghost use Rattle.wagons_program.specs.Brought.{IsInputAnswered, IsInputStopped};
+ghost use Rattle.wagons_program.specs.Streams.{streams};
 
 use crate::status::status_of_run;
 use line_engine::{LineLimit, StdDevice};
-use office_files::Stop;
-use std::io;
-use std::io::Read;
+use office_files::{Stop, Stopped, told_of_lines};
+use std::alloc::Global;
+use std::io::{Read, Write};
 use table_lines::check_run;
 
 /// Checks the table lines of an input: status 0, or 1 where one was refused.
-pub(crate) fn check<R: Print + AllocGlobal, I: Read + Drop>(
-    rt: &R,
+pub(crate) fn check<I: Read + Drop, O: Write>(
+    alloc: Global,
     limit: LineLimit,
     input: I,
+    output: &mut StdDevice<O>,
+) -> Result<u8, Stopped>
+    requires { output.old.has_failed ≡ false }
+    ensures ok { IfOk result (IsInputAnswered ToPlans limit tt (streams (I.remaining input) (O.contents output.old.device) (O.contents output.new.device))) }
+    ensures err { IfErr result (λ stopped. IsInputStopped ToPlans limit tt (streams (I.remaining input) (O.contents output.old.device) (O.contents output.new.device)) stopped.stop) }
+{
+    let outcome = check_lines(alloc, limit, input, output);
+    told_of_lines(alloc, limit, outcome)
+}
+
+/// The same, without what people are told where the run stops.
+fn check_lines<I: Read + Drop, O: Write>(
+    alloc: Global,
+    limit: LineLimit,
+    input: I,
+    output: &mut StdDevice<O>,
 ) -> Result<u8, Stop>
-    ensures { IfOk result (IsInputAnswered ToPlans limit (I.remaining input)) }
+    requires { output.old.has_failed ≡ false }
+    ensures ok { IfOk result (IsInputAnswered ToPlans limit tt (streams (I.remaining input) (O.contents output.old.device) (O.contents output.new.device))) }
+    ensures err { IfErr result (IsInputStopped ToPlans limit tt (streams (I.remaining input) (O.contents output.old.device) (O.contents output.new.device))) }
 {
     let mut reader = StdDevice::new(input);
-    let mut writer = StdDevice::new(io::writer(rt));
-    status_of_run(check_run(rt.alloc(), limit, &mut reader, &mut writer))
+    status_of_run(check_run(alloc, limit, &mut reader, output))
 }

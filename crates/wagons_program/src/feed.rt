@@ -1,7 +1,10 @@
 //! The word `feed`.
-ghost use Rattle.std.specs.Prelude.{◌≡◌, nat_lt, is_some, All, IfOk, false};
+ghost use Rattle.std.specs.Prelude.{◌≡◌, nat_lt, is_some, All, IfErr, IfOk, List, None, OnOk, false, length, ℕ};
 ghost use Rattle.std.specs.List.{list_any};
+ghost use Rattle.sessions.specs.ReportText.{IsReportText};
+ghost use Rattle.wagons_program.specs.Fed.{IsFedPrinted};
 ghost use Rattle.wagons_program.specs.Status.{status_of_files};
+ghost use Rattle.wagons_program.specs.Streams.{IsUnprinted, Prints, streams};
 
 use crate::opening::{leave_book, leave_office, new_book};
 use crate::printing::print_whole;
@@ -10,6 +13,8 @@ use command_line::FeedOptions;
 use line_engine::{MAX_FILES, Source, StdDevice};
 use office_files::{OfficeFiles, Stop, Stopped, open_plain, read_files};
 use sessions::{FeedReport, report_text};
+use std::alloc::Global;
+use std::io::Write;
 use std::rt::Files;
 use std::sync::Wait;
 use std::thread::Threads;
@@ -17,12 +22,15 @@ use std::thread::Threads;
 /// Opens an office, brings the command lines of all files to it at once, and prints what became of each file and the sheet:
 /// status 0, 1 where a line was refused, 2 where a file failed. What is wrong is found in this order: the roster or
 /// the checkpoint, the networks, the files as each is opened, the distances.
-pub(crate) fn feed<R: Print + Files + Threads + Wait + AllocGlobal + Sync>(
+pub(crate) fn feed<R: Files + Threads + Wait + AllocGlobal + Sync, O: Write>(
     rt: &R,
     options: &FeedOptions<'_>,
+    output: &mut O,
 ) -> Result<u8, Stopped>
 where
     R::File: Send,
+    ensures ok { IfOk result (IsFedPrinted ⟦<StdDevice<R::File> as Source>⟧.remaining ⟦<StdDevice<R::File> as Source>⟧.has_failed options.now (streams None (O.contents output.old) (O.contents output.new))) }
+    ensures err { IfErr result (λ stopped. IsUnprinted (streams None (O.contents output.old) (O.contents output.new)) stopped.stop) }
 {
     let OfficeFiles { first, networks } = read_files(rt, &options.office)?;
     let readers = match open_files(rt, &options.files) {
@@ -40,7 +48,7 @@ where
     }
     match sessions::feed(rt, rt.alloc(), readers, book) {
         Ok(report) => {
-            let status = print_report(rt, &report);
+            let status = print_report(rt.alloc(), &report, output);
             leave_book(report.book);
             Ok(status?)
         }
@@ -53,7 +61,8 @@ fn open_files<R: Files + AllocGlobal>(
     rt: &R,
     paths: &[&str],
 ) -> Result<Vec<StdDevice<R::File>>, Stopped>
-    ensures { IfOk result (λ readers. All (λ reader. ⟦<StdDevice<R::File> as Source>⟧.has_failed reader ≡ false) readers.items) }
+    ensures fresh { IfOk result (λ readers. All (λ reader. ⟦<StdDevice<R::File> as Source>⟧.has_failed reader ≡ false) readers.items) }
+    ensures each { IfOk result (λ readers. length readers.items ≡ length paths.now) }
 {
     let mut readers = Vec::with_capacity(rt.alloc(), paths.len())?;
     for path in paths {
@@ -63,10 +72,16 @@ fn open_files<R: Files + AllocGlobal>(
 }
 
 /// Prints what became of each file, and the sheet.
-fn print_report<R: Print + AllocGlobal, F>(rt: &R, report: &FeedReport<F>) -> Result<u8, Stop>
-    ensures { IfOk result (λ status. status ≡ status_of_files report.now.files.items) }
+fn print_report<F, O: Write>(
+    alloc: Global,
+    report: &FeedReport<F>,
+    output: &mut O,
+) -> Result<u8, Stop>
+    ensures status { IfOk result (λ status. status ≡ status_of_files report.now.files.items) }
+    ensures printed { OnOk result ((text : List ℕ) × IsReportText report.now.files.items report.now.book text × Prints (streams None (O.contents output.old) (O.contents output.new)) text) }
+    ensures err { IfErr result (IsUnprinted (streams None (O.contents output.old) (O.contents output.new))) }
 {
-    print_whole(rt, &report_text(rt.alloc(), report)?)?;
+    print_whole(output, &report_text(alloc, report)?)?;
     Ok(status_of_files(report))
 }
 

@@ -1,5 +1,6 @@
 //! The first lines of an input.
-ghost use Rattle.std.specs.Prelude.{◌≤◌, length};
+ghost use Rattle.std.specs.Prelude.{◌≡◌, ◌<◌, ◌≤◌, ◌++◌, ℕ, List, length, option_map, take};
+ghost use Rattle.wagons_program.specs.FirstLines.{first_lines};
 
 use std::io;
 use std::io::Read;
@@ -14,33 +15,54 @@ pub(crate) struct FirstLines<I> {
 
 impl<I: Read> FirstLines<I> {
     /// The first lines of this input, so many of them.
-    pub(crate) fn new(input: I, lines: u64) -> FirstLines<I> {
+    pub(crate) fn new(input: I, lines: u64) -> FirstLines<I>
+        ensures input { result.input ≡ input }
+        ensures left { result.left ≡ lines }
+    {
         FirstLines { input, left: lines }
     }
 }
 
 impl<I: Read> Read for FirstLines<I> {
+    ghost remaining = { λ s. option_map (λ bytes. first_lines bytes s.left) (I.remaining s.input) };
+
     fn read(&mut self, buf: &mut [u8]) -> io::Result<usize> {
         if self.left == 0 {
             return Ok(0);
         }
         let count = self.input.read(buf)?;
-        Ok(count_up_to(&buf[..count], &mut self.left))
+        let front = front_of(&buf[..count], self.left);
+        self.left = front.left;
+        Ok(front.bytes)
     }
 }
 
-/// How many bytes stand up to the last line feed that is still to come, or how many there are; how many line feeds are still
-/// to come behind them.
-fn count_up_to(piece: &[u8], left: &mut u64) -> usize
-    ensures { result ≤ length piece.now }
+/// The front of a piece of an input, up to the last line feed that is still to come.
+#[derive(Clone, Copy)]
+struct Front {
+    /// How many bytes it has.
+    bytes: usize,
+    /// How many line feeds are still to come behind it.
+    left: u64,
+}
+
+/// The front of a piece, where so many line feeds are still to come.
+fn front_of(piece: &[u8], lines: u64) -> Front
+    ensures within { result.bytes ≤ length piece.now }
+    ensures some { 0 < lines → 0 < length piece.now → 0 < result.bytes }
+    ensures first { (rest : List ℕ) → first_lines (piece.now ++ rest) lines ≡ take result.bytes piece.now ++ first_lines rest result.left }
 {
+    let mut left = lines;
     for (index, byte) in piece.iter().enumerate() {
+        if left == 0 {
+            return Front { bytes: index, left };
+        }
         if *byte == b'\n' {
-            *left = left.saturating_sub(1);
-            if *left == 0 {
-                return index + 1;
-            }
+            left -= 1;
         }
     }
-    piece.len()
+    Front {
+        bytes: piece.len(),
+        left,
+    }
 }

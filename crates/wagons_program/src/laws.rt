@@ -1,4 +1,5 @@
-//! Which numbers are refusals. The functions do nothing: the contract is the law.
+//! Which numbers are refusals, and what the first lines of an input are. The functions do nothing: the contract is the law.
+ghost use Rattle.wagons_program.specs.FirstLines.{AreTheFirstLines};
 ghost use Rattle.wagons_program.specs.Laws.{EachFaultIsListed, EachNumberIsAFaults};
 
 use std::sync::ledger::Ledger;
@@ -11,4 +12,9 @@ pub fn each_fault_is_listed<L: Ledger>()
 /// Each number of the list is that of some fault.
 pub fn each_number_is_a_faults<L: Ledger>()
     ensures { EachNumberIsAFaults L }
+{}
+
+/// What `save --upto` reads has the first lines of the input, so many of them, and no other.
+pub fn the_first_lines_are_taken()
+    ensures { AreTheFirstLines }
 {}

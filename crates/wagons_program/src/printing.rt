@@ -1,36 +1,36 @@
-//! Texts on standard output.
-ghost use Rattle.std.specs.Prelude.{◌≡◌, IfErr, IfOk, OnOk};
+//! Texts on the output.
+ghost use Rattle.std.specs.Prelude.{◌≡◌, ◌⊎◌, Err, IfErr, IfOk, IsOkAnd, None, OnOk, string_bytes};
 ghost use Rattle.std.specs.Io.KnownBytes.{Appends};
 ghost use Rattle.office_files.specs.declared.stop.Stop.TheVariants.{WriteFailed};
+ghost use Rattle.wagons_program.specs.Streams.{PrintsNothing, streams};
 
 use crate::opening::leave_book;
 use commit_book::Book;
 use office_files::{Stop, Stopped};
-use std::io;
 use std::io::Write;
 
-/// Prints a text. `WriteFailed` (94) where it could not be written.
-pub(crate) fn print_whole<R: Print>(rt: &R, text: &str) -> Result<(), Stop> {
-    print_bytes(rt, text.as_bytes())
-}
-
-/// Prints bytes. `WriteFailed` (94) where they could not be written.
-pub(crate) fn print_bytes<R: Print>(rt: &R, bytes: &[u8]) -> Result<(), Stop> {
-    write_whole(&mut io::writer(rt), bytes)
-}
-
 /// Prints the text that was made of an office, and leaves its book. The status is the one that its lines came to.
-pub(crate) fn print_last<R: Print>(
-    rt: &R,
+pub(crate) fn print_last<O: Write>(
+    output: &mut O,
     book: Book,
     text: Result<String, Stop>,
     status: u8,
 ) -> Result<u8, Stopped>
-    ensures { IfOk result (λ printed. printed ≡ status) }
+    ensures ok { IfOk result (λ printed. printed ≡ status) }
+    ensures printed { OnOk result (IsOkAnd text (λ made. Appends (O.contents output.old) (O.contents output.new) (string_bytes made))) }
+    ensures err { IfErr result (λ stopped. (stopped.stop ≡ WriteFailed) ⊎ PrintsNothing (streams None (O.contents output.old) (O.contents output.new))) }
 {
     leave_book(book);
-    print_whole(rt, &text?)?;
+    print_whole(output, &text?)?;
     Ok(status)
+}
+
+/// Prints a text. `WriteFailed` (94) where it could not be written.
+pub(crate) fn print_whole<O: Write>(output: &mut O, text: &str) -> Result<(), Stop>
+    ensures written { OnOk result (Appends (O.contents output.old) (O.contents output.new) text.now) }
+    ensures err { IfErr result (λ why. why ≡ WriteFailed) }
+{
+    write_whole(output, text.as_bytes())
 }
 
 /// Writes bytes to an output. `WriteFailed` (94) where they could not be written.

@@ -1,6 +1,11 @@
 //! The program from its arguments to its exit status.
-ghost use Rattle.std.specs.Prelude.{◌≡◌};
+ghost use Rattle.std.specs.Prelude.{◌≡◌, IfErr, IfOk, None, Result, false};
+ghost use Rattle.clap.specs.declared.error.Error.{Error};
+ghost use Rattle.command_line.specs.declared.words.Word.{Word};
+ghost use Rattle.office_files.specs.declared.stop.Stop.TheVariants.{WriteFailed};
 ghost use Rattle.wagons_program.specs.Status.{exit_status};
+ghost use Rattle.wagons_program.specs.Streams.{IsUnprinted, streams};
+ghost use Rattle.wagons_program.specs.Words.{IsDone, IsEnded, IsTextOf, IsUndone};
 
 use crate::check::check;
 use crate::explain::explain;
@@ -18,11 +23,12 @@ use crate::why::why;
 use clap::Error;
 use clap::error::ErrorKind;
 use command_line::{Word, hint, not_utf8, read_words};
-use office_files::{Stop, Stopped, told_of_lines};
+use line_engine::{Source, StdDevice};
+use office_files::{Stop, Stopped};
 use std::convert::AsStr;
-use std::io::{IsTerminal, Read};
+use std::io::{IsTerminal, Read, Write};
 use std::process::ExitCode;
-use std::rt::Runtime;
+use std::rt::{Files, Runtime};
 use std::sync::Wait;
 use std::thread::Threads;
 use std::{env, io};
@@ -36,45 +42,62 @@ where
 {
     let reader = rt.reader();
     let is_terminal = reader.is_terminal();
+    let mut output = StdDevice::new(io::writer(rt));
     let status = match words_of(rt) {
         Ok(words) => {
             let input = TerminalInput::new(rt, reader, is_terminal);
-            run_words(rt, words.as_slice(), input)
+            run_words(rt, words.as_slice(), input, &mut output)
         }
-        Err(error) => told(rt, refuse_arguments(rt, error)),
+        Err(error) => told(rt, refuse_arguments(rt, error, &mut output.device)),
     };
     ExitCode::from(status)
 }
 
-/// Does what these words ask for, the program's name first, with this in place of standard input, and answers the exit
-/// status: 0, or 1 where a line was refused, or 2 where the program could not run or stopped; standard error says why then.
-pub fn run_words<R: Runtime + Threads + Wait + AllocGlobal + Sync, S: AsStr, I: Read + Drop>(
-    rt: &R,
-    words: &[S],
-    input: I,
-) -> u8
+/// Does what these words ask for, the program's name first, with these in place of standard input and output, and answers the
+/// exit status: 0, or 1 where a line was refused, or 2 where the program could not run or stopped; standard error says why then.
+pub fn run_words<
+    R: Files + Eprint + Threads + Wait + AllocGlobal + Sync,
+    S: AsStr,
+    I: Read + Drop,
+    O: Write,
+>(rt: &R, words: &[S], input: I, output: &mut StdDevice<O>) -> u8
 where
     R::File: Send,
+    requires { output.old.has_failed ≡ false }
+    ensures { (asked : Result Word Error) × IsEnded ⟦<StdDevice<R::File> as Source>⟧.remaining ⟦<StdDevice<R::File> as Source>⟧.has_failed asked (streams (I.remaining input) (O.contents output.old.device) (O.contents output.new.device)) result }
 {
-    let status = match read_words(rt.alloc(), words) {
-        Ok(Word::Check(options)) => {
-            told_of_lines(rt.alloc(), options.limit, check(rt, options.limit, input))
-        }
-        Ok(Word::Run(options)) => run(rt, &options, input),
-        Ok(Word::Feed(options)) => feed(rt, &options),
-        Ok(Word::Solve(options)) => {
-            told_of_lines(rt.alloc(), options.limit, solve(rt, options.limit, input))
-        }
-        Ok(Word::Map(options)) => map(rt, &options, input),
-        Ok(Word::Plan(options)) => plan(rt, &options, input),
-        Ok(Word::Table(options)) => table(rt, &options, input),
-        Ok(Word::Why(options)) => why(rt, &options, input),
-        Ok(Word::Review(options)) => review(rt, &options, input),
-        Ok(Word::Save(options)) => save(rt, &options, input),
-        Ok(Word::Explain(explained)) => explain(rt, &explained),
-        Err(error) => print_text(rt, &error),
-    };
-    told(rt, status)
+    match read_words(rt.alloc(), words) {
+        Ok(word) => told(rt, do_word(rt, &word, input, output)),
+        Err(error) => told(rt, print_text(rt, &error, &mut output.device)),
+    }
+}
+
+/// Does what a word asks for.
+fn do_word<R: Files + Threads + Wait + AllocGlobal + Sync, I: Read + Drop, O: Write>(
+    rt: &R,
+    word: &Word<'_>,
+    input: I,
+    output: &mut StdDevice<O>,
+) -> Result<u8, Stopped>
+where
+    R::File: Send,
+    requires { output.old.has_failed ≡ false }
+    ensures ok { IfOk result (IsDone ⟦<StdDevice<R::File> as Source>⟧.remaining ⟦<StdDevice<R::File> as Source>⟧.has_failed word.now (streams (I.remaining input) (O.contents output.old.device) (O.contents output.new.device))) }
+    ensures err { IfErr result (λ stopped. IsUndone word.now (streams (I.remaining input) (O.contents output.old.device) (O.contents output.new.device)) stopped.stop) }
+{
+    match word {
+        Word::Check(options) => check(rt.alloc(), options.limit, input, output),
+        Word::Solve(options) => solve(rt.alloc(), options.limit, input, output),
+        Word::Run(options) => run(rt, options, input, output),
+        Word::Feed(options) => feed(rt, options, &mut output.device),
+        Word::Map(options) => map(rt, options, input, &mut output.device),
+        Word::Plan(options) => plan(rt, options, input, &mut output.device),
+        Word::Table(options) => table(rt, options, input, &mut output.device),
+        Word::Why(options) => why(rt, options, input, &mut output.device),
+        Word::Review(options) => review(rt, options, input, output),
+        Word::Save(options) => save(rt, options, input, &mut output.device),
+        Word::Explain(explained) => explain(rt.alloc(), explained, &mut output.device),
+    }
 }
 
 /// The status; where the program could not run or stopped, standard error says why.
@@ -98,29 +121,53 @@ fn words_of<R: Runtime + AllocGlobal>(rt: &R) -> io::Result<Vec<String>> {
 }
 
 /// Says why the arguments could not be read: out of memory, or one that isn't UTF-8.
-fn refuse_arguments<R: Print + Eprint + AllocGlobal>(
+fn refuse_arguments<R: Eprint + AllocGlobal, O: Write>(
     rt: &R,
     error: io::Error,
+    output: &mut O,
 ) -> Result<u8, Stopped> {
     match error.kind() {
         io::ErrorKind::OutOfMemory => Err(Stopped::from(Stop::OutOfMemory)),
         _ => {
             let fault = not_utf8(rt.alloc())?;
-            print_text(rt, &fault)
+            print_text(rt, &fault, output)
         }
     }
 }
 
-/// Prints help, the version, or a fault of the arguments with a hint where there is one.
-fn print_text<R: Print + Eprint + AllocGlobal>(rt: &R, error: &Error) -> Result<u8, Stopped> {
-    if error.kind() == ErrorKind::OutOfMemory {
-        return Err(Stopped::from(Stop::OutOfMemory));
+/// Prints help or the version: status 0. Else standard error says a fault of the arguments with a hint where there is one: status 2.
+fn print_text<R: Eprint + AllocGlobal, O: Write>(
+    rt: &R,
+    error: &Error,
+    output: &mut O,
+) -> Result<u8, Stopped>
+    ensures ok { IfOk result (IsTextOf error.now (streams None (O.contents output.old) (O.contents output.new))) }
+    ensures err { IfErr result (λ stopped. IsUnprinted (streams None (O.contents output.old) (O.contents output.new)) stopped.stop) }
+{
+    match error.kind() {
+        ErrorKind::OutOfMemory => Err(Stopped::from(Stop::OutOfMemory)),
+        ErrorKind::DisplayHelp | ErrorKind::DisplayVersion => print_shown(error, output),
+        _ => say_fault(rt, error),
     }
-    if error.print(rt).is_err() {
+}
+
+/// Prints help or the version: status 0.
+fn print_shown<O: Write>(error: &Error, output: &mut O) -> Result<u8, Stopped>
+    ensures ok { IfOk result (λ status. status ≡ 0) }
+    ensures err { IfErr result (λ stopped. stopped.stop ≡ WriteFailed) }
+{
+    if write!(output, "{error}").is_err() {
         return Err(Stopped::from(Stop::WriteFailed));
     }
-    if !error.use_stderr() {
-        return Ok(DONE);
+    Ok(DONE)
+}
+
+/// Says a fault of the arguments with a hint where there is one: status 2.
+fn say_fault<R: Eprint + AllocGlobal>(rt: &R, error: &Error) -> Result<u8, Stopped>
+    ensures { IfOk result (λ status. status ≡ 2) }
+{
+    if rt.eprint(error).is_err() {
+        return Err(Stopped::from(Stop::WriteFailed));
     }
     if let Ok(Some(hint)) = hint(rt.alloc(), error) {
         // The fault itself is told; where standard error fails now, nobody is left to tell.

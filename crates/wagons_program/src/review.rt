@@ -1,11 +1,12 @@
 //! The word `review`.
-ghost use Rattle.std.specs.Prelude.{◌≡◌, ◌⊎◌, IfErr, IfOk, OnOk};
-ghost use Rattle.std.specs.Io.KnownBytes.{Appends};
+ghost use Rattle.std.specs.Prelude.{◌≡◌, ◌⊎◌, false, IfErr, IfOk, OnOk};
+ghost use Rattle.std.specs.Io.KnownBytes.{Appends, Keeps};
 ghost use Rattle.office.specs.JournalEnd.{end_note};
 ghost use Rattle.line_engine.specs.Lines.{max_line_bytes};
 ghost use Rattle.office_files.specs.declared.stop.Stop.TheVariants as stop;
 ghost use Rattle.wagons_program.specs.Brought.{lines_over};
-ghost use Rattle.wagons_program.specs.Reviewed.{AreReviewed, IsFirstReviewFor, IsInputReviewed, IsReviewStopped, status_of_notes};
+ghost use Rattle.wagons_program.specs.Reviewed.{AreReviewed, IsFirstReviewFor, IsInputNotReviewed, IsInputReviewed, IsReviewStopped, status_of_notes};
+ghost use Rattle.wagons_program.specs.Streams.{streams};
 
 use crate::opening::{leave_book, new_book};
 use crate::printing::write_whole;
@@ -16,7 +17,6 @@ use office::{EndingSource, Review, RunCount, end_note, review_journal};
 use office_files::{OfficeFiles, Stop, Stopped, read_files, read_places, told_of_lines};
 use place_names::Places;
 use std::alloc::Global;
-use std::io;
 use std::io::{Read, Write};
 use std::rt::Files;
 use std::sync::Wait;
@@ -24,16 +24,19 @@ use std::thread::Threads;
 
 /// Opens an office, brings the command lines of an input to it as `run` does, and prints their notes in place of replies:
 /// status 0, or 1 where there is a note. The names of places are read first.
-pub(crate) fn review<R: Print + Files + Threads + Wait + AllocGlobal, I: Read + Drop>(
+pub(crate) fn review<R: Files + Threads + Wait + AllocGlobal, I: Read + Drop, O: Write>(
     rt: &R,
     options: &ReviewOptions<'_>,
     input: I,
+    output: &mut StdDevice<O>,
 ) -> Result<u8, Stopped>
-    ensures { IfOk result (IsInputReviewed options.now (I.remaining input)) }
+    requires { output.old.has_failed ≡ false }
+    ensures ok { IfOk result (IsInputReviewed options.now (streams (I.remaining input) (O.contents output.old.device) (O.contents output.new.device))) }
+    ensures err { IfErr result (λ stopped. IsInputNotReviewed options.now (streams (I.remaining input) (O.contents output.old.device) (O.contents output.new.device)) stopped.stop) }
 {
     let places = read_places(rt, options.places)?;
     let mut review = begin_review(rt, &options.office, places)?;
-    let outcome = review_lines(rt.alloc(), input, io::writer(rt), &mut review);
+    let outcome = review_lines(rt.alloc(), input, output, &mut review);
     leave_book(review.into_book());
     told_of_lines(rt.alloc(), LineLimit::standard(), outcome)
 }
@@ -52,19 +55,19 @@ fn begin_review<R: Files + Threads + Wait + AllocGlobal>(
 }
 
 /// Brings the command lines of an input to a review's book, and writes their notes: status 0, or 1 where there is one.
-fn review_lines<I: Read + Drop, O: Write + Drop>(
+fn review_lines<I: Read + Drop, O: Write>(
     alloc: Global,
     input: I,
-    output: O,
+    output: &mut StdDevice<O>,
     review: &mut Review,
 ) -> Result<u8, Stop>
-    ensures ok { IfOk result (AreReviewed (lines_over max_line_bytes (I.remaining input) (O.contents output) review.old review.new)) }
-    ensures err { IfErr result (IsReviewStopped (lines_over max_line_bytes (I.remaining input) (O.contents output) review.old review.new)) }
+    requires { output.old.has_failed ≡ false }
+    ensures ok { IfOk result (AreReviewed (lines_over max_line_bytes (streams (I.remaining input) (O.contents output.old.device) (O.contents output.new.device)) review.old review.new)) }
+    ensures err { IfErr result (IsReviewStopped (lines_over max_line_bytes (streams (I.remaining input) (O.contents output.old.device) (O.contents output.new.device)) review.old review.new)) }
 {
     let mut reader = EndingSource::new(StdDevice::new(input));
-    let mut writer = StdDevice::new(output);
-    match review_journal(alloc, &mut reader, &mut writer, review) {
-        Ok(count) => end_review(alloc, count, reader.last, &mut writer.device),
+    match review_journal(alloc, &mut reader, output, review) {
+        Ok(count) => end_review(alloc, count, reader.last, &mut output.device),
         Err(fault) => Err(Stop::Run(fault)),
     }
 }
@@ -79,7 +82,7 @@ fn end_review<O: Write>(
 ) -> Result<u8, Stop>
     ensures written { OnOk result (Appends (O.contents output.old) (O.contents output.new) (end_note count.lines last)) }
     ensures status { IfOk result (λ status. status ≡ status_of_notes count (end_note count.lines last)) }
-    ensures err { IfErr result (λ why. (why ≡ stop.OutOfMemory) ⊎ (why ≡ stop.WriteFailed)) }
+    ensures err { IfErr result (λ why. ((why ≡ stop.OutOfMemory) × Keeps (O.contents output.old) (O.contents output.new)) ⊎ (why ≡ stop.WriteFailed)) }
 {
     let note = end_note(alloc, count.lines, last)?;
     write_whole(output, note.as_bytes())?;

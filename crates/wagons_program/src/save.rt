@@ -1,13 +1,18 @@
 //! The word `save`.
+ghost use Rattle.std.specs.Prelude.{IfErr, IfOk, None, option_map};
+ghost use Rattle.wagons_program.specs.Brought.{IsBroughtTo};
+ghost use Rattle.wagons_program.specs.FirstLines.{input_upto};
+ghost use Rattle.wagons_program.specs.OfLast.{AreAddedFor, IsSavedPrinted};
+ghost use Rattle.wagons_program.specs.Streams.{IsUnprinted, streams};
 
-use crate::bringing::{Brought, bring};
+use crate::bringing::{Brought, bring_without_output};
 use crate::first_lines::FirstLines;
 use crate::printing::print_last;
-use command_line::SaveOptions;
+use command_line::{OfficeOptions, SaveOptions};
+use fleet_rows::Roster;
 use last_texts::last_saved;
 use office_files::{Stopped, read_roster};
-use std::io;
-use std::io::Read;
+use std::io::{Read, Write};
 use std::rt::Files;
 use std::sync::Wait;
 use std::thread::Threads;
@@ -15,26 +20,46 @@ use std::thread::Threads;
 /// Opens an office, brings the command lines of an input to it without replies, all of them or the first ones, changes its
 /// fleet as the options say, and prints it as a checkpoint: status 0, or 1 where a line was refused. The roster of the
 /// wagons that are added is read first.
-pub(crate) fn save<R: Print + Files + Threads + Wait + AllocGlobal, I: Read + Drop>(
+pub(crate) fn save<R: Files + Threads + Wait + AllocGlobal, I: Read + Drop, O: Write>(
     rt: &R,
     options: &SaveOptions<'_>,
     input: I,
-) -> Result<u8, Stopped> {
-    let added = match options.with {
-        Some(path) => Some(read_roster(rt, path)?),
-        None => None,
-    };
+    output: &mut O,
+) -> Result<u8, Stopped>
+    ensures ok { IfOk result (IsSavedPrinted options.now (streams (I.remaining input) (O.contents output.old) (O.contents output.new))) }
+    ensures err { IfErr result (λ stopped. IsUnprinted (streams (I.remaining input) (O.contents output.old) (O.contents output.new)) stopped.stop) }
+{
+    let added = read_added(rt, options.with)?;
     let Brought {
         book,
         networks: _,
         status,
-    } = match options.upto {
-        Some(lines) => {
-            let first = FirstLines::new(input, lines);
-            bring(rt, &options.office, first, io::sink())?
-        }
-        None => bring(rt, &options.office, input, io::sink())?,
-    };
+    } = bring_upto(rt, &options.office, options.upto, input)?;
     let text = last_saved(rt.alloc(), &book, &added, &options.without);
-    print_last(rt, book, text, status)
+    print_last(output, book, text, status)
+}
+
+/// The roster of the wagons that are added, where one is given.
+fn read_added<R: Files + AllocGlobal>(rt: &R, path: Option<&str>) -> Result<Option<Roster>, Stopped>
+    ensures { IfOk result (AreAddedFor (option_map (λ text. text.now) path.entry)) }
+{
+    match path {
+        Some(path) => Ok(Some(read_roster(rt, path)?)),
+        None => Ok(None),
+    }
+}
+
+/// The same as `bring_without_output`, of the first lines alone where they are counted.
+fn bring_upto<R: Files + Threads + Wait + AllocGlobal, I: Read + Drop>(
+    rt: &R,
+    options: &OfficeOptions<'_>,
+    upto: Option<u64>,
+    input: I,
+) -> Result<Brought, Stopped>
+    ensures { IfOk result (λ brought. IsBroughtTo options.now brought.networks.items (streams (input_upto upto (I.remaining input)) None None) brought.book brought.status) }
+{
+    match upto {
+        Some(lines) => bring_without_output(rt, options, FirstLines::new(input, lines)),
+        None => bring_without_output(rt, options, input),
+    }
 }

@@ -1,28 +1,34 @@
 //! The word `table`.
+ghost use Rattle.std.specs.Prelude.{IfErr, IfOk};
+ghost use Rattle.wagons_program.specs.OfLast.{IsTablePrinted};
+ghost use Rattle.wagons_program.specs.Streams.{IsUnprinted, streams};
 
-use crate::bringing::{Brought, bring};
+use crate::bringing::{Brought, bring_without_output};
 use crate::printing::print_last;
 use command_line::ProblemOptions;
 use last_texts::last_table;
 use office_files::Stopped;
-use std::io;
-use std::io::Read;
+use std::io::{Read, Write};
 use std::rt::Files;
 use std::sync::Wait;
 use std::thread::Threads;
 
 /// Opens an office, brings the command lines of an input to it without replies, and prints the problem of its last version
 /// at a moment as a table line: status 0, or 1 where a line was refused.
-pub(crate) fn table<R: Print + Files + Threads + Wait + AllocGlobal, I: Read + Drop>(
+pub(crate) fn table<R: Files + Threads + Wait + AllocGlobal, I: Read + Drop, O: Write>(
     rt: &R,
     options: &ProblemOptions<'_>,
     input: I,
-) -> Result<u8, Stopped> {
+    output: &mut O,
+) -> Result<u8, Stopped>
+    ensures ok { IfOk result (IsTablePrinted options.now (streams (I.remaining input) (O.contents output.old) (O.contents output.new))) }
+    ensures err { IfErr result (λ stopped. IsUnprinted (streams (I.remaining input) (O.contents output.old) (O.contents output.new)) stopped.stop) }
+{
     let Brought {
         mut book,
         networks: _,
         status,
-    } = bring(rt, &options.office, input, io::sink())?;
+    } = bring_without_output(rt, &options.office, input)?;
     let text = last_table(rt.alloc(), &mut book, options.at);
-    print_last(rt, book, text, status)
+    print_last(output, book, text, status)
 }

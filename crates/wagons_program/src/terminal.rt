@@ -27,6 +27,8 @@ impl<'a, R, I> TerminalInput<'a, R, I> {
 }
 
 impl<R: Eprint, I: Read> Read for TerminalInput<'_, R, I> {
+    ghost remaining = { λ s. I.remaining s.input };
+
     fn read(&mut self, buf: &mut [u8]) -> io::Result<usize> {
         if self.says {
             self.says = false;

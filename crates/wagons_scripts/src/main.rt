@@ -4,10 +4,11 @@
 #![tactic(auto)]
 
 use anyhow::Result;
-use std::fs;
+use line_engine::StdDevice;
 use std::rt::Runtime;
 use std::sync::Wait;
 use std::thread::Threads;
+use std::{fs, io};
 use wagons_program::run_words;
 
 fn main(rt: HostRuntime) -> Result<()> {
@@ -76,5 +77,6 @@ where
     R::File: Send,
 {
     let words: Vec<&str> = call.split_whitespace().collect(rt.alloc())?;
-    Ok(run_words(rt, words.as_slice(), input))
+    let mut output = StdDevice::new(io::writer(rt));
+    Ok(run_words(rt, words.as_slice(), input, &mut output))
 }

@@ -6,9 +6,9 @@ use Rattle.wagons_program.proofs.bringing.bring_lines.Goals as goal
 pub returns-clause-ok : goal.returns-clause-ok
 returns-clause-ok g c =
     status_of_ended _ c.run.result _ _ c.status_of_run.ensures c.run.ensures.replies.ok
-    (λ count ends. are_answered ToCommands _ _ _ _ _ (ap g.I.Read.remaining c.new-reader.ensures.device) (ap g.O.Write.contents c.new-writer.ensures.device) count ends)
+    (λ count ends. are_answered ToCommands _ _ _ (ap g.I.Read.remaining c.new-reader.ensures.device) count ends)
 
 pub returns-clause-err : goal.returns-clause-err
 returns-clause-err g c =
     why_of_stopped _ c.run.result _ _ c.status_of_run.ensures c.run.ensures.replies.err
-    (λ fault stops. are_stopped ToCommands _ _ _ _ _ (ap g.I.Read.remaining c.new-reader.ensures.device) (ap g.O.Write.contents c.new-writer.ensures.device) _ fault stops)
+    (λ fault stops. are_stopped ToCommands _ _ _ (ap g.I.Read.remaining c.new-reader.ensures.device) _ fault stops)

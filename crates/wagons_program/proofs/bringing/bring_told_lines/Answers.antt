@@ -1,5 +1,8 @@
-use Rattle.wagons_program.proofs.Outcomes.{ok_kept}
+use Rattle.wagons_program.proofs.Outcomes.{err_kept, ok_kept}
 use Rattle.wagons_program.proofs.bringing.bring_told_lines.Goals as goal
 
 pub returns-clause-ok : goal.returns-clause-ok
 returns-clause-ok g c = ok_kept c.bring_lines-outcome.result c.told_of_lines.result _ c.bring_lines-outcome.ensures.ok c.told_of_lines.ensures.ok
+
+pub returns-clause-err : goal.returns-clause-err
+returns-clause-err g c = err_kept c.bring_lines-outcome.result c.told_of_lines.result _ c.bring_lines-outcome.ensures.err c.told_of_lines.ensures.err

@@ -1,9 +1,8 @@
-use Rattle.std.proofs.Common.{ap, refl}
-use Rattle.table_lines.specs.Checking.{ToPlans}
-use Rattle.wagons_program.proofs.Outcomes.{are_answered, status_of_ended}
+use Rattle.wagons_program.proofs.Outcomes.{err_kept, ok_kept}
 use Rattle.wagons_program.proofs.check.check.Goals as goal
 
-pub returns : goal.returns
-returns g c =
-    status_of_ended _ c.check_run.result _ _ c.status_of_run.ensures c.check_run.ensures.ok
-    (λ count ends. (record { most = c.args.limit; input = g.I.Read.remaining c.args.input; held = _; old = tt; new = tt }, refl, refl, are_answered ToPlans _ _ _ _ _ (ap g.I.Read.remaining c.new-reader.ensures.device) refl count ends))
+pub returns-clause-ok : goal.returns-clause-ok
+returns-clause-ok g c = ok_kept c.check_lines-outcome.result c.told_of_lines.result _ c.check_lines-outcome.ensures.ok c.told_of_lines.ensures.ok
+
+pub returns-clause-err : goal.returns-clause-err
+returns-clause-err g c = err_kept c.check_lines-outcome.result c.told_of_lines.result _ c.check_lines-outcome.ensures.err c.told_of_lines.ensures.err

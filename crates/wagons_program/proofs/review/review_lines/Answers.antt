@@ -7,5 +7,4 @@ use Rattle.wagons_program.proofs.review.review_lines.Goals as goal
 pub returns-clause-err : goal.returns-clause-err
 returns-clause-err g c =
     inl
-    (are_stopped Reviews _ _ _ _ _ (ap (λ s. g.I.Read.remaining s.device) c.new-reader.ensures.source ∙ ap g.I.Read.remaining c.new.ensures.device)
-    (ap g.O.Write.contents c.new-writer.ensures.device) _ _ c.in-Err.ensures.err)
+    (are_stopped Reviews _ _ _ (ap (λ s. g.I.Read.remaining s.device) c.new-reader.ensures.source ∙ ap g.I.Read.remaining c.new.ensures.device) _ _ c.in-Err.ensures.err)

@@ -1,0 +1,21 @@
+use Rattle.std.proofs.Common.{◌∙◌, ap, length, rules}
+use Rattle.wagons_program.specs.FirstBook.{IsFirstBookFor}
+use Rattle.wagons_program.proofs.feed.feed.Goals as goal
+
+pub returns-in-Ok-feed-clause-ok : goal.returns-in-Ok-feed-clause-ok
+returns-in-Ok-feed-clause-ok g c =
+    let said = c.in_ok-status-in-Ok-feed.ensures {u = tt} in
+    let is_first : IsFirstBookFor c.args.options.now.office c.in_ok-first.field-0.networks.items c.in_ok-book.field-0.book = search rules in
+    record {
+      networks = c.in_ok-first.field-0.networks.items;
+      first = c.in_ok-book.field-0.book;
+      is_first = is_first;
+      files = c.in-Ok.readers.items;
+      each = c.in-Ok.ensures.each ∙ ap length c.deref.ensures.value;
+      report = c.in-Ok-feed.report;
+      fed = c.in-Ok-feed.ensures.report;
+      text = said.printed.0;
+      is_text = said.printed.1;
+      printed = said.printed.2;
+      status_is = said.status;
+    }
