@@ -1,4 +1,10 @@
 pub mod Stop
+pub mod StopText
 pub mod Told
+pub mod StoppedText
+pub mod PlacesText
+pub mod ReadText
+pub mod InFile
 pub mod FirstOffice
 pub mod PlacesFor
+pub mod Refused

@@ -2,6 +2,7 @@
 -- was made.
 use Rattle.std.specs.Prelude.{◌≡◌, ℕ, ◌==◌, if◌then◌else◌, IfSome, List, Option, String, codes, string_bytes}
 use Rattle.std.specs.declared.alloc.Global.{Global}
+use Rattle.fault_texts.specs.Where.{file_text}
 use Rattle.faults.specs.declared.faults.FeedFault.TheVariants as feed
 use Rattle.faults.specs.declared.faults.FleetFault.TheVariants as fleet
 use Rattle.office_files.specs.Stop.{stop_number}
@@ -37,3 +38,11 @@ words_of stop = if stop_number stop == 1 then codes "out of memory" else reason_
 -- the text that was made, where memory for it was there, is this one
 abbrev pub IsToldAs : (text : List ℕ) → (told : Option (String Global)) → Type 0
 IsToldAs text told = IfSome told (λ made. string_bytes made ≡ text)
+
+-- a file as it was named, and something that is said of it
+abbrev pub IsOfFile : (path : List ℕ) → String Global → Type 0
+IsOfFile path made = (said : List ℕ) × (string_bytes made ≡ file_text path said)
+
+-- the text that was made is one of this file, by what the system says of it
+abbrev pub IsToldOfFile : (path : List ℕ) → (told : Option (String Global)) → Type 0
+IsToldOfFile path told = IfSome told (IsOfFile path)

@@ -2,6 +2,7 @@
 //! stops, and what people are told then.
 #![tactic(auto)]
 
+mod file_system;
 mod first_office;
 mod places;
 mod stop;
@@ -9,6 +10,7 @@ mod stopped;
 mod told_file;
 mod told_files;
 
+pub use file_system::FileSystem;
 pub use first_office::{OfficeFiles, read_files, read_roster};
 pub use places::{read_names, read_places};
 pub use stop::Stop;

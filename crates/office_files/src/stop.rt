@@ -1,7 +1,10 @@
 //! Why the program could not run or stopped, as it says it on standard error.
-ghost use Rattle.std.specs.Prelude.{◌≡◌};
+ghost use Rattle.std.specs.Prelude.{◌≡◌, ◌++◌, IfSome, Some, codes, option_map};
+ghost use Rattle.std.specs.Fmt.{WritesOnOk};
+ghost use Rattle.std.specs.Option.{ForSome};
 ghost use Rattle.std.specs.Str.{IsAscii};
 ghost use Rattle.office_files.specs.Stop.{stop_number};
+ghost use Rattle.office_files.specs.StopText.{name_of, place_of, receipt_of, spaced_name, spaced_place, spaced_receipt, stop_text};
 
 use checkpoint::ReadFault;
 use faults::{FeedFault, FleetFault};
@@ -72,55 +75,97 @@ impl Stop {
         }
     }
 
+    /// The wagon or the order that it is about, in ASCII.
+    fn name(&self) -> Option<&[u8]>
+        ensures name { option_map (λ name. name.now) result ≡ name_of self.now }
+        ensures ascii { IfSome result (λ name. IsAscii name.now) }
+    {
+        match self {
+            Stop::Roster(RosterFault::DuplicateWagon(wagon)) => Some(wagon.as_bytes()),
+            Stop::Fleet(FleetFault::UnknownWagon(wagon)) => Some(wagon.as_bytes()),
+            Stop::Fleet(FleetFault::WagonPromised(wagon)) => Some(wagon.as_bytes()),
+            Stop::WagonNotInProblem(wagon) => Some(wagon.as_bytes()),
+            Stop::OrderNotInProblem(id) => Some(id.as_bytes()),
+            Stop::OrderNotOnMap(id) => Some(id.as_bytes()),
+            _ => None,
+        }
+    }
+
     /// The number of the file's record or of the line at which it stopped, counted from 1.
-    fn place(self) -> Option<u64> {
+    fn place(self) -> Option<u64>
+        ensures { result ≡ place_of self }
+    {
         match self {
             Stop::Roster(RosterFault::BadRosterRow(record)) => Some(u64::from(record)),
             Stop::Network(NetworkFault::BadRow(record)) => Some(u64::from(record)),
-            Stop::Places(PlacesFault::BadRow(record) | PlacesFault::DuplicatePlace(record)) => {
-                Some(u64::from(record))
-            }
+            Stop::Places(PlacesFault::BadRow(record)) => Some(u64::from(record)),
+            Stop::Places(PlacesFault::DuplicatePlace(record)) => Some(u64::from(record)),
             Stop::Checkpoint(fault) => fault.line(),
             Stop::Run(fault) => fault.line(),
+            _ => None,
+        }
+    }
+
+    /// The numbers of a seat and of an entry, where a receipt is lost.
+    fn receipt(self) -> Option<(u32, u64)>
+        ensures { result ≡ receipt_of self }
+    {
+        match self {
+            Stop::Feed(FeedFault::ReceiptLost(seat, entry)) => Some((seat, entry)),
             _ => None,
         }
     }
 }
 
 impl Display for Stop {
+    ghost output = { λ stop. Some (stop_text stop) };
+
     fn fmt<W: fmt::Write>(&self, f: &mut Formatter<W>) -> fmt::Result {
         write!(f, "wagons: {}", self.number())?;
-        if let Stop::Roster(RosterFault::DuplicateWagon(wagon)) = self {
-            return write_ascii(f, wagon.digits());
-        }
-        if let Stop::Fleet(FleetFault::UnknownWagon(wagon)) = self {
-            return write_ascii(f, wagon.digits());
-        }
-        if let Stop::Fleet(FleetFault::WagonPromised(wagon)) = self {
-            return write_ascii(f, wagon.digits());
-        }
-        if let Stop::WagonNotInProblem(wagon) = self {
-            return write_ascii(f, wagon.digits());
-        }
-        if let Stop::OrderNotInProblem(id) | Stop::OrderNotOnMap(id) = self {
-            return write_ascii(f, id.as_bytes());
-        }
-        if let Stop::Feed(FeedFault::ReceiptLost(seat, entry)) = self {
-            return write!(f, " {seat} {entry}");
-        }
-        match self.place() {
-            Some(place) => write!(f, " {place}"),
-            None => Ok(()),
-        }
+        write_name(f, self.name())?;
+        write_place(f, self.place())?;
+        write_receipt(f, self.receipt())
+    }
+}
+
+/// Writes a name in ASCII behind a space, where there is one.
+fn write_name<W: fmt::Write>(f: &mut Formatter<W>, name: Option<&[u8]>) -> fmt::Result
+    requires { ForSome name (λ name. IsAscii name.now) }
+    ensures { WritesOnOk W.write_str_gives f.old result (spaced_name (option_map (λ name. name.now) name.entry)) f.new }
+{
+    match name {
+        Some(name) => write_ascii(f, name),
+        None => Ok(()),
     }
 }
 
 /// Writes ASCII characters behind a space.
 fn write_ascii<W: fmt::Write>(f: &mut Formatter<W>, characters: &[u8]) -> fmt::Result
     requires { IsAscii characters.now }
+    ensures { WritesOnOk W.write_str_gives f.old result (codes " " ++ characters.now) f.new }
 {
     f.write_str(" ")?;
     f.write_str(str::from_utf8(characters).unwrap())
+}
+
+/// Writes a number behind a space, where there is one.
+fn write_place<W: fmt::Write>(f: &mut Formatter<W>, place: Option<u64>) -> fmt::Result
+    ensures { WritesOnOk W.write_str_gives f.old result (spaced_place place) f.new }
+{
+    match place {
+        Some(place) => write!(f, " {place}"),
+        None => Ok(()),
+    }
+}
+
+/// Writes the numbers of a seat and of an entry, each behind a space, where there are such.
+fn write_receipt<W: fmt::Write>(f: &mut Formatter<W>, receipt: Option<(u32, u64)>) -> fmt::Result
+    ensures { WritesOnOk W.write_str_gives f.old result (spaced_receipt receipt) f.new }
+{
+    match receipt {
+        Some((seat, entry)) => write!(f, " {seat} {entry}"),
+        None => Ok(()),
+    }
 }
 
 impl From<AllocError> for Stop {

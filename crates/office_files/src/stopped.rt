@@ -1,6 +1,9 @@
 //! Why the program could not run or stopped, with what people are told of it.
-ghost use Rattle.std.specs.Prelude.{◌≡◌, IfErr, IfOk, IfSome, Ok, Err};
-ghost use Rattle.office_files.specs.Told.{reason_of, words_of};
+ghost use Rattle.std.specs.Prelude.{◌≡◌, IfErr, IfOk, IfSome, Some, Ok, Err, codes};
+ghost use Rattle.fault_texts.specs.LineText.{line_text};
+ghost use Rattle.line_engine.specs.declared.run.RunFault.{RunFault};
+ghost use Rattle.office_files.specs.StoppedText.{stopped_text};
+ghost use Rattle.office_files.specs.Told.{IsToldAs, reason_of, words_of};
 ghost use Rattle.office_files.specs.declared.stop.Stop.TheVariants as stop;
 
 use crate::stop::Stop;
@@ -49,6 +52,7 @@ pub fn told_of_lines(
 ) -> Result<u8, Stopped>
     ensures ok { IfOk result (λ status. outcome ≡ Ok status) }
     ensures err { IfErr result (λ stopped. outcome ≡ Err stopped.stop) }
+    ensures told { (fault : RunFault) → outcome ≡ Err (stop.Run fault) → IfErr result (λ stopped. IsToldAs (line_text (codes "standard input") limit fault) stopped.told) }
 {
     match outcome {
         Ok(status) => Ok(status),
@@ -61,6 +65,8 @@ pub fn told_of_lines(
 }
 
 impl Display for Stopped {
+    ghost output = { λ stopped. Some (stopped_text stopped) };
+
     fn fmt<W: fmt::Write>(&self, f: &mut Formatter<W>) -> fmt::Result {
         match &self.told {
             Some(told) => write!(f, "{}\n{told}", self.stop),
@@ -78,12 +84,16 @@ impl From<Stop> for Stopped {
 }
 
 impl From<AllocError> for Stopped {
+    ghost from_gives = { λ _ stopped. stopped.stop ≡ stop.OutOfMemory };
+
     fn from(_error: AllocError) -> Stopped {
         Stopped::from(Stop::OutOfMemory)
     }
 }
 
 impl<T: Drop> From<AllocFailed<T>> for Stopped {
+    ghost from_gives = { λ _ stopped. stopped.stop ≡ stop.OutOfMemory };
+
     fn from(_error: AllocFailed<T>) -> Stopped {
         Stopped::from(Stop::OutOfMemory)
     }

@@ -1,14 +1,16 @@
 //! A file that keeps why its reading failed, and what people are told then.
-ghost use Rattle.std.specs.Prelude.{◌≡◌, IfErr};
+ghost use Rattle.std.specs.Prelude.{◌≡◌, IfErr, IfOk};
+ghost use Rattle.office_files.specs.InFile.{HasBytes};
+ghost use Rattle.office_files.specs.Told.{IsOfFile, IsToldOfFile};
 ghost use Rattle.office_files.specs.declared.stop.Stop.TheVariants.{OpenFailed};
 
+use crate::file_system::FileSystem;
 use crate::stop::Stop;
 use crate::stopped::Stopped;
 use fault_texts::file_text;
 use std::alloc::{AllocError, Global};
+use std::io;
 use std::io::Read;
-use std::rt::Files;
-use std::{fs, io};
 
 /// A file that keeps why its reading failed.
 #[derive(Drop)]
@@ -20,7 +22,9 @@ pub struct ToldFile<F> {
 
 impl<F> ToldFile<F> {
     /// What the system said of the last read that failed, as people are told of it.
-    pub(crate) fn failure_text(&self, alloc: Global, path: &str) -> Result<String, AllocError> {
+    pub(crate) fn failure_text(&self, alloc: Global, path: &str) -> Result<String, AllocError>
+        ensures { IfOk result (IsOfFile path.now) }
+    {
         match &self.failure {
             Some(error) => system_text(alloc, path, error),
             None => file_text(alloc, path, "it couldn't be read"),
@@ -29,6 +33,8 @@ impl<F> ToldFile<F> {
 }
 
 impl<F: Read> Read for ToldFile<F> {
+    ghost remaining = { λ told. F.remaining told.file };
+
     fn read(&mut self, buf: &mut [u8]) -> io::Result<usize> {
         match self.file.read(buf) {
             Ok(count) => Ok(count),
@@ -41,8 +47,10 @@ impl<F: Read> Read for ToldFile<F> {
 }
 
 /// A file that is open for reading, and keeps why its reading failed. `OpenFailed` (93) where it couldn't be opened.
-pub fn open<R: Files + AllocGlobal>(rt: &R, path: &str) -> Result<ToldFile<R::File>, Stopped>
-    ensures { IfErr result (λ stopped. stopped.stop ≡ OpenFailed) }
+pub fn open<S: FileSystem + AllocGlobal>(rt: &S, path: &str) -> Result<ToldFile<S::File>, Stopped>
+    ensures bytes { IfOk result (λ told. HasBytes (S.bytes_at rt.now path.now) (S.File.remaining told.file)) }
+    ensures err { IfErr result (λ stopped. stopped.stop ≡ OpenFailed) }
+    ensures told { IfErr result (λ stopped. IsToldOfFile path.now stopped.told) }
 {
     Ok(ToldFile {
         file: open_plain(rt, path)?,
@@ -51,17 +59,21 @@ pub fn open<R: Files + AllocGlobal>(rt: &R, path: &str) -> Result<ToldFile<R::Fi
 }
 
 /// A file that is open for reading. `OpenFailed` (93) where it couldn't be opened.
-pub fn open_plain<R: Files + AllocGlobal>(rt: &R, path: &str) -> Result<R::File, Stopped>
-    ensures { IfErr result (λ stopped. stopped.stop ≡ OpenFailed) }
+pub fn open_plain<S: FileSystem + AllocGlobal>(rt: &S, path: &str) -> Result<S::File, Stopped>
+    ensures bytes { IfOk result (λ file. HasBytes (S.bytes_at rt.now path.now) (S.File.remaining file)) }
+    ensures err { IfErr result (λ stopped. stopped.stop ≡ OpenFailed) }
+    ensures told { IfErr result (λ stopped. IsToldOfFile path.now stopped.told) }
 {
-    match fs::open(rt, path) {
+    match rt.open_at(path) {
         Ok(file) => Ok(file),
         Err(error) => Err(Stopped::told(Stop::OpenFailed, system_text(rt.alloc(), path, &error))),
     }
 }
 
 /// A file and what the system says of it, without the error's number.
-fn system_text(alloc: Global, path: &str, error: &io::Error) -> Result<String, AllocError> {
+fn system_text(alloc: Global, path: &str, error: &io::Error) -> Result<String, AllocError>
+    ensures { IfOk result (IsOfFile path.now) }
+{
     let said = format!(in alloc; "{error}")?;
     file_text(alloc, path, without_number(said.as_str()))
 }

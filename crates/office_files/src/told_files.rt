@@ -1,13 +1,11 @@
 //! What people are told of a file that isn't what it must be.
-ghost use Rattle.std.specs.Prelude.{◌≡◌, ◌≢◌, ℕ};
-ghost use Rattle.checkpoint.specs.declared.read_fault.ReadFault.TheVariants as read_fault;
-ghost use Rattle.fault_texts.specs.CheckpointText.{checkpoint_text};
+ghost use Rattle.std.specs.Prelude.{◌≡◌, ◌≢◌, IfOk, string_bytes};
+ghost use Rattle.std.specs.Bool.{OnFalse, OnTrue};
 ghost use Rattle.fault_texts.specs.NetworkText.{network_text};
 ghost use Rattle.fault_texts.specs.RosterText.{roster_text};
-ghost use Rattle.fault_texts.specs.UnreadText.{unread_text};
-ghost use Rattle.faults.specs.declared.faults.CheckpointFault.{CheckpointFault};
-ghost use Rattle.line_fields.specs.declared.fault.LineFault.{LineFault};
-ghost use Rattle.office_files.specs.Told.{IsToldAs};
+ghost use Rattle.office_files.specs.PlacesText.{bad_row_said, places_said, places_text};
+ghost use Rattle.office_files.specs.ReadText.{is_unreadable, read_text};
+ghost use Rattle.office_files.specs.Told.{IsToldAs, IsToldOfFile};
 ghost use Rattle.office_files.specs.declared.stop.Stop.TheVariants as stop;
 
 use crate::stop::Stop;
@@ -31,6 +29,7 @@ pub(crate) fn told_of_roster<F>(
 ) -> Stopped
     ensures stop { result.stop ≡ stop.Roster refusal.now.fault.fault }
     ensures told { refusal.now.fault.fault ≢ RosterFault.ReadFailed → IsToldAs (roster_text path.now refusal.now) result.told }
+    ensures unreadable { refusal.now.fault.fault ≡ RosterFault.ReadFailed → IsToldOfFile path.now result.told }
 {
     let text = match refusal.fault.fault {
         RosterFault::ReadFailed => file.failure_text(alloc, path),
@@ -48,6 +47,7 @@ pub(crate) fn told_of_network<F>(
 ) -> Stopped
     ensures stop { result.stop ≡ stop.Network refusal.now.fault }
     ensures told { refusal.now.fault ≢ NetworkFault.ReadFailed → IsToldAs (network_text path.now refusal.now) result.told }
+    ensures unreadable { refusal.now.fault ≡ NetworkFault.ReadFailed → IsToldOfFile path.now result.told }
 {
     let text = match refusal.fault {
         NetworkFault::ReadFailed => file.failure_text(alloc, path),
@@ -64,8 +64,8 @@ pub(crate) fn told_of_checkpoint<F>(
     file: &ToldFile<F>,
 ) -> Stopped
     ensures stop { result.stop ≡ stop.Checkpoint fault }
-    ensures told { (line : CheckpointFault) → fault ≡ read_fault.Line line → IsToldAs (checkpoint_text path.now line) result.told }
-    ensures unread { (n : ℕ) (why : LineFault) → fault ≡ read_fault.Unread n why → IsToldAs (unread_text path.now n why) result.told }
+    ensures told { OnFalse (is_unreadable fault) (IsToldAs (read_text path.now fault) result.told) }
+    ensures unreadable { OnTrue (is_unreadable fault) (IsToldOfFile path.now result.told) }
 {
     let text = match fault {
         ReadFault::Run(RunFault::ReadFailed(_)) => file.failure_text(alloc, path),
@@ -84,6 +84,8 @@ pub(crate) fn told_of_places<F>(
     file: &ToldFile<F>,
 ) -> Stopped
     ensures stop { result.stop ≡ stop.Places fault }
+    ensures told { fault ≢ PlacesFault.ReadFailed → IsToldAs (places_text path.now fault) result.told }
+    ensures unreadable { fault ≡ PlacesFault.ReadFailed → IsToldOfFile path.now result.told }
 {
     let text = match fault {
         PlacesFault::ReadFailed => file.failure_text(alloc, path),
@@ -93,21 +95,36 @@ pub(crate) fn told_of_places<F>(
 }
 
 /// The file, the record, and what was expected.
-fn places_text(alloc: Global, path: &str, fault: PlacesFault) -> Result<String, AllocError> {
-    let said = match fault {
-        PlacesFault::BadRow(1) => {
-            String::from_str(alloc, "record 1 isn't the header place,name,x,y")?
-        }
-        PlacesFault::BadRow(record) => format!(in alloc;
-            "record {record} isn't a place, a name of at most 60 bytes, and two decimal numbers or none"
-        )?,
-        PlacesFault::DuplicatePlace(record) => {
-            format!(in alloc; "record {record} is of a place that an earlier record names")?
-        }
-        PlacesFault::TooManyPlaces => String::from_str(alloc, "it names over 2,000 places")?,
-        PlacesFault::OutOfMemory | PlacesFault::ReadFailed => {
-            String::from_str(alloc, "out of memory")?
-        }
-    };
+fn places_text(alloc: Global, path: &str, fault: PlacesFault) -> Result<String, AllocError>
+    ensures { IfOk result (λ text. string_bytes text ≡ places_text path.now fault) }
+{
+    let said = places_said(alloc, fault)?;
     file_text(alloc, path, said.as_str())
+}
+
+/// The record, and what was expected.
+fn places_said(alloc: Global, fault: PlacesFault) -> Result<String, AllocError>
+    ensures { IfOk result (λ said. string_bytes said ≡ places_said fault) }
+{
+    match fault {
+        PlacesFault::OutOfMemory => String::from_str(alloc, "out of memory"),
+        PlacesFault::BadRow(record) => bad_row_said(alloc, record),
+        PlacesFault::DuplicatePlace(record) => {
+            format!(in alloc; "record {record} is of a place that an earlier record names")
+        }
+        PlacesFault::TooManyPlaces => String::from_str(alloc, "it names over 2,000 places"),
+        PlacesFault::ReadFailed => String::from_str(alloc, "it couldn't be read"),
+    }
+}
+
+/// Of a record that is no header, where it must be one, or that names no place.
+fn bad_row_said(alloc: Global, number: u32) -> Result<String, AllocError>
+    ensures { IfOk result (λ said. string_bytes said ≡ bad_row_said number) }
+{
+    if number == 1 {
+        return String::from_str(alloc, "record 1 isn't the header place,name,x,y");
+    }
+    format!(in alloc;
+        "record {number} isn't a place, a name of at most 60 bytes, and two decimal numbers or none"
+    )
 }

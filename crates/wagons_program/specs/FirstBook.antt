@@ -3,7 +3,8 @@ use Rattle.std.specs.Prelude.{◌≡◌, List, []}
 use Rattle.command_line.specs.declared.office_options.OfficeOptions.{OfficeOptions}
 use Rattle.commit_book.specs.Books.{BookValue}
 use Rattle.line_network.specs.Network.{NetworkValue}
-use Rattle.office_files.specs.FirstOffice.{BeginsWith}
+use Rattle.office_files.specs.FirstOffice.{AreInFiles}
+use Rattle.office_files.specs.InFile.{unknown}
 use Rattle.operating_db.specs.Office.{Office}
 use Rattle.price_checker.specs.Limits.{LimitNumbers}
 
@@ -13,6 +14,7 @@ pub record IsFirstBook (first : Office) (networks : List NetworkValue) (limits :
   pub history : book.state.history ≡ []
   pub kept : book.state.kept ≡ []
 
--- the first book for these options over these networks, with an office that the options begin with
+-- the first book for these options over these networks: its office and the networks are those that the options' files say
 abbrev pub IsFirstBookFor : OfficeOptions → (networks : List NetworkValue) → BookValue → Type 0
-IsFirstBookFor options networks book = (office : Office) × BeginsWith options.start office × IsFirstBook office networks options.limits book
+IsFirstBookFor options networks book =
+    (office : Office) × AreInFiles unknown options office networks × IsFirstBook office networks options.limits book

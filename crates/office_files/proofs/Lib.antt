@@ -1,0 +1,2 @@
+pub mod RefusedFiles
+pub mod NetworkSteps

@@ -1,0 +1,30 @@
+//! Where files are opened by their paths.
+ghost use Rattle.std.specs.Prelude.{ℕ, List, None, Option, IfOk};
+ghost use Rattle.office_files.specs.InFile.{HasBytes};
+
+use std::io::Read;
+use std::rt::Files;
+use std::{fs, io};
+
+/// Where files are opened by their paths.
+pub trait FileSystem {
+    type File: Read + Drop;
+
+    /// The bytes of the file at a path, where they are known.
+    ghost bytes_at: { Self → List ℕ → Option (List ℕ) };
+
+    /// Opens the file at a path for reading, from its first byte on.
+    fn open_at(&self, path: &str) -> io::Result<Self::File>
+        ensures { IfOk result (λ file. HasBytes (bytes_at self.now path.now) (Self.File.remaining file)) };
+}
+
+// The files of the operating system: no clause knows their bytes.
+impl<R: Files> FileSystem for R {
+    type File = R::File;
+
+    ghost bytes_at = { λ _ _. None };
+
+    fn open_at(&self, path: &str) -> io::Result<R::File> {
+        fs::open(self, path)
+    }
+}
