@@ -78,7 +78,7 @@ class Checksums:
         if self._count < upto:
             self._take(lines.read(self._count + 1, upto), upto - self._count)
 
-    def _take(self, data: bytes, count: int) -> None:
+    def _take(self, data: bytes | memoryview, count: int) -> None:
         """Takes the next lines, all of one block."""
         if self._count and self._count % BLOCK == 0:
             self._sum = hashlib.sha256(self._sum.digest())
@@ -91,11 +91,14 @@ class Checksums:
     def _record(self) -> bytes:
         return (b'{"lines":%d,"sha256":"%b"}' % (self._count, self._digest())).ljust(RECORD_BYTES - 1) + b"\n"
 
-    def add(self, lines: Sequence[bytes]) -> None:
-        """Takes lines that were added to the journal and are on the disk."""
+    def add(self, lines: Sequence[bytes], data: bytes) -> None:
+        """Takes lines that were added to the journal and are on the disk, and the bytes that they have there."""
+        view = memoryview(data)
         while lines:
             part, lines = lines[:BLOCK - self._count % BLOCK], lines[BLOCK - self._count % BLOCK:]
-            self._take(b"\n".join([*part, b""]), len(part))
+            size = sum(map(len, part)) + len(part) if lines else len(view)
+            self._take(view[:size], len(part))
+            view = view[size:]
             self._unwritten[place_of(self._count)] = self._record()
         self.write()
 

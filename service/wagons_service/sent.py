@@ -28,12 +28,13 @@ class Sent(NamedTuple):
     name: str
     taken: str
 
-    def record(self) -> bytes:
-        return b'{"first":%d,"last":%d,"sender":"%b","taken":"%b"}' % (self.first, self.last, self.name.encode(), self.taken.encode())
-
     def added_to(self, record: bytes) -> bytes:
         """A reply's record with who sent its line."""
         return b'%b,"sender":"%b","taken":"%b"}' % (record[:-1], self.name.encode(), self.taken.encode())
+
+
+def record(first: int, last: int, name: bytes, taken: bytes) -> bytes:
+    return b'{"first":%d,"last":%d,"sender":"%b","taken":"%b"}' % (first, last, name, taken)
 
 
 class SentLines:
@@ -56,7 +57,7 @@ class SentLines:
         while self._places and (last := self._read(self._places[-1])) and last.last > lines:
             self._keep_first(len(self._places) - 1)
             if last.first <= lines:
-                self._append([last._replace(last=lines)])
+                self._append([last.first], [record(last.first, lines, last.name.encode(), last.taken.encode())])
 
     def _keep_first(self, count: int) -> None:
         if count < len(self._places):
@@ -64,11 +65,11 @@ class SentLines:
             del self._places[count:], self._firsts[count:]
             self._found = None
 
-    def _append(self, sent: Sequence[Sent]) -> None:
+    def _append(self, firsts: Sequence[int], records: Sequence[bytes]) -> None:
         place = self._file.count + 1
-        self._file.append([it.record() for it in sent], is_synced=False)
-        self._places.extend(range(place, place + len(sent)))
-        self._firsts.extend(it.first for it in sent)
+        self._file.append(records, is_synced=False)
+        self._places.extend(range(place, place + len(records)))
+        self._firsts.extend(firsts)
         self._is_synced = False
 
     def _read(self, place: int) -> Sent | None:
@@ -77,14 +78,15 @@ class SentLines:
 
     def add(self, first: int, requests: Sequence[tuple[str, int]]) -> None:
         """Says who sends the next lines: of each request the name, and how many lines it has."""
-        taken = datetime.now(UTC).isoformat(timespec="milliseconds").replace("+00:00", "Z")
-        sent = []
+        taken = datetime.now(UTC).isoformat(timespec="milliseconds").replace("+00:00", "Z").encode()
+        firsts, records = [], []
         for name, count in requests:
             if count:
-                sent.append(Sent(first, first + count - 1, name, taken))
+                firsts.append(first)
+                records.append(record(first, first + count - 1, name.encode(), taken))
             first += count
-        if sent:
-            self._append(sent)
+        if records:
+            self._append(firsts, records)
 
     def forget(self, first: int) -> None:
         """The lines from this number on weren't added."""
