@@ -82,6 +82,10 @@ class FileOfLines:
         """How many bytes the whole lines have."""
         return self._ends[-1]
 
+    def size_of(self, first: int, last: int) -> int:
+        """How many bytes the lines of these numbers have."""
+        return self._ends[last] - self._ends[first - 1]
+
     def cut(self, count: int) -> None:
         """Keeps so many lines of the file."""
         del self._ends[count + 1:]
@@ -389,7 +393,7 @@ class Journal:
 
     def add(self, lines: Sequence[bytes], requests: Sequence[tuple[str, int]] = ()) -> None:
         """Adds lines and syncs them to the disk: all of them, or none. Of each request stands there who sends how many."""
-        self.checksums.add(lines, self.write(lines, requests))
+        self.checksums.add(self.write(lines, requests))
 
     def write(self, lines: Sequence[bytes], requests: Sequence[tuple[str, int]]) -> bytes:
         """The same, but that the lines must still be added to the checksums. Gives what was written."""

@@ -61,7 +61,7 @@ class JournalWriter:
         if are_many:
             self._tell(job.written, data)
         try:
-            self._journal.checksums.add(job.lines, data)
+            self._journal.checksums.add(data)
         except Exception as fault:
             self._fault = fault
         if not are_many:

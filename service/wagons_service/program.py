@@ -83,15 +83,16 @@ class ReplyCutter:
         if not many or data.count(ACCEPTED) != many:
             return None
         words = data.split()
-        texts = list(map(b" ".join, zip(words[::3], words[1::3], words[2::3])))
-        if len(words) != 3 * many or b"\n".join([*texts, b""]) != data or not words[0].isdigit():
+        # Three words a line, and one mark behind each.
+        are_whole = len(words) == 3 * many == words[1::3].count(b"accepted") * 3 and len(b"".join(words)) + 3 * many == len(data)
+        if not are_whole or not words[0].isdigit():
             return None
         first = int(words[0])
         numbers = range(first, first + many)
         if first <= self.last or b" ".join(words[::3]) != " ".join(map(str, numbers)).encode():
             return None
         self.last = numbers[-1]
-        return Replies(numbers, [b"accepted"] * many, texts)
+        return Replies(numbers, [b"accepted"] * many, data[:-1].split(b"\n"))
 
     def _cut_short(self, data: bytes) -> Replies:
         """The replies of these lines where all are one line and follow one another, as they mostly do; else none."""
