@@ -65,6 +65,15 @@ def test_all_moments_that_the_program_takes_are_read(start: Start) -> None:
     assert [reply.split(" ")[1] for reply in replies] == ["refused"] * len(others)
 
 
+@pytest.mark.parametrize("text", [
+    "2026-03-02T06:00:00Z", "2090-12-31T23:59:60Z", "2096-02-29T24:00:00Z", "2097-02-29T00:00:00Z", "0000-01-01T00:00:00Z", "1969-12-31T23:59:59Z",
+    "2090-W10-1T06:00:00Z", "2090-03-02x06:00:00Z", "2090-03-02T06:00+00Z", "2090-03-02T06-00-00Z", "2090-03-02T06:00:0\u0660Z", "20900302T060000.000Z",
+    "2090-03-02T06.00.00Z", "2090-03-02T0600:00.Z", "2090-03-02T06:00:00z"])
+def test_plain_moments_are_read_as_others(text: str) -> None:
+    # What stands in brackets behind a moment says nothing of it, and isn't read the quick way.
+    assert seconds_of(text) == seconds_of(f"{text}[UTC]")
+
+
 def test_a_frozen_wagon_is_put_right(start: Start, tokens: Path) -> None:
     service = start(options=["--tokens", str(tokens)]).until_running()
     first = "dispatcher-s-token"

@@ -107,6 +107,21 @@ def test_replies_are_found_by_their_lines_number(tmp_path: Path) -> None:
         assert kept.until(1, 5, 1) in (1, 2, 3) and kept.until(1, 5, 10_000) == 5
 
 
+def test_what_was_added_last_is_read_as_the_file(tmp_path: Path) -> None:
+    path = str(tmp_path / "lines")
+    lines = FileOfLines(path)
+    for size in 3, 1, 4, 2:
+        lines.append([b"line %d" % (lines.count + 1 + k) for k in range(size)], is_synced=False)
+        again = FileOfLines(path)
+        for first in range(1, lines.count + 1):
+            for last in range(first, lines.count + 1):
+                assert lines.read(first, last) == again.read(first, last)
+                assert lines.first_bytes(first, 20, last) == min(again.first_bytes(first, 20), last)
+    lines.cut(9)
+    lines.append([b"another"], is_synced=False)
+    assert lines.read(9, 10) == b"line 9\nanother\n"
+
+
 def test_records_of_many_are_those_of_each() -> None:
     plain = [(n, b"%d refused 25 wagon 12" % n) for n in range(1, 9)]
     tries: list[list[tuple[int, bytes]]] = [plain, [*plain, (9, b'9 plan 0 0 0 0\n{"at":"x"}')], []]

@@ -44,6 +44,15 @@ def test_refusals() -> None:
     assert ReplyCutter().cut(b"1 accepted 1\n").refused == []
 
 
+@pytest.mark.parametrize("printed", [
+    b"1 accepted 1\n2 accepted 2\n", b"2 accepted 1\n4 accepted 2\n", b"1 accepted 1\n2 accepted \n", b"1 accepted 1 2 accepted 3\n3 accepted 4\n",
+    b"1 accepted  1\n", b"1 accepted 1\n2 repeated 1\n", b"01 accepted 1\n"])
+def test_many_that_are_accepted_are_cut_as_each_by_itself(printed: bytes) -> None:
+    whole, single = ReplyCutter().cut(printed), ReplyCutter()
+    assert [*zip(*whole)] == [reply for line in printed.splitlines(True) for reply in zip(*single.cut(line))]
+    assert b"".join(text + b"\n" for text in whole.texts) == printed
+
+
 def test_a_plan_ends_with_its_certificate() -> None:
     cutter = ReplyCutter()
     assert not cutter.cut(b"3 plan 1 2 1 465\nrefuse SALT-1 300\n").numbers and cutter.open_sheet is None
@@ -63,7 +72,8 @@ def test_a_sheet_is_whole_when_the_program_has_done_its_lines() -> None:
     assert cutter.end().texts == [b"4 sheet 1\nnetwork 1"]
 
 
-@pytest.mark.parametrize("printed", [b"wagon ..\n", b"1 king 1\n2 accepted 2\nx\n", b"1 accepted 1\nx\n", b"2 accepted 1\n2 accepted 2\n", b"2 accepted 1\n1 accepted 2\n"])
+@pytest.mark.parametrize("printed", [b"wagon ..\n", b"1 king 1\n2 accepted 2\nx\n", b"1 accepted 1\nx\n", b"2 accepted 1\n2 accepted 2\n", b"2 accepted 1\n1 accepted 2\n",
+                                     b"5 accepted 6 7 accepted 8\n\n", b" accepted 1\n", b"\n"])
 def test_other_text_is_no_reply(printed: bytes) -> None:
     with pytest.raises(NoReply):
         ReplyCutter().cut(printed)

@@ -76,6 +76,18 @@ def test_a_connection_that_dies_finds_its_replies_again(start: Start) -> None:
     assert found == ["1 accepted 1", "2 accepted 2"] and service.journal == lines
 
 
+def test_an_answer_comes_in_one_piece(start: Start) -> None:
+    service = start().until_running()
+    with socket.create_connection(("127.0.0.1", service.port), timeout=10) as connection:
+        for sent, status, body in (
+                (b"POST /lines HTTP/1.1\r\nHost: 127.0.0.1\r\nContent-Length: 2\r\n\r\n{}", b"200 OK", b'{"number":1,"reply":"1 refused 24 type"}\n'),
+                (b"HEAD /health HTTP/1.1\r\nHost: 127.0.0.1\r\n\r\n", b"200 OK", b""),
+                (b"GET /replies?from=x HTTP/1.1\r\nHost: 127.0.0.1\r\n\r\n", b"400 Bad Request", b"`from` must be a line's number, from 1 on.\n")):
+            connection.sendall(sent)
+            head, _, rest = connection.recv(65536).partition(b"\r\n\r\n")
+            assert head.startswith(b"HTTP/1.1 " + status) and rest == body
+
+
 def test_a_sheet_alone_is_whole(start: Start) -> None:
     service = start().until_running()
     for k in range(3):

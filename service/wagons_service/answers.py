@@ -76,5 +76,5 @@ def with_lines(journal: Journal, first: int, last: int, sender: Sender) -> Itera
 
 def page_end(journal: Journal, first: int, last: int, page: int = PAGE) -> int:
     """The last line so that those from `first` on, with their replies, have about a page of bytes."""
-    end = min(journal.replies.until(first, last, page), journal.lines.first_bytes(first, page))
+    end = min(journal.replies.until(first, last, page), journal.lines.first_bytes(first, page, last))
     return max(first, min(end, last))

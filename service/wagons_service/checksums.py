@@ -9,7 +9,6 @@ import hashlib
 import logging
 import os
 import re
-from collections.abc import Sequence
 from typing import Protocol
 
 log = logging.getLogger("wagons-service")
@@ -30,25 +29,28 @@ class Lines(Protocol):
 
     def read(self, first: int, last: int) -> bytes: ...
 
+    def size_of(self, first: int, last: int) -> int: ...
+
 
 class Checksums:
     def __init__(self, path: str, before: bytes, lines: Lines) -> None:
         """Compares lines, and what stands before them, with the sums that were kept, and keeps those that are missing."""
         self._handle = os.fdopen(os.open(path, os.O_RDWR | os.O_CREAT | os.O_CLOEXEC, 0o600), "rb+", buffering=0)
         self._file = self._handle.fileno()
+        self._lines = lines
         self._sum = hashlib.sha256(before)
         self._count = 0
         # Records by their places that are to be written, also those that a full disk didn't take.
         self._unwritten: dict[int, bytes] = {}
         try:
-            self._compare(lines)
+            self._compare()
         except Changed:
             self.close()
             raise
         self.write()
 
-    def _compare(self, lines: Lines) -> None:
-        kept = self._kept()
+    def _compare(self) -> None:
+        lines, kept = self._lines, self._kept()
         known = max((count for count, _ in kept.values()), default=0)
         if known > lines.count:
             raise Changed(f"it ends with line {lines.count:,}, and {known:,} lines were written")
@@ -57,11 +59,11 @@ class Checksums:
         bad = None
         for place in range(place_of(lines.count) + 1):
             if place in kept:
-                self._read(lines, kept[place][0])
+                self._read(kept[place][0])
                 # A sum that fits speaks for all lines before it; where one before it didn't, that one itself was spoiled.
                 fits = kept[place][1] == self._digest()
                 bad = None if fits else bad or (place * BLOCK + 1, self._count)
-            self._read(lines, min(lines.count, (place + 1) * BLOCK))
+            self._read(min(lines.count, (place + 1) * BLOCK))
             if kept.get(place) != (self._count, self._digest()):
                 self._unwritten[place] = self._record()
         if bad:
@@ -74,11 +76,11 @@ class Checksums:
         records = {place: RECORD.fullmatch(data[place * RECORD_BYTES:(place + 1) * RECORD_BYTES]) for place in range(len(data) // RECORD_BYTES)}
         return {place: (int(found[1]), found[2]) for place, found in records.items() if found and place_of(int(found[1])) == place}
 
-    def _read(self, lines: Lines, upto: int) -> None:
+    def _read(self, upto: int) -> None:
         if self._count < upto:
-            self._take(lines.read(self._count + 1, upto), upto - self._count)
+            self._take(self._lines.read(self._count + 1, upto), upto - self._count)
 
-    def _take(self, data: bytes, count: int) -> None:
+    def _take(self, data: bytes | memoryview, count: int) -> None:
         """Takes the next lines, all of one block."""
         if self._count and self._count % BLOCK == 0:
             self._sum = hashlib.sha256(self._sum.digest())
@@ -91,12 +93,16 @@ class Checksums:
     def _record(self) -> bytes:
         return (b'{"lines":%d,"sha256":"%b"}' % (self._count, self._digest())).ljust(RECORD_BYTES - 1) + b"\n"
 
-    def add(self, lines: Sequence[bytes]) -> None:
-        """Takes lines that were added to the journal and are on the disk."""
-        while lines:
-            part, lines = lines[:BLOCK - self._count % BLOCK], lines[BLOCK - self._count % BLOCK:]
-            self._take(b"\n".join([*part, b""]), len(part))
-            self._unwritten[place_of(self._count)] = self._record()
+    def add(self, data: bytes) -> None:
+        """Takes the lines that were added to the journal and are on the disk: the bytes that they have there."""
+        view = memoryview(data)
+        while view:
+            first = self._count + 1
+            last = min((self._count // BLOCK + 1) * BLOCK, self._lines.count)
+            size = self._lines.size_of(first, last)
+            self._take(view[:size], last + 1 - first)
+            view = view[size:]
+            self._unwritten[place_of(last)] = self._record()
         self.write()
 
     def write(self) -> None:

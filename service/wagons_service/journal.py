@@ -59,6 +59,8 @@ class FileOfLines:
             raise Unreadable(str(fault)) from None
         self._file = self._handle.fileno()
         self._ends = array("Q", [0])
+        # Where what was added last begins, and its bytes: mostly it is read next.
+        self._newest = 0, b""
         size = 0
         while chunk := os.pread(self._file, CHUNK, size):
             at = chunk.find(b"\n")
@@ -80,15 +82,23 @@ class FileOfLines:
         """How many bytes the whole lines have."""
         return self._ends[-1]
 
+    def size_of(self, first: int, last: int) -> int:
+        """How many bytes the lines of these numbers have."""
+        return self._ends[last] - self._ends[first - 1]
+
     def cut(self, count: int) -> None:
         """Keeps so many lines of the file."""
         del self._ends[count + 1:]
+        self._newest = 0, b""
         os.ftruncate(self._file, self.size)
         os.fdatasync(self._file)
 
     def read(self, first: int, last: int) -> bytes:
         """The lines of these numbers, both among them, as they stand in the file."""
         start, end = self._ends[first - 1], self._ends[last]
+        at, newest = self._newest
+        if at <= start and end <= at + len(newest):
+            return newest[start - at:end - at]
         parts = []
         while start < end:
             part = os.pread(self._file, min(CHUNK, end - start), start)
@@ -105,16 +115,18 @@ class FileOfLines:
             yield from self.read(first, last)[:-1].split(b"\n")
             first = last + 1
 
-    def first_bytes(self, first: int, most: int) -> int:
-        """The number of the last line that still fits in so many bytes from a line on; at least that line."""
-        low, high, limit = first, self.count, self._ends[first - 1] + most
+    def first_bytes(self, first: int, most: int, last: int | None = None) -> int:
+        """The number of the last line, up to `last`, that still fits in so many bytes from a line on; at least that line."""
+        low, high, limit = first, self.count if last is None else min(last, self.count), self._ends[first - 1] + most
+        if self._ends[high] <= limit:
+            return max(low, high)
         while low < high:
             middle = (low + high + 1) // 2
             low, high = (middle, high) if self._ends[middle] <= limit else (low, middle - 1)
         return low
 
-    def append(self, lines: Sequence[bytes], is_synced: bool) -> None:
-        """Adds lines, given without their line feeds: all of them or, with `NotKept`, none."""
+    def append(self, lines: Sequence[bytes], is_synced: bool) -> bytes:
+        """Adds lines, given without their line feeds: all of them or, with `NotKept`, none. Gives what was written."""
         before = self.size
         data = b"\n".join([*lines, b""])
         try:
@@ -130,6 +142,8 @@ class FileOfLines:
                 raise Broken(f"the journal couldn't be synced to the disk: {fault}") from None
         # Where each ends: the lengths before it with its own, and a line feed for each.
         self._ends.extend(map(add, accumulate(map(len, lines)), range(before + 1, before + 1 + len(lines))))
+        self._newest = before, data
+        return data
 
     def sync(self) -> None:
         try:
@@ -231,6 +245,8 @@ class KeptReplies:
         start, end = self._records[first - 1] + 1, self._records[last]
         on_disk = self._file.count
         written = self._file.read(start, min(end, on_disk)) if start <= min(end, on_disk) else b""
+        if not self._waiting:
+            return written
         waiting = self._waiting[max(start - 1 - on_disk, 0):max(end - on_disk, 0)]
         return written + b"".join(record + b"\n" for record in waiting)
 
@@ -240,7 +256,10 @@ class KeptReplies:
         start = self._records[first - 1] + 1
         if first >= last or start > self._file.count:
             return last
-        record = self._file.first_bytes(start, most)
+        end = self._records[last]
+        record = self._file.first_bytes(start, most, end)
+        if record == end:
+            return last
         low, high = first, last
         while low < high:
             middle = (low + high + 1) // 2
@@ -374,18 +393,22 @@ class Journal:
 
     def add(self, lines: Sequence[bytes], requests: Sequence[tuple[str, int]] = ()) -> None:
         """Adds lines and syncs them to the disk: all of them, or none. Of each request stands there who sends how many."""
+        self.checksums.add(self.write(lines, requests))
+
+    def write(self, lines: Sequence[bytes], requests: Sequence[tuple[str, int]]) -> bytes:
+        """The same, but that the lines must still be added to the checksums. Gives what was written."""
         first = self.lines.count + 1
         self.sent.add(first, requests)
         try:
-            self.lines.append(lines, is_synced=True)
+            data = self.lines.append(lines, is_synced=True)
         except NotKept:
             self.sent.forget(first)
             raise
-        self.checksums.add(lines)
         for number in range(self.lines.count, first - 1, -1):
             if not is_blank(lines[number - first]):
                 self.last_line = number
-                return
+                break
+        return data
 
     def copy(self, lines: Sequence[bytes], sent: Sequence[Sent]) -> None:
         """Adds lines that are kept elsewhere, and who sent them; none of them is blank."""

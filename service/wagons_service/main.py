@@ -14,6 +14,7 @@ from . import commands, options
 from .archive import NotReadable, keep_small
 from .connections import Connections, raise_limit
 from .ending import end_on_signals
+from .front import server_of
 from .identifiers import Identifiers
 from .journal import Broken, FolderInUse, Unreadable
 from .notify import notify, stand_up
@@ -62,12 +63,11 @@ async def serve(given: Options, seldom: Seldom) -> None:
     service = of_stream(given) if given.address else Service(given)
     server = Server(service, given.tokens)
     loop.add_signal_handler(signal.SIGHUP, server.read_tokens_again)
-    app = server.application()
-    Page(server).add_to(app)
+    Page(server).add_to(server.router)
     xml = XmlRoute(server, Map.read(given.map), Identifiers(f"{given.journal}/identifiers.jsonl", given.limits.share.identifiers)) if given.map else None
     if xml:
-        xml.add_to(app)
-    runner = web.AppRunner(app, access_log=None, auto_decompress=False, lingering_time=SECONDS_OF_LINGERING)
+        xml.add_to(server.router)
+    runner = web.ServerRunner(server_of(server.handle, access_log=None, auto_decompress=False, lingering_time=SECONDS_OF_LINGERING))
     await runner.setup()
     assert runner.server
     watch = asyncio.create_task(watching(Connections(runner.server, server.busy, given.limits.patience), seldom))

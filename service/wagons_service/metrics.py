@@ -1,6 +1,7 @@
 """What is counted, as Prometheus reads it."""
 
 import re
+from bisect import bisect_left
 from collections import Counter
 from collections.abc import Iterator
 
@@ -37,7 +38,7 @@ class Metrics:
 
     def time(self, lines: int, seconds: float) -> None:
         """So many lines had their replies so long after their request was read."""
-        place = next((k for k, bound in enumerate(BOUNDS) if seconds <= bound), len(BOUNDS))
+        place = bisect_left(BOUNDS, seconds)
         self._times[place] += lines
         self._seconds += lines * seconds
 

@@ -5,18 +5,27 @@ of the instant. What isn't read here it refuses itself, or it lies before the ye
 """
 
 import re
-from datetime import date
+from contextlib import suppress
+from datetime import date, datetime
 
 FORM = re.compile(
     r"(?:\+00)?(?P<year>[0-9]{4})(?P<dash>-?)(?P<month>[0-9]{2})(?P=dash)(?P<day>[0-9]{2})[ Tt]"
     r"(?P<hour>[0-9]{2})(?::?(?P<minute>[0-9]{2})(?::?(?P<second>[0-9]{2})(?:[.,][0-9]{1,9})?)?)?"
     r"(?:[Zz]|(?P<sign>[+-])(?P<hours>[0-9]{2})(?::?(?P<minutes>[0-9]{2})(?::?(?P<seconds>[0-9]{2}))?)?)")
+# The length of 2026-03-02T06:00:00Z.
+PLAIN = 20
 EPOCH = date(1970, 1, 1).toordinal()
 
 
 def seconds_of(text: object) -> int | None:
     """The seconds since 1970 of a line's moment, or `None` where the program refuses it whatever they are."""
-    found = FORM.match(text) if isinstance(text, str) else None
+    if not isinstance(text, str):
+        return None
+    if len(text) == PLAIN and text[10] == "T" and text[19] == "Z" and text[5] != "W":
+        # As nearly all are written, which Python reads in a tenth of the time. A second 60 it doesn't read.
+        with suppress(ValueError):
+            return int(datetime.fromisoformat(text).timestamp())
+    found = FORM.match(text)
     if not found:
         return None
     year, month, day, hour, minute, second, hours, minutes, seconds = (

@@ -13,9 +13,11 @@ from collections.abc import Sequence
 from contextlib import suppress
 from dataclasses import dataclass
 from enum import Enum
-from itertools import accumulate
+from itertools import chain
+from operator import attrgetter
 
-from .journal import CHUNK, Broken, Journal, KeptReplies, NotKept
+from .journal import CHUNK, Broken, Journal, KeptReplies, NotKept, is_blank
+from .journal_writer import JournalWriter
 from .limits import Limits
 from .metrics import Metrics
 from .program import DONE, NOTHING, Ended, Program, Replies
@@ -65,15 +67,31 @@ class _Request:
     numbers: "asyncio.Future[range]"
     name: str = OURS
     is_ours: bool = False
-    comes_first: bool = False
+    # Lower ones come first.
+    rank: int = 0
+    # Once it is taken.
+    taken: range = range(0)
 
     def refuse(self, why: Exception) -> None:
         if not self.numbers.done():
             self.numbers.set_exception(why)
 
-    def take(self, first: int) -> None:
+    def tell(self) -> None:
         if not self.numbers.done():
-            self.numbers.set_result(range(first, first + len(self.lines)))
+            self.numbers.set_result(self.taken)
+
+
+RANK = attrgetter("rank")
+
+
+def many_at_once(queue: Sequence[_Request]) -> int:
+    """How many requests are written together."""
+    lines = 0
+    for place, request in enumerate(queue):
+        lines += len(request.lines)
+        if place and lines > MOST_LINES_AT_ONCE:
+            return place
+    return len(queue)
 
 
 class Office:
@@ -99,6 +117,8 @@ class Office:
         self._is_paused = False
         self._is_over = False
         self._wake = asyncio.Event()
+        # Requests that are taken, in their order, and mostly have their replies soon.
+        self._taken: deque[_Request] = deque()
         # Who waits for the reply to which line, and until when.
         self._waiting: dict[asyncio.Future[None], tuple[int, float]] = {}
         self._tasks: list[asyncio.Task[None]] = []
@@ -178,11 +198,14 @@ class Office:
             raise NotTaken(TURNS)
 
     async def take(self, lines: Sequence[bytes], name: str = OURS, comes_first: bool = False) -> range:
-        """Puts the lines of a sender into the journal, on the disk, and gives their numbers: all of them or, with `NotTaken`, none."""
+        """Puts the lines of a sender into the journal, on the disk, and gives their numbers: all of them or, with `NotTaken`, none.
+
+        Mostly the replies come soon, and then the numbers are given with them, so that a sender is woken once.
+        """
         self.may_take()
         if not lines:
             return range(self.journal.lines.count + 1, self.journal.lines.count + 1)
-        request = _Request(lines, asyncio.get_running_loop().create_future(), name, comes_first=comes_first)
+        request = _Request(lines, asyncio.get_running_loop().create_future(), name, rank=int(not comes_first))
         self._queue.append(request)
         self._wake.set()
         return await request.numbers
@@ -203,14 +226,18 @@ class Office:
     # Lines go into the journal.
 
     async def _write_all(self) -> None:
-        while True:
-            await self._wake.wait()
-            self._wake.clear()
-            while self._queue:
-                self._is_writing = True
-                await self._write(self._next())
-                self._is_writing = False
-                self._end_sheet()
+        writer = JournalWriter(self.journal)
+        try:
+            while True:
+                await self._wake.wait()
+                self._wake.clear()
+                while self._queue:
+                    self._is_writing = True
+                    await self._write(writer, self._next())
+                    self._is_writing = False
+                    self._end_sheet()
+        finally:
+            await writer.end(SECONDS_TO_WRITE)
 
     async def _tick(self) -> None:
         while True:
@@ -218,6 +245,7 @@ class Office:
             self._try_again()
             await asyncio.to_thread(self.journal.sent.sync)
             self._judge_silence()
+            self._tell_taken(self.journal.lines.count)
             now = time.monotonic()
             for done, (_, deadline) in self._waiting.items():
                 if deadline < now and not done.done():
@@ -246,9 +274,8 @@ class Office:
     def _next(self) -> list[_Request]:
         """The requests that are taken next: those that come first, and then others up to what is soon done. Those that can't be
         taken are refused."""
-        queue = sorted(self._queue, key=lambda request: not (request.is_ours or request.comes_first))
-        ends = list(accumulate(len(request.lines) for request in queue))
-        many = max(bisect_right(ends, MOST_LINES_AT_ONCE), 1)
+        queue = sorted(self._queue, key=RANK)
+        many = many_at_once(queue)
         queue, self._queue = queue[:many], queue[many:]
         if self.journal.replies.are_behind:
             self._try_again()
@@ -267,13 +294,13 @@ class Office:
                 taken += len(request.lines)
         return batch
 
-    async def _write(self, batch: list[_Request]) -> None:
-        lines = [line for request in batch for line in request.lines]
+    async def _write(self, writer: JournalWriter, batch: list[_Request]) -> None:
+        lines = list(chain.from_iterable(request.lines for request in batch))
         if not lines:
             return
         first = self.journal.lines.count + 1
         try:
-            await asyncio.to_thread(self.journal.add, lines, [(request.name, len(request.lines)) for request in batch])
+            data = await writer.add(lines, [(request.name, len(request.lines)) for request in batch])
         except NotKept as fault:
             log.error("lines couldn't be added to the journal: %s", fault)
             for request in batch:
@@ -284,21 +311,28 @@ class Office:
                 request.refuse(Stopped(f"{fault}; whether the lines were taken is known after a new start"))
         else:
             self._number(batch, first)
-            await self._feed(first, lines)
+            await self._feed(first, data)
 
     def _number(self, batch: list[_Request], first: int) -> None:
         for request in batch:
-            request.take(first)
+            request.taken = range(first, first + len(request.lines))
             first += len(request.lines)
+            if is_blank(request.lines[-1]) or self.state is State.STOPPED:
+                # It may be that none of its lines has a reply.
+                request.tell()
+            else:
+                self._taken.append(request)
         self.silence.take(self.journal.last_line)
+        # A program that read the journal may have come to them before.
+        self._tell_taken(self.answered)
 
-    async def _feed(self, first: int, lines: Sequence[bytes]) -> None:
-        """Gives lines to the program, unless it still reads the journal and will come to them there."""
+    async def _feed(self, first: int, data: bytes) -> None:
+        """Gives lines to the program, the first of this number, unless it still reads the journal and will come to them there."""
         program = self._program
         if program:
             count = self.journal.lines.count
             is_next = self._sent == first - 1
-            program.send(b"\n".join([*lines, b""]) if is_next else self.journal.lines.read(self._sent + 1, count))
+            program.send(data if is_next else self.journal.lines.read(self._sent + 1, count))
             self._sent = count
             await program.drain()
 
@@ -468,8 +502,14 @@ class Office:
             self._queue.append(_Request([NOTHING], numbers, is_ours=True))
             self._wake.set()
 
+    def _tell_taken(self, last: int) -> None:
+        """Gives their numbers to requests up to this line."""
+        while self._taken and self._taken[0].taken[-1] <= last:
+            self._taken.popleft().tell()
+
     def _end_waiting(self, has_ended: bool = False) -> None:
         """Tells those whose reply is whole and, where the office has ended, all others."""
+        self._tell_taken(self.journal.lines.count if has_ended else self.answered)
         for done, (number, _) in self._waiting.items():
             if done.done():
                 continue

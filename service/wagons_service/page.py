@@ -28,16 +28,16 @@ class Page:
         self._service = server.service
         self._templates = jinja2.Environment(loader=jinja2.FileSystemLoader(FILES), autoescape=True, undefined=jinja2.StrictUndefined)
 
-    def add_to(self, app: web.Application) -> None:
-        app.router.add_get("/", self.get_page)
-        app.router.add_get("/login", self.get_login)
-        app.router.add_post("/login", self.post_login)
-        app.router.add_get("/static/{name}", self.get_static)
-        app.router.add_get("/office", self.get_office)
-        app.router.add_get("/map.svg", self.get_map)
-        app.router.add_get("/why", self.get_why)
-        app.router.add_get("/explain/{code:[0-9]{1,3}}", self.get_explain)
-        app.router.add_get("/refusals", self.get_refusals)
+    def add_to(self, router: web.UrlDispatcher) -> None:
+        router.add_get("/", self.get_page)
+        router.add_get("/login", self.get_login)
+        router.add_post("/login", self.post_login)
+        router.add_get("/static/{name}", self.get_static)
+        router.add_get("/office", self.get_office)
+        router.add_get("/map.svg", self.get_map)
+        router.add_get("/why", self.get_why)
+        router.add_get("/explain/{code:[0-9]{1,3}}", self.get_explain)
+        router.add_get("/refusals", self.get_refusals)
 
     def _html(self, template: str, **values: object) -> web.Response:
         text = self._templates.get_template(template).render(texts=TEXTS, **values)

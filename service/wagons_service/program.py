@@ -17,6 +17,7 @@ DONE = (0, 1)
 SEVERAL = (b"plan", b"sheet")
 # A reply of one line: its text, its number and its kind.
 SHORT = re.compile(rb"(([0-9]+) (accepted|repeated|begun|refused) [^\n]*)\n")
+ACCEPTED = b" accepted "
 # A line that has no `type` is refused with 24 and changes nothing.
 NOTHING = b"{}"
 
@@ -31,6 +32,8 @@ class Replies(NamedTuple):
     texts: Sequence[bytes]
 
     def part(self, start: int, end: int | None = None) -> "Replies":
+        if start == 0 and end is None:
+            return self
         return Replies(self.numbers[start:end], self.kinds[start:end], self.texts[start:end])
 
     @property
@@ -71,8 +74,25 @@ class ReplyCutter:
         data = self._piece + chunk
         end = data.rfind(b"\n") + 1
         data, self._piece = data[:end], data[end:]
-        replies = NONE if self._open else self._cut_short(data)
+        replies = NONE if self._open else self._cut_accepted(data) or self._cut_short(data)
         return replies if replies.numbers else self._cut_line_by_line(data)
+
+    def _cut_accepted(self, data: bytes) -> Replies | None:
+        """The replies of these lines where each accepts the line behind the one before, as they mostly do."""
+        many = data.count(b"\n")
+        if not many or data.count(ACCEPTED) != many:
+            return None
+        words = data.split()
+        # Three words a line, and one mark behind each.
+        are_whole = len(words) == 3 * many == words[1::3].count(b"accepted") * 3 and len(b"".join(words)) + 3 * many == len(data)
+        if not are_whole or not words[0].isdigit():
+            return None
+        first = int(words[0])
+        numbers = range(first, first + many)
+        if first <= self.last or b" ".join(words[::3]) != " ".join(map(str, numbers)).encode():
+            return None
+        self.last = numbers[-1]
+        return Replies(numbers, [b"accepted"] * many, data[:-1].split(b"\n"))
 
     def _cut_short(self, data: bytes) -> Replies:
         """The replies of these lines where all are one line and follow one another, as they mostly do; else none."""

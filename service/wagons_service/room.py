@@ -54,7 +54,7 @@ class Room:
 
         An empty book takes any request, since one that has more lines than a book has entries never fits.
         """
-        if taken + lines > self.lines_left:
+        if taken + lines > MOST_TAKEN - self._lines.count:
             return False
         before = taken + unanswered
         return not self._limits.next_at or before + lines <= self.entries_left or not (self._used or before)

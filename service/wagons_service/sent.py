@@ -28,9 +28,6 @@ class Sent(NamedTuple):
     name: str
     taken: str
 
-    def record(self) -> bytes:
-        return b'{"first":%d,"last":%d,"sender":"%b","taken":"%b"}' % (self.first, self.last, self.name.encode(), self.taken.encode())
-
     def added_to(self, record: bytes) -> bytes:
         """A reply's record with who sent its line."""
         return b'%b,"sender":"%b","taken":"%b"}' % (record[:-1], self.name.encode(), self.taken.encode())
@@ -39,6 +36,10 @@ class Sent(NamedTuple):
 def written(moment: datetime) -> str:
     """A moment as a record has it."""
     return moment.isoformat(timespec="milliseconds").replace("+00:00", "Z")
+
+
+def record(first: int, last: int, name: bytes, taken: bytes) -> bytes:
+    return b'{"first":%d,"last":%d,"sender":"%b","taken":"%b"}' % (first, last, name, taken)
 
 
 class SentLines:
@@ -61,7 +62,7 @@ class SentLines:
         while self._places and (last := self._read(self._places[-1])) and last.last > lines:
             self._keep_first(len(self._places) - 1)
             if last.first <= lines:
-                self._append([last._replace(last=lines)])
+                self._append([last.first], [record(last.first, lines, last.name.encode(), last.taken.encode())])
                 self._is_synced = False
 
     def _keep_first(self, count: int) -> None:
@@ -70,11 +71,11 @@ class SentLines:
             del self._places[count:], self._firsts[count:]
             self._found = None
 
-    def _append(self, sent: Sequence[Sent]) -> None:
+    def _append(self, firsts: Sequence[int], records: Sequence[bytes]) -> None:
         place = self._file.count + 1
-        self._file.append([it.record() for it in sent], is_synced=False)
-        self._places.extend(range(place, place + len(sent)))
-        self._firsts.extend(it.first for it in sent)
+        self._file.append(records, is_synced=False)
+        self._places.extend(range(place, place + len(records)))
+        self._firsts.extend(firsts)
 
     def _read(self, place: int) -> Sent | None:
         found = RECORD.fullmatch(self._file.read(place, place)[:-1])
@@ -82,14 +83,15 @@ class SentLines:
 
     def add(self, first: int, requests: Sequence[tuple[str, int]]) -> None:
         """Says who sends the next lines: of each request the name, and how many lines it has."""
-        taken = written(datetime.now(UTC))
-        sent = []
+        taken = written(datetime.now(UTC)).encode()
+        firsts, records = [], []
         for name, count in requests:
             if count:
-                sent.append(Sent(first, first + count - 1, name, taken))
+                firsts.append(first)
+                records.append(record(first, first + count - 1, name.encode(), taken))
             first += count
-        if sent:
-            self._append(sent)
+        if records:
+            self._append(firsts, records)
             self._is_synced = False
 
     @property
@@ -102,7 +104,7 @@ class SentLines:
         """Says who sent lines that are kept elsewhere, so that nothing is synced; what is said of lines already stays."""
         last = self.last
         if new := [it if it.first > last else it._replace(first=last + 1) for it in sent if it.last > last]:
-            self._append(new)
+            self._append([it.first for it in new], [record(it.first, it.last, it.name.encode(), it.taken.encode()) for it in new])
 
     def forget(self, first: int) -> None:
         """The lines from this number on weren't added."""

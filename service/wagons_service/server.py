@@ -4,20 +4,21 @@ import asyncio
 import logging
 import time
 from collections import OrderedDict
-from collections.abc import AsyncIterator, Awaitable, Callable, Sequence
-from contextlib import asynccontextmanager, suppress
+from collections.abc import Sequence
+from contextlib import suppress
 from dataclasses import dataclass
 from functools import lru_cache
 from http.cookies import CookieError, SimpleCookie
 from urllib.parse import urlsplit
 from weakref import WeakKeyDictionary
 
-from aiohttp import web, web_urldispatcher
-from aiohttp.http_exceptions import BadHttpMessage
+from aiohttp import web
 
-from .answers import JSON_LINES, MOST_BYTES_A_REQUEST, PAGE, Refusal, cut, number_in, page_end, sentence, with_lines
+from .answers import JSON_LINES, PAGE, Refusal, cut, number_in, page_end, sentence, with_lines
+from .bodies import Bodies, Body
 from .company_index import CompanyIndex
 from .corrections import Corrections
+from .front import Front, Handler, Request
 from .gauges import gauges
 from .identifiers import Identifiers
 from .journal import MOST_LINES, Journal, Unreadable, is_blank
@@ -30,7 +31,6 @@ from .shares import Shares
 
 log = logging.getLogger("wagons-service")
 
-Handler = Callable[[web.Request], Awaitable[web.StreamResponse]]
 COOKIE = "wagons_token"
 # Paths that need no token.
 OPEN_PATHS = ("/health", "/login")
@@ -39,10 +39,8 @@ OPEN_PREFIX = "/static/"
 OPEN_AT_ONCE = {"/events": "listeners", "/replies": "replies"}
 # Counted for a sender whose connection ended before its answer.
 GONE = 499
-SECONDS_FOR_A_BODY = 30
 SECONDS_FOR_REPLIES = 60
 SECONDS_OF_SILENCE = 15
-MOST_HELD_BYTES = 64_000_000
 MOST_LISTENERS = 200
 # So many lines of a company are read at once, each by itself.
 NUMBERS_A_PAGE = 200
@@ -77,7 +75,7 @@ class Server:
         # Those of XML, where it is taken.
         self.identifiers: Identifiers | None = None
         self.shares = Shares(service.options.limits.share)
-        self._held = 0
+        self._bodies = Bodies(service.metrics)
         # The connections of which a request is being done.
         self.busy: set[asyncio.BaseProtocol] = set()
         self._streams: set[_Stream] = set()
@@ -86,22 +84,24 @@ class Server:
         self._old_journals = OldJournals(service.folder)
         # Pages of events that were told last.
         self._told: OrderedDict[tuple[Journal, int, int, str | None], tuple[bytes, int]] = OrderedDict()
+        self._front = Front()
+        self._add_addresses()
 
     @property
     def office(self) -> Office:
         return self.service.office
 
-    def application(self) -> web.Application:
-        # aiohttp's own answers 500 where another `Expect` has bytes that are no UTF-8, also at addresses that aren't there.
-        setattr(web_urldispatcher, "_default_expect_handler", expect)
-        app = web.Application(middlewares=[self._answer_errors])
-        app.router.add_post("/lines", self.post_lines)
-        app.router.add_get("/replies", self.get_replies)
-        app.router.add_get("/events", self.get_events, allow_head=False)
-        app.router.add_post("/next", self.post_next)
-        app.router.add_get("/health", self.get_health)
-        app.router.add_get("/metrics", self.get_metrics)
-        return app
+    @property
+    def router(self) -> web.UrlDispatcher:
+        return self._front.router
+
+    def _add_addresses(self) -> None:
+        self.router.add_post("/lines", self.post_lines)
+        self.router.add_get("/replies", self.get_replies)
+        self.router.add_get("/events", self.get_events, allow_head=False)
+        self.router.add_post("/next", self.post_next)
+        self.router.add_get("/health", self.get_health)
+        self.router.add_get("/metrics", self.get_metrics)
 
     def read_tokens_again(self) -> None:
         """On SIGHUP. A file that can't be used leaves the tokens as they were."""
@@ -128,20 +128,15 @@ class Server:
 
     # Who asks, and what is answered where something is wrong.
 
-    @web.middleware
-    async def _answer_errors(self, request: web.Request, handler: Handler) -> web.StreamResponse:
+    async def handle(self, request: Request) -> web.StreamResponse:
+        """Answers a request, also where something is wrong with it."""
+        handler = await self._front.handler_for(request)
         status = 500
         self.busy.add(request.protocol)
         try:
             self._judge_origin(request)
-            if sender := self._sender(request):
-                request["sender"] = sender
-                request["used"] = self.shares.of(sender.key)
-                resource = request.match_info.route.resource
-                with request["used"].one(OPEN_AT_ONCE.get(resource.canonical if resource else "", "requests")):
-                    response = await handler(request)
-            else:
-                response = await handler(request)
+            sender = self._sender(request)
+            response = await (self._counted(request, sender, handler) if sender else handler(request))
             status = response.status
             return closing(request, response)
         except web.HTTPException as known:
@@ -160,6 +155,17 @@ class Server:
         finally:
             self.busy.discard(request.protocol)
             self.metrics.requests[status] += 1
+
+    async def _counted(self, request: web.Request, sender: Sender, handler: Handler) -> web.StreamResponse:
+        """The answer to a sender, in whose share it counts while it is open."""
+        request["sender"] = sender
+        used = request["used"] = self.shares.of(sender.key)
+        kind = OPEN_AT_ONCE.get(request.rel_url.raw_path, "requests")
+        used.begin(kind)
+        try:
+            return await handler(request)
+        finally:
+            used.end(kind)
 
     def _sender(self, request: web.Request) -> Sender | None:
         """Who asks; nobody is known only where none needs to be."""
@@ -182,13 +188,13 @@ class Server:
     def _judge_origin(request: web.Request) -> None:
         """A page of another site may not send lines by the browser of one who is at work here."""
         origin = request.headers.get("Origin")
-        if request.method != "GET" and origin is not None and origin.partition("://")[2] != request.host:
+        if origin is not None and request.method != "GET" and origin.partition("://")[2] != request.host:
             raise Refusal(403, "The request comes from a page of another site.")
 
     # Lines.
 
     async def post_lines(self, request: web.Request) -> web.StreamResponse:
-        async with self.body(request) as body:
+        async with await self.body(request) as body:
             start = time.monotonic()
             lines = cut(body)
             await self.judge(request["sender"], lines)
@@ -196,64 +202,22 @@ class Server:
 
     async def judge(self, sender: Sender, lines: Sequence[bytes]) -> None:
         """Raises where the sender may not send one of the lines. Others are answered in between."""
+        sender.judge_role()
+        if sender.role is not Role.RAILWAY:
+            return
         latest = time.time() + 3600 * self.service.options.limits.ahead
-        # Only a railway's lines are looked at one by one.
-        step = LINES_AT_ONCE if sender.role is Role.RAILWAY else len(lines) + 1
-        sender.judge(lines[:step], 0, latest)
-        for first in range(step, len(lines), step):
-            await asyncio.sleep(0)
-            sender.judge(lines[first:first + step], first, latest)
+        for first in range(0, len(lines), LINES_AT_ONCE):
+            if first:
+                await asyncio.sleep(0)
+            sender.judge(lines[first:first + LINES_AT_ONCE], first, latest)
 
-    @asynccontextmanager
-    async def body(self, request: web.Request) -> AsyncIterator[bytes]:
-        """The body of a request that may send, where lines are taken now."""
+    async def body(self, request: web.Request) -> Body:
+        """The body of a request that may send, where lines are taken now; `async with` reads it."""
         sender: Sender = request["sender"]
         sender.judge_role()
         request["used"].judge()
         await self.service.until_open()
-        body = bytearray()
-        self.metrics.sending += 1
-        try:
-            await self._read(request, body)
-            yield bytes(body)
-        finally:
-            self._release(request, len(body))
-            self.metrics.sending -= 1
-
-    async def _read(self, request: web.Request, body: bytearray) -> None:
-        too_large = Refusal(413, f"The request has over {MOST_BYTES_A_REQUEST:,} bytes.")
-        if request.headers.get("Content-Encoding", "identity").lower() != "identity":
-            raise Refusal(415, "The body must be sent as it is, without a Content-Encoding.")
-        if (request.content_length or 0) > MOST_BYTES_A_REQUEST:
-            raise too_large
-        content = request.content
-        try:
-            if content.is_eof():
-                # Mostly the body came with its head.
-                chunk = content.read_nowait()
-                self._hold(request, len(chunk))
-                body += chunk
-                return
-            async with asyncio.timeout(SECONDS_FOR_A_BODY):
-                async for chunk in content.iter_any():
-                    self._hold(request, len(chunk))
-                    body += chunk
-                    if len(body) > MOST_BYTES_A_REQUEST:
-                        raise too_large
-        except TimeoutError:
-            raise Refusal(408, f"The body didn't come within {SECONDS_FOR_A_BODY} seconds.") from None
-        except (BadHttpMessage, web.RequestPayloadError):
-            raise Refusal(400, "The body isn't sent as HTTP asks, or ended too early.") from None
-
-    def _hold(self, request: web.Request, more: int) -> None:
-        if self._held + more > MOST_HELD_BYTES:
-            raise NotTaken("too many requests are sent at once")
-        request["used"].hold(more)
-        self._held += more
-
-    def _release(self, request: web.Request, size: int) -> None:
-        request["used"].release(size)
-        self._held -= size
+        return self._bodies.of(request)
 
     async def answer(self, request: web.Request, lines: Sequence[bytes], start: float) -> web.StreamResponse:
         """Takes lines, and answers with their replies as they were kept."""
@@ -266,7 +230,8 @@ class Server:
         kept = []
         for office, numbers, taken in parts:
             if (awaited := last_number(numbers, taken)) is not None:
-                await self._until_answered(office, numbers, awaited)
+                if office.answered < awaited:
+                    await self._until_answered(office, numbers, awaited)
                 kept.append((office.journal, numbers.start, awaited))
         self.metrics.time(len(lines), time.monotonic() - start)
         return await self._kept(request, headers, kept)
@@ -392,12 +357,8 @@ class Server:
     async def post_next(self, request: web.Request) -> web.StreamResponse:
         if request["sender"].role is not Role.DISPATCHER:
             raise Forbidden("A dispatcher's token begins a new journal, and no other.")
-        body = bytearray()
-        try:
-            await self._read(request, body)
-            corrections = Corrections.read(bytes(body))
-        finally:
-            self._release(request, len(body))
+        async with self._bodies.of(request) as body:
+            corrections = Corrections.read(body)
         return web.json_response({"journal": await self.service.begin_next(corrections)})
 
     async def get_health(self, _request: web.Request) -> web.StreamResponse:
@@ -422,13 +383,6 @@ class Server:
         return web.Response(body=text.encode(), headers={"Content-Type": "text/plain; version=0.0.4; charset=utf-8"})
 
 
-async def expect(request: web.Request) -> None:
-    """Lets a sender go on that asks before it sends its body."""
-    if request.headers.get("Expect", "").lower() != "100-continue":
-        raise web.HTTPExpectationFailed(text="The service knows `Expect: 100-continue` alone.\n")
-    await request.writer.write(b"HTTP/1.1 100 Continue\r\n\r\n")
-
-
 def shown(journal: Journal, number: int, record: bytes, sender: Sender) -> bytes:
     """A reply's record; a dispatcher sees who sent its line."""
     sent = journal.sent.find(number) if sender.role is Role.DISPATCHER else None
@@ -437,6 +391,8 @@ def shown(journal: Journal, number: int, record: bytes, sender: Sender) -> bytes
 
 def last_number(numbers: range, lines: Sequence[bytes]) -> int | None:
     """The number of the last line that gets a reply."""
+    if lines and not is_blank(lines[-1]):
+        return numbers[-1]
     return next((number for number in reversed(numbers) if not is_blank(lines[number - numbers.start])), None)
 
 

@@ -55,7 +55,8 @@ class Service:
     async def take(self, lines: Sequence[bytes], name: str, comes_first: bool = False) -> list[Part]:
         """Puts the lines of a sender's request into the journal; into a new one where they don't fit any more."""
         for _ in range(MOST_TURNS):
-            await self.until_open()
+            if self._turn.locked():
+                await self._until_turned()
             office = self.office
             try:
                 return [Part(office, await office.take(lines, name, comes_first), lines)]
@@ -66,16 +67,19 @@ class Service:
     async def until_open(self) -> None:
         """Waits while a new journal begins. Raises `NotTaken` where no lines are taken now."""
         if self._turn.locked():
-            try:
-                async with asyncio.timeout(SECONDS_TO_TURN), self._turn:
-                    pass
-            except TimeoutError:
-                raise NotTaken(TURNS) from None
+            await self._until_turned()
         office = self.office
         try:
             office.may_take()
         except Full as full:
             await self._begin_behind(office, full)
+
+    async def _until_turned(self) -> None:
+        try:
+            async with asyncio.timeout(SECONDS_TO_TURN), self._turn:
+                pass
+        except TimeoutError:
+            raise NotTaken(TURNS) from None
 
     async def _begin_behind(self, office: Office, full: Full) -> None:
         """Begins a new journal by itself, unless another one has begun behind this office's since."""

@@ -3,8 +3,6 @@
 import math
 import time
 from collections import Counter, defaultdict
-from collections.abc import Iterator
-from contextlib import contextmanager
 from dataclasses import fields
 
 from .answers import Refusal
@@ -31,23 +29,20 @@ class Bucket:
 
     def __init__(self, rate: int) -> None:
         self._rate = rate
-        self._level = float(rate * SECONDS_AT_ONCE)
+        self._most = self.level = float(rate * SECONDS_AT_ONCE)
         self._at = time.monotonic()
-
-    def _fill(self) -> None:
-        now = time.monotonic()
-        self._level = min(self._level + (now - self._at) * self._rate, self._rate * SECONDS_AT_ONCE)
-        self._at = now
 
     def seconds_until(self) -> float:
         """How long it takes until something is in it."""
-        if self._level < 0:
-            self._fill()
-        return max(-self._level / self._rate, 0.0)
+        if self.level < 0:
+            self.take(0)
+        return -self.level / self._rate if self.level < 0 else 0.0
 
     def take(self, amount: int) -> None:
-        self._fill()
-        self._level -= amount
+        now = time.monotonic()
+        level = self.level + (now - self._at) * self._rate
+        self.level = (level if level < self._most else self._most) - amount
+        self._at = now
 
 
 class Used:
@@ -61,20 +56,20 @@ class Used:
         self._open: Counter[str] = Counter()
         self._held = 0
 
-    @contextmanager
-    def one(self, name: str) -> Iterator[None]:
+    def begin(self, name: str) -> None:
         """One more of what a token has so many of at once: `requests`, `listeners` or `replies`."""
         most = getattr(self._share, name)
         if self._open[name] >= most:
             raise TooMuch(f"This token has {most:,} {name} open already, which is its share.", SECONDS_BETWEEN_TRIES)
         self._open[name] += 1
-        try:
-            yield
-        finally:
-            self._open[name] -= 1
+
+    def end(self, name: str) -> None:
+        self._open[name] -= 1
 
     def judge(self) -> None:
         """Raises `TooMuch` where lines or bytes of before are more than the share has brought since."""
+        if self._lines.level >= 0 and self._bytes.level >= 0:
+            return
         for name, bucket in ("lines", self._lines), ("bytes", self._bytes):
             if seconds := bucket.seconds_until():
                 raise TooMuch(f"This token has sent more than its share, {getattr(self._share, name):,} {name} a second.", seconds)

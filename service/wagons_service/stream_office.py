@@ -62,7 +62,7 @@ class StreamOffice(Office):
         self._refusals |= {first + index: refusal for index, refusal in entries.refusals.items()}
 
     async def feed(self, entries: Entries) -> None:
-        await self._feed(self.journal.lines.count + 1 - len(entries.lines), entries.lines)
+        await self._feed(self.journal.lines.count + 1 - len(entries.lines), b"\n".join([*entries.lines, b""]))
         self._end_sheet()
 
     def may_lead(self, why_not: str | None) -> None:

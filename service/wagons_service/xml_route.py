@@ -25,15 +25,15 @@ class XmlRoute:
         # One document at a time has new identifiers that may be taken back.
         self._turn = asyncio.Lock()
 
-    def add_to(self, app: web.Application) -> None:
-        app.router.add_post("/xml", self.post_xml)
+    def add_to(self, router: web.UrlDispatcher) -> None:
+        router.add_post("/xml", self.post_xml)
 
     def end(self) -> None:
         """Ends what is going on, since a document may take longer than the service has to end."""
         self._processes.end()
 
     async def post_xml(self, request: web.Request) -> web.StreamResponse:
-        async with self._server.body(request) as body:
+        async with await self._server.body(request) as body:
             start = time.monotonic()
             sender: Sender = request["sender"]
             async with self._senders.setdefault(sender, asyncio.Lock()):
