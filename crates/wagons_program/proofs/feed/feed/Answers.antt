@@ -5,10 +5,10 @@ use Rattle.wagons_program.proofs.feed.feed.Goals as goal
 pub returns-in-Ok-feed-clause-ok : goal.returns-in-Ok-feed-clause-ok
 returns-in-Ok-feed-clause-ok g c =
     let said = c.in_ok-status-in-Ok-feed.ensures {u = tt} in
-    let is_first : IsFirstBookFor c.args.options.now.office c.in_ok-first.field-0.networks.items c.in_ok-book.field-0.book = search rules in
+    let is_first : IsFirstBookFor c.args.options.now.office c.in_ok-first.field-0.networks.items c.in_ok-book.book = search rules in
     record {
       networks = c.in_ok-first.field-0.networks.items;
-      first = c.in_ok-book.field-0.book;
+      first = c.in_ok-book.book;
       is_first = is_first;
       files = c.in-Ok.readers.items;
       each = c.in-Ok.ensures.each ∙ ap length c.deref.ensures.value;
