@@ -13,7 +13,7 @@ use line_network::{Network, read_lines};
 use office_map::{Choice, map_text};
 use place_names::Places;
 use plan_reasons::{
-    LineForm, PlannedProblem, Style, order_counts, order_text, wagon_text, why_text,
+    CertifiedPlan, LineForm, Style, order_counts, order_text, wagon_text, why_text,
 };
 use plan_table::{Clock, csv_text, list_of_plan, table_text};
 use price_checker::Prices;
@@ -64,13 +64,8 @@ pub(crate) fn all(rt: &HostRuntime, alloc: Global, requests: u32) -> Option<()> 
     let (plan, prices) = tried!(rt, "plan", plan(alloc, &table));
     certificates(rt, alloc, snap, &plan, &prices)?;
     sheets(rt, alloc, &start, &table, &plan, &prices)?;
-    let planned = PlannedProblem {
-        problem: snap.problem(),
-        tables: networks.get(1)?,
-        cells: &table,
-        plan: &plan,
-        prices: &prices,
-    };
+    let (problem, tables) = (snap.problem(), networks.get(1)?);
+    let planned = CertifiedPlan::new(problem, tables, &table, &plan, &prices);
     reasons(rt, alloc, &planned, &start.named)?;
     lists(rt, alloc, &planned, &start.named)
 }
@@ -138,21 +133,21 @@ fn sheets(
 fn reasons(
     rt: &HostRuntime,
     alloc: Global,
-    planned: &PlannedProblem<'_>,
+    planned: &CertifiedPlan<'_>,
     named: &Places,
 ) -> Option<()> {
     let counts = tried!(rt, "order_counts", order_counts(alloc, planned));
-    must(counts.len() == planned.problem.orders().len());
+    must(counts.len() == planned.problem().orders().len());
     for style in [Style::Text, Style::Json] {
         let text = tried!(rt, "why_text", why_text(alloc, style, 2, planned));
         say(rt, &text);
         let names = Some(named);
         let form = LineForm { style, names };
-        for j in 0..planned.problem.orders().len() {
+        for j in 0..planned.problem().orders().len() {
             let text = tried!(rt, "order_text", order_text(alloc, &form, planned, j));
             say(rt, &text);
         }
-        for i in 0..planned.problem.wagons().len() {
+        for i in 0..planned.problem().wagons().len() {
             let text = tried!(rt, "wagon_text", wagon_text(alloc, &form, planned, i));
             say(rt, &text);
         }
@@ -164,7 +159,7 @@ fn reasons(
 fn lists(
     rt: &HostRuntime,
     alloc: Global,
-    planned: &PlannedProblem<'_>,
+    planned: &CertifiedPlan<'_>,
     named: &Places,
 ) -> Option<()> {
     let clock = Clock { zone: None };

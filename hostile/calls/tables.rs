@@ -54,7 +54,7 @@ fn begun(
 ) -> Option<()> {
     let at = problem_moment();
     let before = shown_book(alloc, book, calls)?;
-    let (snap, made) = match book.begin_with_table(alloc, at) {
+    let begun = match book.begin_with_table(alloc, at) {
         Ok(begun) => begun,
         Err(AllocError) => {
             say_refused(rt, name);
@@ -62,9 +62,9 @@ fn begun(
             book.begin_with_table(alloc, at).unwrap()
         }
     };
-    must(snap.version() == book.len());
-    say_shown(rt, alloc, snap.problem())?;
-    say_shown(rt, alloc, made.cells())
+    must(begun.snap().version() == book.len());
+    say_shown(rt, alloc, begun.snap().problem())?;
+    say_shown(rt, alloc, begun.cells())
 }
 
 /// The table of a kept problem, which the book has not made before.

@@ -49,7 +49,6 @@ macro_rules! tried_last {
 #[derive(Drop)]
 struct Files<'a> {
     books: Vec<Book>,
-    sample: Sample,
     networks: Vec<Network>,
     named: Places,
     added: Option<Roster>,
@@ -69,7 +68,6 @@ impl Files<'_> {
         }
         Some(Files {
             books,
-            sample,
             networks: all,
             named: Places::read_names(alloc, PLACES.as_bytes()).ok()?,
             added: Some(Roster::read_rows(alloc, ADDED.as_bytes()).ok()?),
@@ -156,14 +154,14 @@ fn reasons(rt: &HostRuntime, alloc: Global, files: &mut Files<'_>) -> Option<()>
             asked: *one,
             json: k == 1,
         };
-        let (book, distances) = (&mut files.books[k + 1], &*files.sample.networks);
+        let book = &mut files.books[k + 1];
         let names = Some(&files.named);
         let text = tried_last!(
             rt,
             alloc,
             "last_reasons (why)",
             book,
-            last_reasons(alloc, book, distances, &options, names)
+            last_reasons(alloc, book, &options, names)
         );
         say(rt, &text);
     }
@@ -179,14 +177,14 @@ fn planned(rt: &HostRuntime, alloc: Global, files: &mut Files<'_>) -> Option<()>
             zone: None,
             csv: *csv,
         };
-        let (book, distances) = (&mut files.books[k + 4], &*files.sample.networks);
+        let book = &mut files.books[k + 4];
         let (named, zone) = (&files.named, &files.zone);
         let text = tried_last!(
             rt,
             alloc,
             "last_plan_text (plan)",
             book,
-            last_plan_text(alloc, book, distances, &options, named, zone)
+            last_plan_text(alloc, book, &options, named, zone)
         );
         say(rt, str::from_utf8(&text).unwrap());
     }
