@@ -6,7 +6,6 @@ has to say when a line was taken.
 
 from datetime import UTC, datetime, timedelta
 from functools import lru_cache
-from itertools import groupby
 
 from .senders import NAME
 from .sent import Sent, written
@@ -20,11 +19,16 @@ LAST_MILLISECOND = (datetime(9999, 12, 31, 23, 59, 59, 999_000, UTC) - EPOCH) //
 def sent_of(first: int, entries: Entries) -> list[Sent]:
     """Who sent entries, of which the first is the line of this number. Those that a name sent in one millisecond stand
     together, as the lines of a request mostly do."""
-    sent = []
-    for (milliseconds, sender), those in groupby(zip((id.partition(b"-")[0] for id in entries.ids), entries.senders)):
-        last = first + len(list(those)) - 1
-        sent.append(Sent(first, last, name_of(sender), taken_at(int(milliseconds))))
-        first = last + 1
+    ids, senders = entries.ids, entries.senders
+    sent, place, count = [], 0, len(ids)
+    while place < count:
+        sender = senders[place]
+        milliseconds, dash, _ = ids[place].partition(b"-")
+        moment, end = milliseconds + dash, place + 1
+        while end < count and senders[end] == sender and ids[end].startswith(moment):
+            end += 1
+        sent.append(Sent(first + place, first + end - 1, name_of(sender), taken_at(int(milliseconds))))
+        place = end
     return sent
 
 

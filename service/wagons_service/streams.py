@@ -206,7 +206,8 @@ def wait(keys: Sequence[bytes], lasts: Sequence[bytes], milliseconds: int) -> by
 def lines_of(entries: list[Any]) -> Entries:
     ids = [id for id, _ in entries]
     lines = [field(fields, b"line") for _, fields in entries]
-    senders = [field(fields, b"sender") for _, fields in entries]
+    # An entry of one field has no sender.
+    senders = [field(fields, b"sender") if len(fields) > 2 else b"" for _, fields in entries]
     refusals: dict[int, bytes] = {}
     longest = max(map(len, lines), default=0)
     if longest > MOST_LINE_BYTES or b"\n" in b"".join(lines) or any(map(is_blank, lines)):
