@@ -13,11 +13,11 @@ use Rattle.line_engine.specs.Runs.{Ends, Failures, IsLineOrNext, Run, StandsAt, 
 use Rattle.line_engine.specs.declared.run.RunCount.{RunCount}
 use Rattle.line_engine.specs.declared.run.RunFault.{RunFault}
 use Rattle.line_engine.specs.declared.run.RunFault.TheVariants.{OutOfMemory, TooManyLines, LineTooLong, ReadFailed, WriteFailed}
-use Rattle.line_network.specs.Network.{NetworkValue}
 use Rattle.line_fields.specs.Commands.{command_of}
 use Rattle.line_fields.specs.declared.command.Command.{Command}
 use Rattle.line_fields.specs.declared.command.Command.TheVariants as command
 use Rattle.move_messages.specs.declared.event.Event.{Event}
+use Rattle.commit_book.specs.Setting.{Setting}
 use Rattle.commit_book.specs.declared.reply.Reply.{Reply}
 use Rattle.commit_book.specs.declared.reply.Reply.TheVariants as reply
 use Rattle.faults.specs.declared.faults.Refusal.{Refusal}
@@ -44,8 +44,8 @@ gains_by old new event (Ok (reply.Accepted n)) answered = omega (arith, ap count
 gains_by old new event (Ok (reply.Repeated n)) answered = omega (arith, ap count_of answered)
 gains_by old new event (Err refusal) answered = omega (arith, ap count_of answered)
 
-submitted_gains : (old new : SeatValue) (event : Event) (counted : Counted) → IsSubmitted old new event counted → Gains old new counted
-submitted_gains old new event counted submitted = rw submitted.counts (gains_by old new event submitted.result submitted.answered.seat)
+submitted_gains : (setting : Setting) (old new : SeatValue) (event : Event) (counted : Counted) → IsSubmitted setting old new event counted → Gains old new counted
+submitted_gains setting old new event counted submitted = rw submitted.counts (gains_by old new event submitted.result submitted.answered.seat)
 
 -- a line that leaves the seat as it was, and doesn't count as accepted
 same_gains : (old new : SeatValue) (counted : Counted) → new ≡ old → is_accepted counted ≡ false → Gains old new counted
@@ -54,30 +54,30 @@ same_gains old new counted same none = rw none (omega (arith, ap count_of same))
 away_gains : (old new : SeatValue) (counted : Counted) → IsTurnedAway old new counted → Gains old new counted
 away_gains old new counted away = same_gains old new counted away.0 (ap is_accepted away.1)
 
-taken_gains : (networks : List NetworkValue) (old new : SeatValue) (asked : Command) (counted : Counted) → IsTakenIn networks old new asked counted → Gains old new counted
-taken_gains networks old new (command.Event event) counted taken = submitted_gains old new event counted taken
-taken_gains networks old new (command.Begin at) counted taken =
+taken_gains : (setting : Setting) (old new : SeatValue) (asked : Command) (counted : Counted) → IsTakenIn setting old new asked counted → Gains old new counted
+taken_gains setting old new (command.Event event) counted taken = submitted_gains setting old new event counted taken
+taken_gains setting old new (command.Begin at) counted taken =
     same_gains old new counted taken.0 (elim taken.1 [
       | inl refused ↦ ap is_accepted refused
       | inr begun ↦ ap is_accepted begun.0
     ])
-taken_gains networks old new (command.Plan at) counted taken = elim taken [
-  | inl committed ↦ submitted_gains old new _ counted committed.submitted
+taken_gains setting old new (command.Plan at) counted taken = elim taken [
+  | inl committed ↦ submitted_gains setting old new _ counted committed.submitted
   | inr away ↦ away_gains old new counted away
 ]
-taken_gains networks old new command.Sheet counted taken = same_gains old new counted taken.0 (ap is_accepted taken.1)
+taken_gains setting old new command.Sheet counted taken = same_gains old new counted taken.0 (ap is_accepted taken.1)
 
-read_gains : (networks : List NetworkValue) (old new : SeatValue) (read : Result Command LineFault) (counted : Counted) → IsReadIn networks old new read counted → Gains old new counted
-read_gains networks old new (Ok asked) counted is = elim is [
-  | inl taken ↦ taken_gains networks old new asked counted taken
+read_gains : (setting : Setting) (old new : SeatValue) (read : Result Command LineFault) (counted : Counted) → IsReadIn setting old new read counted → Gains old new counted
+read_gains setting old new (Ok asked) counted is = elim is [
+  | inl taken ↦ taken_gains setting old new asked counted taken
   | inr away ↦ away_gains old new counted away
 ]
-read_gains networks old new (Err fault) counted away = away_gains old new counted away
+read_gains setting old new (Err fault) counted away = away_gains old new counted away
 
 -- a line that isn't read may be any
-pub turned_away : (networks : List NetworkValue) (seat : SeatValue) (read : Result Command LineFault) → IsReadIn networks seat seat read Refused
-turned_away networks seat (Ok asked) = inr (refl, refl)
-turned_away networks seat (Err fault) = (refl, refl)
+pub turned_away : (setting : Setting) (seat : SeatValue) (read : Result Command LineFault) → IsReadIn setting seat seat read Refused
+turned_away setting seat (Ok asked) = inr (refl, refl)
+turned_away setting seat (Err fault) = (refl, refl)
 
 -- ---- lines that must count
 
@@ -86,28 +86,28 @@ answer_counts (Ok (reply.Accepted n)) nowhere = cc
 answer_counts (Ok (reply.Repeated n)) nowhere = cc
 answer_counts (Err refusal) nowhere = cc
 
-submitted_counts : (old new : SeatValue) (event : Event) (counted : Counted) → IsSubmitted old new event counted → counted ≡ Nowhere → ⊥
-submitted_counts old new event counted submitted nowhere = answer_counts submitted.result (sym submitted.counts ∙ nowhere)
+submitted_counts : (setting : Setting) (old new : SeatValue) (event : Event) (counted : Counted) → IsSubmitted setting old new event counted → counted ≡ Nowhere → ⊥
+submitted_counts setting old new event counted submitted nowhere = answer_counts submitted.result (sym submitted.counts ∙ nowhere)
 
 away_counts : (old new : SeatValue) (counted : Counted) → IsTurnedAway old new counted → counted ≡ Nowhere → ⊥
 away_counts old new counted away nowhere = let both : Refused ≡ Nowhere = sym away.1 ∙ nowhere in cc
 
 -- what counts nowhere is a begin or a sheet
-taken_nowhere : (networks : List NetworkValue) (old new : SeatValue) (asked : Command) (counted : Counted) → IsTakenIn networks old new asked counted → counted ≡ Nowhere → is_command_counted asked ≡ false
-taken_nowhere networks old new (command.Event event) counted taken nowhere = absurd (submitted_counts old new event counted taken nowhere)
-taken_nowhere networks old new (command.Begin at) counted taken nowhere = refl
-taken_nowhere networks old new (command.Plan at) counted taken nowhere = elim taken [
-  | inl committed ↦ absurd (submitted_counts old new _ counted committed.submitted nowhere)
+taken_nowhere : (setting : Setting) (old new : SeatValue) (asked : Command) (counted : Counted) → IsTakenIn setting old new asked counted → counted ≡ Nowhere → is_command_counted asked ≡ false
+taken_nowhere setting old new (command.Event event) counted taken nowhere = absurd (submitted_counts setting old new event counted taken nowhere)
+taken_nowhere setting old new (command.Begin at) counted taken nowhere = refl
+taken_nowhere setting old new (command.Plan at) counted taken nowhere = elim taken [
+  | inl committed ↦ absurd (submitted_counts setting old new _ counted committed.submitted nowhere)
   | inr away ↦ absurd (away_counts old new counted away nowhere)
 ]
-taken_nowhere networks old new command.Sheet counted taken nowhere = refl
+taken_nowhere setting old new command.Sheet counted taken nowhere = refl
 
-pub read_nowhere : (networks : List NetworkValue) (old new : SeatValue) (read : Result Command LineFault) (counted : Counted) → IsReadIn networks old new read counted → counted ≡ Nowhere → is_counted read ≡ false
-read_nowhere networks old new (Ok asked) counted is nowhere = elim is [
-  | inl taken ↦ taken_nowhere networks old new asked counted taken nowhere
+pub read_nowhere : (setting : Setting) (old new : SeatValue) (read : Result Command LineFault) (counted : Counted) → IsReadIn setting old new read counted → counted ≡ Nowhere → is_counted read ≡ false
+read_nowhere setting old new (Ok asked) counted is nowhere = elim is [
+  | inl taken ↦ taken_nowhere setting old new asked counted taken nowhere
   | inr away ↦ absurd (away_counts old new counted away nowhere)
 ]
-read_nowhere networks old new (Err fault) counted away nowhere = absurd (away_counts old new counted away nowhere)
+read_nowhere setting old new (Err fault) counted away nowhere = absurd (away_counts old new counted away nowhere)
 
 -- ---- lines, one after the other
 
@@ -121,24 +121,24 @@ at_most_one true old new adds = adds.little
 at_most_one false old new same = omega arith
 
 -- What a run over lines leads to, where 64 bits hold the counts.
-record AreFedLines {L : Type 0} {g : Ghosts L} (networks : List NetworkValue) (old : FileSeat L g) (lines : List (List ℕ)) (new : FileSeat L g) : Type 0 where
+record AreFedLines {L : Type 0} {g : Ghosts L} (old : FileSeat L g) (lines : List (List ℕ)) (new : FileSeat L g) : Type 0 where
   counts : List Counted
-  taken : AreTaken networks old.seat new.seat lines counts
+  taken : AreTaken g.setting old.seat new.seat lines counts
   accepted : count_of new.seat ≡ count_of old.seat + count_by is_accepted counts
   repeated : old.repeated + length lines < 2 ^ 64 → new.repeated ≡ old.repeated + count_by is_repeated counts
   refused : old.refused + length lines < 2 ^ 64 → new.refused ≡ old.refused + count_by is_refused counts
 
-module _ {L : Type 0} {g : Ghosts L} (networks : List NetworkValue) where
-  nothing_fed : (old new : FileSeat L g) → new ≡ old → AreFedLines networks old [] new
+module _ {L : Type 0} {g : Ghosts L} where
+  nothing_fed : (old new : FileSeat L g) → new ≡ old → AreFedLines old [] new
   nothing_fed old new same = record {
     counts = [];
-    taken = subst (λ (file : FileSeat L g). AreTaken networks old.seat file.seat [] []) (sym same) no_line;
+    taken = subst (λ (file : FileSeat L g). AreTaken g.setting old.seat file.seat [] []) (sym same) no_line;
     accepted = omega (arith, ap (λ (file : FileSeat L g). count_of file.seat) same);
     repeated = λ room. omega (arith, ap (λ (file : FileSeat L g). file.repeated) same);
     refused = λ room. omega (arith, ap (λ (file : FileSeat L g). file.refused) same);
   }
 
-  blank_fed : (old new : FileSeat L g) (line : List ℕ) (lines : List (List ℕ)) → is_blank line ≡ true → AreFedLines networks old lines new → AreFedLines networks old (line ∷ lines) new
+  blank_fed : (old new : FileSeat L g) (line : List ℕ) (lines : List (List ℕ)) → is_blank line ≡ true → AreFedLines old lines new → AreFedLines old (line ∷ lines) new
   blank_fed old new line lines blank rest = record {
     counts = rest.counts;
     taken = blank_line blank rest.taken;
@@ -147,15 +147,14 @@ module _ {L : Type 0} {g : Ghosts L} (networks : List NetworkValue) where
     refused = λ room. rest.refused (omega (arith, room));
   }
 
-  line_fed : (old mid new : FileSeat L g) (line : List ℕ) (lines : List (List ℕ)) → old.networks.now ≡ networks → is_blank line ≡ false → IsReadFed old (command_of line) mid → AreFedLines networks mid lines new
-      → AreFedLines networks old (line ∷ lines) new
-  line_fed old mid new line lines over filled fed rest =
+  line_fed : (old mid new : FileSeat L g) (line : List ℕ) (lines : List (List ℕ)) → is_blank line ≡ false → IsReadFed old (command_of line) mid → AreFedLines mid lines new
+      → AreFedLines old (line ∷ lines) new
+  line_fed old mid new line lines filled fed rest =
       let counted = fed.counted in
-      let taken : IsLineTaken networks old.seat mid.seat line counted = subst (λ (all : List NetworkValue). IsLineTaken all old.seat mid.seat line counted) over fed.taken in
-      let gains = read_gains networks old.seat mid.seat (command_of line) counted taken in
+      let gains = read_gains g.setting old.seat mid.seat (command_of line) counted fed.taken in
       record {
         counts = counted ∷ rest.counts;
-        taken = one_line mid.seat counted filled taken rest.taken;
+        taken = one_line mid.seat counted filled fed.taken rest.taken;
         accepted = omega (arith, gains, rest.accepted, sum_by-cons (λ (c : Counted). cond (is_accepted c) 1 0) counted rest.counts);
         repeated = λ room.
             let one = added (is_repeated counted) old.repeated mid.repeated fed.repeated (omega (arith, room)) in
@@ -200,78 +199,66 @@ module _ {L : Type 0} {g : Ghosts L} where
   brought_response old new line body refused (inl brought) = brought
   brought_response old new line body refused (inr out) = absurd out.0
 
-  -- events that are submitted leave the networks
-  same_networks : (events : List Event) (old new : FileSeat L g) → AreEventsFed events old new → new.networks.now ≡ old.networks.now
-  same_networks [] old new same = ap (λ (file : FileSeat L g). file.networks.now) same
-  same_networks (event ∷ events) old new fed = same_networks events fed.0 new fed.2 ∙ fed.1.networks
-
   -- lines whose events waited and were submitted, and the lines behind them
-  held_fed : (networks : List NetworkValue) {held : List (List ℕ)} {events : List Event} (lines : List (List ℕ)) (old mid new : FileSeat L g) → old.networks.now ≡ networks → AreHeld held events → AreEventsFed events old mid
-      → AreFedLines networks mid lines new → AreFedLines networks old (held ++ lines) new
-  held_fed networks lines old mid new over none_held fed rest = subst (λ (file : FileSeat L g). AreFedLines networks file lines new) fed rest
-  held_fed networks lines old mid new over (blank_held {line = line} {lines = held} blank others) fed rest =
-      blank_fed networks old new line (held ++ lines) blank (held_fed networks lines old mid new over others fed rest)
-  held_fed networks lines old mid new over (event_held {line = line} {lines = held} filled read others) fed rest =
-      line_fed networks old fed.0 new line (held ++ lines) over filled (rw read fed.1) (held_fed networks lines fed.0 mid new (fed.1.networks ∙ over) others fed.2 rest)
+  held_fed : {held : List (List ℕ)} {events : List Event} (lines : List (List ℕ)) (old mid new : FileSeat L g) → AreHeld held events → AreEventsFed events old mid
+      → AreFedLines mid lines new → AreFedLines old (held ++ lines) new
+  held_fed lines old mid new none_held fed rest = subst (λ (file : FileSeat L g). AreFedLines file lines new) fed rest
+  held_fed lines old mid new (blank_held {line = line} {lines = held} blank others) fed rest =
+      blank_fed old new line (held ++ lines) blank (held_fed lines old mid new others fed rest)
+  held_fed lines old mid new (event_held {line = line} {lines = held} filled read others) fed rest =
+      line_fed old fed.0 new line (held ++ lines) filled (rw read fed.1) (held_fed lines fed.0 mid new others fed.2 rest)
 
   -- all lines of a run, where what waited at its end was submitted: they are done from the file before the lines that wait
-  abbrev AreAllFed : (networks : List NetworkValue) → (old : FileLines L g) → (lines : List (List ℕ)) → (end : FileSeat L g) → Type 0
-  AreAllFed networks old lines end = (held : List (List ℕ)) → AreHeld held old.pending.items → AreFedLines networks old.file (held ++ lines) end
+  abbrev AreAllFed : (old : FileLines L g) → (lines : List (List ℕ)) → (end : FileSeat L g) → Type 0
+  AreAllFed old lines end = (held : List (List ℕ)) → AreHeld held old.pending.items → AreFedLines old.file (held ++ lines) end
 
-  blank_brought : (networks : List NetworkValue) (old : FileLines L g) (line : List ℕ) (lines : List (List ℕ)) (end : FileSeat L g) → is_blank line ≡ true → AreAllFed networks old lines end → AreAllFed networks old (line ∷ lines) end
-  blank_brought networks old line lines end blank rest held are =
-      subst (λ (all : List (List ℕ)). AreFedLines networks old.file all end) (append_assoc held (line ∷ []) lines) (rest (held ++ line ∷ []) (blank_held_last line blank are))
+  blank_brought : (old : FileLines L g) (line : List ℕ) (lines : List (List ℕ)) (end : FileSeat L g) → is_blank line ≡ true → AreAllFed old lines end → AreAllFed old (line ∷ lines) end
+  blank_brought old line lines end blank rest held are =
+      subst (λ (all : List (List ℕ)). AreFedLines old.file all end) (append_assoc held (line ∷ []) lines) (rest (held ++ line ∷ []) (blank_held_last line blank are))
 
-  line_waits : (networks : List NetworkValue) (old mid : FileLines L g) (line : List ℕ) (lines : List (List ℕ)) (end : FileSeat L g) → is_blank line ≡ false → Waits old (command_of line) mid → AreAllFed networks mid lines end
-      → AreAllFed networks old (line ∷ lines) end
-  line_waits networks old mid line lines end filled waits rest held are =
+  line_waits : (old mid : FileLines L g) (line : List ℕ) (lines : List (List ℕ)) (end : FileSeat L g) → is_blank line ≡ false → Waits old (command_of line) mid → AreAllFed mid lines end
+      → AreAllFed old (line ∷ lines) end
+  line_waits old mid line lines end filled waits rest held are =
       let behind : AreHeld (held ++ line ∷ []) mid.pending.items = subst (AreHeld (held ++ line ∷ [])) (sym waits.pending) (event_held_last line waits.event filled waits.is_event are) in
-      let fed : AreFedLines networks mid.file ((held ++ line ∷ []) ++ lines) end = rest (held ++ line ∷ []) behind in
-      subst (λ (all : List (List ℕ)). AreFedLines networks old.file all end) (append_assoc held (line ∷ []) lines)
-      (subst (λ (file : FileSeat L g). AreFedLines networks file ((held ++ line ∷ []) ++ lines) end) waits.file fed)
+      let fed : AreFedLines mid.file ((held ++ line ∷ []) ++ lines) end = rest (held ++ line ∷ []) behind in
+      subst (λ (all : List (List ℕ)). AreFedLines old.file all end) (append_assoc held (line ∷ []) lines)
+      (subst (λ (file : FileSeat L g). AreFedLines file ((held ++ line ∷ []) ++ lines) end) waits.file fed)
 
-  line_behind : (networks : List NetworkValue) (old mid : FileLines L g) (line : List ℕ) (lines : List (List ℕ)) (end : FileSeat L g) → old.file.networks.now ≡ networks → is_blank line ≡ false → (fed : IsFedBehind old (command_of line) mid)
-      → AreAllFed networks mid lines end → AreAllFed networks old (line ∷ lines) end
-  line_behind networks old mid line lines end over filled fed rest held are =
-      let others : AreFedLines networks mid.file lines end = rest [] (subst (AreHeld []) (sym fed.pending) none_held) in
-      held_fed networks (line ∷ lines) old.file fed.mid end over are fed.before
-      (line_fed networks fed.mid mid.file end line lines (same_networks old.pending.items old.file fed.mid fed.before ∙ over) filled fed.fed others)
+  line_behind : (old mid : FileLines L g) (line : List ℕ) (lines : List (List ℕ)) (end : FileSeat L g) → is_blank line ≡ false → (fed : IsFedBehind old (command_of line) mid)
+      → AreAllFed mid lines end → AreAllFed old (line ∷ lines) end
+  line_behind old mid line lines end filled fed rest held are =
+      let others : AreFedLines mid.file lines end = rest [] (subst (AreHeld []) (sym fed.pending) none_held) in
+      held_fed (line ∷ lines) old.file fed.mid end are fed.before
+      (line_fed fed.mid mid.file end line lines filled fed.fed others)
 
-  -- a line leaves the networks
-  brought_networks : (old new : FileLines L g) (line : List ℕ) → IsLineBrought old line new → new.file.networks.now ≡ old.file.networks.now
-  brought_networks old new line (inl waits) = ap (λ (file : FileSeat L g). file.networks.now) waits.file
-  brought_networks old new line (inr fed) = fed.fed.networks ∙ same_networks old.pending.items old.file fed.mid fed.before
+  one_brought : (old mid : FileLines L g) (line : List ℕ) (lines : List (List ℕ)) (end : FileSeat L g) → is_blank line ≡ false → IsLineBrought old line mid
+      → AreAllFed mid lines end → AreAllFed old (line ∷ lines) end
+  one_brought old mid line lines end filled (inl waits) rest = line_waits old mid line lines end filled waits rest
+  one_brought old mid line lines end filled (inr fed) rest = line_behind old mid line lines end filled fed rest
 
-  one_brought : (networks : List NetworkValue) (old mid : FileLines L g) (line : List ℕ) (lines : List (List ℕ)) (end : FileSeat L g) → old.file.networks.now ≡ networks → is_blank line ≡ false → IsLineBrought old line mid
-      → AreAllFed networks mid lines end → AreAllFed networks old (line ∷ lines) end
-  one_brought networks old mid line lines end over filled (inl waits) rest = line_waits networks old mid line lines end filled waits rest
-  one_brought networks old mid line lines end over filled (inr fed) rest = line_behind networks old mid line lines end over filled fed rest
-
-  one_fed : (networks : List NetworkValue) (n : ℕ) (old mid : FileLines L g) (line text : List ℕ) (refused : Bool) (lines : List (List ℕ)) (end : FileSeat L g) (blank : Bool) → is_blank line ≡ blank → old.file.networks.now ≡ networks
-      → AnswersLine Answers NeverOut n old line text refused mid → (mid.file.networks.now ≡ networks → AreAllFed networks mid lines end) → AreAllFed networks old (line ∷ lines) end
-  one_fed networks n old mid line text refused lines end true is over answers rest =
+  one_fed : (n : ℕ) (old mid : FileLines L g) (line text : List ℕ) (refused : Bool) (lines : List (List ℕ)) (end : FileSeat L g) (blank : Bool) → is_blank line ≡ blank
+      → AnswersLine Answers NeverOut n old line text refused mid → AreAllFed mid lines end → AreAllFed old (line ∷ lines) end
+  one_fed n old mid line text refused lines end true is answers rest =
       let same : mid ≡ old = (rw is at answers).2 in
-      let others : AreAllFed networks mid lines end = rest (ap (λ (state : FileLines L g). state.file.networks.now) same ∙ over) in
-      blank_brought networks old line lines end is (subst (λ (state : FileLines L g). AreAllFed networks state lines end) same others)
-  one_fed networks n old mid line text refused lines end false is over answers rest =
+      blank_brought old line lines end is (subst (λ (state : FileLines L g). AreAllFed state lines end) same rest)
+  one_fed n old mid line text refused lines end false is answers rest =
       let says = rw is at answers in
-      let brought = brought_response old mid line says.0 refused says.2 in
-      one_brought networks old mid line lines end over is brought (rest (brought_networks old mid line brought ∙ over))
+      one_brought old mid line lines end is (brought_response old mid line says.0 refused says.2) rest
 
-  lines_brought : (networks : List NetworkValue) (n : ℕ) (old new : FileLines L g) (lines : List (List ℕ)) (output : List ℕ) (refusals : ℕ) (end : FileSeat L g) → old.file.networks.now ≡ networks
-      → Replies Answers NeverOut n old lines output refusals new → AreEventsFed new.pending.items new.file end → AreAllFed networks old lines end
-  lines_brought networks n old new [] output refusals end over replies fed = λ held are.
+  lines_brought : (n : ℕ) (old new : FileLines L g) (lines : List (List ℕ)) (output : List ℕ) (refusals : ℕ) (end : FileSeat L g)
+      → Replies Answers NeverOut n old lines output refusals new → AreEventsFed new.pending.items new.file end → AreAllFed old lines end
+  lines_brought n old new [] output refusals end replies fed = λ held are.
       let last : AreEventsFed old.pending.items old.file end = subst (λ (state : FileLines L g). AreEventsFed state.pending.items state.file end) replies.2 fed in
-      held_fed networks [] old.file end end over are last (nothing_fed networks end end refl)
-  lines_brought networks n old new (line ∷ lines) output refusals end over replies fed =
-      one_fed networks n old replies.4 line replies.0 replies.2 lines end (is_blank line) refl over replies.5
-      (λ still. lines_brought networks (n + 1) replies.4 new lines replies.1 replies.3 end still replies.6 fed)
+      held_fed [] old.file end end are last (nothing_fed end end refl)
+  lines_brought n old new (line ∷ lines) output refusals end replies fed =
+      one_fed n old replies.4 line replies.0 replies.2 lines end (is_blank line) refl replies.5
+      (lines_brought (n + 1) replies.4 new lines replies.1 replies.3 end replies.6 fed)
 
   -- the same from a file none of whose lines waits
-  lines_fed : (networks : List NetworkValue) (n : ℕ) (old new : FileLines L g) (lines : List (List ℕ)) (output : List ℕ) (refusals : ℕ) (end : FileSeat L g) → old.file.networks.now ≡ networks → old.pending.items ≡ []
-      → Replies Answers NeverOut n old lines output refusals new → AreEventsFed new.pending.items new.file end → AreFedLines networks old.file lines end
-  lines_fed networks n old new lines output refusals end over none replies fed =
-      lines_brought networks n old new lines output refusals end over replies fed [] (subst (AreHeld []) (sym none) none_held)
+  lines_fed : (n : ℕ) (old new : FileLines L g) (lines : List (List ℕ)) (output : List ℕ) (refusals : ℕ) (end : FileSeat L g) → old.pending.items ≡ []
+      → Replies Answers NeverOut n old lines output refusals new → AreEventsFed new.pending.items new.file end → AreFedLines old.file lines end
+  lines_fed n old new lines output refusals end none replies fed =
+      lines_brought n old new lines output refusals end replies fed [] (subst (AreHeld []) (sym none) none_held)
 
 -- ---- a file's run
 
@@ -289,18 +276,18 @@ consumes_none None to keeps = tt
 consumes_none (Some xs) None keeps = absurd keeps
 consumes_none (Some xs) (Some ys) keeps = sym keeps
 
-module _ {L : Type 0} {g : Ghosts L} (networks : List NetworkValue) (run : Run (FileLines L g)) (failed : Failures) (end : FileSeat L g) (over : run.old.file.networks.now ≡ networks) (new : count_of run.old.file.seat ≡ 0) (no_repeated : run.old.file.repeated ≡ 0)
+module _ {L : Type 0} {g : Ghosts L} (run : Run (FileLines L g)) (failed : Failures) (end : FileSeat L g) (new : count_of run.old.file.seat ≡ 0) (no_repeated : run.old.file.repeated ≡ 0)
     (no_refused : run.old.file.refused ≡ 0) (none_waits : run.old.pending.items ≡ []) (standard : run.most ≡ max_line_bytes) (last : AreEventsFed run.new.pending.items run.new.file end) where
   abbrev Fed : Option ℕ → Type 0
-  Fed stop = IsSeatFed networks run.from run.to stop end.seat end.repeated end.refused
+  Fed stop = IsSeatFed g.setting run.from run.to stop end.seat end.repeated end.refused
 
-  fed_by : (stop : Option ℕ) (lines : List (List ℕ)) → AreDone run.from run.to stop lines → AreFedLines networks run.old.file lines end → Fed stop
+  fed_by : (stop : Option ℕ) (lines : List (List ℕ)) → AreDone run.from run.to stop lines → AreFedLines run.old.file lines end → Fed stop
   fed_by stop lines done fed = record {
     lines = lines;
     done = done;
     number = run.old.file.seat.number;
     counts = fed.counts;
-    taken = subst (λ (seat : SeatValue). AreTaken networks seat end.seat lines fed.counts) (fresh_seat run.old.file.seat new) fed.taken;
+    taken = subst (λ (seat : SeatValue). AreTaken g.setting seat end.seat lines fed.counts) (fresh_seat run.old.file.seat new) fed.taken;
     counts_accepted = omega (arith, fed.accepted, new);
     counts_repeated = let is = fed.repeated (omega (arith, no_repeated, done.few)) in omega (arith, is, no_repeated);
     counts_refused = let is = fed.refused (omega (arith, no_refused, done.few)) in omega (arith, is, no_refused);
@@ -309,12 +296,12 @@ module _ {L : Type 0} {g : Ghosts L} (networks : List NetworkValue) (run : Run (
   fed_to_end : (count : RunCount) → Ends Answers NeverOut run count → Fed None
   fed_to_end count ends =
       fed_by None (lines_of ends.input) (record { read = ends.input; consumed = ends.consumed; which = (ends.ended, refl); few = omega (arith, ends.lines, ends.few) })
-      (lines_fed networks 1 run.old run.new (lines_of ends.input) ends.output count.refused end over none_waits ends.replies last)
+      (lines_fed 1 run.old run.new (lines_of ends.input) ends.output count.refused end none_waits ends.replies last)
 
   fed_to_stop : (n code : ℕ) (at : StandsAt Answers NeverOut run n) → IsStoppedAt code at.input at.lines → n ≤ max_input_lines + 1 → Fed (Some code)
   fed_to_stop n code at stopped few =
       fed_by (Some code) at.lines (record { read = at.input; consumed = at.consumed; which = stopped; few = omega (arith, few, at.number) })
-      (lines_fed networks 1 run.old run.new at.lines at.output at.refusals end over none_waits at.replies last)
+      (lines_fed 1 run.old run.new at.lines at.output at.refusals end none_waits at.replies last)
 
   -- a stop behind some lines, by what each number says of it
   stopped_at : (n code : ℕ) (at : StandsAt Answers NeverOut run n) → 1 < code → (code ≡ 91 → (length at.lines ≡ max_input_lines) × (0 < length at.rest)) → (code ≡ 92 → max_line_bytes < length (first_line at.rest))
@@ -341,7 +328,7 @@ module _ {L : Type 0} {g : Ghosts L} (networks : List NetworkValue) (run : Run (
         };
         few = omega arith;
       })
-      (lines_fed networks 1 run.old run.new [] [] 0 end over none_waits (refl, refl, stops.2) last)
+      (lines_fed 1 run.old run.new [] [] 0 end none_waits (refl, refl, stops.2) last)
   fed_until (TooManyLines n) quiet stops =
       stopped_at n 91 stops.0 (omega arith) (λ e. (omega (arith, stops.0.number, stops.1), stops.2)) (λ e. absurd (omega arith)) (λ e. absurd (omega arith)) (omega (arith, stops.1))
   fed_until (LineTooLong n) quiet stops =

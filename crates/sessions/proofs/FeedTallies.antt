@@ -7,7 +7,7 @@ use Rattle.std.proofs.lemmas.List.{length-append, append-nil}
 use Rattle.std.proofs.lemmas.List.Sums.{sum_by-cons}
 use Rattle.line_engine.specs.Lines.{BeginsWith, line_feed, lines_of, first_line, begin_with, is_blank, max_input_lines, max_line_bytes, with_feeds}
 use Rattle.line_engine.proofs.Running.{lines_of-with_feeds}
-use Rattle.line_network.specs.Network.{NetworkValue}
+use Rattle.commit_book.specs.Setting.{Setting}
 use Rattle.line_fields.specs.Commands.{command_of}
 use Rattle.sessions.specs.Seat.{SeatValue, count_of}
 use Rattle.sessions.specs.FedLines.{AreTaken, IsSeatFed, blank_line, is_accepted, is_refused, is_repeated, no_line, one_line}
@@ -81,11 +81,11 @@ tallied_line line lines counted counts filled nowhere rest =
       only = omega (arith, rest.only, ones.1, one.1, accepted, repeated, refused, sum_by-cons may_one line lines);
     }
 
-tallied : {networks : List NetworkValue} {old new : SeatValue} {lines : List (List ℕ)} {counts : List Counted} → AreTaken networks old new lines counts → Tallied lines counts
+tallied : {setting : Setting} {old new : SeatValue} {lines : List (List ℕ)} {counts : List Counted} → AreTaken setting old new lines counts → Tallied lines counts
 tallied no_line = record { all = omega arith; only = omega arith }
 tallied (blank_line {line = line} {lines = lines} {counts = counts} blank rest) = tallied_blank line lines counts blank (tallied rest)
-tallied {networks} (one_line {old = old} {line = line} {lines = lines} {counts = counts} between counted filled taken rest) =
-    tallied_line line lines counted counts filled (read_nowhere networks old between (command_of line) counted taken) (tallied rest)
+tallied {setting} (one_line {old = old} {line = line} {lines = lines} {counts = counts} between counted filled taken rest) =
+    tallied_line line lines counted counts filled (read_nowhere setting old between (command_of line) counted taken) (tallied rest)
 
 -- ---- bytes
 
@@ -179,9 +179,9 @@ not_none : {P : Type 0} (code : ℕ) → let o : Option ℕ = Some code in o ≡
 not_none code h = absurd cc
 
 -- what lines did at a seat, by how the file ended, makes the file's run
-pub file_run : (networks : List NetworkValue) (told left : Option (List ℕ)) (failed : Option ℕ) (seat : SeatValue) (repeated refused : ℕ) (has_failed : Bool) → IsSeatFed networks told left failed seat repeated refused
+pub file_run : (setting : Setting) (told left : Option (List ℕ)) (failed : Option ℕ) (seat : SeatValue) (repeated refused : ℕ) (has_failed : Bool) → IsSeatFed setting told left failed seat repeated refused
     → IfSome failed IsStopNumber → (failed ≡ Some 93 → has_failed ≡ true) → IsFileRun told left (count_of seat + repeated + refused) failed has_failed
-file_run networks told left None seat repeated refused has_failed fed number unread =
+file_run setting told left None seat repeated refused has_failed fed number unread =
     let t = tallied fed.taken in
     let ended = fed.done.which in
     let lines_are : (bytes : List ℕ) → told ≡ Some bytes → lines_of bytes ≡ fed.lines =
@@ -196,7 +196,7 @@ file_run networks told left None seat repeated refused has_failed fed number unr
       too_long = λ bytes is which. absurd cc;
       unread = unread;
     }
-file_run networks told left (Some code) seat repeated refused has_failed fed number unread =
+file_run setting told left (Some code) seat repeated refused has_failed fed number unread =
     let stop = fed.done.which in
     record {
       rest = (fed.done.read, fed.done.consumed);

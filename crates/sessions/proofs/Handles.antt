@@ -20,5 +20,5 @@ pub none_left : {X : Type 0} (xs : List X) → length xs ≡ 0 → xs ≡ []
 none_left [] none = refl
 none_left (x ∷ xs) none = absurd (omega (arith, none))
 
-pub same_length : {H X Y : Type 0} (view : H → X) (given : Y → X) (hs : List H) (ys : List Y) → map view hs ≡ map given ys → length hs ≡ length ys
-same_length view given hs ys same = sym (length-map hs view) ∙ ap length same ∙ length-map ys given
+pub same_length : {H X : Type 0} (view : H → X) (hs : List H) (xs : List X) → map view hs ≡ xs → length hs ≡ length xs
+same_length view hs xs same = sym (length-map hs view) ∙ ap length same

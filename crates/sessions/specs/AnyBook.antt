@@ -1,4 +1,4 @@
--- What is known of the book behind the lock: some book that there can be answers the call.
+-- What is known of the book behind the lock: a book of the setting that it was opened with answers the call.
 use Rattle.std.specs.Prelude.{◌≡◌, ◌≤◌, ℕ, List, length, Result}
 use Rattle.move_messages.specs.declared.event.Event.{Event}
 use Rattle.commit_book.specs.BookStep.{BookState, IsCall}
@@ -13,10 +13,10 @@ use Rattle.commit_book.specs.declared.call.Call.TheVariants as call
 use Rattle.faults.specs.declared.faults.Refusal.{Refusal}
 use Rattle.commit_book.specs.declared.reply.Reply.{Reply}
 
--- A book answers a call so: it was given what a book can be given, its history before the call and after it is as the
--- headline says, and it has at least so many entries. So memory is out only where the book's own step says that it may be.
-pub record IsAnsweredAt (count : ℕ) (call : Call) (answer : Answer) : Type 0 where
-  pub setting : Setting
+-- A book of this setting answers a call so: the setting is one that a book can be given, the book's history before the call
+-- and after it is as the headline says, and it has at least so many entries. So memory is out only where the book's own step
+-- says that it may be.
+pub record IsAnsweredAt (setting : Setting) (count : ℕ) (call : Call) (answer : Answer) : Type 0 where
   pub given : IsSetting setting
   pub book : BookState
   pub proved : IsProved setting book.history
@@ -26,12 +26,11 @@ pub record IsAnsweredAt (count : ℕ) (call : Call) (answer : Answer) : Type 0 w
   pub proved_after : IsProved setting new.history
 
 -- the answer to an event is that of such a book
-abbrev pub IsBooksAnswer : (count : ℕ) → Event → Result Reply Refusal → Type 0
-IsBooksAnswer count event result = IsAnsweredAt count (call.Event event) (answer_of result)
+abbrev pub IsBooksAnswer : Setting → (count : ℕ) → Event → Result Reply Refusal → Type 0
+IsBooksAnswer setting count event result = IsAnsweredAt setting count (call.Event event) (answer_of result)
 
 -- a snapshot of the last version of such a book
-pub record IsSnapAt (count at : ℕ) (snap : SnapValue) : Type 0 where
-  pub setting : Setting
+pub record IsSnapAt (setting : Setting) (count at : ℕ) (snap : SnapValue) : Type 0 where
   pub given : IsSetting setting
   pub history : List Event
   pub proved : IsProved setting history

@@ -13,6 +13,7 @@ use Rattle.move_messages.specs.declared.event.Event.{Event}
 use Rattle.move_messages.specs.declared.event.Event.TheVariants as event
 use Rattle.price_checker.specs.Snap.{SnapValue, named_pair}
 use Rattle.faults.specs.declared.faults.Refusal.{Refusal}
+use Rattle.commit_book.specs.Setting.{Setting}
 use Rattle.commit_book.specs.declared.reply.Reply.{Reply}
 use Rattle.commit_book.specs.declared.reply.Reply.TheVariants as reply
 use Rattle.sessions.specs.AnyBook.{IsSnapAt}
@@ -50,11 +51,11 @@ is_refused Nowhere = false
 
 -- ---- commands
 
--- an event brought to a seat: some book answers the call for this event, the seat has what that answer gives it, and the line
+-- an event brought to a seat: a book of this setting answers the call for it, the seat has what that answer gives it, and the line
 -- counts as that answer
-pub record IsSubmitted (old new : SeatValue) (event : Event) (counted : Counted) : Type 0 where
+pub record IsSubmitted (setting : Setting) (old new : SeatValue) (event : Event) (counted : Counted) : Type 0 where
   pub result : Result Reply Refusal
-  pub answered : session.IsSubmitted old new event result
+  pub answered : session.IsSubmitted setting old new event result
   pub counts : counted ≡ counted_by result
 
 -- the commit of a certificate of a snapshot's problem, over the network of its version
@@ -66,51 +67,51 @@ pub record IsPlansCommit (networks : List NetworkValue) (snap : SnapValue) (comm
   pub named : commit.pairs ≡ map (named_pair snap.problem) pairs
 
 -- a plan that was begun at a moment, and whose commit was brought to the seat
-pub record IsCommitted (networks : List NetworkValue) (old new : SeatValue) (at : ℕ) (counted : Counted) : Type 0 where
+pub record IsCommitted (setting : Setting) (old new : SeatValue) (at : ℕ) (counted : Counted) : Type 0 where
   pub snap : SnapValue
-  pub begun : IsSnapAt (count_of old) at snap
+  pub begun : IsSnapAt setting (count_of old) at snap
   pub commit : CommitText
-  pub is_commit : IsPlansCommit networks snap commit
-  pub submitted : IsSubmitted old new (event.Commit commit) counted
+  pub is_commit : IsPlansCommit setting.networks snap commit
+  pub submitted : IsSubmitted setting old new (event.Commit commit) counted
 
 -- nothing was done at the seat, and the line counts as refused
 abbrev pub IsTurnedAway : (old new : SeatValue) → Counted → Type 0
 IsTurnedAway old new counted = (new ≡ old) × (counted ≡ Refused)
 
 -- a plan line: its commit, or the begin or the planning was refused
-abbrev pub IsPlannedIn : List NetworkValue → (old new : SeatValue) → (at : ℕ) → Counted → Type 0
-IsPlannedIn networks old new at counted = IsCommitted networks old new at counted ⊎ IsTurnedAway old new counted
+abbrev pub IsPlannedIn : Setting → (old new : SeatValue) → (at : ℕ) → Counted → Type 0
+IsPlannedIn setting old new at counted = IsCommitted setting old new at counted ⊎ IsTurnedAway old new counted
 
 -- a begin counts where it is refused; else the problem of a version was begun, and it counts nowhere
-abbrev pub IsBegunIn : (old new : SeatValue) → (at : ℕ) → Counted → Type 0
-IsBegunIn old new at counted = (new ≡ old) × ((counted ≡ Refused) ⊎ ((counted ≡ Nowhere) × (snap : SnapValue) × IsSnapAt (count_of old) at snap))
+abbrev pub IsBegunIn : Setting → (old new : SeatValue) → (at : ℕ) → Counted → Type 0
+IsBegunIn setting old new at counted = (new ≡ old) × ((counted ≡ Refused) ⊎ ((counted ≡ Nowhere) × (snap : SnapValue) × IsSnapAt setting (count_of old) at snap))
 
 -- what a command does at a seat, and what its line counts as; a sheet counts nowhere
-abbrev pub IsTakenIn : List NetworkValue → (old new : SeatValue) → Command → Counted → Type 0
-IsTakenIn networks old new (command.Event event) counted = IsSubmitted old new event counted
-IsTakenIn networks old new (command.Begin at) counted = IsBegunIn old new at counted
-IsTakenIn networks old new (command.Plan at) counted = IsPlannedIn networks old new at counted
-IsTakenIn networks old new command.Sheet counted = (new ≡ old) × (counted ≡ Nowhere)
+abbrev pub IsTakenIn : Setting → (old new : SeatValue) → Command → Counted → Type 0
+IsTakenIn setting old new (command.Event event) counted = IsSubmitted setting old new event counted
+IsTakenIn setting old new (command.Begin at) counted = IsBegunIn setting old new at counted
+IsTakenIn setting old new (command.Plan at) counted = IsPlannedIn setting old new at counted
+IsTakenIn setting old new command.Sheet counted = (new ≡ old) × (counted ≡ Nowhere)
 
 -- ---- lines
 
 -- A line that is read so: what its command asks for is taken in. A line that is no command is turned away, and so is one
 -- for whose reading memory is refused, which may be any.
-abbrev pub IsReadIn : List NetworkValue → (old new : SeatValue) → Result Command LineFault → Counted → Type 0
-IsReadIn networks old new (Ok asked) counted = IsTakenIn networks old new asked counted ⊎ IsTurnedAway old new counted
-IsReadIn networks old new (Err fault) counted = IsTurnedAway old new counted
+abbrev pub IsReadIn : Setting → (old new : SeatValue) → Result Command LineFault → Counted → Type 0
+IsReadIn setting old new (Ok asked) counted = IsTakenIn setting old new asked counted ⊎ IsTurnedAway old new counted
+IsReadIn setting old new (Err fault) counted = IsTurnedAway old new counted
 
 -- what a line that isn't blank does at a seat, and what it counts as
-abbrev pub IsLineTaken : List NetworkValue → (old new : SeatValue) → (line : List ℕ) → Counted → Type 0
-IsLineTaken networks old new line counted = IsReadIn networks old new (command_of line) counted
+abbrev pub IsLineTaken : Setting → (old new : SeatValue) → (line : List ℕ) → Counted → Type 0
+IsLineTaken setting old new line counted = IsReadIn setting old new (command_of line) counted
 
 -- Lines, one after the other, take a seat from one state to another, and this is what each counts as that isn't blank. A
 -- blank line does nothing.
-pub data AreTaken (networks : List NetworkValue) : (old new : SeatValue) → (lines : List (List ℕ)) → List Counted → Type 0 where
-  no_line : {seat : SeatValue} → AreTaken networks seat seat [] []
-  blank_line : {old new : SeatValue} {line : List ℕ} {lines : List (List ℕ)} {counts : List Counted} → is_blank line ≡ true → AreTaken networks old new lines counts → AreTaken networks old new (line ∷ lines) counts
-  one_line : {old new : SeatValue} {line : List ℕ} {lines : List (List ℕ)} {counts : List Counted} (between : SeatValue) (counted : Counted) → is_blank line ≡ false → IsLineTaken networks old between line counted
-      → AreTaken networks between new lines counts → AreTaken networks old new (line ∷ lines) (counted ∷ counts)
+pub data AreTaken (setting : Setting) : (old new : SeatValue) → (lines : List (List ℕ)) → List Counted → Type 0 where
+  no_line : {seat : SeatValue} → AreTaken setting seat seat [] []
+  blank_line : {old new : SeatValue} {line : List ℕ} {lines : List (List ℕ)} {counts : List Counted} → is_blank line ≡ true → AreTaken setting old new lines counts → AreTaken setting old new (line ∷ lines) counts
+  one_line : {old new : SeatValue} {line : List ℕ} {lines : List (List ℕ)} {counts : List Counted} (between : SeatValue) (counted : Counted) → is_blank line ≡ false → IsLineTaken setting old between line counted
+      → AreTaken setting between new lines counts → AreTaken setting old new (line ∷ lines) (counted ∷ counts)
 
 -- ---- files
 
@@ -134,12 +135,12 @@ pub record AreDone (told left : Option (List ℕ)) (failed : Option ℕ) (lines 
 
 -- What a file's lines did at a seat: those that were done took it there from a new seat, which has a receipt for each that
 -- counts as accepted, and so many count as repeated and as refused.
-pub record IsSeatFed (networks : List NetworkValue) (told left : Option (List ℕ)) (failed : Option ℕ) (seat : SeatValue) (repeated refused : ℕ) : Type 0 where
+pub record IsSeatFed (setting : Setting) (told left : Option (List ℕ)) (failed : Option ℕ) (seat : SeatValue) (repeated refused : ℕ) : Type 0 where
   pub lines : List (List ℕ)
   pub done : AreDone told left failed lines
   pub number : ℕ
   pub counts : List Counted
-  pub taken : AreTaken networks (new_seat number) seat lines counts
+  pub taken : AreTaken setting (new_seat number) seat lines counts
   pub counts_accepted : count_of seat ≡ count_by is_accepted counts
   pub counts_repeated : repeated ≡ count_by is_repeated counts
   pub counts_refused : refused ≡ count_by is_refused counts

@@ -4,11 +4,11 @@ use Rattle.std.specs.List.{count_by}
 use Rattle.std.specs.Io.KnownBytes.{Consumes, IsAtEnd}
 use Rattle.line_fields.specs.declared.fault.LineFault.{LineFault}
 use Rattle.line_engine.specs.Lines.{is_blank, lines_of, max_input_lines, max_line_bytes}
-use Rattle.line_network.specs.Network.{NetworkValue}
 use Rattle.line_fields.specs.Commands.{command_of}
 use Rattle.line_fields.specs.declared.command.Command.{Command}
 use Rattle.line_fields.specs.declared.command.Command.TheVariants as command
 use Rattle.move_messages.specs.declared.event.Event.{Event}
+use Rattle.commit_book.specs.Setting.{Setting}
 use Rattle.sessions.specs.Closing.{HasEntries}
 use Rattle.sessions.specs.Seat.{SeatValue, count_of}
 use Rattle.sessions.specs.FedLines.{IsSeatFed}
@@ -53,10 +53,10 @@ pub record IsFileRun (told left : Option (List ℕ)) (tally : ℕ) (failed : Opt
   pub unread : failed ≡ Some 93 → has_failed ≡ true
 
 -- What became of a file over this reader, where readers tell their bytes and their failures so: its run, and what its lines
--- did at a seat whose every receipt is an entry of this history.
-pub record IsFed {R : Type 0} (networks : List NetworkValue) (history : List Event) (remaining : R → Option (List ℕ)) (has_failed : R → Bool) (reader : R) (file : FileCount R) : Type 0 where
+-- did at a seat of a shared book of this setting whose every receipt is an entry of this history.
+pub record IsFed {R : Type 0} (setting : Setting) (history : List Event) (remaining : R → Option (List ℕ)) (has_failed : R → Bool) (reader : R) (file : FileCount R) : Type 0 where
   pub run : IsFileRun (remaining reader) (remaining file.reader) (file.accepted + file.repeated + file.refused) file.failed (has_failed file.reader)
   pub seat : SeatValue
-  pub lines : IsSeatFed networks (remaining reader) (remaining file.reader) file.failed seat file.repeated file.refused
+  pub lines : IsSeatFed setting (remaining reader) (remaining file.reader) file.failed seat file.repeated file.refused
   pub accepted : file.accepted ≡ count_of seat
   pub entries : HasEntries history seat

@@ -3,9 +3,9 @@ use Rattle.std.specs.Prelude.{◌≡◌, ◌≤◌, ℕ, Bool, false, List, [], 
 use Rattle.std.specs.List.{AllZip, sum_by}
 use Rattle.std.specs.declared.alloc.Global.{Global}
 use Rattle.line_engine.specs.Lines.{max_files}
-use Rattle.line_network.specs.Network.{NetworkValue}
 use Rattle.commit_book.specs.Books.{BookValue}
 use Rattle.commit_book.specs.Headline.{IsProved}
+use Rattle.commit_book.specs.Setting.{Setting}
 use Rattle.sessions.specs.FeedCounts.{IsFed}
 use Rattle.sessions.specs.declared.feed_report.FeedReport.{FeedReport}
 
@@ -16,9 +16,10 @@ pub record MayBeFed {R : Type 0} (has_failed : R → Bool) (readers : Vec R Glob
   pub fresh : All (λ reader. has_failed reader ≡ false) readers.items
   pub no_entry : book.state.history ≡ []
 
--- What became of the files over these readers; their accepted lines add up to the entries of the book; and its history is as
--- the headline says.
-pub record IsFeedReport {R : Type 0} (networks : List NetworkValue) (remaining : R → Option (List ℕ)) (has_failed : R → Bool) (readers : List R) (report : FeedReport R) : Type 0 where
-  pub files : AllZip (IsFed networks report.book.state.history remaining has_failed) readers report.files.items
+-- What became of the files over these readers. The book that is handed back is one of this setting; the accepted lines of the
+-- files add up to its entries; and its history is as the headline says.
+pub record IsFeedReport {R : Type 0} (setting : Setting) (remaining : R → Option (List ℕ)) (has_failed : R → Bool) (readers : List R) (report : FeedReport R) : Type 0 where
+  pub files : AllZip (IsFed setting report.book.state.history remaining has_failed) readers report.files.items
   pub entries : sum_by (λ file. file.accepted) report.files.items ≡ length report.book.state.history
-  pub proved : IsProved report.book.setting report.book.state.history
+  pub own : report.book.setting ≡ setting
+  pub proved : IsProved setting report.book.state.history

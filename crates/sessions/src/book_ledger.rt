@@ -1,16 +1,16 @@
 //! The ledger of a shared book.
-ghost use Rattle.std.specs.Prelude.{List, []};
-ghost use Rattle.line_network.specs.Network.{NetworkValue};
+ghost use Rattle.std.specs.Prelude.{[]};
+ghost use Rattle.commit_book.specs.Setting.{Setting};
 
 use std::marker::Brand;
 use std::sync::ledger::Ledger;
 
-/// The ledger of a shared book. It stands for the networks of that book, too, so that a contract can name them while it can't
-/// name the book behind the lock.
+/// The ledger of a shared book. It stands for the setting of that book, too: its first office, networks and limits. So a contract
+/// can name the setting, while it can't name the book behind the lock.
 pub trait BookLedger: Ledger {
-    ghost networks: { List NetworkValue };
+    ghost setting: { Setting };
 }
 
 impl BookLedger for Brand {
-    ghost networks = { [] };
+    ghost setting = { record { first = record { wagons = []; orders = []; network = 0 }; networks = []; entries = 0; kept = 0 } };
 }

@@ -14,8 +14,8 @@ use std::sync::ledger::Share;
 use std::thread;
 use std::thread::Threads;
 
-/// Closes a shared book, and answers its book: as many entries as all seats have receipts, and each receipt's event is the
-/// entry of its number.
+/// Closes a shared book, and answers its book: it has the setting that it was opened with and as many entries as all seats have
+/// receipts, and each receipt's event is the entry of its number.
 ///
 /// The first of these is answered: `SeatsMissing` (95), exactly where fewer seats come than the shared book was opened with;
 /// shared book and seats are handed back. `ReceiptLost` (96), only where the entry of a receipt is not its event; the book,
@@ -24,9 +24,10 @@ pub fn close<L: BookLedger>(
     shared: SharedBook<L>,
     seats: Vec<Seat<L>>,
 ) -> Result<Book, CloseFault<L>>
+    ensures setting { IfOk result (λ book. book.setting ≡ L.setting) }
     ensures counts { IfOk result (λ book. length book.state.history ≡ sum_by count_of seats.items) }
     ensures receipts { IfOk result (λ book. All (HasEntries book.state.history) seats.items) }
-    ensures fault { IfErr result (IsHandedBack shared seats) }
+    ensures fault { IfErr result (IsHandedBack L.setting shared seats) }
     ensures missing { IsMissing result shared seats.items }
 {
     let (book, seats) = audited(shared, seats)?;
@@ -43,9 +44,10 @@ pub(crate) fn close_by_threads<L: BookLedger, T: Threads>(
     shared: SharedBook<L>,
     seats: Vec<Seat<L>>,
 ) -> Result<Book, CloseFault<L>>
+    ensures setting { IfOk result (λ book. book.setting ≡ L.setting) }
     ensures counts { IfOk result (λ book. length book.state.history ≡ sum_by count_of seats.items) }
     ensures receipts { IfOk result (λ book. All (HasEntries book.state.history) seats.items) }
-    ensures fault { IfErr result (IsHandedBack shared seats) }
+    ensures fault { IfErr result (IsHandedBack L.setting shared seats) }
     ensures missing { IsMissing result shared seats.items }
 {
     let (book, seats) = audited(shared, seats)?;
@@ -62,6 +64,7 @@ fn audited<L: BookLedger>(
     seats: Vec<Seat<L>>,
 ) -> Result<(Book, Vec<Seat<L>>), CloseFault<L>>
     ensures seats { IfOk result (λ parts. parts.1 ≡ seats) }
+    ensures setting { IfOk result (λ parts. parts.0.setting ≡ L.setting) }
     ensures counts { IfOk result (λ parts. length parts.0.state.history ≡ sum_by count_of seats.items) }
     ensures all { IfOk result (λ parts. shared.seats ≤ length seats.items) }
     ensures missing { IfErr result (λ fault. IsTooFew shared seats fault) }
@@ -78,7 +81,6 @@ fn audited<L: BookLedger>(
         book,
         mut total,
         mut rest,
-        has_ledgers_networks: _,
     } = book.into_inner();
     let mut seats = seats;
     audit_all(&mut total, &mut rest, &mut seats);

@@ -1,5 +1,5 @@
 //! The book behind the lock.
-ghost use Rattle.std.specs.Prelude.{◌≡◌, ◌≤◌, ◌<◌, ◌+◌, Err, IfOk, IfSome, IsTrue, length};
+ghost use Rattle.std.specs.Prelude.{◌≡◌, ◌≤◌, ◌<◌, ◌+◌, Err, IfOk, IfSome, length};
 ghost use Rattle.commit_book.specs.BookStep.{IsCall};
 ghost use Rattle.commit_book.specs.Books.{IsNoEntry, answer_of, begun_of, IsSetting};
 ghost use Rattle.commit_book.specs.Headline.{IsProved};
@@ -26,16 +26,14 @@ pub(crate) struct CountedBook<L: BookLedger> {
     pub(crate) total: ledger::Book<L>,
     /// A share that has no part, into which those of the seats are merged when the shared book closes.
     pub(crate) rest: Share<L>,
-    /// Whether the ledger is known to stand for the networks of the book.
-    pub(crate) has_ledgers_networks: bool,
     ghost counted: { length book.state.history ≡ total.total },
-    ghost over: { IsTrue has_ledgers_networks → book.setting.networks ≡ L.networks },
+    ghost own: { book.setting ≡ L.setting },
     ghost no_part: { rest.parts ≡ 0 },
 }
 
 impl<L: BookLedger> CountedBook<L> {
     /// Lets an event of a seat be taken in by the book, and counts it on the seat's share if it was accepted. With a commit
-    /// may come what was made of a problem over the ledger's networks.
+    /// may come what was made of a problem over the book's networks.
     pub(crate) fn enter(
         &mut self,
         alloc: Global,
@@ -44,17 +42,15 @@ impl<L: BookLedger> CountedBook<L> {
         made: Option<Arc<MadeProblem>>,
     ) -> Result<Reply, Refusal>
         requires parts { 0 < share.old.parts }
-        requires made { IfSome made (λ made. IsMadeAmong L.networks made.value) }
-        ensures entered { IsEnteredBy self.old.book self.new.book share.old.amount share.new.amount event result }
+        requires made { IfSome made (λ made. IsMadeAmong L.setting.networks made.value) }
+        ensures entered { IsEnteredBy L.setting self.old.book.state self.new.book.state share.old.amount share.new.amount event result }
         ensures parts { share.new.parts ≡ share.old.parts }
     {
         self.audit(share);
-        let made = self.known(made);
         let CountedBook {
             book,
             total,
             rest: _,
-            has_ledgers_networks: _,
         } = self;
         let answer = book.submit_with(alloc, event, made);
         book.for_the_prover();
@@ -74,7 +70,7 @@ impl<L: BookLedger> CountedBook<L> {
         index: Option<usize>,
     ) -> Result<Reply, Refusal>
         requires { 0 < share.old.parts }
-        ensures entered { IsEnteredBy self.old.book self.new.book share.old.amount share.new.amount (event.Message message.now) result }
+        ensures entered { IsEnteredBy L.setting self.old.book.state self.new.book.state share.old.amount share.new.amount (event.Message message.now) result }
         ensures parts { share.new.parts ≡ share.old.parts }
     {
         self.audit(share);
@@ -82,7 +78,6 @@ impl<L: BookLedger> CountedBook<L> {
             book,
             total,
             rest: _,
-            has_ledgers_networks: _,
         } = self;
         match book.message_near(message, index) {
             Ok(reply) => {
@@ -100,7 +95,7 @@ impl<L: BookLedger> CountedBook<L> {
         share: &mut Share<L>,
         event: &Event,
     ) -> Result<Reply, Refusal>
-        ensures answered { IsBooksAnswer share.old.amount event.now result }
+        ensures answered { IsBooksAnswer L.setting share.old.amount event.now result }
         ensures no_entry { IsNoEntry result }
         ensures amount { share.new.amount ≡ share.old.amount }
         ensures parts { share.new.parts ≡ share.old.parts }
@@ -115,24 +110,12 @@ impl<L: BookLedger> CountedBook<L> {
         share: &mut Share<L>,
         commit: &CommitText,
     ) -> Refusal
-        ensures answered { IsBooksAnswer share.old.amount (event.Commit commit.now) (Err result) }
+        ensures answered { IsBooksAnswer L.setting share.old.amount (event.Commit commit.now) (Err result) }
         ensures amount { share.new.amount ≡ share.old.amount }
         ensures parts { share.new.parts ≡ share.old.parts }
     {
         self.audit(share);
         self.book.commit_without_memory(commit)
-    }
-
-    /// What was made of a problem over the ledger's networks, where these are known to be the book's.
-    fn known(&self, made: Option<Arc<MadeProblem>>) -> Option<Arc<MadeProblem>>
-        requires { IfSome made (λ made. IsMadeAmong L.networks made.value) }
-        ensures { IfSome result (λ made. IsMadeAmong self.now.book.setting.networks made.value) }
-    {
-        if self.has_ledgers_networks {
-            made
-        } else {
-            None
-        }
     }
 
     /// The problem of the book's present version at a moment, which the book keeps. The seat's count is at most the
@@ -143,11 +126,11 @@ impl<L: BookLedger> CountedBook<L> {
         share: &mut Share<L>,
         at: Moment,
     ) -> Result<Snap, AllocError>
-        ensures call { IsCall self.old.book.setting self.old.book.state (call.Begin at) (begun_of result) self.new.book.state }
-        ensures given { IsSetting self.old.book.setting }
-        ensures proved { IsProved self.old.book.setting self.old.book.state.history }
+        ensures call { IsCall L.setting self.old.book.state (call.Begin at) (begun_of result) self.new.book.state }
+        ensures given { IsSetting L.setting }
+        ensures proved { IsProved L.setting self.old.book.state.history }
         ensures within { share.old.amount ≤ length self.old.book.state.history }
-        ensures snap { IfOk result (λ snap. snap ≡ snap_of self.old.book.setting self.old.book.state.history at) }
+        ensures snap { IfOk result (λ snap. snap ≡ snap_of L.setting self.old.book.state.history at) }
         ensures version { IfOk result (λ snap. share.old.amount ≤ snap.version) }
         ensures amount { share.new.amount ≡ share.old.amount }
         ensures parts { share.new.parts ≡ share.old.parts }
@@ -159,8 +142,8 @@ impl<L: BookLedger> CountedBook<L> {
     /// Holds a seat's share against the total, which changes nothing: the book was given what a book can be given, and its
     /// history is as the headline says and has at least as many entries as the seat has receipts.
     fn audit(&mut self, share: &mut Share<L>)
-        ensures given { IsSetting self.old.book.setting }
-        ensures proved { IsProved self.old.book.setting self.old.book.state.history }
+        ensures given { IsSetting L.setting }
+        ensures proved { IsProved L.setting self.old.book.state.history }
         ensures within { share.old.amount ≤ length self.old.book.state.history }
         ensures book { self.new.book ≡ self.old.book }
         ensures amount { share.new.amount ≡ share.old.amount }

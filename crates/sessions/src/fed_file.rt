@@ -24,17 +24,16 @@ pub(crate) struct FedFile<L: BookLedger, R> {
     pub(crate) reader: R,
 }
 
-/// What a file's thread is given: the networks over which plans are made, and the file's reader before its first line.
+/// What a file's thread is given: the file's reader before its first line.
 #[derive(Drop)]
 pub(crate) struct FileOf<R> {
-    pub(crate) networks: Snapshot<Networks>,
     pub(crate) reader: Snapshot<R>,
 }
 
 impl<L: BookLedger, R: Source> Promise<FedFile<L, R>> for FileOf<R> {
     ghost use Rattle.sessions.specs.inner.Fed.{IsFedFile};
 
-    ghost kept_by = { λ before file. IsFedFile before.networks.value R.remaining R.has_failed before.reader.value file };
+    ghost kept_by = { λ before file. IsFedFile L.setting R.remaining R.has_failed before.reader.value file };
 }
 
 /// The number of what stopped a run before its reader's end.
@@ -58,8 +57,8 @@ pub(crate) fn fed_file<'a, W: Wait, L: BookLedger, R: Source>(
 ) -> FedFile<L, R>
     requires fresh { R.has_failed reader ≡ false }
     requires new { count_of seat ≡ 0 }
-    requires over { networks.now ≡ L.networks }
-    ensures { IsFedFile networks.now R.remaining R.has_failed reader result }
+    requires over { networks.now ≡ L.setting.networks }
+    ensures { IsFedFile L.setting R.remaining R.has_failed reader result }
 {
     let mut reader = reader;
     let file = FileSeat {

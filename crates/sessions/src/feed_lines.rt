@@ -65,7 +65,6 @@ impl<'a, L: BookLedger> FileSeat<'a, L> {
         ensures repeated { Adds (is_repeated counted) self.old.repeated self.new.repeated }
         ensures refused { Adds (is_refused counted) self.old.refused self.new.refused }
         ensures seat { self.new.seat ≡ self.old.seat }
-        ensures networks { self.new.networks.now ≡ self.old.networks.now }
     {
         match counted {
             Counted::Repeated => self.repeated = self.repeated.saturating_add(1),
@@ -195,8 +194,8 @@ impl<'a, W: Wait, L: BookLedger> FeedLines<'a, W, L> {
         seat: &mut Seat<L>,
         command: Command,
     ) -> Counted
-        requires { networks.now ≡ L.networks }
-        ensures { IsTakenIn networks.now seat.old seat.new command result }
+        requires { networks.now ≡ L.setting.networks }
+        ensures { IsTakenIn L.setting seat.old seat.new command result }
     {
         match command {
             Command::Event(event) => self.submit(alloc, seat, event),
@@ -211,7 +210,7 @@ impl<'a, W: Wait, L: BookLedger> FeedLines<'a, W, L> {
 
     /// Submits an event at a seat.
     fn submit(&self, alloc: Global, seat: &mut Seat<L>, event: Event) -> Counted
-        ensures { IsSubmitted seat.old seat.new event result }
+        ensures { IsSubmitted L.setting seat.old seat.new event result }
     {
         counted_as(self.shared.submit(self.rt, alloc, seat, event))
     }
@@ -219,8 +218,8 @@ impl<'a, W: Wait, L: BookLedger> FeedLines<'a, W, L> {
     /// Begins at a moment, plans with no lock held, and commits what was planned. It counts as the commit's answer, or as
     /// refused where the begin or the planning was.
     fn plan(&self, alloc: Global, networks: &Networks, seat: &mut Seat<L>, at: Moment) -> Counted
-        requires { networks.now ≡ L.networks }
-        ensures { IsPlannedIn networks.now seat.old seat.new at result }
+        requires { networks.now ≡ L.setting.networks }
+        ensures { IsPlannedIn L.setting seat.old seat.new at result }
     {
         let Ok(snap) = self.shared.begin(self.rt, alloc, seat, at) else {
             return Counted::Refused;
@@ -233,8 +232,8 @@ impl<'a, W: Wait, L: BookLedger> FeedLines<'a, W, L> {
 
     /// Submits the commit of a plan at a seat. Its table comes along, so that none is made while the lock is held.
     fn commit(&self, alloc: Global, seat: &mut Seat<L>, planned: Planned) -> Counted
-        requires { IsMadeAmong L.networks planned.made.value }
-        ensures { IsSubmitted seat.old seat.new (event.Commit planned.commit) result }
+        requires { IsMadeAmong L.setting.networks planned.made.value }
+        ensures { IsSubmitted L.setting seat.old seat.new (event.Commit planned.commit) result }
     {
         let Planned { commit, made } = planned;
         let event = Event::Commit(commit);

@@ -1,16 +1,15 @@
 //! Several files, fed to one book by a thread each.
-ghost use Rattle.std.specs.Prelude.{◌≡◌, ◌≤◌, [], All, IfOk, false, length, map, vec_len, vec_capacity};
+ghost use Rattle.std.specs.Prelude.{◌≡◌, ◌≤◌, [], All, IfErr, IfOk, false, length, map, vec_len, vec_capacity};
 ghost use Rattle.std.specs.List.{sum_by};
 ghost use Rattle.commit_book.specs.Headline.{IsProved};
 ghost use Rattle.sessions.specs.Closing.{HasEntries};
 ghost use Rattle.sessions.specs.Seat.{count_of};
 ghost use Rattle.sessions.specs.FeedReports.{IsFeedReport, MayBeFed};
-ghost use Rattle.sessions.specs.inner.Fed.{AreFed, AreToStart, HasRoom, IsFedFile, handed_to, given_with};
+ghost use Rattle.sessions.specs.inner.Fed.{AreFed, AreToStart, HasRoom, IsFedFile, IsReceiptLost, handed_to};
 
 use crate::closing::close_by_threads;
 use crate::fed_file::{FedFile, FileOf, fed_file};
-use crate::opening::open_with;
-use crate::{BookLedger, CloseFault, FeedFault, FeedReport, FileCount, Seat, SharedBook};
+use crate::{BookLedger, CloseFault, FeedFault, FeedReport, FileCount, Seat, SharedBook, open};
 use commit_book::Book;
 use line_engine::Source;
 use line_network::Networks;
@@ -58,8 +57,8 @@ struct Fed<L: BookLedger, R> {
 /// counts as refused. A file stops at 1,000,001 lines (91), at a line of over 65,536 bytes (92), where its reader fails (93),
 /// or where memory is refused before its first line (1); the other files go on.
 ///
-/// Lines count in the file's order, each by the answer that some book gives to its own event. An accepted one gives the
-/// file's seat a receipt, and each receipt is an entry of the book that is handed back.
+/// Lines count in the file's order, each by the answer that a book of the same setting gives to its own event. An accepted one
+/// gives the file's seat a receipt, and each receipt is an entry of the book that is handed back, whose setting stays.
 ///
 /// Refused with `OutOfMemory` (1) before any thread is started; with `NoThread` (46) where no thread could be started for a
 /// file, after those that ran have ended; with `ReceiptLost` (96) as `close` says. May wait.
@@ -70,7 +69,7 @@ pub fn feed<T: Threads + Wait + Sync, R: Source + Send + Drop>(
     book: Book,
 ) -> Result<FeedReport<R>, FeedFault>
     requires given { MayBeFed R.has_failed readers book }
-    ensures report { IfOk result (IsFeedReport book.setting.networks R.remaining R.has_failed readers.items) }
+    ensures report { IfOk result (IsFeedReport book.setting R.remaining R.has_failed readers.items) }
 {
     let Ok(networks) = Arc::try_clone(book.networks()) else {
         return Err(FeedFault::OutOfMemory);
@@ -92,15 +91,15 @@ fn feed_by<L: BookLedger + Send + Sync, T: Threads + Wait + Sync, R: Source + Se
     requires parts { blank.parts ≡ L.parts }
     requires one_each { blank.parts ≡ vec_len readers }
     requires given { MayBeFed R.has_failed readers book }
-    requires own { networks.now ≡ book.setting.networks }
-    requires over { networks.now ≡ L.networks }
-    ensures report { IfOk result (IsFeedReport networks.now R.remaining R.has_failed readers.items) }
+    requires own { book.setting ≡ L.setting }
+    requires over { networks.now ≡ L.setting.networks }
+    ensures report { IfOk result (IsFeedReport L.setting R.remaining R.has_failed readers.items) }
 {
     let count = readers.len();
     let Ok(room) = Room::new(alloc, count) else {
         return Err(FeedFault::OutOfMemory);
     };
-    let Ok((shared, seats)) = open_with::<L>(alloc, blank, book, count as u32, true) else {
+    let Ok((shared, seats)) = open::<L>(alloc, blank, book, count as u32) else {
         return Err(FeedFault::OutOfMemory);
     };
     let feeding = Feeding {
@@ -141,8 +140,8 @@ fn fed_in_threads<L: BookLedger + Send + Sync, T: Threads + Wait + Sync, R: Sour
 ) -> Result<Fed<L, R>, FeedFault>
     requires ready { AreToStart R.has_failed readers seats room.running }
     requires room { HasRoom (vec_len readers) room.files room.seats }
-    requires over { feeding.networks.now ≡ L.networks }
-    ensures { IfOk result (λ fed. AreFed R.remaining R.has_failed (map (given_with feeding.entry.networks.now) readers.items) fed.files.items fed.seats.items) }
+    requires over { feeding.networks.now ≡ L.setting.networks }
+    ensures { IfOk result (λ fed. AreFed L.setting R.remaining R.has_failed readers.items fed.files.items fed.seats.items) }
 {
     let Feeding {
         rt,
@@ -156,8 +155,8 @@ fn fed_in_threads<L: BookLedger + Send + Sync, T: Threads + Wait + Sync, R: Sour
         |scope| -> Result<Fed<L, R>, FeedFault>
             requires ready { AreToStart R.has_failed readers seats room.running }
             requires room { HasRoom (vec_len readers) room.files room.seats }
-            requires over { networks.now ≡ L.networks }
-            ensures { IfOk result (λ fed. AreFed R.remaining R.has_failed (map (given_with networks.entry.now) readers.items) fed.files.items fed.seats.items) }
+            requires over { networks.now ≡ L.setting.networks }
+            ensures { IfOk result (λ fed. AreFed L.setting R.remaining R.has_failed readers.items fed.files.items fed.seats.items) }
         {
             let Room {
                 running,
@@ -196,8 +195,8 @@ fn started<
     running: Vec<Running<L, R>>,
 ) -> Result<Vec<Running<L, R>>, Vec<Running<L, R>>>
     requires ready { AreToStart R.has_failed readers seats running }
-    requires over { feeding.networks.now ≡ L.networks }
-    ensures { IfOk result (λ running. map (λ handle. handed_to handle.promise) running.items ≡ map (given_with feeding.entry.networks.now) readers.items) }
+    requires over { feeding.networks.now ≡ L.setting.networks }
+    ensures { IfOk result (λ running. map (λ handle. handed_to handle.promise) running.items ≡ readers.items) }
 {
     let Feeding {
         rt,
@@ -212,14 +211,13 @@ fn started<
             unreachable!()
         };
         let before = FileOf {
-            networks: Snapshot::of(networks),
             reader: Snapshot::of(&reader),
         };
         let work = move || -> FedFile<L, R>
             requires fresh { R.has_failed reader ≡ false }
             requires new { count_of seat ≡ 0 }
-            requires over { networks.now ≡ L.networks }
-            ensures { IsFedFile networks.entry.now R.remaining R.has_failed reader result }
+            requires over { networks.now ≡ L.setting.networks }
+            ensures { IsFedFile L.setting R.remaining R.has_failed reader result }
         { fed_file(rt, alloc, shared, networks, seat, reader) };
         match scope.spawn_with(before, work) {
             Ok(handle) => running.push_reserved(handle),
@@ -237,7 +235,7 @@ fn gathered<L: BookLedger, T: Threads, R: Source + Drop>(
     seats: Vec<Seat<L>>,
 ) -> Fed<L, R>
     requires { HasRoom (vec_len running) files seats }
-    ensures { AreFed R.remaining R.has_failed (map (λ handle. handed_to handle.promise) running.items) result.files.items result.seats.items }
+    ensures { AreFed L.setting R.remaining R.has_failed (map (λ handle. handed_to handle.promise) running.items) result.files.items result.seats.items }
 {
     let mut files = files;
     let mut seats = seats;
@@ -279,7 +277,9 @@ fn closed<L: BookLedger, T: Threads, R: Drop>(
     ensures files { IfOk result (λ report. report.files ≡ fed.files) }
     ensures receipts { IfOk result (λ report. All (HasEntries report.book.state.history) fed.seats.items) }
     ensures entries { IfOk result (λ report. length report.book.state.history ≡ sum_by count_of fed.seats.items) }
+    ensures own { IfOk result (λ report. report.book.setting ≡ L.setting) }
     ensures proved { IfOk result (λ report. IsProved report.book.setting report.book.state.history) }
+    ensures lost { IfErr result (IsReceiptLost fed.seats.items) }
 {
     let Fed { files, seats } = fed;
     match close_by_threads(rt, shared, seats) {

@@ -12,5 +12,5 @@ pub(crate) struct FileSeat<'a, L: BookLedger> {
     pub(crate) seat: Seat<L>,
     pub(crate) repeated: u64,
     pub(crate) refused: u64,
-    ghost over: { networks.now ≡ L.networks },
+    ghost over: { networks.now ≡ L.setting.networks },
 }

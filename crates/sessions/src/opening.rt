@@ -1,5 +1,5 @@
 //! How a shared book is opened.
-ghost use Rattle.std.specs.Prelude.{◌≡◌, ◌≤◌, [], IfErr, IfOk, IsTrue, vec_capacity};
+ghost use Rattle.std.specs.Prelude.{◌≡◌, ◌≤◌, [], IfErr, IfOk, vec_capacity};
 ghost use Rattle.sessions.specs.Seat.{IsSeatCount, new_seats};
 
 use crate::counted_book::CountedBook;
@@ -18,7 +18,8 @@ pub const MAX_SEATS: u32 = 64;
 const _: () = prove!(MAX_SEATS == 64);
 
 /// Opens a shared book over a book without entries, with so many seats, 1 to 64, numbered from 1. The blank is that of the
-/// ledger `L`, made with one part for each seat. Where memory is refused, blank and book are handed back.
+/// ledger `L`, made with one part for each seat; the ledger stands for the book's setting. Where memory is refused, blank and
+/// book are handed back.
 pub fn open<L: BookLedger>(
     alloc: Global,
     blank: Blank,
@@ -30,27 +31,7 @@ pub fn open<L: BookLedger>(
     requires one_each { blank.parts ≡ count }
     requires count { IsSeatCount count }
     requires no_entry { book.state.history ≡ [] }
-    ensures shared { IfOk result (λ opened. opened.0.seats ≡ count) }
-    ensures seats { IfOk result (λ opened. opened.1.items ≡ new_seats count) }
-    ensures handed_back { IfErr result (λ fault. (fault.blank ≡ blank) × (fault.book ≡ book)) }
-{
-    open_with(alloc, blank, book, count, false)
-}
-
-/// The same, where it may be known that the ledger stands for the networks of the book.
-pub(crate) fn open_with<L: BookLedger>(
-    alloc: Global,
-    blank: Blank,
-    book: Book,
-    count: u32,
-    has_ledgers_networks: bool,
-) -> Result<(SharedBook<L>, Vec<Seat<L>>), OpenFault>
-    requires ledger { blank.name ≡ L.name }
-    requires parts { blank.parts ≡ L.parts }
-    requires one_each { blank.parts ≡ count }
-    requires count { IsSeatCount count }
-    requires no_entry { book.state.history ≡ [] }
-    requires networks { IsTrue has_ledgers_networks → book.setting.networks ≡ L.networks }
+    requires setting { book.setting ≡ L.setting }
     ensures shared { IfOk result (λ opened. opened.0.seats ≡ count) }
     ensures seats { IfOk result (λ opened. opened.1.items ≡ new_seats count) }
     ensures handed_back { IfErr result (λ fault. (fault.blank ≡ blank) × (fault.book ≡ book)) }
@@ -63,12 +44,7 @@ pub(crate) fn open_with<L: BookLedger>(
     };
     let (total, mut rest) = blank.open::<L>();
     seat_all(alloc, &mut seats, &mut rest, count);
-    let book = Mutex::new(CountedBook {
-        book,
-        total,
-        rest,
-        has_ledgers_networks,
-    });
+    let book = Mutex::new(CountedBook { book, total, rest });
     Ok((
         SharedBook {
             book,

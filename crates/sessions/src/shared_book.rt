@@ -31,8 +31,8 @@ const PAUSES: u32 = 100;
 ///
 /// Each call of a seat takes the lock, makes one call of the book, and lets go; so each call may wait for others. What a
 /// call does to the book is what the book's own call of that name does. No contract can name the book behind the lock: it
-/// says that the answer is one that some book gives to this call, which was given what a book can be given, and whose
-/// history is as the headline says and has at least as many entries as the seat has receipts.
+/// says that the answer is one that a book of the same setting gives to this call, whose history is as the headline says and has
+/// at least as many entries as the seat has receipts.
 #[derive(Drop)]
 pub struct SharedBook<L: BookLedger> {
     pub(crate) book: Mutex<CountedBook<L>>,
@@ -63,7 +63,7 @@ impl<L: BookLedger> SharedBook<L> {
         seat: &mut Seat<L>,
         message: &Message,
     ) -> Result<Reply, Refusal>
-        ensures { IsSubmitted seat.old seat.new (event.Message message.now) result }
+        ensures { IsSubmitted L.setting seat.old seat.new (event.Message message.now) result }
     {
         self.send_near(rt, alloc, seat, message, self.index_of(message.wagon))
     }
@@ -77,7 +77,7 @@ impl<L: BookLedger> SharedBook<L> {
         message: &Message,
         index: Option<usize>,
     ) -> Result<Reply, Refusal>
-        ensures { IsSubmitted seat.old seat.new (event.Message message.now) result }
+        ensures { IsSubmitted L.setting seat.old seat.new (event.Message message.now) result }
     {
         // The receipt's room comes first, then the book's call while the lock is held, then the receipt: once the book has
         // taken the message nothing can fail.
@@ -110,7 +110,7 @@ impl<L: BookLedger> SharedBook<L> {
         seat: &mut Seat<L>,
         text: &OrderText,
     ) -> Result<Reply, Refusal>
-        ensures { IsSubmitted seat.old seat.new (event.Place text.now) result }
+        ensures { IsSubmitted L.setting seat.old seat.new (event.Place text.now) result }
     {
         self.submit(rt, alloc, seat, Event::Place(*text))
     }
@@ -124,7 +124,7 @@ impl<L: BookLedger> SharedBook<L> {
         seat: &mut Seat<L>,
         id: OrderId,
     ) -> Result<Reply, Refusal>
-        ensures { IsSubmitted seat.old seat.new (event.Withdraw id) result }
+        ensures { IsSubmitted L.setting seat.old seat.new (event.Withdraw id) result }
     {
         self.submit(rt, alloc, seat, Event::Withdraw(id))
     }
@@ -139,7 +139,7 @@ impl<L: BookLedger> SharedBook<L> {
         seat: &mut Seat<L>,
         network: u32,
     ) -> Result<Reply, Refusal>
-        ensures { IsSubmitted seat.old seat.new (event.Revise network) result }
+        ensures { IsSubmitted L.setting seat.old seat.new (event.Revise network) result }
     {
         self.submit(rt, alloc, seat, Event::Revise(network))
     }
@@ -153,7 +153,7 @@ impl<L: BookLedger> SharedBook<L> {
         seat: &mut Seat<L>,
         commit: &CommitText,
     ) -> Result<Reply, Refusal>
-        ensures { IsSubmitted seat.old seat.new (event.Commit commit.now) result }
+        ensures { IsSubmitted L.setting seat.old seat.new (event.Commit commit.now) result }
     {
         let Ok(copy) = commit.copy(alloc) else {
             let mut book = self.locked(rt);
@@ -173,7 +173,7 @@ impl<L: BookLedger> SharedBook<L> {
     ) -> Result<Snap, AllocError>
         ensures version { IfOk result (λ snap. count_of seat.old ≤ snap.version) }
         ensures moment { IfOk result (λ snap. snap.problem.at ≡ at) }
-        ensures book { IfOk result (IsSnapAt (count_of seat.old) at) }
+        ensures book { IfOk result (IsSnapAt L.setting (count_of seat.old) at) }
         ensures seat { seat.new ≡ seat.old }
     {
         self.locked(rt).begin(alloc, &mut seat.share, at)
@@ -188,7 +188,7 @@ impl<L: BookLedger> SharedBook<L> {
         seat: &mut Seat<L>,
         event: Event,
     ) -> Result<Reply, Refusal>
-        ensures { IsSubmitted seat.old seat.new event result }
+        ensures { IsSubmitted L.setting seat.old seat.new event result }
     {
         match event {
             Event::Message(message) => self.send(rt, alloc, seat, &message),
@@ -206,8 +206,8 @@ impl<L: BookLedger> SharedBook<L> {
         event: Event,
         made: Option<Arc<MadeProblem>>,
     ) -> Result<Reply, Refusal>
-        requires { IfSome made (λ made. IsMadeAmong L.networks made.value) }
-        ensures { IsSubmitted seat.old seat.new event result }
+        requires { IfSome made (λ made. IsMadeAmong L.setting.networks made.value) }
+        ensures { IsSubmitted L.setting seat.old seat.new event result }
     {
         // As in `send`, with the receipt's entry too before the call. An answer that gives no receipt needs none of that
         // memory.

@@ -4,7 +4,11 @@ use Rattle.std.specs.declared.alloc.Global.{Global}
 use Rattle.line_engine.specs.RunFault.{number_of}
 use Rattle.line_engine.specs.declared.run.RunCount.{RunCount}
 use Rattle.line_engine.specs.declared.run.RunFault.{RunFault}
-use Rattle.line_network.specs.Network.{NetworkValue}
+use Rattle.commit_book.specs.Setting.{Setting}
+use Rattle.faults.specs.declared.faults.FeedFault.{FeedFault}
+use Rattle.faults.specs.declared.faults.FeedFault.TheVariants.{ReceiptLost}
+use Rattle.move_messages.specs.declared.event.Event.{Event}
+use Rattle.sessions.specs.Closing.{IsLost}
 use Rattle.sessions.specs.Seat.{SeatValue, count_of}
 use Rattle.sessions.specs.FedLines.{IsSeatFed}
 use Rattle.sessions.specs.FeedCounts.{IsFileRun}
@@ -17,30 +21,33 @@ abbrev pub stop_number : Result RunCount RunFault → Option ℕ
 stop_number (Ok count) = None
 stop_number (Err fault) = Some (number_of fault)
 
--- what came of a file over this reader, whose plans are made over these networks, where readers tell their bytes and their
+-- what came of a file over this reader, at a seat of a shared book of this setting, where readers tell their bytes and their
 -- failures so
-pub record IsFedFile {L R : Type 0} (networks : List NetworkValue) (remaining : R → Option (List ℕ)) (has_failed : R → Bool) (reader : R) (file : FedFile L R) : Type 0 where
+pub record IsFedFile {L R : Type 0} (setting : Setting) (remaining : R → Option (List ℕ)) (has_failed : R → Bool) (reader : R) (file : FedFile L R) : Type 0 where
   pub run : IsFileRun (remaining reader) (remaining file.reader) (count_of file.seat + file.repeated + file.refused) file.failed (has_failed file.reader)
-  pub lines : IsSeatFed networks (remaining reader) (remaining file.reader) file.failed file.seat file.repeated file.refused
+  pub lines : IsSeatFed setting (remaining reader) (remaining file.reader) file.failed file.seat file.repeated file.refused
 
--- the networks and the reader that a thread was given
-abbrev pub handed_to : {R : Type 0} → FileOf R → List NetworkValue × R
-handed_to before = (before.networks.value, before.reader.value)
-
-abbrev pub given_with : {R : Type 0} → List NetworkValue → R → List NetworkValue × R
-given_with networks reader = (networks, reader)
+-- the reader that a thread was given
+abbrev pub handed_to : {R : Type 0} → FileOf R → R
+handed_to before = before.reader.value
 
 -- the same of a file's counts and its seat
-pub record IsCountOf {R : Type 0} (remaining : R → Option (List ℕ)) (has_failed : R → Bool) (given : List NetworkValue × R) (file : FileCount R) (seat : SeatValue) : Type 0 where
-  pub run : IsFileRun (remaining given.1) (remaining file.reader) (file.accepted + file.repeated + file.refused) file.failed (has_failed file.reader)
-  pub lines : IsSeatFed given.0 (remaining given.1) (remaining file.reader) file.failed seat file.repeated file.refused
+pub record IsCountOf {R : Type 0} (setting : Setting) (remaining : R → Option (List ℕ)) (has_failed : R → Bool) (reader : R) (file : FileCount R) (seat : SeatValue) : Type 0 where
+  pub run : IsFileRun (remaining reader) (remaining file.reader) (file.accepted + file.repeated + file.refused) file.failed (has_failed file.reader)
+  pub lines : IsSeatFed setting (remaining reader) (remaining file.reader) file.failed seat file.repeated file.refused
   pub accepted : file.accepted ≡ count_of seat
 
 -- so of each file
-pub data AreFed {R : Type 0} (remaining : R → Option (List ℕ)) (has_failed : R → Bool) : List (List NetworkValue × R) → List (FileCount R) → List SeatValue → Type 0 where
-  no_file : AreFed remaining has_failed [] [] []
-  one_file : {given : List NetworkValue × R} {file : FileCount R} {seat : SeatValue} {others : List (List NetworkValue × R)} {files : List (FileCount R)} {seats : List SeatValue}
-      → IsCountOf remaining has_failed given file seat → AreFed remaining has_failed others files seats → AreFed remaining has_failed (given ∷ others) (file ∷ files) (seat ∷ seats)
+pub data AreFed {R : Type 0} (setting : Setting) (remaining : R → Option (List ℕ)) (has_failed : R → Bool) : List R → List (FileCount R) → List SeatValue → Type 0 where
+  no_file : AreFed setting remaining has_failed [] [] []
+  one_file : {reader : R} {file : FileCount R} {seat : SeatValue} {others : List R} {files : List (FileCount R)} {seats : List SeatValue}
+      → IsCountOf setting remaining has_failed reader file seat → AreFed setting remaining has_failed others files seats
+      → AreFed setting remaining has_failed (reader ∷ others) (file ∷ files) (seat ∷ seats)
+
+-- the fault that a receipt of one of these seats is lost, which names its seat's number and its entry
+abbrev pub IsReceiptLost : List SeatValue → FeedFault → Type 0
+IsReceiptLost seats (ReceiptLost number entry) = (history : List Event) × IsLost history seats number entry
+IsReceiptLost seats fault = ⊥
 
 -- ---- before the threads are started
 

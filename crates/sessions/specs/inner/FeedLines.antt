@@ -25,10 +25,9 @@ Adds false old new = new ≡ old
 -- what a line that is read so does to a file's seat and counts
 pub record IsReadFed {L : Type 0} {g : Ghosts L} (old : FileSeat L g) (read : Result Command LineFault) (new : FileSeat L g) : Type 0 where
   pub counted : Counted
-  pub taken : IsReadIn old.networks.now old.seat new.seat read counted
+  pub taken : IsReadIn g.setting old.seat new.seat read counted
   pub repeated : Adds (is_repeated counted) old.repeated new.repeated
   pub refused : Adds (is_refused counted) old.refused new.refused
-  pub networks : new.networks.now ≡ old.networks.now
 
 -- so does an event
 abbrev pub IsEventFed : {L : Type 0} {g : Ghosts L} → (old : FileSeat L g) → Event → (new : FileSeat L g) → Type 0

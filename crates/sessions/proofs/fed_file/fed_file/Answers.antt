@@ -6,5 +6,5 @@ use Rattle.sessions.proofs.fed_file.fed_file.Goals as goal
 pub returns : goal.returns
 returns g c =
     let run = c.run_lines-run in
-    let fed = seat_fed c.args.networks.now _ _ _ refl c.requires.new refl refl c.new.ensures.items c.standard-limit.ensures c.submit_pending.ensures.fed run.result refl run.ensures.ok run.ensures.err in
-    rw c.stop_of-failed.ensures (record { run = file_run c.args.networks.now _ _ _ _ _ _ _ fed.0 fed.1 fed.2; lines = fed.0 })
+    let fed = seat_fed _ _ _ c.requires.new refl refl c.new.ensures.items c.standard-limit.ensures c.submit_pending.ensures.fed run.result refl run.ensures.ok run.ensures.err in
+    rw c.stop_of-failed.ensures (record { run = file_run g.L.BookLedger.setting _ _ _ _ _ _ _ fed.0 fed.1 fed.2; lines = fed.0 })

@@ -1,18 +1,16 @@
-use Rattle.std.proofs.Common.{◌∙◌, ap, arith, length}
-use Rattle.std.proofs.lemmas.List.{length-map}
-use Rattle.sessions.specs.inner.Fed.{given_with}
+use Rattle.std.proofs.Common.{ap, arith, length}
 use Rattle.sessions.proofs.FedFiles.{reported, seats_by}
 use Rattle.sessions.proofs.NewSeats.{length-new_seats, without_receipt}
 use Rattle.sessions.proofs.feeding.feed_by.Goals as goal
 
 pub fed_in_threads-requires-clause-ready : goal.fed_in_threads-requires-clause-ready
 fed_in_threads-requires-clause-ready g c κs within =
-    let seats = c.in-Ok-open_with.seats in
+    let seats = c.in-Ok-open.seats in
     let room = c.in-Ok.ensures.running in
     record {
       fresh = c.requires.given.fresh;
-      new = rw c.in-Ok-open_with.ensures.seats (without_receipt c.len-count.result);
-      one_each = omega (arith, ap length c.in-Ok-open_with.ensures.seats, length-new_seats c.len-count.result, seats.ok.0, c.len-count.ensures);
+      new = rw c.in-Ok-open.ensures.seats (without_receipt c.len-count.result);
+      one_each = omega (arith, ap length c.in-Ok-open.ensures.seats, length-new_seats c.len-count.result, seats.ok.0, c.len-count.ensures);
       none = room.0;
       room = omega (arith, room.1, c.len-count.ensures);
     }
@@ -20,11 +18,11 @@ fed_in_threads-requires-clause-ready g c κs within =
 pub closed-requires : goal.closed-requires
 closed-requires g c =
     let fed = c.in-Ok-fed_in_threads in
-    let same = seats_by g.R.Source.remaining g.R.Source.has_failed _ _ _ fed.ensures ∙ length-map c.args.readers.items (given_with c.args.networks.now) in
-    omega (arith, same, fed.fed.seats.ok.0, c.args.readers.ok.0, c.len-count.ensures, c.in-Ok-open_with.ensures.shared)
+    let same = seats_by g.L.BookLedger.setting g.R.Source.remaining g.R.Source.has_failed _ _ _ fed.ensures in
+    omega (arith, same, fed.fed.seats.ok.0, c.args.readers.ok.0, c.len-count.ensures, c.in-Ok-open.ensures.shared)
 
 pub returns-in-Ok-fed_in_threads : goal.returns-in-Ok-fed_in_threads
 returns-in-Ok-fed_in_threads g c =
     let fed = c.in-Ok-fed_in_threads in
     let closed = c.closed.ensures in
-    record { report = reported g.R.Source.remaining g.R.Source.has_failed c.args.networks.now c.args.readers.items fed.fed.files fed.fed.seats.items c.closed.result fed.ensures closed.files closed.receipts closed.entries closed.proved }
+    record { report = reported g.L.BookLedger.setting g.R.Source.remaining g.R.Source.has_failed c.args.readers.items fed.fed.files fed.fed.seats.items c.closed.result fed.ensures closed.files closed.receipts closed.entries closed.own closed.proved }

@@ -15,7 +15,6 @@ returns-in-Err g c =
         taken = rw counts.seat (turned_away _ _ (command_of c.args.line.now));
         repeated = counts.repeated;
         refused = counts.refused;
-        networks = counts.networks;
       };
       pending = c.submit_pending.ensures.none;
     })

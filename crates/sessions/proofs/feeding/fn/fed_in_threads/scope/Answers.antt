@@ -1,5 +1,5 @@
 use Rattle.std.proofs.Common.{arith}
-use Rattle.sessions.specs.inner.Fed.{handed_to, given_with}
+use Rattle.sessions.specs.inner.Fed.{handed_to}
 use Rattle.sessions.proofs.Handles.{same_length}
 use Rattle.sessions.proofs.feeding.fn.fed_in_threads.scope.Goals as goal
 
@@ -7,7 +7,7 @@ pub gathered-requires : goal.gathered-requires
 gathered-requires g c =
     let running = c.in-Ok.running in
     let readers = c.captures.readers in
-    let same = same_length (λ handle. handed_to handle.promise) (given_with c.captures.networks.now) running.items readers.items c.in-Ok.ensures in
+    let same = same_length (λ handle. handed_to handle.promise) running.items readers.items c.in-Ok.ensures in
     record {
       no_file = c.requires.room.no_file;
       file_room = omega (arith, same, running.ok.0, readers.ok.0, c.requires.room.file_room);
