@@ -31,14 +31,14 @@ abbrev pub IsPrinted : (csv : Bool) → List NamedPlace → Clock → PlanList �
 IsPrinted true places clock plan text = IsCsvText places clock plan text
 IsPrinted false places clock plan text = IsTableText places clock plan text
 
--- the same by the clock for the time zone that is asked for
-pub record IsPrintedIn (csv : Bool) (places : List NamedPlace) (zone : Option (List ℕ)) (plan : PlanList) (text : List ℕ) : Type 0 where
+-- the same by the clock for the time zone that is asked for, whose file has these bytes
+pub record IsPrintedIn (csv : Bool) (places : List NamedPlace) (zone : Option (List ℕ)) (bytes : List ℕ) (plan : PlanList) (text : List ℕ) : Type 0 where
   pub clock : Clock
-  pub for_zone : IsClockFor zone clock
+  pub for_zone : IsClockFor zone bytes clock
   pub printed : IsPrinted csv places clock plan text
 
--- the text of that plan, by the options of `plan`
-pub record IsPlanTextOfLast (setting : Setting) (history : List Event) (options : PlanOptions) (places : List NamedPlace) (text : List ℕ) : Type 0 where
+-- the text of that plan, by the options of `plan`, the names of places and the bytes of the time zone's file
+pub record IsPlanTextOfLast (setting : Setting) (history : List Event) (options : PlanOptions) (places : List NamedPlace) (zone text : List ℕ) : Type 0 where
   pub plan : PlanList
   pub of_last : IsPlanOfLast setting history options.problem.at plan
-  pub printed : IsPrintedIn options.csv places (option_copied options.zone) plan text
+  pub printed : IsPrintedIn options.csv places (option_copied options.zone) zone plan text

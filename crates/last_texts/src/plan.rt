@@ -26,7 +26,7 @@ pub fn last_plan_text(
     zone: &ZoneFile<'_>,
 ) -> Result<Vec<u8>, Stop>
     requires zone { IsReadFor (option_copied options.now.zone) zone.now }
-    ensures plan { IfOk result (λ text. IsPlanTextOfLast book.old.setting book.old.state.history options.now places.now text.items) }
+    ensures plan { IfOk result (λ text. IsPlanTextOfLast book.old.setting book.old.state.history options.now places.now zone.now.bytes.items text.items) }
     ensures refused { IfErr result IsNoClock }
 {
     let list = last_plan(alloc, book, options.problem.at)?;
@@ -61,8 +61,8 @@ fn printed_in(
     zone: &ZoneFile<'_>,
     plan: &PlanList,
 ) -> Result<Vec<u8>, Stop>
-    requires { HasZoneFor zone.now.database (name_of zone.now) }
-    ensures text { IfOk result (λ text. IsPrintedIn csv places.now (name_of zone.now) plan.now text.items) }
+    requires { HasZoneFor zone.now.database (name_of zone.now) zone.now.bytes.items }
+    ensures text { IfOk result (λ text. IsPrintedIn csv places.now (name_of zone.now) zone.now.bytes.items plan.now text.items) }
     ensures refused { IfErr result IsNoClock }
 {
     match clock_of(zone) {

@@ -1,8 +1,10 @@
 -- Why a file isn't read, and what people are told then, by its bytes, where they are known or not.
-use Rattle.std.specs.Prelude.{◌≡◌, ◌≢◌, ◌⊎◌, ℕ, Bool, List, Option, Err}
+use Rattle.std.specs.Prelude.{◌≡◌, ◌≢◌, ◌⊎◌, ℕ, Bool, List, Option, Some, Err, length, slice_get, take}
+use Rattle.std.specs.Borrow.{Bor}
 use Rattle.std.specs.Bool.{OnFalse}
 use Rattle.checkpoint.specs.Reads.{IsRefused}
 use Rattle.checkpoint.specs.declared.read_fault.ReadFault.{ReadFault}
+use Rattle.command_line.specs.declared.office_options.OfficeOptions.{OfficeOptions}
 use Rattle.command_line.specs.declared.office_options.Start.{Start}
 use Rattle.command_line.specs.declared.office_options.Start.TheVariants as start
 use Rattle.csv_records.specs.declared.fault_at.FaultAt.{FaultAt}
@@ -12,14 +14,19 @@ use Rattle.faults.specs.declared.faults.NetworkFault.{NetworkFault}
 use Rattle.faults.specs.declared.faults.RosterFault.{RosterFault}
 use Rattle.fleet_rows.specs.Stops as roster
 use Rattle.fleet_rows.specs.declared.roster_refusal.RosterRefusal.{RosterRefusal}
+use Rattle.line_network.specs.Network.{NetworkValue}
+use Rattle.line_network.specs.NetworkCount.{IsNetworkCount}
 use Rattle.line_network.specs.Stops as network
+use Rattle.line_network.specs.declared.networks_fault.NetworksFault.TheVariants.{BadNetworkCount}
+use Rattle.operating_db.specs.Office.{Office}
 use Rattle.place_names.specs.PlacesOf.{AreReadFrom}
 use Rattle.place_names.specs.declared.places_fault.PlacesFault.{PlacesFault}
+use Rattle.office_files.specs.FirstOffice.{AreNetworksAt, BeginsWith}
 use Rattle.office_files.specs.InFile.{BytesAt}
 use Rattle.office_files.specs.PlacesText.{places_text}
 use Rattle.office_files.specs.ReadText.{is_unreadable, read_text}
 use Rattle.office_files.specs.Told.{IsToldAs}
-use Rattle.office_files.specs.declared.stop.Stop.TheVariants.{OutOfMemory, OpenFailed, Roster, Checkpoint, Network, Places}
+use Rattle.office_files.specs.declared.stop.Stop.TheVariants.{OutOfMemory, Networks, OpenFailed, Roster, Checkpoint, Network, Places}
 use Rattle.office_files.specs.declared.stopped.Stopped.{Stopped}
 
 -- A roster: its first fault at its record, and the text of that fault, but where the system says why it can't be read.
@@ -61,3 +68,24 @@ abbrev pub IsStartRefused : BytesAt → (networks : ℕ) → Start → (why : St
 IsStartRefused bytes_at networks (start.Roster path) why =
     (why.stop ≡ OutOfMemory) ⊎ IsUnread (IsRosterRefused (bytes_at path.now) path.now) why
 IsStartRefused bytes_at networks (start.Checkpoint path) why = IsUnread (IsOfficeRefused (bytes_at path.now) networks path.now) why
+
+-- the file of one of the networks couldn't be opened, or is refused; those before it are read
+pub record IsNetworkUnread (bytes_at : BytesAt) (paths : List (Bor (List ℕ))) (why : Stopped) : Type 0 where
+  pub index : ℕ
+  pub path : Bor (List ℕ)
+  pub is_path : slice_get paths index ≡ Some path
+  pub before : List NetworkValue
+  pub are_before : AreNetworksAt bytes_at (take index paths) before
+  pub refused : IsUnread (IsNetworkRefused (bytes_at path.now) path.now) why
+
+-- or memory was out
+abbrev pub AreNetworksRefused : BytesAt → (paths : List (Bor (List ℕ))) → (why : Stopped) → Type 0
+AreNetworksRefused bytes_at paths why = (why.stop ≡ OutOfMemory) ⊎ IsNetworkUnread bytes_at paths why
+
+-- The first of these is said: none or too many networks are named; the file with which the office begins is refused; a network
+-- is. What comes before it is as the files say.
+pub data AreFilesRefused (bytes_at : BytesAt) (options : OfficeOptions) (why : Stopped) : Type 0 where
+  count_refused : (IsNetworkCount (length options.networks.items) → ⊥) → why.stop ≡ Networks BadNetworkCount → AreFilesRefused bytes_at options why
+  start_refused : IsNetworkCount (length options.networks.items) → IsStartRefused bytes_at (length options.networks.items) options.start why → AreFilesRefused bytes_at options why
+  networks_refused : IsNetworkCount (length options.networks.items) → (office : Office) → BeginsWith bytes_at (length options.networks.items) options.start office
+      → AreNetworksRefused bytes_at options.networks.items why → AreFilesRefused bytes_at options why

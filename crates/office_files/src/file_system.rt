@@ -6,9 +6,9 @@ use std::io::Read;
 use std::rt::Files;
 use std::{fs, io};
 
-/// Where files are opened by their paths.
+/// Where files are opened by their paths. An open file may be handed to another thread.
 pub trait FileSystem {
-    type File: Read + Drop;
+    type File: Read + Send + Drop;
 
     /// The bytes of the file at a path, where they are known.
     ghost bytes_at: { Self → List ℕ → Option (List ℕ) };
@@ -19,7 +19,10 @@ pub trait FileSystem {
 }
 
 // The files of the operating system: no clause knows their bytes.
-impl<R: Files> FileSystem for R {
+impl<R: Files> FileSystem for R
+where
+    R::File: Send,
+{
     type File = R::File;
 
     ghost bytes_at = { λ _ _. None };

@@ -3,7 +3,7 @@ ghost use Rattle.std.specs.Prelude.{◌≡◌, ◌≤◌, IfErr, IfOk, length};
 ghost use Rattle.line_network.specs.NetworkCount.{max_networks};
 ghost use Rattle.office_files.specs.FirstOffice.{AreInFiles, AreNetworksAt, BeginsWith};
 ghost use Rattle.office_files.specs.InFile.{IsNetworkIn, IsOfficeIn, IsRosterIn};
-ghost use Rattle.office_files.specs.Refused.{IsNetworkRefused, IsOfficeRefused, IsRosterRefused, IsStartRefused, IsUnread};
+ghost use Rattle.office_files.specs.Refused.{AreFilesRefused, AreNetworksRefused, IsNetworkRefused, IsOfficeRefused, IsRosterRefused, IsStartRefused, IsUnread};
 
 use crate::file_system::FileSystem;
 use crate::stop::Stop;
@@ -34,6 +34,7 @@ pub fn read_files<S: FileSystem + AllocGlobal>(
 ) -> Result<OfficeFiles, Stopped>
     ensures files { IfOk result (λ files. AreInFiles (S.bytes_at rt.now) options.now files.first.office files.networks.items) }
     ensures counted { IfOk result (λ files. files.first.networks ≡ length files.networks.items) }
+    ensures refused { IfErr result (AreFilesRefused (S.bytes_at rt.now) options.now) }
 {
     let count = options.networks.len();
     if count == 0 || count > MAX_NETWORKS as usize {
@@ -133,6 +134,7 @@ fn read_networks<S: FileSystem + AllocGlobal>(
 ) -> Result<Vec<Network>, Stopped>
     ensures networks { IfOk result (λ networks. AreNetworksAt (S.bytes_at rt.now) paths.now networks.items) }
     ensures counted { IfOk result (λ networks. length networks.items ≡ length paths.now) }
+    ensures refused { IfErr result (AreNetworksRefused (S.bytes_at rt.now) paths.now) }
 {
     let mut networks = Vec::with_capacity(rt.alloc(), paths.len())?;
     for path in paths {

@@ -10,6 +10,6 @@ returns-clause-plan c =
     (λ text printed. record {
       plan = c.in_ok-list.list;
       of_last = c.in_ok-list.ensures.plan;
-      printed = subst (λ (zone : Option (List ℕ)). IsPrintedIn c.args.options.now.csv c.args.places.now zone c.in_ok-list.list text.items) c.requires.zone.name printed;
+      printed = subst (λ (zone : Option (List ℕ)). IsPrintedIn c.args.options.now.csv c.args.places.now zone c.args.zone.now.bytes.items c.in_ok-list.list text.items) c.requires.zone.name printed;
     })
     c.printed_in.ensures.text
