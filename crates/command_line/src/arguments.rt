@@ -1,4 +1,8 @@
 //! The arguments of words: tables of what each is, and how clap is told of them.
+ghost use Rattle.std.specs.Prelude.{IfOk, map};
+ghost use Rattle.command_line.specs.Arguments as kind;
+ghost use Rattle.command_line.specs.inner.Tables.{AddsRules, IsReadBy, rule_for};
+
 use clap::builder::ValueParser;
 use clap::{Arg, ArgAction, ArgGroup, Command};
 use line_engine::MAX_FILES;
@@ -56,7 +60,9 @@ pub(crate) fn with_arguments<'a>(
     alloc: Global,
     word: Command<'a>,
     arguments: &[Argument],
-) -> Result<Command<'a>, AllocError> {
+) -> Result<Command<'a>, AllocError>
+    ensures { IfOk result (AddsRules (map rule_for arguments.now) word.entry) }
+{
     let mut word = word;
     for it in arguments {
         word = word.arg(as_argument(alloc, *it))?;
@@ -85,8 +91,10 @@ fn as_group<'a>(alloc: Global, it: Group) -> Result<ArgGroup<'a>, AllocError> {
 }
 
 /// An argument, as clap takes it.
-fn as_argument<'a>(alloc: Global, it: Argument) -> Arg<'a> {
-    let argument = taking(Arg::new(alloc, it.name), it).help(it.help);
+fn as_argument<'a>(alloc: Global, it: Argument) -> Arg<'a>
+    ensures { IsReadBy (rule_for it) result }
+{
+    let argument = taking(alloc, it).help(it.help);
     match it.long_help {
         Some(text) => argument.long_help(text),
         None => argument,
@@ -94,41 +102,61 @@ fn as_argument<'a>(alloc: Global, it: Argument) -> Arg<'a> {
 }
 
 /// An argument with what it takes.
-fn taking<'a>(argument: Arg<'a>, it: Argument) -> Arg<'a> {
+fn taking<'a>(alloc: Global, it: Argument) -> Arg<'a>
+    ensures { IsReadBy (rule_for it) result }
+{
     match it.takes {
-        Takes::Nothing => argument.long(it.name).action(ArgAction::SetTrue),
-        Takes::Value(value) => single(argument, it.name, value),
-        Takes::Needed(value) => single(argument, it.name, value).required(true),
-        Takes::Values(value) => several(argument, it.name, value),
-        Takes::NeededValues(value) => several(argument, it.name, value).required(true),
-        Takes::Number(most) => number(argument, it.name, most),
-        Takes::NumberOr(most, default) => number(argument, it.name, most).default_value(default),
-        Takes::Own(value) => argument.value_name(value),
-        Takes::Files => files(argument),
+        Takes::Nothing => flag(alloc, it.name),
+        Takes::Value(value) => single(alloc, it.name, value),
+        Takes::Needed(value) => single(alloc, it.name, value).required(true),
+        Takes::Values(value) => several(alloc, it.name, value),
+        Takes::NeededValues(value) => several(alloc, it.name, value).required(true),
+        Takes::Number(most) => number(alloc, it.name, most),
+        Takes::NumberOr(most, standard) => number(alloc, it.name, most).default_value(standard),
+        Takes::Own(value) => Arg::new(alloc, it.name).value_name(value),
+        Takes::Files => files(alloc, it.name),
     }
 }
 
+/// An option without a value.
+fn flag<'a>(alloc: Global, name: &'static str) -> Arg<'a>
+    ensures { IsReadBy (kind.flag name.entry.now) result }
+{
+    Arg::new(alloc, name).long(name).action(ArgAction::SetTrue)
+}
+
 /// An option with one value.
-fn single<'a>(option: Arg<'a>, name: &'static str, value: &'static str) -> Arg<'a> {
-    option.long(name).value_name(value).action(ArgAction::Set)
+fn single<'a>(alloc: Global, name: &'static str, value: &'static str) -> Arg<'a>
+    ensures { IsReadBy (kind.valued name.entry.now) result }
+{
+    Arg::new(alloc, name)
+        .long(name)
+        .value_name(value)
+        .action(ArgAction::Set)
 }
 
 /// An option with a value each time that it is given.
-fn several<'a>(option: Arg<'a>, name: &'static str, value: &'static str) -> Arg<'a> {
-    option
+fn several<'a>(alloc: Global, name: &'static str, value: &'static str) -> Arg<'a>
+    ensures { IsReadBy (kind.repeated name.entry.now) result }
+{
+    Arg::new(alloc, name)
         .long(name)
         .value_name(value)
         .action(ArgAction::Append)
 }
 
 /// An option with a number from 1 to `most`.
-fn number<'a>(option: Arg<'a>, name: &'static str, most: u64) -> Arg<'a> {
-    single(option, name, "N").value_parser(ValueParser::unsigned(1, most))
+fn number<'a>(alloc: Global, name: &'static str, most: u64) -> Arg<'a>
+    ensures { IsReadBy (kind.number most name.entry.now) result }
+{
+    single(alloc, name, "N").value_parser(ValueParser::unsigned(1, most))
 }
 
 /// 1 to 16 files.
-fn files<'a>(argument: Arg<'a>) -> Arg<'a> {
-    argument
+fn files<'a>(alloc: Global, name: &'static str) -> Arg<'a>
+    ensures { IsReadBy (kind.unnamed_files name.entry.now) result }
+{
+    Arg::new(alloc, name)
         .value_name("FILE")
         .required(true)
         .num_args(1..=MAX_FILES)

@@ -104,7 +104,7 @@ pub(crate) const MAP: WordHelp = WordHelp {
      DOT language, of which Graphviz makes a picture: places with their free, their\n\
      promised and their other wagons and with what orders lack, lines with kilometres\n\
      and minutes, and promised wagons as arrows.\n\
-     Exits with 0, with 1 where a line was refused, with 2 where it could not run or\n\
+     Exits with 0, also where a line was refused, or with 2 where it could not run or\n\
      stopped; then there is no graph.",
     example: "Examples:\n  \
      wagons map --roster roster.csv --network network.csv < day.jsonl |\n    \
@@ -124,7 +124,7 @@ pub(crate) const PLAN: WordHelp = WordHelp {
      prints a table: each wagon that goes, from where to where, its kilometres and\n\
      minutes, when it is there, and its order; then each order that misses wagons,\n\
      with the penalty of each and why; then the sum. The office is not changed.\n\
-     Exits with 0, with 1 where a line was refused, with 2 where it could not run or\n\
+     Exits with 0, also where a line was refused, or with 2 where it could not run or\n\
      stopped; then there is no table.",
     example: "Example:\n  \
      wagons plan --at 2026-03-02T11:00:00Z --roster roster.csv \\\n    \
@@ -141,8 +141,8 @@ pub(crate) const TABLE: WordHelp = WordHelp {
      as `run` does, without a reply. At the end prints the problem at a moment as a\n\
      table line, which `wagons solve` reads: the free wagons, the waiting orders,\n\
      the kilometres of each wagon that suits an order and is there in time, what\n\
-     each order lacks, and its penalty. Exits with 0, with 1 where a line was\n\
-     refused, with 2 where it could not run or stopped; then there is no table.",
+     each order lacks, and its penalty. Exits with 0, also where a line was refused,\n\
+     or with 2 where it could not run or stopped; then there is no table.",
     example: "Example:\n  \
      wagons table --at 2026-03-02T11:00:00Z --roster roster.csv \\\n    \
      --network network.csv < day.jsonl | wagons solve",
@@ -160,7 +160,7 @@ pub(crate) const WHY: WordHelp = WordHelp {
      and each wagon that goes what other plans cost more, at least, in kilometres.\n\
      With `--order` or `--wagon` it says which test each pair fails, and what the\n\
      plans with the other pairs cost more, at least.\n\
-     Exits with 0, with 1 where a line was refused, with 2 where it could not run or\n\
+     Exits with 0, also where a line was refused, or with 2 where it could not run or\n\
      stopped; then nothing is said.",
     example: "Example:\n  \
      wagons why --at 2026-03-02T11:00:00Z --roster roster.csv \\\n    \
@@ -193,7 +193,7 @@ pub(crate) const SAVE: WordHelp = WordHelp {
      as `run` does, without a reply. At the end prints the office as a checkpoint,\n\
      JSON lines from which a new journal goes on with `--from`: each wagon with its\n\
      hold and promise, each open order with its wagons, and the network in force.\n\
-     Exits with 0, with 1 where a line was refused, with 2 where it could not run or\n\
+     Exits with 0, also where a line was refused, or with 2 where it could not run or\n\
      stopped; then there is no checkpoint.",
     example: "Example:\n  \
      wagons save --roster roster.csv --network network.csv < day.jsonl \\\n    \
@@ -216,7 +216,7 @@ pub(crate) const EXPLAIN: WordHelp = WordHelp {
 };
 
 /// The argument of `explain`.
-pub(crate) const CODE: Argument = Argument {
+const CODE: Argument = Argument {
     name: "code",
     takes: Takes::Own("CODE"),
     help: "The number behind `refused` or `wagons:`, or a refusal's name",

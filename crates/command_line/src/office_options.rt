@@ -1,5 +1,10 @@
 //! The options of the words that open an office: its files and limits.
-use crate::values::{code_from, number_of};
+ghost use Rattle.std.specs.Prelude.{IfOk};
+ghost use Rattle.rail_codes.specs.WagonNumber.{wagon_number_of};
+ghost use Rattle.command_line.specs.Options.{AreFeedOptions, AreLimitsOf, AreOfficeOptions, AreProblemOptions, AreSaveOptions, BeginsBy};
+ghost use Rattle.command_line.specs.Values.{AreReadAs, all_lent, given_in};
+
+use crate::values::{code_from, needed_value, number_if_given, number_of, value_of, values_of};
 use clap::{ArgMatches, Error};
 use line_network::MAX_WORKERS;
 use price_checker::{Limits, MAX_ENTRIES, MAX_KEPT_PROBLEMS};
@@ -34,25 +39,36 @@ impl<'a> OfficeOptions<'a> {
     pub(crate) fn read(
         alloc: Global,
         matches: &ArgMatches<'a>,
-    ) -> Result<OfficeOptions<'a>, AllocError> {
-        let networks = matches.get_strs("network").unwrap_or(&[]);
-        let entries = number_of(matches, "entries", MAX_ENTRIES);
-        let kept = number_of(matches, "kept", MAX_KEPT_PROBLEMS as u64);
+    ) -> Result<OfficeOptions<'a>, AllocError>
+        ensures { IfOk result (AreOfficeOptions (given_in matches.now)) }
+    {
+        let networks = values_of(alloc, matches, "network")?;
         Ok(OfficeOptions {
             start: start_of(matches),
-            networks: Vec::from_slice(alloc, networks)?,
-            limits: Limits::new(entries, kept as u32).unwrap(),
+            networks,
+            limits: limits_of(matches),
             workers: number_of(matches, "workers", MAX_WORKERS as u64) as usize,
         })
     }
 }
 
 /// The file that the office begins with.
-fn start_of<'a>(matches: &ArgMatches<'a>) -> Start<'a> {
-    match matches.get_str("from") {
+fn start_of<'a>(matches: &ArgMatches<'a>) -> Start<'a>
+    ensures { BeginsBy (given_in matches.now) result }
+{
+    match value_of(matches, "from") {
         Some(path) => Start::Checkpoint(path),
-        None => Start::Roster(matches.get_str("roster").unwrap_or("")),
+        None => Start::Roster(needed_value(matches, "roster")),
     }
+}
+
+/// How large the book may grow.
+fn limits_of(matches: &ArgMatches<'_>) -> Limits
+    ensures { AreLimitsOf (given_in matches.now) result }
+{
+    let entries = number_of(matches, "entries", MAX_ENTRIES);
+    let kept = number_of(matches, "kept", MAX_KEPT_PROBLEMS as u64);
+    Limits::new(entries, kept as u32).unwrap()
 }
 
 /// What `feed` is asked to do.
@@ -69,12 +85,12 @@ impl<'a> FeedOptions<'a> {
     pub(crate) fn read(
         alloc: Global,
         matches: &ArgMatches<'a>,
-    ) -> Result<FeedOptions<'a>, AllocError> {
-        let files = matches.get_strs("file").unwrap_or(&[]);
-        Ok(FeedOptions {
-            office: OfficeOptions::read(alloc, matches)?,
-            files: Vec::from_slice(alloc, files)?,
-        })
+    ) -> Result<FeedOptions<'a>, AllocError>
+        ensures { IfOk result (AreFeedOptions (given_in matches.now)) }
+    {
+        let office = OfficeOptions::read(alloc, matches)?;
+        let files = values_of(alloc, matches, "file")?;
+        Ok(FeedOptions { office, files })
     }
 }
 
@@ -94,17 +110,12 @@ impl<'a> ProblemOptions<'a> {
         alloc: Global,
         word: &str,
         matches: &ArgMatches<'a>,
-    ) -> Result<ProblemOptions<'a>, Error> {
-        let at = code_from(
-            alloc,
-            word,
-            "--at <MOMENT>",
-            matches.get_str("at").unwrap_or(""),
-        )?;
-        Ok(ProblemOptions {
-            office: OfficeOptions::read(alloc, matches)?,
-            at,
-        })
+    ) -> Result<ProblemOptions<'a>, Error>
+        ensures { IfOk result (AreProblemOptions (given_in matches.now)) }
+    {
+        let at = code_from(alloc, word, "--at <MOMENT>", needed_value(matches, "at"))?;
+        let office = OfficeOptions::read(alloc, matches)?;
+        Ok(ProblemOptions { office, at })
     }
 }
 
@@ -123,17 +134,28 @@ pub struct SaveOptions<'a> {
 
 impl<'a> SaveOptions<'a> {
     /// The options that were given. A wagon that is no wagon number is a fault of the arguments.
-    pub(crate) fn read(alloc: Global, matches: &ArgMatches<'a>) -> Result<SaveOptions<'a>, Error> {
-        let texts = matches.get_strs("without").unwrap_or(&[]);
-        let mut without = Vec::with_capacity(alloc, texts.len())?;
-        for text in texts {
-            without.push(code_from(alloc, "wagons save", "--without <NUMBER>", text)?)?;
-        }
+    pub(crate) fn read(alloc: Global, matches: &ArgMatches<'a>) -> Result<SaveOptions<'a>, Error>
+        ensures { IfOk result (AreSaveOptions (given_in matches.now)) }
+    {
+        let texts = values_of(alloc, matches, "without")?;
+        let without = leaving(alloc, &texts)?;
+        let office = OfficeOptions::read(alloc, matches)?;
         Ok(SaveOptions {
-            office: OfficeOptions::read(alloc, matches)?,
-            upto: matches.get_one::<u64>("upto"),
-            with: matches.get_str("with"),
+            office,
+            upto: number_if_given(matches, "upto"),
+            with: value_of(matches, "with"),
             without,
         })
     }
+}
+
+/// The wagons that these texts say, in their order.
+fn leaving(alloc: Global, texts: &[&str]) -> Result<Vec<WagonNumber>, Error>
+    ensures { IfOk result (λ wagons. AreReadAs wagon_number_of (all_lent texts.now) wagons.items) }
+{
+    let mut wagons = Vec::with_capacity(alloc, texts.len())?;
+    for text in texts {
+        wagons.push(code_from(alloc, "wagons save", "--without <NUMBER>", text)?)?;
+    }
+    Ok(wagons)
 }

@@ -1,6 +1,12 @@
 //! The options of `plan`.
+ghost use Rattle.std.specs.Prelude.{◌≡◌, IfOk, IfSome, codes};
+ghost use Rattle.std.specs.Bool.{OnTrue};
+ghost use Rattle.std.specs.List.{list_all};
+ghost use Rattle.command_line.specs.Options.{ArePlanOptions, IsZoneName, is_zone_character};
+ghost use Rattle.command_line.specs.Values.{given_in, lent, value_of};
 
 use crate::office_options::ProblemOptions;
+use crate::values::{is_given, value_of};
 use clap::error::ErrorKind;
 use clap::{ArgMatches, Command, Error};
 use std::alloc::{AllocError, Global};
@@ -24,33 +30,56 @@ pub struct PlanOptions<'a> {
 impl<'a> PlanOptions<'a> {
     /// The options that were given. A moment that is none, or a time zone whose name can't be one, is a fault of the
     /// arguments.
-    pub(crate) fn read(alloc: Global, matches: &ArgMatches<'a>) -> Result<PlanOptions<'a>, Error> {
+    pub(crate) fn read(alloc: Global, matches: &ArgMatches<'a>) -> Result<PlanOptions<'a>, Error>
+        ensures { IfOk result (ArePlanOptions (given_in matches.now)) }
+    {
+        let problem = ProblemOptions::read(alloc, PLAN, matches)?;
+        let zone = zone_of(alloc, matches)?;
         Ok(PlanOptions {
-            problem: ProblemOptions::read(alloc, PLAN, matches)?,
-            places: matches.get_str("places"),
-            zone: zone_of(alloc, matches)?,
-            csv: matches.get_flag("csv"),
+            problem,
+            places: value_of(matches, "places"),
+            zone,
+            csv: is_given(matches, "csv"),
         })
     }
 }
 
 /// The time zone that was given.
-fn zone_of<'a>(alloc: Global, matches: &ArgMatches<'a>) -> Result<Option<&'a str>, Error> {
-    match matches.get_str("zone") {
-        Some(name) if !is_zone_name(name) => Err(no_zone(alloc, name)?),
-        zone => Ok(zone),
+fn zone_of<'a>(alloc: Global, matches: &ArgMatches<'a>) -> Result<Option<&'a str>, Error>
+    ensures zone { IfOk result (λ zone. lent zone ≡ value_of (codes "zone") (given_in matches.now)) }
+    ensures name { IfOk result (λ zone. IfSome zone (λ name. IsZoneName name.now)) }
+{
+    match value_of(matches, "zone") {
+        Some(name) => {
+            if !is_zone_name(name) {
+                return Err(no_zone(alloc, name)?);
+            }
+            Ok(Some(name))
+        }
+        None => Ok(None),
     }
 }
 
 /// Whether a text may name a time zone: letters, digits and `_`, `+`, `-` and `/`. So no name leads out of the folder in which
 /// the time zones are.
-fn is_zone_name(name: &str) -> bool {
-    !name.is_empty() && name.bytes().all(is_zone_character)
+fn is_zone_name(name: &str) -> bool
+    ensures { OnTrue result (IsZoneName name.now) }
+{
+    !name.is_empty() && are_zone_characters(name.as_bytes())
+}
+
+/// Whether each of these may stand in the name of a time zone.
+fn are_zone_characters(characters: &[u8]) -> bool
+    ensures { result ≡ list_all is_zone_character characters.now }
+{
+    characters.iter().all(|c| is_zone_character(*c))
 }
 
 /// Whether a character may stand in the name of a time zone.
-fn is_zone_character(c: u8) -> bool {
-    c.is_ascii_alphanumeric() || matches!(c, b'_' | b'+' | b'-' | b'/')
+fn is_zone_character(c: u8) -> bool
+    ensures { result ≡ is_zone_character c }
+{
+    c.is_ascii_alphanumeric() || c == b'_' || c == b'+' || c == b'-' || c == b'/'
 }
 
 /// The fault that a text names no time zone.

@@ -1,6 +1,10 @@
 //! The options of `review`.
+ghost use Rattle.std.specs.Prelude.{IfOk};
+ghost use Rattle.command_line.specs.Options.{AreReviewOptions};
+ghost use Rattle.command_line.specs.Values.{given_in};
 
 use crate::office_options::OfficeOptions;
+use crate::values::value_of;
 use clap::ArgMatches;
 use std::alloc::{AllocError, Global};
 
@@ -18,10 +22,13 @@ impl<'a> ReviewOptions<'a> {
     pub(crate) fn read(
         alloc: Global,
         matches: &ArgMatches<'a>,
-    ) -> Result<ReviewOptions<'a>, AllocError> {
+    ) -> Result<ReviewOptions<'a>, AllocError>
+        ensures { IfOk result (AreReviewOptions (given_in matches.now)) }
+    {
+        let office = OfficeOptions::read(alloc, matches)?;
         Ok(ReviewOptions {
-            office: OfficeOptions::read(alloc, matches)?,
-            places: matches.get_str("places"),
+            office,
+            places: value_of(matches, "places"),
         })
     }
 }

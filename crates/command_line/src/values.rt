@@ -1,10 +1,11 @@
-//! The values of options: numbers and codes.
-ghost use Rattle.std.specs.Prelude.{◌≤◌};
+//! What was given to the arguments of a word: texts, numbers and codes.
+ghost use Rattle.std.specs.Prelude.{◌≡◌, ◌≤◌, IfOk, Ok};
+ghost use Rattle.command_line.specs.Values.{IsFlagOf, IsNumberOf, IsOptionalNumberOf, all_lent, given_in, lent, needed_value, value_of, values_of};
 
 use clap::error::ErrorKind;
 use clap::{ArgMatches, Command, Error};
 use rail_codes::FromText;
-use std::alloc::Global;
+use std::alloc::{AllocError, Global};
 
 /// The code that the value of a word's option is. A value that is none is a fault of the arguments, which names the refusal.
 pub(crate) fn code_from<C: FromText>(
@@ -12,7 +13,9 @@ pub(crate) fn code_from<C: FromText>(
     word: &str,
     option: &str,
     text: &str,
-) -> Result<C, Error> {
+) -> Result<C, Error>
+    ensures { IfOk result (λ code. C.meaning text.now ≡ Ok code) }
+{
     match C::from_text(text) {
         Ok(code) => Ok(code),
         Err(fault) => {
@@ -26,15 +29,58 @@ pub(crate) fn code_from<C: FromText>(
     }
 }
 
+/// The value of an argument, where it has one; the first of several.
+pub(crate) fn value_of<'a>(matches: &ArgMatches<'a>, name: &str) -> Option<&'a str>
+    ensures { lent result ≡ value_of name.now (given_in matches.now) }
+{
+    matches.get_str(name)
+}
+
+/// The value of an option without which `clap` has refused the word before.
+pub(crate) fn needed_value<'a>(matches: &ArgMatches<'a>, name: &str) -> &'a str
+    ensures { result.now ≡ needed_value name.now (given_in matches.now) }
+{
+    match value_of(matches, name) {
+        Some(value) => value,
+        None => "",
+    }
+}
+
+/// The values of an argument, in the order in which they were given.
+pub(crate) fn values_of<'a>(
+    alloc: Global,
+    matches: &ArgMatches<'a>,
+    name: &str,
+) -> Result<Vec<&'a str>, AllocError>
+    ensures { IfOk result (λ values. all_lent values.items ≡ values_of name.now (given_in matches.now)) }
+{
+    match matches.get_strs(name) {
+        Some(values) => Vec::from_slice(alloc, values),
+        None => Ok(Vec::new(alloc)),
+    }
+}
+
+/// Whether an option was given that takes no value.
+pub(crate) fn is_given(matches: &ArgMatches<'_>, name: &str) -> bool
+    ensures { IsFlagOf name.now (given_in matches.now) result }
+{
+    matches.get_flag(name)
+}
+
 /// The number of an option, from 1 to `most`. `clap` has filled in its default and refused a number out of this range
 /// before, so `clamp` changes nothing; it lets callers rely on the range.
-pub(crate) fn number_of(matches: &ArgMatches<'_>, option: &str, most: u64) -> u64
+pub(crate) fn number_of(matches: &ArgMatches<'_>, name: &str, most: u64) -> u64
     requires { 1 ≤ most }
     ensures least { 1 ≤ result }
     ensures most { result ≤ most }
+    ensures number { IsNumberOf name.now most (given_in matches.now) result }
 {
-    matches
-        .get_one::<u64>(option)
-        .unwrap_or(most)
-        .clamp(1, most)
+    matches.get_one::<u64>(name).unwrap_or(most).clamp(1, most)
+}
+
+/// The number of an option, where it was given.
+pub(crate) fn number_if_given(matches: &ArgMatches<'_>, name: &str) -> Option<u64>
+    ensures { IsOptionalNumberOf name.now (given_in matches.now) result }
+{
+    matches.get_one::<u64>(name)
 }

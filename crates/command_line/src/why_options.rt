@@ -1,7 +1,10 @@
 //! The options of `why`.
+ghost use Rattle.std.specs.Prelude.{IfOk};
+ghost use Rattle.command_line.specs.Options.{AreWhyOptions, IsAsked};
+ghost use Rattle.command_line.specs.Values.{given_in};
 
 use crate::office_options::ProblemOptions;
-use crate::values::code_from;
+use crate::values::{code_from, is_given, value_of};
 use clap::{ArgMatches, Error};
 use rail_codes::{OrderId, WagonNumber};
 use std::alloc::Global;
@@ -35,24 +38,29 @@ pub struct WhyOptions<'a> {
 
 impl<'a> WhyOptions<'a> {
     /// The options that were given. A moment, an order's name or a wagon's number that is none is a fault of the arguments.
-    pub(crate) fn read(alloc: Global, matches: &ArgMatches<'a>) -> Result<WhyOptions<'a>, Error> {
+    pub(crate) fn read(alloc: Global, matches: &ArgMatches<'a>) -> Result<WhyOptions<'a>, Error>
+        ensures { IfOk result (AreWhyOptions (given_in matches.now)) }
+    {
+        let asked = asked_of(alloc, matches)?;
+        let problem = ProblemOptions::read(alloc, WHY, matches)?;
         Ok(WhyOptions {
-            asked: asked_of(alloc, matches)?,
-            problem: ProblemOptions::read(alloc, WHY, matches)?,
-            places: matches.get_str("places"),
-            json: matches.get_flag("json"),
+            problem,
+            places: value_of(matches, "places"),
+            asked,
+            json: is_given(matches, "json"),
         })
     }
 }
 
 /// What is asked about. `clap` has refused both an order and a wagon before.
-fn asked_of(alloc: Global, matches: &ArgMatches<'_>) -> Result<Asked, Error> {
-    if let Some(name) = matches.get_str("order") {
-        let id = code_from(alloc, WHY, "--order <NAME>", name)?;
-        return Ok(Asked::Order(id));
-    }
-    match matches.get_str("wagon") {
-        Some(number) => Ok(Asked::Wagon(code_from(alloc, WHY, "--wagon <NUMBER>", number)?)),
-        None => Ok(Asked::Plan),
+fn asked_of(alloc: Global, matches: &ArgMatches<'_>) -> Result<Asked, Error>
+    ensures { IfOk result (IsAsked (given_in matches.now)) }
+{
+    match value_of(matches, "order") {
+        Some(name) => Ok(Asked::Order(code_from(alloc, WHY, "--order <NAME>", name)?)),
+        None => match value_of(matches, "wagon") {
+            Some(number) => Ok(Asked::Wagon(code_from(alloc, WHY, "--wagon <NUMBER>", number)?)),
+            None => Ok(Asked::Plan),
+        },
     }
 }

@@ -1,4 +1,10 @@
 //! The command line: its words, and the faults of arguments.
+ghost use Rattle.std.specs.Prelude.{◌≡◌, IfOk, map};
+ghost use Rattle.clap.specs.Simple.{app_of, new_shape, subcommand_rows_of, with_subcommand};
+ghost use Rattle.command_line.specs.Program.{program, without_words, words};
+ghost use Rattle.command_line.specs.Values.{given_in};
+ghost use Rattle.command_line.specs.Words.{IsAskedBy, IsWordFor, IsWordOf};
+ghost use Rattle.command_line.specs.inner.Tables.{IsWordBy, shape_for};
 
 use crate::arguments::{with_arguments, with_groups};
 use crate::explained::{Explained, read_explained};
@@ -62,29 +68,51 @@ pub enum Word<'a> {
 
 /// What the words ask for, the program's name first; without a word it is `Check`. Else the error is a request for help
 /// or the version, a fault of the arguments in clap's own text, or out of memory.
-pub fn read_words<'a, S: AsStr>(alloc: Global, words: &'a [S]) -> Result<Word<'a>, Error> {
-    let matches = command_line(alloc)?.try_get_matches_from(words)?;
-    let Some((name, options)) = matches.subcommand() else {
-        return Ok(Word::Check(LineOptions::standard()));
-    };
-    read_word(alloc, name, options)
+pub fn read_words<'a, S: AsStr>(alloc: Global, words: &'a [S]) -> Result<Word<'a>, Error>
+    ensures { IfOk result (IsAskedBy (map S.text words.entry.now)) }
+{
+    // The words are read twice, since clap promises what they give to each argument only where a command has no group: with
+    // the groups, which refuse words, and then without them.
+    let _ = command_line(alloc)?.try_get_matches_from(words)?;
+    let matches = ungrouped_line(alloc)?.try_get_matches_from(words)?;
+    read_matches(alloc, &matches)
 }
 
-/// What a word asks for. `clap` has refused other names.
-fn read_word<'a>(alloc: Global, name: &str, options: &ArgMatches<'a>) -> Result<Word<'a>, Error> {
+/// What matches ask for.
+fn read_matches<'a>(alloc: Global, matches: &ArgMatches<'a>) -> Result<Word<'a>, Error>
+    ensures { IfOk result (IsWordFor (subcommand_rows_of matches.now)) }
+{
+    match matches.subcommand() {
+        Some((name, options)) => read_word(alloc, name, options),
+        None => Ok(Word::Check(LineOptions::standard())),
+    }
+}
+
+/// What a word asks for.
+fn read_word<'a>(alloc: Global, name: &str, options: &ArgMatches<'a>) -> Result<Word<'a>, Error>
+    ensures { IfOk result (IsWordOf name.now (given_in options.now)) }
+{
     match name {
+        "check" => Ok(Word::Check(LineOptions::read(options))),
+        "solve" => Ok(Word::Solve(LineOptions::read(options))),
         "run" => Ok(Word::Run(OfficeOptions::read(alloc, options)?)),
+        "feed" => Ok(Word::Feed(FeedOptions::read(alloc, options)?)),
         "map" => Ok(Word::Map(MapOptions::read(alloc, options)?)),
         "plan" => Ok(Word::Plan(PlanOptions::read(alloc, options)?)),
         "table" => Ok(Word::Table(ProblemOptions::read(alloc, "wagons table", options)?)),
         "why" => Ok(Word::Why(WhyOptions::read(alloc, options)?)),
         "review" => Ok(Word::Review(ReviewOptions::read(alloc, options)?)),
         "save" => Ok(Word::Save(SaveOptions::read(alloc, options)?)),
-        "feed" => Ok(Word::Feed(FeedOptions::read(alloc, options)?)),
         "explain" => Ok(Word::Explain(read_explained(alloc, options)?)),
-        "solve" => Ok(Word::Solve(LineOptions::read(options))),
-        _ => Ok(Word::Check(LineOptions::read(options))),
+        _ => Err(no_word(alloc, name)?),
     }
+}
+
+/// The fault that there is no such word. `clap` has refused it before.
+fn no_word(alloc: Global, name: &str) -> Result<Error, AllocError> {
+    let reason = format!(in alloc; "unrecognized subcommand '{name}'")?;
+    let mut command = command_line(alloc)?;
+    command.error(ErrorKind::InvalidSubcommand, reason.as_str())
 }
 
 /// The fault that an argument is not UTF-8.
@@ -98,25 +126,49 @@ pub fn not_utf8(alloc: Global) -> Result<Error, AllocError> {
 
 /// The words that the program knows. Usage lines name it `wagons`, whatever its file is called.
 fn command_line<'a>(alloc: Global) -> Result<Command<'a>, AllocError> {
-    let mut program = program(alloc)?;
-    for help in WORDS {
-        program = with_word(alloc, program, help)?;
+    let words = words();
+    let mut line = program(alloc)?;
+    for help in &words {
+        line = line.subcommand(word_command(alloc, *help)?)?;
     }
-    Ok(program)
+    Ok(line)
 }
 
-/// The program, and one more word.
-fn with_word<'a>(
+/// The same without the groups of their options.
+fn ungrouped_line<'a>(alloc: Global) -> Result<Command<'a>, AllocError>
+    ensures { IfOk result (λ line. app_of line ≡ program) }
+{
+    let words = words();
+    let mut line = program(alloc)?;
+    for help in &words {
+        line = with_ungrouped_word(alloc, line, *help)?;
+    }
+    Ok(line)
+}
+
+/// The table of words. A proof goes over it here, and nowhere else.
+fn words() -> [WordHelp; 11]
+    ensures { map shape_for result ≡ words }
+{
+    WORDS
+}
+
+/// A program, and one more word, without the groups of its options.
+fn with_ungrouped_word<'a>(
     alloc: Global,
-    program: Command<'a>,
+    line: Command<'a>,
     help: WordHelp,
-) -> Result<Command<'a>, AllocError> {
-    let word = word_command(alloc, help)?;
-    program.subcommand(word)
+) -> Result<Command<'a>, AllocError>
+    ensures { IfOk result (λ r. app_of r ≡ with_subcommand (app_of line.entry) (shape_for help)) }
+{
+    let word = ungrouped_command(alloc, help)?;
+    line.subcommand(word)
 }
 
 /// The program, and no word.
-fn program<'a>(alloc: Global) -> Result<Command<'a>, AllocError> {
+fn program<'a>(alloc: Global) -> Result<Command<'a>, AllocError>
+    ensures { IfOk result (λ program. app_of program ≡ without_words) }
+{
     let program = Command::new(alloc, "wagons").bin_name("wagons")?;
     Ok(
         program
@@ -128,12 +180,27 @@ fn program<'a>(alloc: Global) -> Result<Command<'a>, AllocError> {
 
 /// A word with its help and what it takes.
 pub(crate) fn word_command<'a>(alloc: Global, help: WordHelp) -> Result<Command<'a>, AllocError> {
-    let mut word = Command::new(alloc, help.name)
-        .about(help.about)
-        .long_about(help.long_about)
-        .after_help(help.example);
+    let word = ungrouped_command(alloc, help)?;
+    with_groups(alloc, word, help.groups)
+}
+
+/// The same without the groups of its options.
+fn ungrouped_command<'a>(alloc: Global, help: WordHelp) -> Result<Command<'a>, AllocError>
+    ensures { IfOk result (IsWordBy (shape_for help)) }
+{
+    let mut word = bare_command(alloc, help);
     for arguments in help.arguments {
         word = with_arguments(alloc, word, arguments)?;
     }
-    with_groups(alloc, word, help.groups)
+    Ok(word)
+}
+
+/// A word with its help, before it takes anything.
+fn bare_command<'a>(alloc: Global, help: WordHelp) -> Command<'a>
+    ensures { IsWordBy (new_shape help.name.now) result }
+{
+    Command::new(alloc, help.name)
+        .about(help.about)
+        .long_about(help.long_about)
+        .after_help(help.example)
 }

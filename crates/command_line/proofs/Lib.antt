@@ -1,0 +1,4 @@
+pub mod ValueLemmas
+pub mod ArgumentLemmas
+pub mod LineLemmas
+pub mod ExplainLemmas

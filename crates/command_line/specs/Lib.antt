@@ -1,0 +1,7 @@
+pub mod Values
+pub mod Options
+pub mod Explained
+pub mod Arguments
+pub mod Program
+pub mod Words
+pub mod inner

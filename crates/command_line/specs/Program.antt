@@ -1,0 +1,61 @@
+-- The words that the program knows, each with its arguments, as `clap` reads them.
+use Rattle.std.specs.Prelude.{false, true, List, [], ◌∷◌, ◌++◌, codes}
+use Rattle.clap.specs.Simple.{App, Shape, new_shape}
+use Rattle.clap.specs.Walk.{Rule}
+use Rattle.command_line.specs.Arguments.{flag, needed, needed_repeated, number, number_or, repeated, unnamed, unnamed_files, valued}
+use Rattle.command_line.specs.Options.{max_workers}
+use Rattle.command_line.specs.Values.{Text}
+use Rattle.line_engine.specs.Lines.{largest_line_limit, max_input_lines}
+use Rattle.price_checker.specs.Limits.{max_entries, max_kept_problems}
+
+-- the options of each word that opens an office
+abbrev pub of_an_office : List Rule
+of_an_office =
+    valued (codes "roster")
+    ∷ valued (codes "from")
+    ∷ needed_repeated (codes "network")
+    ∷ number_or max_entries (codes "100000") (codes "entries")
+    ∷ number_or max_kept_problems (codes "8") (codes "kept")
+    ∷ number_or max_workers (codes "4") (codes "workers")
+    ∷ []
+
+-- the option of the words over table lines
+abbrev pub of_lines : List Rule
+of_lines = number_or largest_line_limit (codes "65536") (codes "line-bytes") ∷ []
+
+abbrev pub a_moment : Rule
+a_moment = needed (codes "at")
+
+abbrev pub some_places : Rule
+some_places = valued (codes "places")
+
+-- a word with these arguments
+abbrev pub word : Text → List Rule → Shape
+word name arguments = record (new_shape name) { rules = arguments }
+
+-- the words, in the order in which help lists them
+unfoldable pub words : List Shape
+words =
+    word (codes "check") of_lines
+    ∷ word (codes "solve") of_lines
+    ∷ word (codes "run") of_an_office
+    ∷ word (codes "feed") (of_an_office ++ unnamed_files (codes "file") ∷ [])
+    ∷ word (codes "map")
+    (of_an_office ++ some_places ∷ flag (codes "busy") ∷ valued (codes "order") ∷ valued (codes "class") ∷ [])
+    ∷ word (codes "plan") (of_an_office ++ a_moment ∷ some_places ∷ valued (codes "zone") ∷ flag (codes "csv") ∷ [])
+    ∷ word (codes "table") (of_an_office ++ a_moment ∷ [])
+    ∷ word (codes "why")
+    (of_an_office ++ a_moment ∷ some_places ∷ valued (codes "order") ∷ valued (codes "wagon") ∷ flag (codes "json") ∷ [])
+    ∷ word (codes "review") (of_an_office ++ some_places ∷ [])
+    ∷ word (codes "save")
+    (of_an_office ++ number max_input_lines (codes "upto") ∷ valued (codes "with") ∷ repeated (codes "without") ∷ [])
+    ∷ word (codes "explain") (unnamed (codes "code") ∷ [])
+    ∷ []
+
+-- the program before its words
+abbrev pub without_words : App
+without_words = record { top = record (new_shape (codes "wagons")) { has_version = true }; subs = [] }
+
+-- the program with its words
+unfoldable pub program : App
+program = record { top = record (new_shape (codes "wagons")) { has_version = true; is_leaf = false }; subs = words }
