@@ -3,3 +3,4 @@ pub mod Printed
 pub mod Faults
 pub mod FirstLineLemmas
 pub mod EntryLemmas
+pub mod OpenedFiles

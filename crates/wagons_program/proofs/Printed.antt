@@ -1,38 +1,41 @@
 -- From a text that was made and printed to what a word does.
-use Rattle.std.proofs.Common.{◌≡◌, ℕ, Bool, List, Option, None, Result, Ok, Err, IfOk, sym, subst}
+use Rattle.std.proofs.Common.{◌≡◌, ℕ, Bool, List, Option, None, Result, Ok, Err, IfOk}
 use Rattle.std.specs.Prelude.{IsOkAnd, OnOk}
 use Rattle.command_line.specs.declared.office_options.FeedOptions.{FeedOptions}
 use Rattle.command_line.specs.declared.office_options.OfficeOptions.{OfficeOptions}
 use Rattle.commit_book.specs.Books.{BookValue}
 use Rattle.line_network.specs.Network.{NetworkValue}
+use Rattle.office_files.specs.InFile.{BytesAt}
 use Rattle.wagons_program.specs.Brought.{IsBroughtTo}
 use Rattle.wagons_program.specs.Fed.{IsFedPrinted}
 use Rattle.wagons_program.specs.OfLast.{PrintsOfLast}
 use Rattle.wagons_program.specs.Streams.{Prints, Streams, streams, without_output}
 
 -- a text of the last version was made, and printed
-pub of_last : {E F T : Type 0} (bytes : T → List ℕ) (options : OfficeOptions) (IsText : BookValue → List ℕ → Type 0) (given : Streams) (networks : List NetworkValue)
-    (book : BookValue) (status : ℕ) (made : Result T E) (result : Result ℕ F) (Done : ℕ → Type 0)
-    → IsBroughtTo options networks (without_output given) book status → IfOk made (λ text. IsText book (bytes text))
-    → IfOk result (λ printed. printed ≡ status) → OnOk result (IsOkAnd made (λ text. Prints given (bytes text)))
-    → ((ended : ℕ) → PrintsOfLast options IsText given ended → Done ended) → IfOk result Done
-of_last bytes options IsText given networks book status made (Err fault) Done brought texts same printed done = tt
-of_last bytes options IsText given networks book status (Err why) (Ok it) Done brought texts same printed done = absurd printed
-of_last bytes options IsText given networks book status (Ok text) (Ok it) Done brought texts same printed done =
+pub of_last : {E F T : Type 0} (bytes_at : BytesAt) (bytes : T → List ℕ) (options : OfficeOptions) (IsText : BookValue → List ℕ → Type 0) (given : Streams) (networks : List NetworkValue)
+    (book : BookValue) (refused : ℕ) (made : Result T E) (result : Result ℕ F) (Done : ℕ → Type 0)
+    → IsBroughtTo bytes_at options networks (without_output given) book refused → IfOk made (λ text. IsText book (bytes text))
+    → IfOk result (λ status. status ≡ 0) → OnOk result (IsOkAnd made (λ text. Prints given (bytes text)))
+    → ((ended : ℕ) → PrintsOfLast bytes_at options IsText given ended → Done ended) → IfOk result Done
+of_last bytes_at bytes options IsText given networks book refused made (Err fault) Done brought texts same printed done = tt
+of_last bytes_at bytes options IsText given networks book refused (Err why) (Ok it) Done brought texts same printed done = absurd printed
+of_last bytes_at bytes options IsText given networks book refused (Ok text) (Ok it) Done brought texts same printed done =
     done it
     (record {
       networks = networks;
       book = book;
-      brought = subst (λ (s : ℕ). IsBroughtTo options networks (without_output given) book s) (sym same) brought;
+      refused = refused;
+      brought = brought;
       text = bytes text;
       is_text = texts;
       printed = printed;
+      status_is = same;
     })
 
 -- what a feed printed, whatever is on standard input
-pub fed_beside : {F : Type 0} (remaining : F → Option (List ℕ)) (has_failed : F → Bool) (options : FeedOptions) (input held holds : Option (List ℕ)) (status : ℕ)
-    → IsFedPrinted remaining has_failed options (streams None held holds) status → IsFedPrinted remaining has_failed options (streams input held holds) status
-fed_beside remaining has_failed options input held holds status fed = record {
+pub fed_beside : {F : Type 0} (bytes_at : BytesAt) (remaining : F → Option (List ℕ)) (has_failed : F → Bool) (options : FeedOptions) (input held holds : Option (List ℕ)) (status : ℕ)
+    → IsFedPrinted bytes_at remaining has_failed options (streams None held holds) status → IsFedPrinted bytes_at remaining has_failed options (streams input held holds) status
+fed_beside bytes_at remaining has_failed options input held holds status fed = record {
   networks = fed.networks;
   first = fed.first;
   is_first = fed.is_first;

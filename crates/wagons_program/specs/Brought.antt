@@ -11,6 +11,7 @@ use Rattle.line_network.specs.Network.{NetworkValue}
 use Rattle.office.specs.CommandReplies.{ToCommands}
 use Rattle.wagons_program.specs.FirstBook.{IsFirstBookFor}
 use Rattle.wagons_program.specs.Streams.{PrintsNothing, Streams}
+use Rattle.office_files.specs.InFile.{BytesAt}
 use Rattle.office_files.specs.declared.stop.Stop.{Stop}
 use Rattle.office_files.specs.declared.stop.Stop.TheVariants as stop
 use Rattle.wagons_program.specs.Status.{status_of_count}
@@ -58,17 +59,17 @@ abbrev pub IsInputStopped : {H : Type 0} → Replying H → (most : ℕ) → (fi
 IsInputStopped {H = H} replying most first given why = (last : H) × AreStopped replying (lines_over most given first last) why
 
 -- the command lines of an input led from the first book for these options to this one, and this is the status
-abbrev pub IsBroughtTo : OfficeOptions → (networks : List NetworkValue) → Streams → (book : BookValue) → (status : ℕ) → Type 0
-IsBroughtTo options networks given book status =
-    (first : BookValue) × IsFirstBookFor options networks first × AreAnswered ToCommands (lines_over max_line_bytes given first book) status
+abbrev pub IsBroughtTo : BytesAt → OfficeOptions → (networks : List NetworkValue) → Streams → (book : BookValue) → (status : ℕ) → Type 0
+IsBroughtTo bytes_at options networks given book status =
+    (first : BookValue) × IsFirstBookFor bytes_at options networks first × AreAnswered ToCommands (lines_over max_line_bytes given first book) status
 
 -- the command lines of an input were brought to the first book for these options, and this is the status
-abbrev pub IsInputBrought : OfficeOptions → Streams → (status : ℕ) → Type 0
-IsInputBrought options given status = (networks : List NetworkValue) × (book : BookValue) × IsBroughtTo options networks given book status
+abbrev pub IsInputBrought : BytesAt → OfficeOptions → Streams → (status : ℕ) → Type 0
+IsInputBrought bytes_at options given status = (networks : List NetworkValue) × (book : BookValue) × IsBroughtTo bytes_at options networks given book status
 
 -- Why they weren't: there was no first book, and nothing was printed; or the run stopped.
-abbrev pub IsNotBrought : OfficeOptions → Streams → (why : Stop) → Type 0
-IsNotBrought options given why =
+abbrev pub IsNotBrought : BytesAt → OfficeOptions → Streams → (why : Stop) → Type 0
+IsNotBrought bytes_at options given why =
     PrintsNothing given
-    ⊎ ((networks : List NetworkValue) × (first : BookValue) × IsFirstBookFor options networks first
+    ⊎ ((networks : List NetworkValue) × (first : BookValue) × IsFirstBookFor bytes_at options networks first
     × IsInputStopped ToCommands max_line_bytes first given why)

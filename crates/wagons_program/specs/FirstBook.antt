@@ -4,7 +4,7 @@ use Rattle.command_line.specs.declared.office_options.OfficeOptions.{OfficeOptio
 use Rattle.commit_book.specs.Books.{BookValue}
 use Rattle.line_network.specs.Network.{NetworkValue}
 use Rattle.office_files.specs.FirstOffice.{AreInFiles}
-use Rattle.office_files.specs.InFile.{unknown}
+use Rattle.office_files.specs.InFile.{BytesAt}
 use Rattle.operating_db.specs.Office.{Office}
 use Rattle.price_checker.specs.Limits.{LimitNumbers}
 
@@ -14,7 +14,8 @@ pub record IsFirstBook (first : Office) (networks : List NetworkValue) (limits :
   pub history : book.state.history ≡ []
   pub kept : book.state.kept ≡ []
 
--- the first book for these options over these networks: its office and the networks are those that the options' files say
-abbrev pub IsFirstBookFor : OfficeOptions → (networks : List NetworkValue) → BookValue → Type 0
-IsFirstBookFor options networks book =
-    (office : Office) × AreInFiles unknown options office networks × IsFirstBook office networks options.limits book
+-- the first book for these options over these networks: its office and the networks are those that the options' files say, by their
+-- bytes where these are known
+abbrev pub IsFirstBookFor : BytesAt → OfficeOptions → (networks : List NetworkValue) → BookValue → Type 0
+IsFirstBookFor bytes_at options networks book =
+    (office : Office) × AreInFiles bytes_at options office networks × IsFirstBook office networks options.limits book

@@ -9,3 +9,4 @@ pub mod OfLast
 pub mod Fed
 pub mod Explanation
 pub mod Words
+pub mod Run

@@ -8,14 +8,15 @@ use Rattle.command_line.specs.declared.office_options.SaveOptions.{SaveOptions}
 use Rattle.command_line.specs.declared.plan_options.PlanOptions.{PlanOptions}
 use Rattle.command_line.specs.declared.why_options.WhyOptions.{WhyOptions}
 use Rattle.commit_book.specs.Books.{BookValue}
-use Rattle.fleet_rows.specs.Roster.{IsRoster}
 use Rattle.last_texts.specs.MapOfLast.{IsMapOfLast}
 use Rattle.last_texts.specs.PlanOfLast.{IsPlanTextOfLast}
 use Rattle.last_texts.specs.ReasonsOfLast.{AreReasonsOfLast}
 use Rattle.last_texts.specs.SavedOfLast.{IsSaved, added_rows, last_state}
 use Rattle.last_texts.specs.TableOfLast.{IsTableTextOfLast}
+use Rattle.last_texts.specs.ZoneClock.{AreZoneBytes}
 use Rattle.line_network.specs.Network.{NetworkValue}
-use Rattle.office_files.specs.PlacesFor.{AreNamesFor, ArePlacesFor}
+use Rattle.office_files.specs.InFile.{BytesAt, IsRosterIn}
+use Rattle.office_files.specs.PlacesFor.{AreNamesAt, ArePlacesAt}
 use Rattle.place_names.specs.declared.named_place.NamedPlace.{NamedPlace}
 use Rattle.wagons_and_orders.specs.declared.wagon_row.WagonRow.{WagonRow}
 use Rattle.wagons_program.specs.Brought.{IsBroughtTo}
@@ -23,42 +24,45 @@ use Rattle.wagons_program.specs.FirstLines.{input_upto}
 use Rattle.wagons_program.specs.Streams.{Prints, Streams, without_output}
 
 -- The command lines of an input led from the first book for these options to a book, their replies went to nobody, and what was
--- printed is such a text of that book. This is the status.
-pub record PrintsOfLast (options : OfficeOptions) (IsText : BookValue → (text : List ℕ) → Type 0) (given : Streams) (status : ℕ) : Type 0 where
+-- printed is such a text of that book. The status is 0, whether a line was refused or not.
+pub record PrintsOfLast (bytes_at : BytesAt) (options : OfficeOptions) (IsText : BookValue → (text : List ℕ) → Type 0) (given : Streams) (status : ℕ) : Type 0 where
   pub networks : List NetworkValue
   pub book : BookValue
-  pub brought : IsBroughtTo options networks (without_output given) book status
+  pub refused : ℕ
+  pub brought : IsBroughtTo bytes_at options networks (without_output given) book refused
   pub text : List ℕ
   pub is_text : IsText book text
   pub printed : Prints given text
+  pub status_is : status ≡ 0
 
 -- the table line of the problem
-abbrev pub IsTablePrinted : ProblemOptions → Streams → (status : ℕ) → Type 0
-IsTablePrinted options given status = PrintsOfLast options.office (λ book text. IsTableTextOfLast book.setting book.state.history options.at text) given status
+abbrev pub IsTablePrinted : BytesAt → ProblemOptions → Streams → (status : ℕ) → Type 0
+IsTablePrinted bytes_at options given status = PrintsOfLast bytes_at options.office (λ book text. IsTableTextOfLast book.setting book.state.history options.at text) given status
 
--- the plan for people, with the names of places
-abbrev pub IsPlanPrinted : PlanOptions → Streams → (status : ℕ) → Type 0
-IsPlanPrinted options given status = (places : List NamedPlace) × ArePlacesFor (option_copied options.places) places
-    × PrintsOfLast options.problem.office (λ book text. IsPlanTextOfLast book.setting book.state.history options places text) given status
+-- the plan for people, with the names of places and in the time zone that its file says
+abbrev pub IsPlanPrinted : BytesAt → PlanOptions → Streams → (status : ℕ) → Type 0
+IsPlanPrinted bytes_at options given status = (places : List NamedPlace) × ArePlacesAt bytes_at (option_copied options.places) places
+    × (zone : List ℕ) × AreZoneBytes bytes_at (option_copied options.zone) zone
+    × PrintsOfLast bytes_at options.problem.office (λ book text. IsPlanTextOfLast book.setting book.state.history options places zone text) given status
 
 -- the reasons of a plan, with the names of places where they are asked for
-abbrev pub AreReasonsPrinted : WhyOptions → Streams → (status : ℕ) → Type 0
-AreReasonsPrinted options given status = (names : Option (List NamedPlace)) × AreNamesFor (option_copied options.places) names
-    × PrintsOfLast options.problem.office (λ book text. AreReasonsOfLast book.setting book.state.history options names text) given status
+abbrev pub AreReasonsPrinted : BytesAt → WhyOptions → Streams → (status : ℕ) → Type 0
+AreReasonsPrinted bytes_at options given status = (names : Option (List NamedPlace)) × AreNamesAt bytes_at (option_copied options.places) names
+    × PrintsOfLast bytes_at options.problem.office (λ book text. AreReasonsOfLast book.setting book.state.history options names text) given status
 
 -- the map of what is chosen, with the names of places
-abbrev pub IsMapPrinted : MapOptions → Streams → (status : ℕ) → Type 0
-IsMapPrinted options given status = (places : List NamedPlace) × ArePlacesFor (option_copied options.places) places
-    × PrintsOfLast options.office (λ book text. IsMapOfLast book.setting book.state.history places
+abbrev pub IsMapPrinted : BytesAt → MapOptions → Streams → (status : ℕ) → Type 0
+IsMapPrinted bytes_at options given status = (places : List NamedPlace) × ArePlacesAt bytes_at (option_copied options.places) places
+    × PrintsOfLast bytes_at options.office (λ book text. IsMapOfLast book.setting book.state.history places
     (record { busy = options.busy; order = options.order; class = options.class }) text) given status
 
--- the wagons that are added: those of a roster, where one is given
-abbrev pub AreAddedFor : (path : Option (List ℕ)) → (added : Option (List WagonRow)) → Type 0
-AreAddedFor None added = added ≡ None
-AreAddedFor (Some path) added = (rows : List WagonRow) × IsRoster rows × (added ≡ Some rows)
+-- the wagons that are added: those of the roster that a file says, where one is given
+abbrev pub AreAddedFor : BytesAt → (path : Option (List ℕ)) → (added : Option (List WagonRow)) → Type 0
+AreAddedFor bytes_at None added = added ≡ None
+AreAddedFor bytes_at (Some path) added = (rows : List WagonRow) × IsRosterIn (bytes_at path) rows × (added ≡ Some rows)
 
 -- the checkpoint, with the wagons that are added and without those that leave; of the first lines alone, where they are counted
-abbrev pub IsSavedPrinted : SaveOptions → Streams → (status : ℕ) → Type 0
-IsSavedPrinted options given status = (added : Option (List WagonRow)) × AreAddedFor (option_copied options.with) added
-    × PrintsOfLast options.office (λ book text. IsSaved (last_state book.setting book.state.history) (added_rows added) options.without.items text)
+abbrev pub IsSavedPrinted : BytesAt → SaveOptions → Streams → (status : ℕ) → Type 0
+IsSavedPrinted bytes_at options given status = (added : Option (List WagonRow)) × AreAddedFor bytes_at (option_copied options.with) added
+    × PrintsOfLast bytes_at options.office (λ book text. IsSaved (last_state book.setting book.state.history) (added_rows added) options.without.items text)
     (record given { input = input_upto options.upto given.input }) status

@@ -12,7 +12,8 @@ use Rattle.line_engine.specs.declared.run.RunCount.{RunCount}
 use Rattle.line_network.specs.Network.{NetworkValue}
 use Rattle.place_names.specs.declared.named_place.NamedPlace.{NamedPlace}
 use Rattle.wagons_program.specs.FirstBook.{IsFirstBookFor}
-use Rattle.office_files.specs.PlacesFor.{ArePlacesFor}
+use Rattle.office_files.specs.InFile.{BytesAt}
+use Rattle.office_files.specs.PlacesFor.{ArePlacesAt}
 use Rattle.office_files.specs.declared.stop.Stop.{Stop}
 use Rattle.office_files.specs.declared.stop.Stop.TheVariants as stop
 use Rattle.wagons_program.specs.Brought.{AreStopped, Lines, lines_over, printed_to, run_of}
@@ -39,15 +40,15 @@ pub record AreReviewed (lines : Lines ReviewValue) (status : ℕ) : Type 0 where
   pub status_is : status ≡ status_of_notes count (end_note count.lines last)
 
 -- the first review for these options, with these names of places
-abbrev pub IsFirstReviewFor : OfficeOptions → (named : List NamedPlace) → ReviewValue → Type 0
-IsFirstReviewFor options named review =
-    (networks : List NetworkValue) × (book : BookValue) × IsFirstBookFor options networks book × (review ≡ first_review book named)
+abbrev pub IsFirstReviewFor : BytesAt → OfficeOptions → (named : List NamedPlace) → ReviewValue → Type 0
+IsFirstReviewFor bytes_at options named review =
+    (networks : List NetworkValue) × (book : BookValue) × IsFirstBookFor bytes_at options networks book × (review ≡ first_review book named)
 
 -- the lines of an input were reviewed from the first review for these options, with the names of places, and this is the status
-abbrev pub IsInputReviewed : ReviewOptions → Streams → (status : ℕ) → Type 0
-IsInputReviewed options given status =
-    (named : List NamedPlace) × (first : ReviewValue) × (last : ReviewValue) × ArePlacesFor (option_copied options.places) named
-    × IsFirstReviewFor options.office named first × AreReviewed (lines_over max_line_bytes given first last) status
+abbrev pub IsInputReviewed : BytesAt → ReviewOptions → Streams → (status : ℕ) → Type 0
+IsInputReviewed bytes_at options given status =
+    (named : List NamedPlace) × (first : ReviewValue) × (last : ReviewValue) × ArePlacesAt bytes_at (option_copied options.places) named
+    × IsFirstReviewFor bytes_at options.office named first × AreReviewed (lines_over max_line_bytes given first last) status
 
 -- The input came to its end, and the notes of each line were printed. Then the note at the end couldn't be made, and nothing more
 -- was printed; or it couldn't be written.
@@ -63,8 +64,8 @@ abbrev pub IsReviewStopped : Lines ReviewValue → (why : Stop) → Type 0
 IsReviewStopped lines why = AreStopped Reviews lines why ⊎ IsNoteMissing lines why
 
 -- Why the lines of an input weren't reviewed: there was no first review, and nothing was printed; or the review stopped.
-abbrev pub IsInputNotReviewed : ReviewOptions → Streams → (why : Stop) → Type 0
-IsInputNotReviewed options given why =
+abbrev pub IsInputNotReviewed : BytesAt → ReviewOptions → Streams → (why : Stop) → Type 0
+IsInputNotReviewed bytes_at options given why =
     PrintsNothing given
-    ⊎ ((named : List NamedPlace) × (first : ReviewValue) × (last : ReviewValue) × ArePlacesFor (option_copied options.places) named
-    × IsFirstReviewFor options.office named first × IsReviewStopped (lines_over max_line_bytes given first last) why)
+    ⊎ ((named : List NamedPlace) × (first : ReviewValue) × (last : ReviewValue) × ArePlacesAt bytes_at (option_copied options.places) named
+    × IsFirstReviewFor bytes_at options.office named first × IsReviewStopped (lines_over max_line_bytes given first last) why)

@@ -11,11 +11,10 @@ use command_line::OfficeOptions;
 use commit_book::Book;
 use line_engine::{LineLimit, StdDevice};
 use line_network::Network;
-use office_files::{OfficeFiles, Stop, Stopped, read_files, told_of_lines};
+use office_files::{FileSystem, OfficeFiles, Stop, Stopped, read_files, told_of_lines};
 use std::alloc::Global;
 use std::io;
 use std::io::{Read, Write};
-use std::rt::Files;
 use std::sync::Wait;
 use std::thread::Threads;
 
@@ -29,19 +28,19 @@ pub(crate) struct Brought {
 }
 
 /// The same as `bring`, with replies that go to nobody.
-pub(crate) fn bring_without_output<R: Files + Threads + Wait + AllocGlobal, I: Read + Drop>(
+pub(crate) fn bring_without_output<R: FileSystem + Threads + Wait + AllocGlobal, I: Read + Drop>(
     rt: &R,
     options: &OfficeOptions<'_>,
     input: I,
 ) -> Result<Brought, Stopped>
     ensures networks { IfOk result (λ brought. brought.networks.items ≡ brought.book.setting.networks) }
-    ensures brought { IfOk result (λ brought. IsBroughtTo options.now brought.networks.items (streams (I.remaining input) None None) brought.book brought.status) }
+    ensures brought { IfOk result (λ brought. IsBroughtTo (R.bytes_at rt.now) options.now brought.networks.items (streams (I.remaining input) None None) brought.book brought.status) }
 {
     bring(rt, options, input, &mut StdDevice::new(io::sink()))
 }
 
 /// Opens an office and brings the command lines of an input to it, whose replies are written to the output.
-pub(crate) fn bring<R: Files + Threads + Wait + AllocGlobal, I: Read + Drop, O: Write>(
+pub(crate) fn bring<R: FileSystem + Threads + Wait + AllocGlobal, I: Read + Drop, O: Write>(
     rt: &R,
     options: &OfficeOptions<'_>,
     input: I,
@@ -49,8 +48,8 @@ pub(crate) fn bring<R: Files + Threads + Wait + AllocGlobal, I: Read + Drop, O: 
 ) -> Result<Brought, Stopped>
     requires { output.old.has_failed ≡ false }
     ensures networks { IfOk result (λ brought. brought.networks.items ≡ brought.book.setting.networks) }
-    ensures brought { IfOk result (λ brought. IsBroughtTo options.now brought.networks.items (streams (I.remaining input) (O.contents output.old.device) (O.contents output.new.device)) brought.book brought.status) }
-    ensures err { IfErr result (λ stopped. IsNotBrought options.now (streams (I.remaining input) (O.contents output.old.device) (O.contents output.new.device)) stopped.stop) }
+    ensures brought { IfOk result (λ brought. IsBroughtTo (R.bytes_at rt.now) options.now brought.networks.items (streams (I.remaining input) (O.contents output.old.device) (O.contents output.new.device)) brought.book brought.status) }
+    ensures err { IfErr result (λ stopped. IsNotBrought (R.bytes_at rt.now) options.now (streams (I.remaining input) (O.contents output.old.device) (O.contents output.new.device)) stopped.stop) }
 {
     let OfficeFiles { first, networks } = read_files(rt, options)?;
     let mut book = new_book(rt, options, first, &networks)?;

@@ -1,6 +1,7 @@
 //! The word `feed`.
-ghost use Rattle.std.specs.Prelude.{◌≡◌, nat_lt, is_some, All, IfErr, IfOk, List, None, OnOk, false, length, ℕ};
-ghost use Rattle.std.specs.List.{list_any};
+ghost use Rattle.std.specs.Prelude.{◌≡◌, nat_lt, is_some, All, IfErr, IfOk, List, None, OnOk, false, ℕ};
+ghost use Rattle.std.specs.List.{AllZip, list_any};
+ghost use Rattle.office_files.specs.InFile.{HasBytes};
 ghost use Rattle.sessions.specs.ReportText.{IsReportText};
 ghost use Rattle.wagons_program.specs.Fed.{IsFedPrinted};
 ghost use Rattle.wagons_program.specs.Status.{status_of_files};
@@ -11,25 +12,22 @@ use crate::printing::print_whole;
 use crate::status::{DONE, REFUSED, STOPPED};
 use command_line::FeedOptions;
 use line_engine::{MAX_FILES, Source, StdDevice};
-use office_files::{OfficeFiles, Stop, Stopped, open_plain, read_files};
+use office_files::{FileSystem, OfficeFiles, Stop, Stopped, open_plain, read_files};
 use sessions::{FeedReport, report_text};
 use std::alloc::Global;
 use std::io::Write;
-use std::rt::Files;
 use std::sync::Wait;
 use std::thread::Threads;
 
 /// Opens an office, brings the command lines of all files to it at once, and prints what became of each file and the sheet:
 /// status 0, 1 where a line was refused, 2 where a file failed. What is wrong is found in this order: the roster or
 /// the checkpoint, the networks, the files as each is opened, the distances.
-pub(crate) fn feed<R: Files + Threads + Wait + AllocGlobal + Sync, O: Write>(
+pub(crate) fn feed<R: FileSystem + Threads + Wait + AllocGlobal + Sync, O: Write>(
     rt: &R,
     options: &FeedOptions<'_>,
     output: &mut O,
 ) -> Result<u8, Stopped>
-where
-    R::File: Send,
-    ensures ok { IfOk result (IsFedPrinted ⟦<StdDevice<R::File> as Source>⟧.remaining ⟦<StdDevice<R::File> as Source>⟧.has_failed options.now (streams None (O.contents output.old) (O.contents output.new))) }
+    ensures ok { IfOk result (IsFedPrinted (R.bytes_at rt.now) ⟦<StdDevice<R::File> as Source>⟧.remaining ⟦<StdDevice<R::File> as Source>⟧.has_failed options.now (streams None (O.contents output.old) (O.contents output.new))) }
     ensures err { IfErr result (λ stopped. IsUnprinted (streams None (O.contents output.old) (O.contents output.new)) stopped.stop) }
 {
     let OfficeFiles { first, networks } = read_files(rt, &options.office)?;
@@ -57,12 +55,12 @@ where
 }
 
 /// Readers of the files, opened in their order.
-fn open_files<R: Files + AllocGlobal>(
+fn open_files<R: FileSystem + AllocGlobal>(
     rt: &R,
     paths: &[&str],
 ) -> Result<Vec<StdDevice<R::File>>, Stopped>
     ensures fresh { IfOk result (λ readers. All (λ reader. ⟦<StdDevice<R::File> as Source>⟧.has_failed reader ≡ false) readers.items) }
-    ensures each { IfOk result (λ readers. length readers.items ≡ length paths.now) }
+    ensures each { IfOk result (λ readers. AllZip (λ path reader. HasBytes (R.bytes_at rt.now path.now) (⟦<StdDevice<R::File> as Source>⟧.remaining reader)) paths.now readers.items) }
 {
     let mut readers = Vec::with_capacity(rt.alloc(), paths.len())?;
     for path in paths {

@@ -1,6 +1,8 @@
-//! Which numbers are refusals, and what the first lines of an input are. The functions do nothing: the contract is the law.
+//! Which numbers are refusals, what the first lines of an input are, and how `wagons run` ends. The functions do nothing: the
+//! contract is the law.
 ghost use Rattle.wagons_program.specs.FirstLines.{AreTheFirstLines};
 ghost use Rattle.wagons_program.specs.Laws.{EachFaultIsListed, EachNumberIsAFaults};
+ghost use Rattle.wagons_program.specs.Run.{RunsEndSo};
 
 use std::sync::ledger::Ledger;
 
@@ -17,4 +19,10 @@ pub fn each_number_is_a_faults<L: Ledger>()
 /// What `save --upto` reads has the first lines of the input, so many of them, and no other.
 pub fn the_first_lines_are_taken()
     ensures { AreTheFirstLines }
+{}
+
+/// How `wagons run` ends, from its arguments and the bytes of its files and of its input to the bytes of its output and its status.
+/// It follows from what `run_words` promises of any word.
+pub fn a_run_ends_so<F>()
+    ensures { RunsEndSo F }
 {}

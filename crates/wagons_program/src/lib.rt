@@ -21,5 +21,8 @@ mod table;
 mod terminal;
 mod why;
 
-pub use laws::{each_fault_is_listed, each_number_is_a_faults, the_first_lines_are_taken};
+pub use laws::{
+    a_run_ends_so, each_fault_is_listed, each_number_is_a_faults, the_first_lines_are_taken,
+};
 pub use program::{run_program, run_words};
+pub use terminal::Terminal;

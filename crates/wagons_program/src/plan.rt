@@ -6,24 +6,24 @@ ghost use Rattle.wagons_program.specs.Streams.{IsUnprinted, streams};
 use crate::bringing::{Brought, bring_without_output};
 use crate::opening::leave_book;
 use crate::printing::write_whole;
+use crate::status::DONE;
 use command_line::PlanOptions;
 use last_texts::{last_plan_text, read_zone};
-use office_files::{Stopped, read_places};
+use office_files::{FileSystem, Stopped, read_places};
 use std::io::{Read, Write};
-use std::rt::Files;
 use std::sync::Wait;
 use std::thread::Threads;
 
 /// Opens an office, brings the command lines of an input to it without replies, plans the problem of its last version at a
-/// moment, and prints the plan for people: status 0, or 1 where a line was refused. The names of places and the time zone are
-/// read first.
-pub(crate) fn plan<R: Files + Threads + Wait + AllocGlobal, I: Read + Drop, O: Write>(
+/// moment, and prints the plan for people: status 0, whether a line was refused or not. The names of places and the time
+/// zone are read first.
+pub(crate) fn plan<R: FileSystem + Threads + Wait + AllocGlobal, I: Read + Drop, O: Write>(
     rt: &R,
     options: &PlanOptions<'_>,
     input: I,
     output: &mut O,
 ) -> Result<u8, Stopped>
-    ensures ok { IfOk result (IsPlanPrinted options.now (streams (I.remaining input) (O.contents output.old) (O.contents output.new))) }
+    ensures ok { IfOk result (IsPlanPrinted (R.bytes_at rt.now) options.now (streams (I.remaining input) (O.contents output.old) (O.contents output.new))) }
     ensures err { IfErr result (λ stopped. IsUnprinted (streams (I.remaining input) (O.contents output.old) (O.contents output.new)) stopped.stop) }
 {
     let places = read_places(rt, options.places)?;
@@ -31,10 +31,10 @@ pub(crate) fn plan<R: Files + Threads + Wait + AllocGlobal, I: Read + Drop, O: W
     let Brought {
         mut book,
         networks: _,
-        status,
+        status: _,
     } = bring_without_output(rt, &options.problem.office, input)?;
     let text = last_plan_text(rt.alloc(), &mut book, options, &places, &zone);
     leave_book(book);
     write_whole(output, &text?)?;
-    Ok(status)
+    Ok(DONE)
 }

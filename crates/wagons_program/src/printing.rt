@@ -5,24 +5,24 @@ ghost use Rattle.office_files.specs.declared.stop.Stop.TheVariants.{WriteFailed}
 ghost use Rattle.wagons_program.specs.Streams.{PrintsNothing, streams};
 
 use crate::opening::leave_book;
+use crate::status::DONE;
 use commit_book::Book;
 use office_files::{Stop, Stopped};
 use std::io::Write;
 
-/// Prints the text that was made of an office, and leaves its book. The status is the one that its lines came to.
+/// Prints the text that was made of an office, and leaves its book: status 0.
 pub(crate) fn print_last<O: Write>(
     output: &mut O,
     book: Book,
     text: Result<String, Stop>,
-    status: u8,
 ) -> Result<u8, Stopped>
-    ensures ok { IfOk result (λ printed. printed ≡ status) }
+    ensures ok { IfOk result (λ status. status ≡ 0) }
     ensures printed { OnOk result (IsOkAnd text (λ made. Appends (O.contents output.old) (O.contents output.new) (string_bytes made))) }
     ensures err { IfErr result (λ stopped. (stopped.stop ≡ WriteFailed) ⊎ PrintsNothing (streams None (O.contents output.old) (O.contents output.new))) }
 {
     leave_book(book);
     print_whole(output, &text?)?;
-    Ok(status)
+    Ok(DONE)
 }
 
 /// Prints a text. `WriteFailed` (94) where it could not be written.

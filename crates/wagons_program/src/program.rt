@@ -1,11 +1,11 @@
 //! The program from its arguments to its exit status.
-ghost use Rattle.std.specs.Prelude.{◌≡◌, IfErr, IfOk, None, Result, false};
+ghost use Rattle.std.specs.Prelude.{◌≡◌, IfErr, IfOk, None, Result, false, map};
 ghost use Rattle.clap.specs.declared.error.Error.{Error};
 ghost use Rattle.command_line.specs.declared.words.Word.{Word};
 ghost use Rattle.office_files.specs.declared.stop.Stop.TheVariants.{WriteFailed};
 ghost use Rattle.wagons_program.specs.Status.{exit_status};
 ghost use Rattle.wagons_program.specs.Streams.{IsUnprinted, streams};
-ghost use Rattle.wagons_program.specs.Words.{IsDone, IsEnded, IsTextOf, IsUndone};
+ghost use Rattle.wagons_program.specs.Words.{AreReadAs, IsDone, IsEnded, IsTextOf, IsUndone};
 
 use crate::check::check;
 use crate::explain::explain;
@@ -18,53 +18,47 @@ use crate::save::save;
 use crate::solve::solve;
 use crate::status::{DONE, STOPPED};
 use crate::table::table;
-use crate::terminal::TerminalInput;
+use crate::terminal::{Terminal, TerminalInput};
 use crate::why::why;
 use clap::Error;
 use clap::error::ErrorKind;
 use command_line::{Word, hint, not_utf8, read_words};
 use line_engine::{Source, StdDevice};
-use office_files::{Stop, Stopped};
+use office_files::{FileSystem, Stop, Stopped};
 use std::convert::AsStr;
-use std::io::{IsTerminal, Read, Write};
-use std::process::ExitCode;
-use std::rt::{Files, Runtime};
+use std::io;
+use std::io::{Read, Write};
 use std::sync::Wait;
 use std::thread::Threads;
-use std::{env, io};
 
-/// Does what the program's arguments ask for. The status is 0, or 1 where a line was refused, or 2 where the program
-/// could not run or stopped; standard error says why then. It also says, once, that lines are read from a terminal, where they are.
-pub fn run_program<R: Runtime + Threads + Wait + AllocGlobal + Sync>(rt: &R) -> ExitCode
-where
-    R::File: Send,
-    R::Reader: IsTerminal,
-{
-    let reader = rt.reader();
-    let is_terminal = reader.is_terminal();
-    let mut output = StdDevice::new(io::writer(rt));
-    let status = match words_of(rt) {
+/// Does what the program's arguments ask for: what came of reading them, and standard input and output, are handed in. The status
+/// is 0, or 1 where a line was refused, or 2 where the program could not run or stopped; standard error says why then. It also
+/// says, once, that lines are read from a terminal, where they are.
+pub fn run_program<
+    R: FileSystem + Eprint + Threads + Wait + AllocGlobal + Sync,
+    I: Read + Drop,
+    O: Write + Drop,
+>(rt: &R, arguments: io::Result<Vec<String>>, input: Terminal<I>, output: O) -> u8 {
+    let mut output = StdDevice::new(output);
+    match arguments {
         Ok(words) => {
-            let input = TerminalInput::new(rt, reader, is_terminal);
+            let input = TerminalInput::new(rt, input);
             run_words(rt, words.as_slice(), input, &mut output)
         }
         Err(error) => told(rt, refuse_arguments(rt, error, &mut output.device)),
-    };
-    ExitCode::from(status)
+    }
 }
 
 /// Does what these words ask for, the program's name first, with these in place of standard input and output, and answers the
 /// exit status: 0, or 1 where a line was refused, or 2 where the program could not run or stopped; standard error says why then.
 pub fn run_words<
-    R: Files + Eprint + Threads + Wait + AllocGlobal + Sync,
+    R: FileSystem + Eprint + Threads + Wait + AllocGlobal + Sync,
     S: AsStr,
     I: Read + Drop,
     O: Write,
 >(rt: &R, words: &[S], input: I, output: &mut StdDevice<O>) -> u8
-where
-    R::File: Send,
     requires { output.old.has_failed ≡ false }
-    ensures { (asked : Result Word Error) × IsEnded ⟦<StdDevice<R::File> as Source>⟧.remaining ⟦<StdDevice<R::File> as Source>⟧.has_failed asked (streams (I.remaining input) (O.contents output.old.device) (O.contents output.new.device)) result }
+    ensures { (asked : Result Word Error) × AreReadAs (map S.text words.entry.now) asked × IsEnded (R.bytes_at rt.now) ⟦<StdDevice<R::File> as Source>⟧.remaining ⟦<StdDevice<R::File> as Source>⟧.has_failed asked (streams (I.remaining input) (O.contents output.old.device) (O.contents output.new.device)) result }
 {
     match read_words(rt.alloc(), words) {
         Ok(word) => told(rt, do_word(rt, &word, input, output)),
@@ -73,17 +67,15 @@ where
 }
 
 /// Does what a word asks for.
-fn do_word<R: Files + Threads + Wait + AllocGlobal + Sync, I: Read + Drop, O: Write>(
+fn do_word<R: FileSystem + Threads + Wait + AllocGlobal + Sync, I: Read + Drop, O: Write>(
     rt: &R,
     word: &Word<'_>,
     input: I,
     output: &mut StdDevice<O>,
 ) -> Result<u8, Stopped>
-where
-    R::File: Send,
     requires { output.old.has_failed ≡ false }
-    ensures ok { IfOk result (IsDone ⟦<StdDevice<R::File> as Source>⟧.remaining ⟦<StdDevice<R::File> as Source>⟧.has_failed word.now (streams (I.remaining input) (O.contents output.old.device) (O.contents output.new.device))) }
-    ensures err { IfErr result (λ stopped. IsUndone word.now (streams (I.remaining input) (O.contents output.old.device) (O.contents output.new.device)) stopped.stop) }
+    ensures ok { IfOk result (IsDone (R.bytes_at rt.now) ⟦<StdDevice<R::File> as Source>⟧.remaining ⟦<StdDevice<R::File> as Source>⟧.has_failed word.now (streams (I.remaining input) (O.contents output.old.device) (O.contents output.new.device))) }
+    ensures err { IfErr result (λ stopped. IsUndone (R.bytes_at rt.now) word.now (streams (I.remaining input) (O.contents output.old.device) (O.contents output.new.device)) stopped.stop) }
 {
     match word {
         Word::Check(options) => check(rt.alloc(), options.limit, input, output),
@@ -112,12 +104,6 @@ fn told<R: Eprint>(rt: &R, status: Result<u8, Stopped>) -> u8
             STOPPED
         }
     }
-}
-
-/// The program's arguments, its name first.
-fn words_of<R: Runtime + AllocGlobal>(rt: &R) -> io::Result<Vec<String>> {
-    let words: Vec<String> = env::args(rt)?.collect(rt.alloc())?;
-    Ok(words)
 }
 
 /// Says why the arguments could not be read: out of memory, or one that isn't UTF-8.

@@ -14,25 +14,26 @@ use crate::status::{REFUSED, status_of_run};
 use command_line::{OfficeOptions, ReviewOptions};
 use line_engine::{LineLimit, StdDevice};
 use office::{EndingSource, Review, RunCount, end_note, review_journal};
-use office_files::{OfficeFiles, Stop, Stopped, read_files, read_places, told_of_lines};
+use office_files::{
+    FileSystem, OfficeFiles, Stop, Stopped, read_files, read_places, told_of_lines,
+};
 use place_names::Places;
 use std::alloc::Global;
 use std::io::{Read, Write};
-use std::rt::Files;
 use std::sync::Wait;
 use std::thread::Threads;
 
 /// Opens an office, brings the command lines of an input to it as `run` does, and prints their notes in place of replies:
 /// status 0, or 1 where there is a note. The names of places are read first.
-pub(crate) fn review<R: Files + Threads + Wait + AllocGlobal, I: Read + Drop, O: Write>(
+pub(crate) fn review<R: FileSystem + Threads + Wait + AllocGlobal, I: Read + Drop, O: Write>(
     rt: &R,
     options: &ReviewOptions<'_>,
     input: I,
     output: &mut StdDevice<O>,
 ) -> Result<u8, Stopped>
     requires { output.old.has_failed ≡ false }
-    ensures ok { IfOk result (IsInputReviewed options.now (streams (I.remaining input) (O.contents output.old.device) (O.contents output.new.device))) }
-    ensures err { IfErr result (λ stopped. IsInputNotReviewed options.now (streams (I.remaining input) (O.contents output.old.device) (O.contents output.new.device)) stopped.stop) }
+    ensures ok { IfOk result (IsInputReviewed (R.bytes_at rt.now) options.now (streams (I.remaining input) (O.contents output.old.device) (O.contents output.new.device))) }
+    ensures err { IfErr result (λ stopped. IsInputNotReviewed (R.bytes_at rt.now) options.now (streams (I.remaining input) (O.contents output.old.device) (O.contents output.new.device)) stopped.stop) }
 {
     let places = read_places(rt, options.places)?;
     let mut review = begin_review(rt, &options.office, places)?;
@@ -42,12 +43,12 @@ pub(crate) fn review<R: Files + Threads + Wait + AllocGlobal, I: Read + Drop, O:
 }
 
 /// Opens an office, and begins a review of its lines with these names of places.
-fn begin_review<R: Files + Threads + Wait + AllocGlobal>(
+fn begin_review<R: FileSystem + Threads + Wait + AllocGlobal>(
     rt: &R,
     options: &OfficeOptions<'_>,
     named: Places,
 ) -> Result<Review, Stopped>
-    ensures { IfOk result (IsFirstReviewFor options.now named) }
+    ensures { IfOk result (IsFirstReviewFor (R.bytes_at rt.now) options.now named) }
 {
     let OfficeFiles { first, networks } = read_files(rt, options)?;
     let book = new_book(rt, options, first, &networks)?;

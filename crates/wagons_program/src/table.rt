@@ -7,28 +7,27 @@ use crate::bringing::{Brought, bring_without_output};
 use crate::printing::print_last;
 use command_line::ProblemOptions;
 use last_texts::last_table;
-use office_files::Stopped;
+use office_files::{FileSystem, Stopped};
 use std::io::{Read, Write};
-use std::rt::Files;
 use std::sync::Wait;
 use std::thread::Threads;
 
 /// Opens an office, brings the command lines of an input to it without replies, and prints the problem of its last version
-/// at a moment as a table line: status 0, or 1 where a line was refused.
-pub(crate) fn table<R: Files + Threads + Wait + AllocGlobal, I: Read + Drop, O: Write>(
+/// at a moment as a table line: status 0, whether a line was refused or not.
+pub(crate) fn table<R: FileSystem + Threads + Wait + AllocGlobal, I: Read + Drop, O: Write>(
     rt: &R,
     options: &ProblemOptions<'_>,
     input: I,
     output: &mut O,
 ) -> Result<u8, Stopped>
-    ensures ok { IfOk result (IsTablePrinted options.now (streams (I.remaining input) (O.contents output.old) (O.contents output.new))) }
+    ensures ok { IfOk result (IsTablePrinted (R.bytes_at rt.now) options.now (streams (I.remaining input) (O.contents output.old) (O.contents output.new))) }
     ensures err { IfErr result (λ stopped. IsUnprinted (streams (I.remaining input) (O.contents output.old) (O.contents output.new)) stopped.stop) }
 {
     let Brought {
         mut book,
         networks: _,
-        status,
+        status: _,
     } = bring_without_output(rt, &options.office, input)?;
     let text = last_table(rt.alloc(), &mut book, options.at);
-    print_last(output, book, text, status)
+    print_last(output, book, text)
 }

@@ -6,6 +6,13 @@ use std::io::Read;
 /// What is said once where a word waits for the lines of a terminal.
 const WAITS: &str = "reading lines from the terminal; Ctrl-D on an empty line ends them";
 
+/// An input, which is a terminal or isn't.
+#[derive(Drop)]
+pub struct Terminal<I> {
+    pub input: I,
+    pub is_terminal: bool,
+}
+
 /// An input that says so, before its first read, where it is a terminal.
 #[derive(Drop)]
 pub(crate) struct TerminalInput<'a, R, I> {
@@ -16,12 +23,11 @@ pub(crate) struct TerminalInput<'a, R, I> {
 }
 
 impl<'a, R, I> TerminalInput<'a, R, I> {
-    /// An input, which is a terminal or isn't.
-    pub(crate) fn new(rt: &'a R, input: I, is_terminal: bool) -> TerminalInput<'a, R, I> {
+    pub(crate) fn new(rt: &'a R, terminal: Terminal<I>) -> TerminalInput<'a, R, I> {
         TerminalInput {
             rt,
-            input,
-            says: is_terminal,
+            input: terminal.input,
+            says: terminal.is_terminal,
         }
     }
 }

@@ -5,6 +5,7 @@
 
 use anyhow::Result;
 use line_engine::StdDevice;
+use office_files::FileSystem;
 use std::rt::Runtime;
 use std::sync::Wait;
 use std::thread::Threads;
@@ -15,22 +16,23 @@ fn main(rt: HostRuntime) -> Result<()> {
     let names = fs::read_to_string(&rt, "scripts.txt")?;
     for name in names.lines() {
         let script = fs::read_to_string(&rt, name)?;
-        play(&rt, &script)?;
+        play(&rt, &rt, &script)?;
     }
     Ok(())
 }
 
 /// Plays a script. What a command prints takes the place of the lines between its input and its standard error.
-fn play<R: Runtime + Threads + Wait + AllocGlobal + Sync>(rt: &R, script: &str) -> Result<()>
-where
-    R::File: Send,
-{
+fn play<H: Runtime, R: FileSystem + Eprint + Threads + Wait + AllocGlobal + Sync>(
+    host: &H,
+    rt: &R,
+    script: &str,
+) -> Result<()> {
     let mut command = "";
     let mut given = String::new(rt.alloc());
     let mut errors = String::new(rt.alloc());
     for line in script.lines() {
         if command.is_empty() || line.starts_with("< ") {
-            println!(rt; "{line}")?;
+            println!(host; "{line}")?;
         }
         if let Some(call) = line.strip_prefix("$ ") {
             command = call;
@@ -41,8 +43,8 @@ where
             errors.push_str(line)?;
             errors.push('\n')?;
         } else if line.starts_with("status ") {
-            let status = status_of(rt, command, &given)?;
-            println!(rt; "{errors}status {status}")?;
+            let status = status_of(host, rt, command, &given)?;
+            println!(host; "{errors}status {status}")?;
             command = "";
             given.clear();
             errors.clear();
@@ -52,31 +54,27 @@ where
 }
 
 /// The exit status of a command, whose standard input is the file behind ` < `, or else what is given.
-fn status_of<R: Runtime + Threads + Wait + AllocGlobal + Sync>(
+fn status_of<H: Runtime, R: FileSystem + Eprint + Threads + Wait + AllocGlobal + Sync>(
+    host: &H,
     rt: &R,
     command: &str,
     given: &str,
-) -> Result<u8>
-where
-    R::File: Send,
-{
+) -> Result<u8> {
     let Some((call, file)) = command.split_once(" < ") else {
-        return status_over(rt, command, given.as_bytes());
+        return status_over(host, rt, command, given.as_bytes());
     };
-    let input = fs::read(rt, file)?;
-    status_over(rt, call, &input)
+    let input = fs::read(host, file)?;
+    status_over(host, rt, call, &input)
 }
 
 /// The exit status of a call over this standard input.
-fn status_over<R: Runtime + Threads + Wait + AllocGlobal + Sync>(
+fn status_over<H: Runtime, R: FileSystem + Eprint + Threads + Wait + AllocGlobal + Sync>(
+    host: &H,
     rt: &R,
     call: &str,
     input: &[u8],
-) -> Result<u8>
-where
-    R::File: Send,
-{
+) -> Result<u8> {
     let words: Vec<&str> = call.split_whitespace().collect(rt.alloc())?;
-    let mut output = StdDevice::new(io::writer(rt));
+    let mut output = StdDevice::new(io::writer(host));
     Ok(run_words(rt, words.as_slice(), input, &mut output))
 }

@@ -66,6 +66,7 @@ fn book_after<L: BookLedger + Send + Sync, R: Threads + Wait + Sync>(
     requires one_each { blank.parts ≡ seats }
     requires count { IsSeatCount seats }
     requires no_entry { book.state.history ≡ [] }
+    requires setting { book.setting ≡ L.setting }
 {
     let Ok((shared, mut seats)) = open::<L>(alloc, blank, book, seats) else {
         return Err(Fail::new("no shared"));

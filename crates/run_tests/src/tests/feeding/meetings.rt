@@ -15,19 +15,20 @@ use test_samples::MemorySource;
 /// How often a reader looks whether the other was asked, before it gives up.
 const TURNS: u32 = 10_000_000;
 
-/// A reader that gives no byte until another one has been asked for one.
+/// A reader that gives no byte until another one has been asked for some, so many times.
 #[derive(Drop)]
 struct Meeting<'a> {
     bytes: MemorySource<'a>,
     asked: &'a AtomicU64,
     other: &'a AtomicU64,
+    times: u64,
     gave_up: bool,
 }
 
-/// Whether the other was asked for a byte, within the turns.
-fn was_asked(other: &AtomicU64) -> bool {
+/// Whether the other was asked for bytes so many times, within the turns.
+fn was_asked(other: &AtomicU64, times: u64) -> bool {
     for _ in 0..TURNS {
-        if other.load(Ordering::SeqCst) > 0 {
+        if other.load(Ordering::SeqCst) >= times {
             return true;
         }
     }
@@ -35,13 +36,14 @@ fn was_asked(other: &AtomicU64) -> bool {
 }
 
 impl<'a> Meeting<'a> {
-    fn new(text: &'a str, asked: &'a AtomicU64, other: &'a AtomicU64) -> Meeting<'a>
+    fn new(text: &'a str, asked: &'a AtomicU64, other: &'a AtomicU64, times: u64) -> Meeting<'a>
         ensures { ⟦<Meeting<'a> as Source>⟧.has_failed result ≡ false }
     {
         Meeting {
             bytes: MemorySource::new(text.as_bytes(), usize::MAX),
             asked,
             other,
+            times,
             gave_up: false,
         }
     }
@@ -53,8 +55,8 @@ impl<'a> Source for Meeting<'a> {
     ghost has_failed = { λ s. ⟦<MemorySource<'a> as Source>⟧.has_failed s.bytes };
 
     fn read(&mut self, piece: &mut [u8]) -> Result<usize, DeviceFailed> {
-        self.asked.store(1, Ordering::SeqCst);
-        if !was_asked(self.other) {
+        self.asked.fetch_add(1, Ordering::SeqCst);
+        if !was_asked(self.other, self.times) {
             self.gave_up = true;
         }
         self.bytes.read(piece)
@@ -68,8 +70,8 @@ impl<'a> Source for Meeting<'a> {
 /// Whether the two files are reported where each reader waits for the other, and neither gave up.
 fn is_met<T: Threads + Wait + Sync>(rt: &T, alloc: Global) -> Result<bool, Fail> {
     let (first, second) = (AtomicU64::new(0), AtomicU64::new(0));
-    let one = Meeting::new(FIRST, &first, &second);
-    let other = Meeting::new(SECOND, &second, &first);
+    let one = Meeting::new(FIRST, &first, &second, 1);
+    let other = Meeting::new(SECOND, &second, &first, 1);
     let readers = vec![in alloc; one, other]?;
     let report = fed(rt, alloc, readers)?;
     Ok(is_text_of(alloc, &report, REPORT)? && report.files.iter().all(|file| !file.reader.gave_up))
@@ -78,6 +80,37 @@ fn is_met<T: Threads + Wait + Sync>(rt: &T, alloc: Global) -> Result<bool, Fail>
 #[test]
 fn two_at_once(rt: HostRuntime) -> Result<(), Fail> {
     assert!(rt; is_met(&rt, rt.alloc())?);
+    Ok(())
+}
+
+/// A departure of a wagon, and its arrival from another railway.
+const DEPARTURE: &str =
+    r#"{"type":"departure","company":"0080","number":1,"wagon":"338447961008","place":"DE00001","moment":"2026-03-01T02:00:00Z"}
+"#;
+
+const ARRIVAL: &str =
+    r#"{"type":"arrival","company":"0081","number":1,"wagon":"338447961008","place":"DE00003","moment":"2026-03-01T05:00:00Z"}
+"#;
+
+/// Whether a message is in the book when its reader is asked for more: another file's message, which is read only then, follows
+/// on it.
+fn is_taken_in<T: Threads + Wait + Sync>(rt: &T, alloc: Global) -> Result<bool, Fail> {
+    let (first, second) = (AtomicU64::new(0), AtomicU64::new(0));
+    let one = Meeting::new(DEPARTURE, &first, &second, 0);
+    let other = Meeting::new(ARRIVAL, &second, &first, 2);
+    let readers = vec![in alloc; one, other]?;
+    let report = fed(rt, alloc, readers)?;
+    Ok(
+        report
+            .files
+            .iter()
+            .all(|file| file.accepted == 1 && !file.reader.gave_up),
+    )
+}
+
+#[test]
+fn what_was_read_is_taken_in(rt: HostRuntime) -> Result<(), Fail> {
+    assert!(rt; is_taken_in(&rt, rt.alloc())?);
     Ok(())
 }
 

@@ -12,11 +12,11 @@ returns-clause-ok g c =
     let book = c.in_ok-book.field-0.book in
     let brought = c.in_ok-book.ensures {u = tt} in
     let chosen : Choice = record { busy = options.busy; order = options.order; class = options.class } in
-    of_last (λ (text : String Global). string_bytes text) options.office
+    of_last (g.R.FileSystem.bytes_at c.args.rt.now) (λ (text : String Global). string_bytes text) options.office
     (λ book text. IsMapOfLast book.setting book.state.history c.in_ok-places.places chosen text)
     (streams (g.I.Read.remaining c.args.input) (g.O.Write.contents c.args.output.now) (g.O.Write.contents c.print_last.new.output))
     c.in_ok-book.field-0.networks.items book c.in_ok-book.field-0.status c.last_map-text.result c.print_last.result
-    (IsMapPrinted options (streams (g.I.Read.remaining c.args.input) (g.O.Write.contents c.args.output.now) (g.O.Write.contents c.print_last.new.output)))
+    (IsMapPrinted (g.R.FileSystem.bytes_at c.args.rt.now) options (streams (g.I.Read.remaining c.args.input) (g.O.Write.contents c.args.output.now) (g.O.Write.contents c.print_last.new.output)))
     brought.brought
     (subst (λ (choice : Choice). IfOk c.last_map-text.result (λ text. IsMapOfLast book.setting book.state.history c.in_ok-places.places choice (string_bytes text)))
     c.choice_of.ensures c.last_map-text.ensures.map)

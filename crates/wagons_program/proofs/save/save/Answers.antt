@@ -10,11 +10,11 @@ pub returns-clause-ok : goal.returns-clause-ok
 returns-clause-ok g c =
     let options = c.args.options.now in
     let book = c.in_ok-book.field-0.book in
-    of_last (λ (text : String Global). string_bytes text) options.office
+    of_last (g.R.FileSystem.bytes_at c.args.rt.now) (λ (text : String Global). string_bytes text) options.office
     (λ book text. IsSaved (last_state book.setting book.state.history) (added_rows c.in_ok-added.added) options.without.items text)
     (streams (input_upto options.upto (g.I.Read.remaining c.args.input)) (g.O.Write.contents c.args.output.now) (g.O.Write.contents c.print_last.new.output))
     c.in_ok-book.field-0.networks.items book c.in_ok-book.field-0.status c.last_saved-text.result c.print_last.result
-    (IsSavedPrinted options (streams (g.I.Read.remaining c.args.input) (g.O.Write.contents c.args.output.now) (g.O.Write.contents c.print_last.new.output)))
+    (IsSavedPrinted (g.R.FileSystem.bytes_at c.args.rt.now) options (streams (g.I.Read.remaining c.args.input) (g.O.Write.contents c.args.output.now) (g.O.Write.contents c.print_last.new.output)))
     c.in_ok-book.ensures
     (subst (λ (leaving : List (List ℕ)). IfOk c.last_saved-text.result (λ text. IsSaved (last_state book.setting book.state.history) (added_rows c.in_ok-added.added) leaving (string_bytes text)))
     c.deref.ensures.value c.last_saved-text.ensures.saved)

@@ -11,11 +11,11 @@ returns-clause-ok g c =
     let options = c.args.options.now in
     let book = c.in_ok-book.field-0.book in
     let brought = c.in_ok-book.ensures {u = tt} in
-    of_last (λ (text : String Global). string_bytes text) options.problem.office
+    of_last (g.R.FileSystem.bytes_at c.args.rt.now) (λ (text : String Global). string_bytes text) options.problem.office
     (λ book text. AreReasonsOfLast book.setting book.state.history options c.in_ok-names.names text)
     (streams (g.I.Read.remaining c.args.input) (g.O.Write.contents c.args.output.now) (g.O.Write.contents c.print_last.new.output))
     c.in_ok-book.field-0.networks.items book c.in_ok-book.field-0.status c.last_reasons-text.result c.print_last.result
-    (AreReasonsPrinted options (streams (g.I.Read.remaining c.args.input) (g.O.Write.contents c.args.output.now) (g.O.Write.contents c.print_last.new.output)))
+    (AreReasonsPrinted (g.R.FileSystem.bytes_at c.args.rt.now) options (streams (g.I.Read.remaining c.args.input) (g.O.Write.contents c.args.output.now) (g.O.Write.contents c.print_last.new.output)))
     brought.brought
     (subst (λ (names : Option (List NamedPlace)). IfOk c.last_reasons-text.result (λ text. AreReasonsOfLast book.setting book.state.history options names (string_bytes text)))
     c.as_ref.ensures.value c.last_reasons-text.ensures.reasons)

@@ -3,6 +3,6 @@ use Rattle.library_tests.proofs.tests.seats.scenes.played.Given as goal
 abbrev pub ghosts-book_after-L-Ledger : goal.ghosts-book_after-L-Ledger
 ghosts-book_after-L-Ledger g a = record { name = a.blank.name; parts = a.blank.parts }
 
--- the ledger stands for the networks of the book
+-- the ledger stands for the setting of the book
 abbrev pub ghosts-book_after-L-BookLedger : goal.ghosts-book_after-L-BookLedger
-ghosts-book_after-L-BookLedger g a = record { networks = a.book.setting.networks }
+ghosts-book_after-L-BookLedger g a = record { setting = a.book.setting }
