@@ -1,4 +1,4 @@
-"""The access lists of docs/STREAMS.md: what each user may do, tried with each command of the server."""
+"""The access lists of docs/STREAM_SETUP.md: what each user may do, tried with each command of the server."""
 
 import itertools
 from collections.abc import Iterator, Sequence
@@ -14,7 +14,7 @@ from wagons_service.streams import LIBRARY
 
 LINES, REPLIES = keys("north")
 MARK = "{north}:sent:1001"
-# As docs/STREAMS.md has them.
+# As docs/STREAM_SETUP.md has them.
 RAILWAY = ["on", ">SECRET", "-@all", "+ping", "(+xadd %W~{north}:lines)", "(+xread +xrange %R~{north}:lines %R~{north}:replies)",
            "(+fcall %RW~{north}:lines %RW~{north}:sent:1001)", "(+get +set %RW~{north}:sent:1001)"]
 OFFICE = ("on >SECRET -@all +xadd +xread +xrange +xrevrange +xtrim +xinfo +exists +get +set +del +watch +unwatch +wait +multi +exec +function|load "
@@ -46,7 +46,7 @@ def address(server: RedisServer, user: str, path: str) -> str:
 
 
 def test_the_lists_of_the_page() -> None:
-    page = (ROOT / "docs" / "STREAMS.md").read_text()
+    page = (ROOT / "docs" / "STREAM_SETUP.md").read_text()
     assert all(f"ACL SETUSER {name} {' '.join(rights)}\n" in page for name, rights in
                {"railway-1001": RAILWAY, "office-north": OFFICE, "router-fleet": ROUTER}.items())
     assert "ACL SETUSER default off\n" in page

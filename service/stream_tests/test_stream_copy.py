@@ -58,6 +58,24 @@ def test_a_copy_outlives_a_wrong_stream(server: RedisServer, start_office: Start
     assert answered(server, ids) == run(program, lines(40, 60), ["--from", str(folder / "3" / "checkpoint.jsonl")])[10:]
 
 
+def test_a_backup_of_a_copy_is_put_back(server: RedisServer, start_office: StartOffice, tmp_path: Path) -> None:
+    """A backup that is made while the office runs knows its stream and the id of each line, so it goes back into an empty one."""
+    folder, backup = tmp_path / "copy", tmp_path / "backup"
+    office, told = copied(server, start_office, folder, 50)
+    command = [ROOT / "service" / "wagons-service", "backup", backup, "--journal", folder, "--program", office.program, *office.office]
+    done = subprocess.run(list(map(str, command)), capture_output=True, text=True, check=False)
+    assert done.returncode == 0, done.stderr
+    there = server.client.xrange(LINES)
+    assert office.stop() == 0
+    server.client.flushall()
+    done = restore(backup / "journal", server.address("north"))
+    assert done.returncode == 0 and "the 30 lines of journal 2 and 3 again" in done.stdout, done.stderr
+    assert replies(server) == told and server.client.xrange(LINES) == there
+    # The office goes on with the backup as its copy.
+    office = start_office(server.address("north"), options=[*OPTIONS, "--copy", str(backup / "journal")]).until_first()
+    assert len(answered(server, appended(server, lines(50, 55)))) == 5
+
+
 def test_an_emptied_stream_is_put_back(server: RedisServer, start_office: StartOffice, tmp_path: Path) -> None:
     """A service whose stream is emptied stops. Where its restore is ended, no service begins with a part of the lines, and the
     restore is begun once more."""

@@ -3,7 +3,7 @@
 import sys
 from collections.abc import Callable, Iterator
 from pathlib import Path
-from typing import Any
+from typing import TYPE_CHECKING, Any
 
 import pytest
 
@@ -13,7 +13,11 @@ sys.path[:0] = [str(ROOT / "service"), str(ROOT / "tools"), str(Path(__file__).p
 import programs  # noqa: E402
 from running import Service  # noqa: E402
 
+if TYPE_CHECKING:
+    from browsing import Browser
+
 Start = Callable[..., Service]
+Browse = Callable[..., "Browser"]
 
 
 def pytest_addoption(parser: pytest.Parser) -> None:
@@ -42,3 +46,19 @@ def start(program: str, tmp_path: Path) -> Iterator[Start]:
     yield one
     for service in started:
         service.end()
+
+
+@pytest.fixture
+def browse() -> Iterator[Browse]:
+    """Opens the page of a service, or of a proxy's port, in browsers of their own; all of them are ended with the test."""
+    # Only these tests need selenium.
+    from browsing import Browser
+    opened: list[Browser] = []
+
+    def one(where: Service | int, *options: str) -> Browser:
+        opened.append(Browser(where if isinstance(where, int) else where.port, *options))
+        return opened[-1]
+
+    yield one
+    for browser in opened:
+        browser.driver.quit()

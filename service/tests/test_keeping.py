@@ -56,7 +56,9 @@ def sending(start: Start, tmp_path: Path) -> Iterator[Service]:
 def test_back_up_lose_everything_and_restore(sending: Service, start: Start, tmp_path: Path) -> None:
     service = sending
     backup = tmp_path / "backup"
-    done = command("backup", service, backup)
+    places = (DAY / "places.csv").read_bytes()
+    (tmp_path / "places.csv").write_bytes(places)
+    done = command("backup", service, backup, "--places", tmp_path / "places.csv")
     assert done.returncode == 0 and done.stdout.startswith(f"{backup}: 2 journals with "), done.stderr
     before, first, second = sheet(service), service.get("/replies?journal=1").records, service.kept
     os.kill(service.process.pid, signal.SIGKILL)
@@ -68,6 +70,7 @@ def test_back_up_lose_everything_and_restore(sending: Service, start: Start, tmp
     kept = again.kept
     assert len(kept) >= 20 and kept == second[:len(kept)]
     assert sheet(again) == before and again.get("/replies?journal=1").records == first
+    assert (backup / "places.csv").read_bytes() == places
 
 
 def test_what_is_no_backup(start: Start, tmp_path: Path) -> None:

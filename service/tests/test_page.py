@@ -1,137 +1,33 @@
-"""The page in a real browser: the example day by clicks."""
+"""The page in a real browser: the example day by clicks, and by keys."""
 
 import json
-from collections.abc import Callable, Iterator
+import os
+import signal
+import time
 from pathlib import Path
 
-import pytest
-from selenium import webdriver
-from selenium.common.exceptions import (
-    ElementClickInterceptedException,
-    ElementNotInteractableException,
-    NoSuchElementException,
-    StaleElementReferenceException,
-)
 from selenium.webdriver.common.by import By
 from selenium.webdriver.common.keys import Keys
-from selenium.webdriver.remote.webelement import WebElement
-from selenium.webdriver.support.wait import WebDriverWait
 
-from conftest import ROOT, Start
+from conftest import ROOT, Browse, Start
 from running import DAY, WAGONS, Service, line, message, order
 
 LINES = (DAY / "day.jsonl").read_bytes().splitlines()
-SECONDS = 60
-# What the driver says of an element that the page shows again while it is used. Nothing was done to it then.
-SHOWN_AGAIN = (ElementClickInterceptedException, ElementNotInteractableException, NoSuchElementException, StaleElementReferenceException)
+PLACES = ["--places", str(DAY / "places.csv")]
 # The page with a plan, for whoever wants to see it before it is tried.
 PICTURE = ROOT / "out" / "page.png"
 
 
-class Browser:
-    def __init__(self, service: Service) -> None:
-        self.service = service
-        options = webdriver.ChromeOptions()
-        for word in "--headless=new", "--no-sandbox", "--disable-gpu", "--disable-dev-shm-usage", "--window-size=1280,1400":
-            options.add_argument(word)
-        options.set_capability("goog:loggingPrefs", {"browser": "ALL"})
-        self.driver = webdriver.Chrome(options=options, service=webdriver.chrome.service.Service("/usr/bin/chromedriver"))
-
-    def open(self, path: str = "/") -> None:
-        self.driver.get(f"http://127.0.0.1:{self.service.port}{path}")
-
-    def find(self, css: str) -> WebElement:
-        return self.driver.find_element(By.CSS_SELECTOR, css)
-
-    def until(self, holds: Callable[[], object], what: str) -> None:
-        WebDriverWait(self.driver, SECONDS, ignored_exceptions=(Exception,)).until(lambda _: holds(), what)
-
-    def until_says(self, css: str, words: str) -> None:
-        shown = ""
-
-        def holds() -> bool:
-            nonlocal shown
-            shown = self.find(css).text
-            return words in shown
-
-        try:
-            self.until(holds, "")
-        except Exception:
-            raise AssertionError(f"{css} says {shown!r}, not {words!r}") from None
-
-    def rows(self, table: str) -> list[list[str]]:
-        return self.driver.execute_script(  # type: ignore[no-any-return]
-            "return [...document.querySelectorAll(arguments[0] + ' tbody tr')].map(row => [...row.cells].map(cell => cell.innerText))", table)
-
-    def use(self, css: str, use: Callable[[WebElement], None]) -> None:
-        """Uses an element, which is found again where the page shows it again in between."""
-
-        def used(_: object) -> bool:
-            use(self.find(css))
-            return True
-
-        WebDriverWait(self.driver, SECONDS, ignored_exceptions=SHOWN_AGAIN).until(used, css)
-
-    def click(self, css: str) -> None:
-        def clicked(element: WebElement) -> None:
-            self.driver.execute_script("arguments[0].scrollIntoView({block: 'center'})", element)
-            element.click()
-
-        self.use(css, clicked)
-
-    def press(self, css: str, key: str) -> None:
-        def pressed(element: WebElement) -> None:
-            self.driver.execute_script("arguments[0].focus()", element)
-            element.send_keys(key)
-
-        self.use(css, pressed)
-
-    def fill(self, css: str, words: str) -> None:
-        field = self.find(css)
-        field.send_keys(Keys.CONTROL, "a")
-        field.send_keys(words if words else Keys.DELETE)
-
-    def order(self, name: str, **fields: str) -> None:
-        values = {"order": name, "place": "DE10003", "classes": "Habbins", "load": "45000", "latest": "2026-03-02T12:00:00Z", "penalty": "400", "wagons": "1"}
-        for field, words in (values | fields).items():
-            self.fill(f"#order-{field}", words)
-        self.click("#order-send")
-
-    def plan(self, at: str) -> None:
-        self.fill("#plan-at", at)
-        self.click("#plan-ask")
-        self.until_says("#plan-head", "this plan costs")
-
-    @property
-    def faults(self) -> list[str]:
-        """What the browser complains of, but for answers that aren't 200."""
-        return [entry["message"] for entry in self.driver.get_log("browser") if "Failed to load resource" not in entry["message"]]
-
-
-@pytest.fixture
-def browse() -> Iterator[Callable[[Service], Browser]]:
-    opened: list[Browser] = []
-
-    def one(service: Service) -> Browser:
-        opened.append(Browser(service))
-        return opened[-1]
-
-    yield one
-    for browser in opened:
-        browser.driver.quit()
-
-
-Browse = Callable[[Service], Browser]
-
-
 def test_the_day_by_clicks(start: Start, browse: Browse) -> None:
-    service = start().until_running()
-    page = browse(service)
-    page.open()
+    service = start(options=PLACES).until_running()
+    page = browse(service).open()
     page.until_says("#state", "The office runs: 0 lines in journal 1, version 0.")
-    assert len(page.rows("#wagons-table")) == 40
+    page.tab("wagons")
+    page.until_says("#wagons-shown", "40 of 40")
+    page.until(lambda: page.rows("#wagons-table")[0][:2] == ["3154 6640 001-9", "Falns"], "the first wagon")
 
     # Five orders, and one that isn't right at first.
+    page.tab("new_order")
     page.order("malt 1", place="Lindenau")
     page.until_says('[data-field="order"]', "Refused, 16 BadOrderId")
     page.order("MALT-1", place="Lindenau")
@@ -152,7 +48,13 @@ def test_the_day_by_clicks(start: Start, browse: Browse) -> None:
     page.until_says("#said", "entry 4")
     page.order("SALT-1", place="AT30002", load="40000", latest="2026-03-02T09:00:00Z", penalty="300", wagons="2")
     page.until_says("#said", "entry 5")
+    page.tab("orders")
     page.until(lambda: [row[0] for row in page.rows("#orders-table")] == ["MALT-1", "STEEL-1", "SCRAP-1", "SUGAR-1", "SALT-1"], "five orders")
+    # What needs a person now stands on the left, the most urgent first.
+    assert [row[:3] for row in page.rows("#short-table")] == [
+        ["SALT-1", "2", "Salzhof"], ["STEEL-1", "1", "Hüttenstadt"], ["MALT-1", "1", "Lindenau"], ["SCRAP-1", "2", "Seehafen"], ["SUGAR-1", "3", "Cukrov"]]
+    page.until(lambda: page.rows("#orders-table")[4] == [
+        "SALT-1", "2", "2", "AT30002", "Salzhof", "Habbins", "40000", "2026-03-02T09:00:00Z", "300", "waiting", "", ""], "class and load")
 
     # Railways send; a plan is looked at and accepted.
     assert service.post(LINES[5:7]).replies[1].endswith("accepted 7")
@@ -161,32 +63,43 @@ def test_the_day_by_clicks(start: Start, browse: Browse) -> None:
     page.until_says("#plan-head", "20 free wagons, 5 waiting orders: this plan costs 660, 360 km and 300 for missing wagons. None costs less.")
     page.until(lambda: page.rows("#plan-table")[0][5], "an arrival")
     pairs = page.rows("#plan-table")
-    assert pairs[0][:6] == ["318127710016", "MALT-1", "DE10001", "DE10003", "150", "2026-03-02T08:50:00Z"]
-    assert pairs[0][6] == "The prices don't say what it costs to do without it."
+    assert pairs[0] == ["3181 2771 001-6", "MALT-1", "DE10001 Seehafen", "DE10003 Lindenau", "150", "2026-03-02T08:50:00Z",
+                        "The prices don't say what it costs to do without it."]
     assert len(pairs) == 8 and any("Every plan in which it stays costs at least 300 km more." == pair[6] for pair in pairs)
     assert page.rows("#missing-table") == [["SALT-1", "1", "300", "Free wagons that suit and are there in time: 1. No plan gives it more."]]
-    PICTURE.parent.mkdir(exist_ok=True)
-    page.until(lambda: page.find("#map-shown svg"), "a map")
-    page.driver.execute_script("window.scrollTo(0, 0)")
-    page.driver.save_screenshot(str(PICTURE))
     page.click("#accept")
     page.until_says("#said", "The plan is accepted: entry 8 of the book.")
-    page.until(lambda: page.rows("#orders-table")[1][7] == "318127710032", "a promise")
+    # Its promises stay in a list, also when the page is opened again.
+    promise = ["3181 2771 001-6", "Habbins", "MALT-1", "DE10001 Seehafen", "DE10003 Lindenau", "150", "2026-03-02T08:50:00Z", "2026-03-02T12:00:00Z", "empty"]
+    page.until(lambda: page.rows("#promises-table")[0] == promise, "a promise")
+    page.open("/#promises")
+    page.until(lambda: page.rows("#promises-table")[0] == promise, "the promise again")
+    assert page.find("#promises-shown").text == "8 of 8"
+    page.tab("map")
+    page.click('#short-table [data-row="SALT-1"]')
+    page.until(lambda: page.find('#map-shown circle.chosen[data-place="AT30002"]'), "the order's place")
+    page.screen(1280, 800)
+    PICTURE.parent.mkdir(exist_ok=True)
+    page.driver.save_screenshot(str(PICTURE))
+    page.driver.execute_cdp_cmd("Emulation.clearDeviceMetricsOverride", {})
+    page.tab("orders")
+    page.until(lambda: page.rows("#orders-table")[1][10] == "3181 2771 003-2", "a promised wagon")
     assert [row[1] for row in page.rows("#orders-table")] == ["0", "0", "0", "0", "1"]
 
     # Messages come, and are seen without a reload.
     service.post(LINES[10:23])
     page.until_says("#refusals-list", "25 wagon 12")
-    page.click("#closed-too")
-    page.until(lambda: ["STEEL-1", "filled"] in [[row[0], row[6]] for row in page.rows("#orders-table")], "a filled order")
+    page.choose("#orders-filter", "all")
+    page.until(lambda: ["STEEL-1", "filled"] in [[row[0], row[9]] for row in page.rows("#orders-table")], "a filled order")
+    page.click('#orders-table [data-row="SCRAP-1"]')
+    page.until_says("#chosen-shown", "DE10001 Seehafen")
     page.click('button[aria-label="Withdraw order SCRAP-1"]')
     page.driver.switch_to.alert.accept()
     page.until_says("#said", "Order SCRAP-1 is withdrawn.")
-    page.until(lambda: ["SCRAP-1", "withdrawn"] in [[row[0], row[6]] for row in page.rows("#orders-table")], "a withdrawn order")
+    page.until(lambda: ["SCRAP-1", "withdrawn"] in [[row[0], row[9]] for row in page.rows("#orders-table")], "a withdrawn order")
     service.post(LINES[24:30])
-
-    # A plan whose wagon is held in between is refused, and says why.
     page.until_says("#state", "version 24")
+    # A plan whose wagon is held in between is refused, and says why.
     page.plan("2026-03-02T11:00:00Z")
     page.until_says("#plan-head", "this plan costs 465, 165 km and 300 for missing wagons")
     service.post(message("1003", 77, "315466400019", hold=True, moment="2026-03-02T10:55:00Z"))
@@ -200,112 +113,229 @@ def test_the_day_by_clicks(start: Start, browse: Browse) -> None:
     # The sheet that ends the day is what the page shows.
     service.post(line(kind="sheet"))
     sheet = service.kept[-2].splitlines()
-    page.until(lambda: ["MALT-1", "promised"] in [[row[0], row[6]] for row in page.rows("#orders-table")], "the end")
-    assert sorted(row[0] for row in page.rows("#wagons-table")) == sorted(row.split()[1] for row in sheet if row.startswith("wagon "))
+    page.tab("orders")
+    page.until(lambda: ["MALT-1", "promised"] in [[row[0], row[9]] for row in page.rows("#orders-table")], "the end")
+    page.tab("wagons")
+    page.until(lambda: len(page.rows("#wagons-table")) == 40, "all wagons")
+    shown: list[str] = page.run("return [...document.querySelectorAll('#wagons-table tr[data-row]')].map(row => row.dataset.row)")
+    assert shown == sorted(row.split()[1] for row in sheet if row.startswith("wagon "))
     assert page.faults == []
     # What the page asked for itself is in no journal: only lines that were sent, and one for the sheet's end.
     kinds = [json.loads(it).get("type") for it in service.journal.splitlines() if it.endswith(b"}")]
     assert kinds.count("sheet") == 1 and kinds.count(None) == 1
 
     # A new journal begins by a button, and the page goes on with it.
+    page.tab("journal")
     page.click("#next")
     page.driver.switch_to.alert.accept()
     page.until_says("#state", "0 lines in journal 2")
+    page.tab("orders")
     page.until(lambda: page.rows("#orders-table")[0][0] == "MALT-1", "the open orders")
 
     # A wagon that stands wrong is put right with the next one.
-    number, wagon_class = next(row[:2] for row in page.rows("#wagons-table") if not row[7])
-    page.click("#corrections summary")
+    page.tab("wagons")
+    page.until(lambda: any(not row[8] for row in page.rows("#wagons-table")), "a wagon without a promise")
+    number = next(shown[place] for place, row in enumerate(page.rows("#wagons-table")) if not row[8])
+    page.click(f'#wagons-table [data-row="{number}"]')
+    page.until_says("#chosen-shown", number)
+    page.use("#chosen-shown .acts .sends", lambda button: button.click())
+    row = page.find("#correct-rows").get_attribute("value")
+    assert row is not None and row.startswith(f"{number},")
+    wagon_class = row.split(",")[1]
     page.fill("#correct-rows", f"{number},{wagon_class},51000,empty,DE10002,2026-03-02T16:00:00Z")
     page.click("#next")
     page.driver.switch_to.alert.accept()
     page.until_says("#state", "0 lines in journal 3")
-    page.until(lambda: [number, wagon_class, "51000", "empty", "DE10002"] in [row[:5] for row in page.rows("#wagons-table")], "the wagon as it was put right")
+    page.tab("wagons")
+    page.until(lambda: ["51000", "empty", "DE10002", "Moorburg"] in [row[2:6] for row in page.rows("#wagons-table")], "the wagon as it was put right")
 
 
-def test_what_comes_from_outside_is_text(start: Start, browse: Browse) -> None:
-    service = start().until_running()
-    page = browse(service)
-    page.open()
-    page.until_says("#state", "The office runs")
+def test_what_comes_from_outside_is_text(start: Start, browse: Browse, tmp_path: Path) -> None:
     script = "<script>document.title='hit'</script><img src=x onerror=\"document.title='hit'\">"
+    name = "<img src=x onerror=document.title='hit'>\\&amp;"
+    (tmp_path / "places.csv").write_text(f"place,name,x,y\nDE10001,{name},1,2\nDE10003,=1+1,2,3\n")
+    service = start(options=["--places", str(tmp_path / "places.csv")]).until_running()
+    page = browse(service).open()
+    page.until_says("#state", "The office runs")
     service.post([line(kind="order", order=script), line(kind=script), script.encode(), line(**{script: 1})])
     page.until_says("#refusals-list", script)
+    page.tab("new_order")
     page.order(script)
     page.until_says('[data-field="order"]', "Refused, 16")
-    assert page.driver.title == "Fleet office" and not page.driver.find_elements(By.CSS_SELECTOR, "#refusals-list img, #refusals-list script")
+    page.tab("places")
+    page.until(lambda: ["DE10001", name] in [row[:2] for row in page.rows("#places-table")], "the name")
+    page.click('#places-table [data-row="DE10001"]')
+    page.until_says("#chosen-shown h3", f"DE10001 {name}")
+    assert page.driver.title == "Fleet office" and not page.driver.find_elements(By.CSS_SELECTOR, "main img, main script")
     page.open()
     page.until_says("#refusals-list", script)
     assert page.driver.title == "Fleet office"
 
 
-def test_wagons_are_searched_and_sorted_by_keys(start: Start, browse: Browse) -> None:
-    service = start().until_running()
-    page = browse(service)
-    page.open()
-    page.until_says("#wagons-shown", "40 of 40 wagons")
-    page.fill("#search", "habbins empty")
-    page.until(lambda: len(page.rows("#wagons-table")) < 12, "fewer wagons")
+def test_all_is_reached_by_keys(start: Start, browse: Browse) -> None:
+    service = start(options=PLACES).until_running()
+    page = browse(service).open()
+    page.until_says("#state", "The office runs")
+    # Parts of the middle, by arrows.
+    page.press("#tab-map", Keys.ARROW_RIGHT)
+    page.press_here(Keys.ARROW_RIGHT)
+    page.until_says("#wagons-shown", "40 of 40")
+    page.fill("#wagons-search", "habbins empty")
+    page.until(lambda: 0 < len(page.rows("#wagons-table")) < 12, "fewer wagons")
     assert all(row[1] == "Habbins" and "empty" in row[3] for row in page.rows("#wagons-table"))
-    page.fill("#search", "")
-    page.press('[data-column="place"]', Keys.ENTER)
+    # A number as people write it, a place's name.
+    page.fill("#wagons-search", "3181 2771 001-6")
+    page.until_says("#wagons-shown", "1 of 40")
+    page.fill("#wagons-search", "318127710016 seehafen")
+    page.until_says("#wagons-shown", "1 of 40")
+    page.fill("#wagons-search", "")
+    page.press('#wagons-table [data-column="place"]', Keys.ENTER)
+    page.until(lambda: len(page.rows("#wagons-table")) == 40, "all wagons")
     shown = [row[4] for row in page.rows("#wagons-table")]
     assert shown == sorted(shown)
-    # The column is shown again, and the keyboard is at it still.
-    page.use('[data-column="place"]:focus', lambda column: column.send_keys(Keys.ENTER))
+    page.use('#wagons-table [data-column="place"]:focus', lambda column: column.send_keys(Keys.ENTER))
     assert [row[4] for row in page.rows("#wagons-table")] == sorted(shown, reverse=True)
-    # A place of the map by its key.
+    assert page.find('#wagons-table th[aria-sort="descending"]').text.startswith("Place")
+    # Rows by arrows; Enter chooses.
+    page.press_here(Keys.TAB)
+    for _ in range(10):
+        if page.run("return document.activeElement.matches('#wagons-table tr')"):
+            break
+        page.press_here(Keys.TAB)
+    first = page.run("return document.activeElement.dataset.row")
+    page.press_here(Keys.ARROW_DOWN, Keys.ARROW_DOWN, Keys.ENTER)
+    third = page.run("return document.querySelectorAll('#wagons-table tr[data-row]')[2].dataset.row")
+    assert first != third
+    page.until_says("#chosen-shown", third)
+    assert page.find('#wagons-table tr[aria-selected="true"]').get_attribute("data-row") == third
+    # A place of the map by its key, and the next one to the right.
+    page.tab("map")
     page.press('[data-place="DE10005"]', Keys.ENTER)
-    page.until_says("#place-shown", f"DE10005: {shown.count('DE10005')} wagons, 0 open orders")
+    count = shown.count("DE10005")
+    page.until_says("#chosen-shown", f"{count} wagons, 0 of them free; 0 open orders" if count == 0 else f"{count} wagons")
+    label = page.find('[data-place="DE10005"]').get_attribute("aria-label") or ""
+    assert label.startswith(f"DE10005 Hüttenstadt: {count} wagons")
     # What is shown again doesn't take the keyboard away.
     service.post(order("O1", place="DE10005"))
-    page.until_says("#place-shown", "1 open orders")
+    page.until_says("#chosen-shown", "1 open orders")
     page.until(lambda: page.find('[data-place="DE10005"]:focus'), "the keyboard at its place")
+    page.press_here(Keys.ARROW_RIGHT)
+    # DE10006 lies farther down than right.
+    assert page.run("return document.activeElement.dataset.place") == "AT30001"
+    # Every field and button has a name.
+    nameless = page.run("""return [...document.querySelectorAll('button, input, select, textarea, [role=grid], [role=tabpanel], section')].filter((one) =>
+      !(one.textContent.trim() || one.getAttribute('aria-label') || one.labels?.length || one.getAttribute('aria-labelledby'))).map((one) => one.outerHTML)""")
+    assert nameless == []
+    assert page.faults == []
+
+
+def test_a_file_for_a_spreadsheet(start: Start, browse: Browse, tmp_path: Path) -> None:
+    page = browse(start(options=PLACES).until_running()).open("/#wagons")
+    page.driver.execute_cdp_cmd("Browser.setDownloadBehavior", {"behavior": "allow", "downloadPath": str(tmp_path)})
+    page.until_says("#wagons-shown", "40 of 40")
+    page.until(lambda: page.rows("#wagons-table")[0][5], "names")
+    page.fill("#wagons-search", "318127710016")
+    page.until_says("#wagons-shown", "1 of 40")
+    page.click("#wagons-save")
+    page.until(lambda: (tmp_path / "wagons.csv").exists(), "the file")
+    assert (tmp_path / "wagons.csv").read_text() == (
+        "wagon,class,load,status,place,name,last,held,promise\n"
+        "318127710016,Habbins,52000,empty,DE10001,Seehafen,2026-03-01T19:00:00Z,,\n")
 
 
 def test_a_phone(start: Start, browse: Browse) -> None:
-    page = browse(start().until_running())
-    page.driver.set_window_size(500, 800)  # Chromium's windows aren't narrower; the page is told a width of 360.
-    page.driver.execute_cdp_cmd("Emulation.setDeviceMetricsOverride", {"width": 360, "height": 740, "deviceScaleFactor": 2, "mobile": True})
-    page.open()
+    page = browse(start(options=PLACES).until_running())
+    page.screen(390, 844, is_phone=True)
+    page.open("/#wagons")
     page.until_says("#wagons-shown", "40 of 40")
-    assert page.driver.execute_script("return document.documentElement.scrollWidth") <= 360
+    assert page.run("return document.documentElement.scrollWidth") <= 390
+    # One column: what needs a person, the parts, what is chosen.
+    at = page.run("return ['left', 'middle', 'right'].map((id) => document.getElementById(id).getBoundingClientRect()).map((it) => [it.left, it.top])")
+    lefts, tops = zip(*at)
+    assert len(set(lefts)) == 1 and list(tops) == sorted(tops)
+    page.click('#wagons-table [data-row="318127710016"]')
+    page.until_says("#chosen-shown", "318127710016")
+    page.until(lambda: page.run("return document.getElementById('right').getBoundingClientRect().top") < 844, "what is chosen in sight")
 
 
-def test_the_office_stops_and_runs_again(start: Start, browse: Browse) -> None:
-    service = start().until_running()
-    page = browse(service)
-    page.open()
+def test_moments_in_the_zone(start: Start, browse: Browse) -> None:
+    service = start(options=["--zone", "Europe/Berlin"]).until_running()
+    service.post([order("WINTER", latest="2026-03-28T23:30:00Z"), order("SUMMER", latest="2026-03-29T01:00:00Z")])
+    page = browse(service).open("/#orders")
+    page.until(lambda: [row[7] for row in page.rows("#orders-table")] == ["2026-03-29 00:30 +01:00", "2026-03-29 03:00 +02:00"], "clocks of Berlin")
+    assert page.find('#orders-table [data-row="SUMMER"] time').get_attribute("title") == "2026-03-29T01:00:00Z"
+    assert page.find('#orders-table [data-row="SUMMER"] time').get_attribute("datetime") == "2026-03-29T01:00:00Z"
+
+
+def test_names_and_zones_that_cannot_be_used(start: Start, tmp_path: Path) -> None:
+    (tmp_path / "places.csv").write_text("place,name,x,y\nDE10001,Seehafen,east,2\n")
+    for options, words in (["--places", str(tmp_path / "places.csv")], "wagons: 41 2"), (["--zone", "Europe/Lindenau"], "wagons: 93"):
+        service = start(options=options, is_awaited=False)
+        assert service.until_ended() == 2
+        assert words in "\n".join(service.log), service.log
+
+
+def the_page_s_own(service: Service, before: list[int]) -> int:
+    """The program that stays, once those that print once have ended."""
+    for _ in range(600):
+        found = set(service.children) - set(before)
+        if len(found) == 1:
+            return found.pop()
+        time.sleep(0.05)
+    raise AssertionError(service.children)
+
+
+def test_the_page_s_own_program_hangs(start: Start, browse: Browse) -> None:
+    service = start(options=["--answer-within", "2"]).until_running()
+    before = service.children
+    page = browse(service).open("/#orders")
     page.until_says("#state", "The office runs")
-    port = service.port
-    service.stop()
-    page.until_says("#state", "The connection is lost")
-    again = start(options=["--listen", f"127.0.0.1:{port}"]).until_running()
-    page.until_says("#state", "The office runs")
-    again.post(message("1001", 1, WAGONS[0]))
-    page.until_says("#state", "1 lines in journal 1, version 1")
+    own = the_page_s_own(service, before)
+    os.kill(own, signal.SIGSTOP)
+    service.post(order("O1"))
+    page.until_says("#said", "the page's own program was killed and is started again, since the program has given no reply for 2", 20)
+    page.until(lambda: [row[0] for row in page.rows("#orders-table")] == ["O1"], "the order", 10)
+    page.until_says("#state", "The office runs: 1 lines")
+    assert own not in service.children and json.loads(service.get("/health").body)["state"] == "running"
+
+
+def test_who_could_go(start: Start, browse: Browse) -> None:
+    service = start(options=PLACES).until_running()
+    service.post(LINES[:7])
+    page = browse(service).open("/#plan")
+    page.until_says("#state", "version 7")
+    page.fill("#plan-at", "2026-03-02T06:00:00Z")
+    page.click('#short-table [data-row="SALT-1"]')
+    page.until_says("#chosen-shown", "Habbins")
+    page.use('[data-key="why order SALT-1"]', lambda button: button.click())
+    page.until_says("#reasons", "3181 2771 002-4: ")
+    said = page.find("#reasons").text
+    assert "km, as planned" in said and "of class Eanos, and Habbins is wanted" in said
 
 
 def test_tokens_are_asked_for(start: Start, browse: Browse, tmp_path: Path) -> None:
     (tmp_path / "tokens").write_text("a-token-to-read-with reader\nsend-by-this-token-1 dispatcher\nrailway-1001-token railway 1001\n")
     service = start(options=["--tokens", str(tmp_path / "tokens")]).until_running()
-    page = browse(service)
-    page.open()
+    page = browse(service).open()
     page.fill("input[name=token]", "not-any-of-the-tokens")
     page.find("button").click()
     page.until_says("[role=alert]", "This token isn't known.")
     page.fill("input[name=token]", "a-token-to-read-with")
     page.find("button").click()
     page.until_says("#state", "The office runs")
-    assert not page.driver.find_elements(By.CSS_SELECTOR, "form") and "sends nothing" in page.find("nav").text
+    assert page.find(".looks").is_displayed() and not any(one.is_displayed() for one in page.driver.find_elements(By.CSS_SELECTOR, ".sends"))
     page.driver.delete_all_cookies()
     page.open()
     page.fill("input[name=token]", "send-by-this-token-1")
     page.find("button").click()
     page.until_says("#state", "The office runs")
+    page.tab("new_order")
     page.order("O1")
     page.until_says("#said", "The order is placed")
-    for path in "/", "/office", "/map.svg", "/why?at=x", "/refusals":
+    page.until(lambda: page.rows("#short-table")[0][0] == "O1", "the order")
+    service.post(message("1001", 1, WAGONS[0]), "railway-1001-token")
+    page.until_says("#state", "2 lines in journal 1")
+    for path in "/", "/office", "/network", "/wants", "/why?at=x", "/refusals":
         assert service.get(path, "railway-1001-token").status == 403
-    for path in "/office", "/map.svg", "/why?at=x", "/refusals", "/explain/82":
+    for path in "/office", "/network", "/wants", "/why?at=x", "/refusals", "/explain/82":
         assert service.get(path).status == 401

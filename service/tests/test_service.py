@@ -3,6 +3,7 @@
 import http.client
 import json
 import os
+import re
 import shutil
 import signal
 import socket
@@ -172,20 +173,40 @@ def test_what_the_page_asks_for(start: Start) -> None:
     service = start().until_running()
     service.post(LINES[:LINES.index(b'{"type":"begin"')])
     office = json.loads(service.get("/office").body)
-    assert (office["journal"], office["line"], office["version"], len(office["wagons"]), len(office["orders"])) == (1, 7, 7, 40, 5)
-    assert office["orders"][4] == {"order": "SALT-1", "place": "AT30002", "latest": "2026-03-02T09:00:00Z", "penalty": 300, "state": "waiting",
-                                   "wants": 2, "promised": [], "filled": [], "lacks": 2}
-    assert office["network"] == 1 and office["wagons"][0]["wagon"] == "315466400019"
+    # The sheet comes as the program prints it, and with it how the office is.
+    head, *rows = office["sheet"].split("\n")
+    assert head.endswith(" sheet 7") and [row.split()[0] for row in rows] == ["wagon"] * 40 + ["order"] * 5 + ["network"]
+    assert rows[44] == "order SALT-1 AT30002 2026-03-02T09:00:00Z 300 waiting 2 -"
+    assert (office["journal"], office["line"], office["state"], office["is_up"], office["refused"], office["lines_left"], office["entries_left"]) == (
+        1, 7, "running", True, 0, 999_992, 99_993)
+    assert (office["may_send"], office["zone"], office["role"], office["trouble"]) == (True, None, None, "")
+    wants = json.loads(service.get("/wants").body)
+    assert [name for name, _, _ in wants] == ["MALT-1", "STEEL-1", "SCRAP-1", "SUGAR-1", "SALT-1"] and wants[4] == ["SALT-1", ["Habbins"], "40000"]
+    network = json.loads(service.get("/network").body)
+    assert (network["network"], len(network["places"]), len(network["lines"])) == (1, 12, 15)
+    assert network["lines"][0] == ["DE10001", "DE10002", 60, 70, True]
     why = json.loads(service.get("/why?line=7&at=2026-03-02T06:00:00Z").body)
-    assert why[0] == ["why", "7", "20", "5", "660", "8", "12", "1"]
-    drawn = service.get("/map.svg")
-    assert drawn.headers["Line"] == "7" and b"DE10003" in drawn.body and b"<svg" in drawn.body
+    assert why[0] == {"why": 7, "free": 20, "orders": 5, "cost": 660, "go": 8, "stay": 12, "miss": 1}
+    why = json.loads(service.get("/why?line=7&at=2026-03-02T06:00:00Z&order=SALT-1").body)
+    assert why[0]["order"] == "SALT-1" and why[1] == {"fits": "318127710024", "order": "SALT-1", "km": 0, "more": 0, "planned": True}
     entry = json.loads(service.get("/explain/82").body)
     assert entry["name"] == "WagonChanged" and entry["meaning"].startswith("A wagon of the commit isn't free now")
     assert entry["remedy"].startswith("plan again.")
-    for path, status in ("/explain/999", 404), ("/explain/x", 404), ("/why?at=now", 400), ("/why?at=--help", 400), ("/static/x", 404), ("/static/..%2Fpage.py", 404):
+    for path, status in [
+        ("/explain/999", 404), ("/explain/x", 404), ("/why?at=now", 400), ("/why?at=--help", 400), ("/why?at=2026-03-02T06:00:00Z&order=--help%20x", 400),
+        ("/why?at=2026-03-02T06:00:00Z&wagon=1", 400), ("/static/x", 404), ("/static/..%2Fpage.py", 404),
+    ]:
         assert service.get(path).status == status, path
     assert service.journal.count(b"\n") == 7
+    # Also of orders that come later, as they may be written, and of those that are closed; none of what is refused.
+    odd = b'{"typ\\u0065":"\\u006frder","order":"x","order":"ODD-1","place":"DE10003","classes":["Eanos","Falns"],"load":7,"latest":"2026-03-02T12:00:00Z","penalty":1}'
+    service.post([odd, order("MALT-1"), order("LAST-1"), b'{"type":"withdraw","order":"ODD-1"}', b'{"order":"NONE-1"}'])
+    assert json.loads(service.get("/office").body)["line"] == 12
+    assert json.loads(service.get("/wants?behind=5").body) == [["ODD-1", ["Eanos", "Falns"], "7"], ["LAST-1", ["Habbins"], "45000"]]
+    assert service.post(b"", path="/next").status == 200
+    service.post(order("NEW-1"))
+    sheet = json.loads(service.get("/office").body)["sheet"]
+    assert [name for name, _, _ in json.loads(service.get("/wants").body)] == re.findall("^order ([^ ]*)", sheet, re.M)
 
 
 def test_limits_of_a_request(start: Start) -> None:

@@ -152,6 +152,36 @@ def test_xml_is_sent(start: Start, tmp_path: Path) -> None:
     assert service.post(movement("B"), mine, "/xml").replies == ["7 accepted 5"]
 
 
+def test_messages_that_can_be_read_are_taken(start: Start, tmp_path: Path) -> None:
+    (tmp_path / "tokens").write_text("railway-1001-token railway 1001\ndispatcher-s-token dispatcher\n")
+    service = start(options=["--tokens", str(tmp_path / "tokens"), "--map", str(MAP)]).until_running()
+    mine, path = "railway-1001-token", "/xml?partial=yes"
+    element = (b'\n<Movement event="held"><Reference>%b</Reference><Wagon number="%b"/><Station>%b</Station>'
+               b"<When>2026-03-02T06:00:00Z</When></Movement>")
+    wagon = WAGONS[0].encode()
+    document = HEAD + b"".join([
+        element % (b"A", wagon, b"Lindenau"), element % (b"B", wagon, b"Nowhere"), b'\n<Movement event="lost"/>',
+        element % (b"C", b"12", b"Lindenau"), element % (b"A", wagon, b"Lindenau")]) + b"</Movements>"
+    assert service.post(document, mine, "/xml").status == 400 and service.journal == b""
+    answer = service.post(document, mine, path)
+    assert (answer.status, answer.headers["Journal"]) == (200, "1")
+    assert answer.records == [
+        {"message": 1, "number": 1, "reply": "1 accepted 1"},
+        {"message": 2, "fault": "Line 3: place is 'Nowhere', for which the map has no value."},
+        {"message": 3, "fault": "Line 4: the map has no kind for this Movement."},
+        {"message": 4, "number": 2, "reply": "2 refused 25 wagon 11"},
+        {"message": 5, "number": 3, "reply": "3 repeated 1"}]
+    # No number is used for a message that became no line, and nothing is taken where none did.
+    assert '"B"' not in (tmp_path / "journal" / "identifiers.jsonl").read_text()
+    assert service.post(movement("D", station="Nowhere"), mine, path).records == [
+        {"message": 1, "fault": "Line 1: place is 'Nowhere', for which the map has no value."}]
+    # What the token may not send, and what is no XML, is refused as without it.
+    for body, status in (movement("B", company="1002"), 403), (b"<a>", 400), (b"<a/>", 400):
+        assert service.post(body, mine, path).status == status
+    assert service.post(document, mine, "/xml?partial=no").status == 400
+    assert len(service.journal.splitlines()) == 3
+
+
 # Each message looks for its sender among all that stand before it.
 SLOW = b'<Movements xmlns="urn:example:wagon-movements">' + b"<a/>" * 200_000 + b'<Movement event="held"/>\n' * 2000 + b"</Movements>"
 TOKENS = "railway-1001-token railway 1001\nrailway-1002-token railway 1002\ndispatcher-s-token dispatcher\n"

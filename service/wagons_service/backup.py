@@ -1,8 +1,8 @@
 """`wagons-service backup`: a copy of the folder, made while the service runs, which is verified before it gets its name.
 
 What a file says of lines is copied before them, or cut off behind them: replies and checksums come first, then the journal,
-then who sent its lines. So the copy is the folder of an earlier moment. The roster and the networks are copied too, and
-the last journal is read once more by the program with them.
+then who sent its lines and, of a copy of a stream, their ids. So the copy is the folder of an earlier moment. The roster, the
+networks and the files of `--map` and `--places` are copied too, and the program reads the last journal once more with them.
 """
 
 import os
@@ -14,11 +14,11 @@ from pathlib import Path
 
 from .archive import NotReadable, sync
 from .gauges import BACKED_UP
-from .journal import CHUNK, Broken, Journal, KeptReplies, Unreadable
+from .journal import CHUNK, IDS, ORIGIN, Broken, Journal, KeptReplies, Unreadable
 from .options import Options
 from .program import DONE, Program, Replies
 
-ORDER = ("checkpoint.jsonl", "checksums.jsonl", "replies.jsonl", "journal.jsonl", "senders.jsonl")
+ORDER = ("checkpoint.jsonl", "checksums.jsonl", "replies.jsonl", ORIGIN, "journal.jsonl", "senders.jsonl", IDS)
 # A checksum that is read while it is written may look spoiled, and a file may be compressed in between.
 TRIES = 3
 
@@ -72,7 +72,7 @@ def with_files(options: Options, new: str) -> Options:
 
     networks = [copied(path, f"network-{place}.csv") or "" for place, path in enumerate(options.networks, 1)]
     return replace(options, roster=copied(options.roster, "roster.csv"), start=copied(options.start, "checkpoint.jsonl"), networks=networks,
-                   map=copied(options.map, "map.toml"))
+                   map=copied(options.map, "map.toml"), places=copied(options.places, "places.csv"))
 
 
 def copy_journal(source: str, target: str) -> int:

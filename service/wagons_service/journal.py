@@ -25,6 +25,8 @@ MOST_LINES = 1_000_000
 MOST_LINE_BYTES = 65_536
 BLANK = b" \t\r"
 CHUNK = 1 << 20
+# What a copy of a stream has beside a journal's lines: where the journal comes from, and the id of each line.
+ORIGIN, IDS = "stream.json", "ids"
 RECORD = re.compile(rb'\{"number":([0-9]{1,9}),"reply":"[^\0]*\Z')
 
 

@@ -11,6 +11,7 @@ from aiohttp import web
 from aiohttp.http_exceptions import BadHttpMessage
 
 from . import commands, options
+from .answers import Refusal
 from .archive import NotReadable, keep_small
 from .connections import Connections, raise_limit
 from .ending import end_on_signals
@@ -61,6 +62,7 @@ async def serve(given: Options, seldom: Seldom) -> None:
     loop = asyncio.get_running_loop()
     end_on_signals(stop, loop)
     service = of_stream(given) if given.address else Service(given)
+    await service.viewer.judge_names()
     server = Server(service, given.tokens)
     loop.add_signal_handler(signal.SIGHUP, server.read_tokens_again)
     Page(server).add_to(server.router)
@@ -109,7 +111,7 @@ def main(arguments: Sequence[str]) -> int:
             print(asyncio.run(commands.run(given)))
         else:
             asyncio.run(serve(given, seldom))
-    except (FolderInUse, Unreadable, NotReadable, BadTokens, BadMap, Broken, commands.Failed, OSError) as fault:
+    except (FolderInUse, Unreadable, NotReadable, BadTokens, BadMap, Broken, commands.Failed, Refusal, OSError) as fault:
         print(f"wagons-service: {fault}", file=sys.stderr)
         return 2
     return 0

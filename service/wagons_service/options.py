@@ -22,6 +22,9 @@ COMMANDS = {
     "next": "Begins a new journal while no service runs, as before another build of the program. The options are the service's.",
 }
 PAGE = "docs/SERVICE.md, and `man wagons-service`"
+# The words that take these options.
+WITH_PLACES = frozenset(["map", "plan", "review", "why"])
+WITH_ZONE = frozenset(["plan"])
 
 
 @dataclass(frozen=True)
@@ -47,6 +50,8 @@ class Options:
     target: str | None = None
     limits: Limits = Limits()
     replicas: int = 0
+    places: str | None = None
+    zone: str | None = None
 
     def words(self, word: str, checkpoint: str | None) -> list[str]:
         """The command `wagons WORD` with the options that say which office it is; a journal's own checkpoint comes first."""
@@ -54,7 +59,10 @@ class Options:
         command += ["--from", start] if start else ["--roster", self.roster or ""]
         for network in self.networks:
             command += ["--network", network]
-        for name, value in ("--entries", self.entries), ("--kept", self.kept), ("--workers", self.workers):
+        places = self.places if word in WITH_PLACES else None
+        zone = self.zone if word in WITH_ZONE else None
+        for name, value in (("--entries", self.entries), ("--kept", self.kept), ("--workers", self.workers),
+                            ("--places", places), ("--zone", zone)):
             if value is not None:
                 command += [name, str(value)]
         return command
@@ -78,6 +86,8 @@ def read(arguments: Sequence[str]) -> Options:
     parser.add_argument("--entries", metavar="N", type=int, help="as `wagons run` has it")
     parser.add_argument("--kept", metavar="N", type=int, help="as `wagons run` has it")
     parser.add_argument("--workers", metavar="N", type=int, help="as `wagons run` has it")
+    parser.add_argument("--places", metavar="FILE", help="the names of places, and where they lie on the page's map, as `wagons map` has it")
+    parser.add_argument("--zone", metavar="ZONE", help="the time zone in which the page shows moments, as Europe/Berlin; UTC where nothing is said")
     parser.add_argument("--program", metavar="FILE", default="", help="the program `wagons`; without it the one of this repository, or on the path")
     parser.add_argument("--listen", metavar="HOST:PORT", default="127.0.0.1:8080", help="where requests come; 127.0.0.1:8080 where nothing is said")
     parser.add_argument("--tokens", metavar="FILE", help="who may send what: a line TOKEN ROLE [COMPANY] [name=..] [until=..] for each sender")
@@ -115,4 +125,4 @@ def read(arguments: Sequence[str]) -> Options:
         journal=given.journal, program=found(given.program), roster=given.roster, start=given.start, networks=given.network,
         entries=given.entries, kept=given.kept, workers=given.workers, host=host, port=int(port), tokens=given.tokens, map=given.map,
         address=address, copy=given.copy, lease=given.lease, journal_lines=given.journal_lines, replicas=given.replicas,
-        keep_days=given.keep_days, command=command, target=getattr(given, "target", None), limits=Limits.of(given))
+        keep_days=given.keep_days, command=command, target=getattr(given, "target", None), limits=Limits.of(given), places=given.places, zone=given.zone)

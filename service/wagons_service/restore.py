@@ -24,7 +24,7 @@ from .stream_copy import RESTORING, Origin, Unfit, checkpoint_of, ids_of, open_j
 from .streams import (
     MOST_ENTRIES, NO_LINE, START, TOO_LONG, Checkpoint, Entry, Keys, add_checkpoint, add_copies, add_replies, are_added, order)
 
-PAGE = "docs/STREAMS.md"
+PAGE = "docs/STREAM_LOSSES.md"
 SECONDS_BETWEEN_LOOKS = 0.2
 
 

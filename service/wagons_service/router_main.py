@@ -11,7 +11,7 @@ from .address import Address, BadAddress, host_of
 from .notify import stand_up
 from .router import BadOffices, Offices, run
 
-PAGE = "docs/STREAMS.md, and `man wagons-router`"
+PAGE = "docs/STREAM_SETUP.md, and `man wagons-router`"
 
 
 async def serve(address: Address, offices: Offices, hours: int, complete: Sequence[str], metrics: tuple[str, int] | None) -> None:

@@ -221,6 +221,11 @@ class Server:
 
     async def answer(self, request: web.Request, lines: Sequence[bytes], start: float) -> web.StreamResponse:
         """Takes lines, and answers with their replies as they were kept."""
+        return await self._kept(request, *await self.take(request, lines, start))
+
+    async def take(self, request: web.Request, lines: Sequence[bytes], start: float) -> tuple[dict[str, str], list[tuple[Journal, int, int]]]:
+        """Takes lines, and waits for their replies: the head of an answer, and where the replies are kept, each journal's from
+        the first to the last line."""
         request["used"].send(len(lines))
         self._pace.note_lines()
         sender: Sender = request["sender"]
@@ -234,7 +239,7 @@ class Server:
                     await self._until_answered(office, numbers, awaited)
                 kept.append((office.journal, numbers.start, awaited))
         self.metrics.time(len(lines), time.monotonic() - start)
-        return await self._kept(request, headers, kept)
+        return headers, kept
 
     @staticmethod
     async def _until_answered(office: Office, numbers: range, awaited: int) -> None:

@@ -8,6 +8,7 @@ from typing import NamedTuple
 from .answers import Refusal
 from .corrections import Corrections
 from .journal import Folder
+from .layouts import Layouts
 from .metrics import Metrics
 from .office import TURNS, Full, NotTaken, Office, State, Stopped
 from .options import Options
@@ -41,6 +42,7 @@ class Service:
         self.folder = Folder(self._path)
         self._turn = asyncio.Lock()
         self._turning: asyncio.Task[None] | None = None
+        self.layouts = Layouts()
         self._open()
 
     @property
@@ -108,7 +110,7 @@ class Service:
     def _open(self) -> None:
         journal = self.folder.journal()
         self.office = Office(journal, self.options.words("run", journal.checkpoint), self.metrics, self.options.limits)
-        self.viewer = Viewer(self.office, self.options)
+        self.viewer = Viewer(self.office, self.options, self.layouts)
 
     def start(self) -> None:
         self.office.start()

@@ -11,7 +11,7 @@ import secrets
 from collections.abc import Sequence
 from typing import NamedTuple
 
-from .journal import FileOfLines, Folder, Journal, KeptReplies, RepliesAhead, replace, sync_folder
+from .journal import IDS, ORIGIN, FileOfLines, Folder, Journal, KeptReplies, RepliesAhead, replace, sync_folder
 from .redis_link import Link, pack
 from .sent import Sent
 from .stream_senders import sent_of
@@ -19,7 +19,6 @@ from .streams import MOST_ENTRIES, Checkpoint, Keys, field, lines_of, read_behin
 
 log = logging.getLogger("wagons-service")
 
-ORIGIN = "stream.json"
 # Stands before a stream's identity while a copy is put back into it.
 RESTORING = "restoring "
 ADVICE = ("Nothing was changed. To go on with the copy, put it back into an empty stream (`wagons-service restore`); "
@@ -79,7 +78,7 @@ def nothing_known() -> Known:
 
 def ids_of(folder: Folder, journal: int) -> FileOfLines:
     """The ids of a journal's lines."""
-    return FileOfLines(f"{folder.path}/{journal}/ids")
+    return FileOfLines(f"{folder.path}/{journal}/{IDS}")
 
 
 def open_journal(folder: Folder, number: int) -> Journal:

@@ -23,7 +23,7 @@ from . import temporary
 from .address import Address
 from .answers import Refusal
 from .corrections import Corrections
-from .journal import NotKept
+from .journal import ORIGIN, NotKept
 from .lease import Lease
 from .office import NotTaken, State, Stopped
 from .options import DEFAULT_ENTRIES, Options
@@ -31,7 +31,7 @@ from .redis_link import Link, Lost, Refused, good, number, pack
 from .sent import OURS
 from .service import Part, Service
 from .stream_copy import (
-    ORIGIN, Known, Origin, Unfit, checkpoint_of, identity, identity_of, ids_of, known_from, nothing_known, open_journal, start_for)
+    Known, Origin, Unfit, checkpoint_of, identity, identity_of, ids_of, known_from, nothing_known, open_journal, start_for)
 from .stream_office import NOT_READ, StreamOffice
 from .streams import (
     LIBRARY, MOST_ENTRIES, START, Checkpoint, Keys, Mark, Trimmed, add_lines, add_replies, are_added, field,
@@ -103,7 +103,7 @@ class StreamService(Service):
         self.office = StreamOffice(
             journal, self.options.words("run", journal.checkpoint), self.metrics, self._grew.set, self._append_ours, ids_of(self.folder, number), known,
             self.options.limits)
-        self.viewer = Viewer(self.office, self.options)
+        self.viewer = Viewer(self.office, self.options, self.layouts)
 
     async def until_open(self) -> None:
         self.office.may_take()

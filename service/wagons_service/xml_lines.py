@@ -64,11 +64,12 @@ class Kind:
 
 
 class Row(NamedTuple):
-    """A line, and the company and the text of the identifier whose number it wants, if it wants one."""
+    """A line, and the company and the text of the identifier whose number it wants, if it wants one; or why there is no line."""
 
     line: str
     company: str
     text: str | None
+    fault: str = ""
 
     def numbered(self, identifiers: Identifiers | None) -> bytes:
         if self.text is None:
@@ -147,8 +148,9 @@ class Map:
         """The lines of a document's messages, in their order. New identifiers have numbers then, and must be kept."""
         return [row.numbered(identifiers) for row in self.rows(document)]
 
-    def rows(self, document: bytes, begin: Callable[[str], None] = lambda _: None) -> list[Row]:
-        """The lines before identifiers have numbers; `begin` is told of each message before it is done."""
+    def rows(self, document: bytes, begin: Callable[[str], None] = lambda _: None, is_partial: bool = False) -> list[Row]:
+        """The lines before identifiers have numbers; `begin` is told of each message before it is done. Where it `is_partial`,
+        a message that becomes no line leaves the others."""
         root = parsed(document)
         found = self._messages(root.getroottree())
         if not isinstance(found, list) or not found:
@@ -158,7 +160,12 @@ class Map:
         rows = []
         for element in found:
             begin(f"line {element.sourceline}, {etree.QName(element).localname}")
-            rows.append(self._row(element))
+            try:
+                rows.append(self._row(element))
+            except BadXml as fault:
+                if not is_partial:
+                    raise
+                rows.append(Row("", "", None, str(fault)))
         return rows
 
     def _row(self, element: Any) -> Row:

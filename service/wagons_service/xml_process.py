@@ -25,6 +25,8 @@ SECONDS_TO_START = 60
 LENGTH = struct.Struct(">Q")
 NOTE_BYTES = 256
 AT_FIRST = "its beginning, before the first message"
+# What stands before a document: whether each message is taken by itself, or all of them or none.
+PARTIAL, WHOLE = b"p", b"w"
 START = "from wagons_service.xml_process import work; work()"
 PACKAGES = os.path.dirname(os.path.dirname(os.path.abspath(__file__)))
 
@@ -46,20 +48,20 @@ def work() -> None:
     given, taken = sys.stdin.buffer, sys.stdout.buffer
     rules = Map((read_part(given) or b"").decode())
     write_part(taken, b"{}")
-    while (document := read_part(given)) is not None:
+    while (part := read_part(given)) is not None:
         # Where the service was killed nobody else ends this process.
         signal.alarm(2 * SECONDS)
-        write_part(taken, json.dumps(answer_to(rules, document, note)).encode())
+        write_part(taken, json.dumps(answer_to(rules, part[1:], note, part.startswith(PARTIAL))).encode())
         signal.alarm(0)
 
 
-def answer_to(rules: Map, document: bytes, note: int) -> dict[str, Any]:
+def answer_to(rules: Map, document: bytes, note: int, is_partial: bool) -> dict[str, Any]:
     def begin(element: str) -> None:
         os.pwrite(note, element.encode()[:NOTE_BYTES].ljust(NOTE_BYTES), 0)
 
     begin(AT_FIRST)
     try:
-        rows = rules.rows(document, begin)
+        rows = rules.rows(document, begin, is_partial)
         return {"rows": rows} if sum(len(row.line) for row in rows) <= MOST_BYTES else {"large": True}
     except MemoryError:
         return {"memory": True}
@@ -110,11 +112,11 @@ class XmlProcess:
             raise
         return made
 
-    async def rows(self, document: bytes) -> list[Row]:
+    async def rows(self, document: bytes, is_partial: bool) -> list[Row]:
         """The lines of a document, before identifiers have numbers."""
         try:
             async with asyncio.timeout(SECONDS):
-                answer = await asyncio.to_thread(json.loads, await self._ask(document))
+                answer = await asyncio.to_thread(json.loads, await self._ask((PARTIAL if is_partial else WHOLE) + document))
         except TimeoutError:
             raise TooMuch(f"Turning the document into lines took over {SECONDS} seconds, and had come to {self._element()}; send it in parts.") from None
         except asyncio.IncompleteReadError:
@@ -156,11 +158,11 @@ class XmlProcesses:
         self._works: set[asyncio.Task[list[Row]]] = set()
         self._has_ended = False
 
-    async def rows(self, document: bytes) -> list[Row]:
+    async def rows(self, document: bytes, is_partial: bool = False) -> list[Row]:
         async with self._room:
             if self._has_ended:
                 raise Ended
-            task = asyncio.create_task(self._rows(document))
+            task = asyncio.create_task(self._rows(document, is_partial))
             self._works.add(task)
             try:
                 return await task
@@ -172,11 +174,11 @@ class XmlProcesses:
                 task.cancel()
                 self._works.discard(task)
 
-    async def _rows(self, document: bytes) -> list[Row]:
+    async def _rows(self, document: bytes, is_partial: bool) -> list[Row]:
         process = self._free.pop() if self._free else await XmlProcess.start(self._rules)
         is_whole = False
         try:
-            rows = await process.rows(document)
+            rows = await process.rows(document, is_partial)
             is_whole = True
             return rows
         except BadXml:

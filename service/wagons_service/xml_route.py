@@ -1,7 +1,9 @@
 """`POST /xml`: XML messages become lines, which are taken as those of `POST /lines`."""
 
 import asyncio
+import json
 import time
+from collections.abc import Iterable, Iterator
 from weakref import WeakValueDictionary
 
 from aiohttp import web
@@ -36,16 +38,21 @@ class XmlRoute:
         async with await self._server.body(request) as body:
             start = time.monotonic()
             sender: Sender = request["sender"]
+            is_partial = wants_partial(request)
             async with self._senders.setdefault(sender, asyncio.Lock()):
-                rows = await self._rows(body)
+                rows = await self._rows(body, is_partial)
             async with self._turn:
                 self._identifiers.owner = sender.key
-                lines = await self._lines(rows, sender)
-            return await self._server.answer(request, lines, start)
+                lines = await self._lines([row for row in rows if not row.fault], sender)
+            if not is_partial:
+                return await self._server.answer(request, lines, start)
+            headers, kept = await self._server.take(request, lines, start)
+            records = [record for journal, first, last in kept for record in journal.replies.read(first, last).splitlines()]
+            return web.Response(body=b"".join(became(rows, iter(records))), headers=headers)
 
-    async def _rows(self, body: bytes) -> list[Row]:
+    async def _rows(self, body: bytes, is_partial: bool) -> list[Row]:
         try:
-            return await self._processes.rows(body)
+            return await self._processes.rows(body, is_partial)
         except BadXml as fault:
             raise Refusal(400, str(fault)) from None
         except TooMuch as fault:
@@ -72,3 +79,18 @@ class XmlRoute:
         finally:
             if not is_kept:
                 self._identifiers.forget()
+
+
+def wants_partial(request: web.Request) -> bool:
+    """Whether each message is taken by itself, or all of them or none."""
+    wanted = request.query.get("partial")
+    if wanted not in (None, "yes"):
+        raise Refusal(400, "`partial` must be yes, or not be there.")
+    return wanted == "yes"
+
+
+def became(rows: Iterable[Row], records: Iterator[bytes]) -> Iterator[bytes]:
+    """What each message of a document became: the reply to its line, or why it became none."""
+    for number, row in enumerate(rows, 1):
+        rest = b'"fault":%b}' % json.dumps(row.fault).encode() if row.fault else next(records)[1:]
+        yield b'{"message":%d,%b\n' % (number, rest)
