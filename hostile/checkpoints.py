@@ -30,7 +30,7 @@ NEXT = {"loading": "release", "unloading": "release", "ready": "departure", "emp
 
 
 def checkpoint_of(state: office.Office) -> str:
-    """The checkpoint of an office, as FORMATS.md says it."""
+    """The checkpoint of an office, as docs/FILES.md says it."""
     head: office.Fields = {"type": "checkpoint", "format": 1, "network": state.network}
     if state.wagons:
         head["newest"] = office.moment_text(max(wagon.last for wagon in state.wagons.values()))

@@ -1,4 +1,4 @@
-"""A second office, written from docs/FORMATS.md alone: it reads lines, keeps wagons and orders, and judges prices.
+"""A second office, written from the manual alone, which docs/FORMATS.md begins: it reads lines, keeps wagons and orders, and judges prices.
 
 It is slow and small, and shares nothing with the program, so that the two can be held against each other. It doesn't
 plan: `optima` tries all plans of a small problem.

@@ -28,7 +28,7 @@ MOST_PLANS = 20_000
 
 
 def table_of(state: office.Office, at: int) -> str:
-    """The table line of an office's problem, as FORMATS.md says it."""
+    """The table line of an office's problem, as docs/PLANS.md says it."""
     table = office.Problem(state, at).table
     members = {name: table[name] for name in ("cells", "lacks", "orders", "penalties", "wagons")}
     return json.dumps(members, separators=(",", ":")) + "\n"

@@ -2,7 +2,7 @@
 # Times planning beside scipy's linear_sum_assignment and LEMON's NetworkSimplex on the same tables, in one run, and
 # prints the ratios. BENCH=FILE times another build than out/benches.
 #
-# bench/plan/run [TURNS | --smoke]: five turns where nothing is said; --smoke takes one over tables of a tenth of the size, and
+# bench/plan/run.sh [TURNS | --smoke]: five turns where nothing is said; --smoke takes one over tables of a tenth of the size, and
 # prints no time.
 set -euo pipefail
 cd "$(dirname "$0")"

@@ -1,5 +1,5 @@
 #!/usr/bin/env bash
-# Times offices behind Redis Streams, and plans fleets as one office and as many: bench/streams/run [OPTIONS OF streams.py].
+# Times offices behind Redis Streams, and plans fleets as one office and as many: bench/streams/run.sh [OPTIONS OF streams.py].
 # With options it times alone. --smoke takes few lines and two offices once, and prints no time.
 set -euo pipefail
 here=$(cd "$(dirname "$0")" && pwd)

@@ -5,7 +5,7 @@
 # once with a file each, which share nothing, show how much the machine's processors do side by side. Where strace is
 # there, the last column is how much of the time of a file's thread is spent waiting for others.
 #
-# bench/feed/run [MESSAGES [TURNS] | --smoke]: 100,000 messages and five turns where nothing is said; --smoke takes few
+# bench/feed/run.sh [MESSAGES [TURNS] | --smoke]: 100,000 messages and five turns where nothing is said; --smoke takes few
 # messages once, and prints no time.
 set -euo pipefail
 cd "$(dirname "$0")"

@@ -1,7 +1,7 @@
 #!/usr/bin/env bash
 # Runs the tests of many seats over one book many times over: no schedule of the threads may make one fail.
 #
-# bench/races/run [TURNS | --smoke]: 1,000 turns where nothing is said, and two with --smoke. TESTS=FILE names a build of the
+# bench/races/run.sh [TURNS | --smoke]: 1,000 turns where nothing is said, and two with --smoke. TESTS=FILE names a build of the
 # tests of library_tests; else rt proves and builds them.
 set -euo pipefail
 tests=${TESTS:+$(realpath "$TESTS")}

@@ -3,7 +3,7 @@
 # railway's, on one thread and by two workers, beside LEMON's Dijkstra from each place, and prints the ratios and the sums
 # of all distances. BENCH=FILE times another build than out/benches.
 #
-# bench/distances/run [TURNS | --smoke]: seven turns where nothing is said; --smoke takes one over few places, and prints no
+# bench/distances/run.sh [TURNS | --smoke]: seven turns where nothing is said; --smoke takes one over few places, and prints no
 # time.
 set -euo pipefail
 cd "$(dirname "$0")"

@@ -1,5 +1,5 @@
 #!/usr/bin/python3
-"""Times the service beside `wagons run` alone and beside a service over SQLite: bench/service/run [LINES [TURNS] | --smoke].
+"""Times the service beside `wagons run` alone and beside a service over SQLite: bench/service/run.py [LINES [TURNS] | --smoke].
 
 Requests of 1, 100 and 1,000 lines, by one and by sixteen senders on loopback; each line is synced to the disk. LINES is
 how many lines of requests of 100 are sent in all (100,000 where nothing is said), TURNS how often each is tried, in turns

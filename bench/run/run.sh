@@ -5,7 +5,7 @@
 # (crates/benches), and beside the fastest peer of bench/plan, which plans alone. WAGONS=FILE and BENCH=FILE time
 # other builds than out/wagons and out/benches.
 #
-# bench/run/run [MESSAGES [TURNS] | --smoke]: 300,000 messages and five turns where nothing is said. A plan line's time is a
+# bench/run/run.sh [MESSAGES [TURNS] | --smoke]: 300,000 messages and five turns where nothing is said. A plan line's time is a
 # difference of others, so its scripts take at least twenty turns: with fewer the machine's pace changes more than the lines
 # take. --smoke takes few lines once, and prints no time.
 set -euo pipefail

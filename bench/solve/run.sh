@@ -3,7 +3,7 @@
 # prints the ratio, which is to be at most 2.0. Then it times `solve` over one table of 1,000 wagons and 500 orders beside
 # Python's reader of JSON over that line alone. WAGONS=FILE times another build than out/wagons.
 #
-# bench/solve/run [TURNS | --smoke]: twenty turns where nothing is said; --smoke takes one, and prints no time.
+# bench/solve/run.sh [TURNS | --smoke]: twenty turns where nothing is said; --smoke takes one, and prints no time.
 set -euo pipefail
 cd "$(dirname "$0")"
 smoke=

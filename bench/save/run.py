@@ -2,7 +2,7 @@
 """Times `wagons save` over a long journal beside the same journal replayed by `wagons run`, and a start from a checkpoint of
 1,000 wagons and 500 orders beside one from a roster of 1,000 wagons. WAGONS=FILE times another build than out/wagons.
 
-bench/save/run [MESSAGES [TURNS] | --smoke]: 990,000 messages, with which some 993,000 events are accepted, and nine turns
+bench/save/run.py [MESSAGES [TURNS] | --smoke]: 990,000 messages, with which some 993,000 events are accepted, and nine turns
 where nothing is said; --smoke takes few messages once, and prints no time.
 """
 

@@ -3,7 +3,7 @@
 # over the same lines, each less `wagons run` over the lines alone, in one run, and prints the ratio, which is to be at most
 # 5.0. WAGONS=FILE times another build than out/wagons.
 #
-# bench/why/run [TURNS | --smoke]: twenty turns where nothing is said; --smoke takes one, and prints no time.
+# bench/why/run.sh [TURNS | --smoke]: twenty turns where nothing is said; --smoke takes one, and prints no time.
 set -euo pipefail
 cd "$(dirname "$0")"
 smoke=
