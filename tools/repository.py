@@ -1,6 +1,8 @@
-"""What the tools ask of this repository: its crates, the files that a program is made from, and where programs stand."""
+"""What the tools ask of this repository: its version, its crates, the files that a program is made from, and where programs stand."""
 
+import hashlib
 import os
+import re
 import shutil
 import subprocess
 
@@ -9,6 +11,15 @@ ROOT = os.path.dirname(os.path.dirname(os.path.abspath(__file__)))
 PARTS = ("src", "specs", "proofs")
 # What a program's run on its stored files reads beside them.
 STORED = ("stdin", "stdout", "args", "status", "data")
+
+
+def version() -> str:
+    """The version, as the program's source has it."""
+    with open(f"{ROOT}/crates/command_line/src/words.rt", encoding="utf-8") as file:
+        found = re.search(r'^const VERSION: &str = "(.*)";$', file.read(), re.M)
+    if not found:
+        raise SystemExit("crates/command_line/src/words.rt names no VERSION")
+    return found[1]
 
 
 def lines_of_crates() -> dict[str, str]:
@@ -51,6 +62,34 @@ def kit() -> str:
     if not shutil.which("rt"):
         raise SystemExit("this needs the proof kit, whose command is rt (README.md, \"Try it\")")
     return subprocess.run(["rt", "version"], check=True, capture_output=True, text=True).stdout.strip()
+
+
+def git(*words: str) -> str:
+    """What git says of this repository."""
+    done = subprocess.run(["git", "-C", ROOT, *words], capture_output=True, text=True, check=False)
+    if done.returncode:
+        raise SystemExit(f"git {words[0]}: {done.stderr.strip()}")
+    return done.stdout.strip()
+
+
+def checksums(program: str, top: str = ROOT) -> dict[str, str]:
+    """Of each crate a checksum of all that its proof stands on: its files below `top`, the crates below it, and the kit."""
+    lines, crates, line_of_kit, found = lines_of_crates(), stands_on(program), kit(), dict[str, str]()
+    for crate in crates:
+        below = [it for it in lines[crate].partition(":")[2].split() if it in crates]
+        whole = hashlib.sha256("\n".join([line_of_kit, lines[crate], *(found[it] for it in below)]).encode())
+        for path in files_of(f"{top}/crates/{crate}"):
+            with open(path, "rb") as file:
+                whole.update(os.path.relpath(path, top).encode() + b"\n" + hashlib.sha256(file.read()).digest())
+        found[crate] = whole.hexdigest()
+    return found
+
+
+def files_of(folder: str) -> list[str]:
+    """The files of a crate that its proof, or its run on stored files, reads."""
+    parts = [f"{folder}/{part}" for part in (*PARTS, *STORED)]
+    found = [it for it in parts if os.path.isfile(it)]
+    return sorted(found + [f"{at}/{name}" for it in parts for at, _, names in os.walk(it) for name in names])
 
 
 def built(program: str) -> str:
