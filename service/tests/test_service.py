@@ -194,7 +194,8 @@ def test_what_the_page_asks_for(start: Start) -> None:
     assert entry["remedy"].startswith("plan again.")
     for path, status in [
         ("/explain/999", 404), ("/explain/x", 404), ("/why?at=now", 400), ("/why?at=--help", 400), ("/why?at=2026-03-02T06:00:00Z&order=--help%20x", 400),
-        ("/why?at=2026-03-02T06:00:00Z&wagon=1", 400), ("/static/x", 404), ("/static/..%2Fpage.py", 404),
+        ("/why?at=2026-03-02T06:00:00Z&wagon=1", 400), ("/why?at=2026-03-02T06:00:00Z&wagon=318053700099", 400),
+        ("/why?at=2026-03-02T06:00:00Z&order=NONE-1", 404), ("/why?at=2026-03-02T06:00:00Z&wagon=218124712173", 404), ("/static/x", 404), ("/static/..%2Fpage.py", 404),
     ]:
         assert service.get(path).status == status, path
     assert service.journal.count(b"\n") == 7

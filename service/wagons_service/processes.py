@@ -6,6 +6,8 @@ from collections.abc import Sequence
 from .answers import Refusal
 
 SECONDS_TO_DRAW = 30
+# How the program begins to say that the problem doesn't have what it was asked about, and that an argument is none.
+NOT_THERE, BAD_ARGUMENT = b"wagons: 84 ", b"error: "
 
 
 async def start(command: Sequence[str], files: Sequence[int] = ()) -> asyncio.subprocess.Process:
@@ -26,8 +28,19 @@ async def run(command: Sequence[str], given: bytes) -> bytes:
         process.kill()
         raise Refusal(503, f"{' '.join(command)} took over {SECONDS_TO_DRAW} seconds.") from None
     if process.returncode:
-        raise Refusal(503, words_of(command, said, process.returncode))
+        raise refusal_of(command, said, process.returncode)
     return printed
+
+
+def refusal_of(command: Sequence[str], said: bytes, status: int | None) -> Refusal:
+    """Why a command printed nothing: what was asked for isn't there, or can't be; or the command failed."""
+    if said.startswith(NOT_THERE):
+        code = 404
+    elif said.startswith(BAD_ARGUMENT):
+        code = 400
+    else:
+        code = 503
+    return Refusal(code, words_of(command, said, status))
 
 
 def words_of(command: Sequence[str], said: bytes, status: int | None) -> str:

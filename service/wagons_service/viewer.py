@@ -19,7 +19,7 @@ from .layouts import Layout, Layouts
 from .network_map import NetworkMap, read_map
 from .office import Office
 from .options import Options
-from .processes import run, start, words_of
+from .processes import refusal_of, run, start
 from .program import DONE
 
 # Over a whole journal.
@@ -131,7 +131,7 @@ class Viewer:
             if process.returncode is None:
                 process.kill()
         if process.returncode not in DONE:
-            raise Refusal(503, words_of(command, said, process.returncode))
+            raise refusal_of(command, said, process.returncode)
         return printed
 
     async def _feed(self, process: asyncio.subprocess.Process, upto: int) -> None:
