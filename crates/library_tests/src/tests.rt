@@ -10,6 +10,5 @@ mod networks;
 mod orders;
 mod problems;
 mod rosters;
-mod seats;
 mod small_tables;
 mod tables;

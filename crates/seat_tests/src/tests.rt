@@ -1,4 +1,4 @@
-//! Offices, and what their seats call.
+//! The tests, by what they try.
 
 mod calls;
 mod closing;

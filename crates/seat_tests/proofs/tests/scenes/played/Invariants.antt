@@ -1,4 +1,4 @@
-use Rattle.library_tests.proofs.tests.seats.scenes.played.Given as goal
+use Rattle.seat_tests.proofs.tests.scenes.played.Given as goal
 
 abbrev pub ghosts-book_after-L-Ledger : goal.ghosts-book_after-L-Ledger
 ghosts-book_after-L-Ledger g a = record { name = a.blank.name; parts = a.blank.parts }
