@@ -13,5 +13,6 @@ mod wagon_line;
 mod wagon_list;
 
 pub use certificate::certificate_line;
+pub use order_line::state_word;
 pub use plan_lines::{certified_plan_text, plan_text};
 pub use sheet::sheet_text;

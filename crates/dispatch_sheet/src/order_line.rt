@@ -42,8 +42,8 @@ fn push_order_back(text: &mut String, row: &OrderRow) -> Result<(), AllocError>
     text.push_str("\n")
 }
 
-/// The word of a state.
-fn state_word(state: OrderState) -> &'static str
+/// The word of an order's state.
+pub fn state_word(state: OrderState) -> &'static str
     ensures { result.now ≡ state_word state }
 {
     match state {

@@ -1,12 +1,9 @@
 -- Fields from their parts.
-use Rattle.std.proofs.Common.{◌≡◌, ℕ, List, [], ◌∷◌, ◌++◌, refl, ap, ◌∙◌, append_assoc, append-nil}
-use Rattle.json.specs.Print.{print, print_from}
-use Rattle.json.specs.Token.{string}
+use Rattle.std.proofs.Common.{◌≡◌, ℕ, List, [], ◌∷◌, ◌++◌, refl, ap, ◌∙◌, append_assoc}
 use Rattle.rail_codes.specs.Moment.{IsMomentText}
 use Rattle.reply_texts.specs.Lines.{Adds}
 use Rattle.plan_reasons.specs.declared.style.Style.{Style}
 use Rattle.plan_reasons.specs.Fields.{field, naming, quote, quoted}
-use Rattle.plan_reasons.specs.PlaceFields.{json_text}
 use Rattle.plan_reasons.specs.inner.Added.{IsMomentField, IsMomentValue}
 
 pub three_parts : (old x y z a b c : List ℕ) → a ≡ old ++ x → b ≡ a ++ y → c ≡ b ++ z → c ≡ old ++ (x ++ y ++ z)
@@ -31,8 +28,3 @@ moment_field style name seconds old a b first second = record {
   is = record { text = second.is.text; moment = second.is.moment; whole = ap (field style name) second.is.whole };
   whole = second.whole ∙ ap (λ (xs : List ℕ). xs ++ second.added) first ∙ append_assoc old (naming style name) second.added;
 }
-
--- a text is what a writer of JSON makes of it alone
-pub text_alone : (text : List ℕ) → print (string text ∷ []) ≡ json_text text
-unfolding print_from
-text_alone text = append-nil (json_text text)

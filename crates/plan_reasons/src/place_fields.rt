@@ -1,15 +1,15 @@
 //! A place in a line, with its name behind it where names are asked for. `Err` only when out of memory; part of the line may be
 //! there then.
-ghost use Rattle.std.specs.Prelude.{◌≡◌, ◌++◌, IfOk, OnOk, string_bytes};
+ghost use Rattle.std.specs.Prelude.{◌≡◌, ◌++◌, OnOk, string_bytes};
 ghost use Rattle.plan_reasons.specs.Fields.{field};
-ghost use Rattle.plan_reasons.specs.PlaceFields.{json_text, name_field, names_of, place_field};
+ghost use Rattle.plan_reasons.specs.PlaceFields.{name_field, names_of, place_field};
+ghost use Rattle.text_tables.specs.JsonRows.{json_text};
 
 use crate::line_form::LineForm;
 use crate::style::{Style, code_field, push_field};
-use json::Writer;
-use line_fields::written_text;
 use rail_codes::Place;
-use std::alloc::{AllocError, Global};
+use std::alloc::AllocError;
+use text_tables::json_text;
 
 /// Adds a place, and its name behind it where names are asked for.
 pub(crate) fn place_field(
@@ -46,13 +46,4 @@ fn push_text(text: &mut String, style: Style, name: &str, value: &str) -> Result
 {
     let quoted = json_text(*text.allocator(), value)?;
     push_field(text, style, name, quoted.as_str())
-}
-
-/// A text as JSON has it.
-fn json_text(alloc: Global, value: &str) -> Result<String, AllocError>
-    ensures { IfOk result (λ text. string_bytes text ≡ json_text value.now) }
-{
-    let mut out = Writer::new(Vec::new(alloc));
-    out.string(value)?;
-    Ok(written_text(out))
 }

@@ -6,8 +6,8 @@ use Rattle.std.proofs.lemmas.Bool.Decides.{nat_tests}
 use Rattle.std.specs.List.{AllZip, range_with_len}
 use Rattle.std.proofs.lemmas.List.Elements.{filter-append}
 use Rattle.std.proofs.lemmas.Option.{same_Some}
-use Rattle.plan_table.proofs.Columns.{range_one_more}
-use Rattle.plan_reasons.proofs.OrderCounts.{AllZip-more}
+use Rattle.text_tables.proofs.Columns.{range_one_more}
+use Rattle.text_tables.proofs.RowsBelow.{AllZip-more}
 
 -- one number more, which passes the test
 filter-taken : (p : ℕ → Bool) (n : ℕ) → p n ≡ true → filter p (range_with_len 0 (n + 1)) ≡ filter p (range_with_len 0 n) ++ n ∷ []

@@ -2,12 +2,13 @@
 use Rattle.std.proofs.Common.{◌≡◌, ◌∙◌, ℕ, ◌+◌, ◌<◌, List, ◌∷◌, [], ◌++◌, length, get_or, map, take, ap, subst, append_assoc}
 use Rattle.std.specs.List.{AllZip}
 use Rattle.place_names.specs.declared.named_place.NamedPlace.{NamedPlace}
-use Rattle.plan_reasons.proofs.OrderCounts.{AllZip-taken_more}
-use Rattle.plan_table.specs.declared.clock.Clock.{Clock}
+use Rattle.text_tables.proofs.RowsBelow.{AllZip-taken_more}
+use Rattle.text_tables.specs.declared.clock.Clock.{Clock}
 use Rattle.plan_reasons.specs.declared.journey.Journey.{Journey}
 use Rattle.plan_table.specs.declared.plan_list.PlanList.{PlanList}
 use Rattle.plan_table.specs.declared.plan_list.Shortfall.{Shortfall}
-use Rattle.plan_table.specs.Cells.{AreJourneyFields, IsJourneyRow, Row, csv_titles, shortfall_fields}
+use Rattle.plan_table.specs.Cells.{AreJourneyFields, IsJourneyRow, csv_titles, shortfall_fields}
+use Rattle.text_tables.specs.Row.{Row}
 use Rattle.plan_table.specs.inner.Rows.{AreCsvRows, AreJourneyRows, AreJourneysFields}
 
 -- the row of one more wagon that goes

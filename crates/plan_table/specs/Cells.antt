@@ -1,20 +1,14 @@
 -- The rows of a plan's table: the cells of each wagon that goes, and of each order that misses wagons.
-use Rattle.std.specs.Prelude.{◌≡◌, ℕ, List, [], ◌∷◌, ◌++◌, codes, decimal}
-use Rattle.place_names.specs.Names.{name_of, name_word}
+use Rattle.std.specs.Prelude.{◌≡◌, ℕ, List, [], ◌∷◌, codes, decimal}
+use Rattle.place_names.specs.Names.{name_of}
 use Rattle.place_names.specs.declared.named_place.NamedPlace.{NamedPlace}
-use Rattle.plan_table.specs.declared.clock.Clock.{Clock}
+use Rattle.text_tables.specs.declared.clock.Clock.{Clock}
 use Rattle.plan_reasons.specs.declared.journey.Journey.{Journey}
 use Rattle.plan_table.specs.declared.plan_list.Shortfall.{Shortfall}
-use Rattle.plan_table.specs.Clock.{IsShown}
+use Rattle.text_tables.specs.Clock.{IsShown}
+use Rattle.text_tables.specs.PlaceCells.{place_cell}
 use Rattle.plan_table.specs.Reasons.{reason_phrase}
-
--- the cells of a row, from the left
-abbrev pub Row : Type 0
-Row = List (List ℕ)
-
--- a place, and its name behind it, if it has one
-abbrev pub place_cell : List NamedPlace → (place : List ℕ) → List ℕ
-place_cell places place = place ++ name_word (name_of places place)
+use Rattle.text_tables.specs.Row.{Row}
 
 -- ---- in a table
 

@@ -3,14 +3,15 @@
 use Rattle.std.specs.Prelude.{◌≡◌, ℕ, List, [], ◌∷◌, ◌++◌, map, codes, decimal}
 use Rattle.std.specs.List.{AllZip}
 use Rattle.place_names.specs.declared.named_place.NamedPlace.{NamedPlace}
-use Rattle.plan_table.specs.declared.aligned.Side.{Side}
-use Rattle.plan_table.specs.declared.aligned.Side.TheVariants.{Left, Right}
-use Rattle.plan_table.specs.declared.clock.Clock.{Clock}
+use Rattle.text_tables.specs.declared.aligned.Side.{Side}
+use Rattle.text_tables.specs.declared.aligned.Side.TheVariants.{Left, Right}
+use Rattle.text_tables.specs.declared.clock.Clock.{Clock}
 use Rattle.plan_table.specs.declared.plan_list.PlanList.{PlanList}
 use Rattle.plan_table.specs.declared.plan_list.Shortfall.{Shortfall}
-use Rattle.plan_table.specs.Aligned.{aligned_text}
-use Rattle.plan_table.specs.Cells.{IsJourneyRow, Row, journey_titles, shortfall_row, shortfall_titles}
-use Rattle.plan_table.specs.Clock.{IsShown}
+use Rattle.text_tables.specs.Aligned.{aligned_text}
+use Rattle.plan_table.specs.Cells.{IsJourneyRow, journey_titles, shortfall_row, shortfall_titles}
+use Rattle.text_tables.specs.Row.{Row}
+use Rattle.text_tables.specs.Clock.{IsShown}
 
 -- numbers stand at the right
 abbrev pub journey_sides : List Side

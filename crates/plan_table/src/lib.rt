@@ -3,18 +3,13 @@
 //! `Err` only when out of memory.
 #![tactic(auto)]
 
-mod aligned;
-mod clock;
 mod listing;
 mod phrases;
 mod plan_list;
-mod row;
 mod rows;
 mod spreadsheet;
 mod table;
 
-pub use aligned::Side;
-pub use clock::Clock;
 pub use listing::list_of_plan;
 pub use plan_list::{PlanList, Reason, Shortfall};
 pub use plan_reasons::Journey;

@@ -1,16 +1,13 @@
 //! The rows of a plan's table.
-ghost use Rattle.std.specs.Prelude.{◌≡◌, ◌++◌, ◌∷◌, [], decimal, IfOk, OnOk, map, codes, length, replicate, string_bytes};
-ghost use Rattle.place_names.specs.Names.{name_of};
-ghost use Rattle.plan_table.specs.Cells.{AreJourneyFields, IsJourneyRow, csv_titles, journey_titles, place_cell, shortfall_fields, shortfall_row, shortfall_titles};
+ghost use Rattle.std.specs.Prelude.{◌≡◌, ◌++◌, ◌∷◌, [], decimal, IfOk, OnOk, replicate};
+ghost use Rattle.plan_table.specs.Cells.{AreJourneyFields, IsJourneyRow, csv_titles, journey_titles, shortfall_fields, shortfall_row, shortfall_titles};
 
-use crate::clock::{Clock, shown};
 use crate::phrases::phrase;
 use crate::plan_list::Shortfall;
-use crate::row::Row;
 use place_names::Places;
 use plan_reasons::Journey;
-use rail_codes::Place;
 use std::alloc::{AllocError, Global};
+use text_tables::{Clock, Row, place_cell, push_place, shown};
 
 /// The titles of the wagons that go.
 pub(crate) const JOURNEY_TITLES: [&str; 8] = [
@@ -36,26 +33,6 @@ pub(crate) const CSV_TITLES: [&str; 13] = [
     "penalty",
     "why",
 ];
-
-/// A row of titles.
-pub(crate) fn titles_row(alloc: Global, titles: &[&str]) -> Result<Row, AllocError>
-    ensures { IfOk result (λ row. row ≡ map (λ title. title.now) titles.now) }
-{
-    let mut row = Row::new(alloc);
-    for title in titles {
-        row.push(title)?;
-    }
-    Ok(row)
-}
-
-/// A place with its name behind it, if it has one.
-fn place_cell(alloc: Global, places: &Places, place: Place) -> Result<String, AllocError>
-    ensures { IfOk result (λ cell. string_bytes cell ≡ place_cell places.now place) }
-{
-    let mut cell = place.text(alloc)?;
-    places.push_name(&mut cell, place)?;
-    Ok(cell)
-}
 
 /// The row of a wagon that goes.
 pub(crate) fn journey_row(
@@ -132,14 +109,6 @@ pub(crate) fn journey_fields(
     row.push_code(journey.order.as_bytes())?;
     push_nothing(&mut row, 3)?;
     Ok(row)
-}
-
-/// Adds a place and its name.
-fn push_place(row: &mut Row, places: &Places, place: Place) -> Result<(), AllocError>
-    ensures { OnOk result (row.new ≡ row.old ++ place ∷ name_of places.now place ∷ []) }
-{
-    row.push_code(place.as_bytes())?;
-    row.push(places.name_of(place))
 }
 
 /// Adds so many empty cells.

@@ -4,15 +4,13 @@ ghost use Rattle.plan_table.specs.Cells.{shortfall_row, shortfall_titles};
 ghost use Rattle.plan_table.specs.TableText.{IsTableText, head_line, moment_words, shortfalls_text, sum_line, version_words};
 ghost use Rattle.plan_table.specs.inner.Rows.{AddsHead, AddsJourneys, AreJourneyRows};
 
-use crate::aligned::{Side, push_aligned};
-use crate::clock::{Clock, shown};
 use crate::plan_list::{PlanList, Shortfall};
-use crate::row::Row;
-use crate::rows::{JOURNEY_TITLES, SHORTFALL_TITLES, journey_row, shortfall_row, titles_row};
+use crate::rows::{JOURNEY_TITLES, SHORTFALL_TITLES, journey_row, shortfall_row};
 use itoa::Buffer;
 use place_names::Places;
 use plan_reasons::Journey;
 use std::alloc::{AllocError, Global};
+use text_tables::{Clock, Row, Side, push_aligned, shown, titles_row};
 
 /// At which side the cells of wagons that go stand.
 const JOURNEY_SIDES: [Side; 8] = [

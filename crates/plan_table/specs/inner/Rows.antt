@@ -2,11 +2,12 @@
 use Rattle.std.specs.Prelude.{◌≡◌, ℕ, List, ◌∷◌, ◌++◌, map}
 use Rattle.std.specs.List.{AllZip}
 use Rattle.place_names.specs.declared.named_place.NamedPlace.{NamedPlace}
-use Rattle.plan_table.specs.declared.clock.Clock.{Clock}
+use Rattle.text_tables.specs.declared.clock.Clock.{Clock}
 use Rattle.plan_reasons.specs.declared.journey.Journey.{Journey}
 use Rattle.plan_table.specs.declared.plan_list.PlanList.{PlanList}
-use Rattle.plan_table.specs.Cells.{AreJourneyFields, IsJourneyRow, Row, csv_titles, journey_titles, shortfall_fields}
-use Rattle.plan_table.specs.Clock.{IsShown}
+use Rattle.plan_table.specs.Cells.{AreJourneyFields, IsJourneyRow, csv_titles, journey_titles, shortfall_fields}
+use Rattle.text_tables.specs.Row.{Row}
+use Rattle.text_tables.specs.Clock.{IsShown}
 use Rattle.plan_table.specs.TableText.{head_line, journeys_text}
 
 -- the head line was added

@@ -2,7 +2,7 @@ use Rattle.std.proofs.Common.{◌∙◌, ◌+◌, ℕ, take, get_or, refl, sym, 
 use Rattle.std.specs.List.{AllZip}
 use Rattle.cost_table.specs.Plan.{AllAllowed}
 use Rattle.plan_bounds.proofs.NewPairs.{allowed_at}
-use Rattle.plan_reasons.proofs.OrderCounts.{AllZip-taken_more}
+use Rattle.text_tables.proofs.RowsBelow.{AllZip-taken_more}
 use Rattle.plan_reasons.specs.Journeys.{IsJourney}
 use Rattle.plan_table.proofs.listing.all_journeys.Goals as goal
 

@@ -1,7 +1,0 @@
-use Rattle.std.proofs.Common.{◌≡◌, ◌++◌, take, string_bytes}
-use Rattle.std.specs.List.{flat_map}
-use Rattle.plan_table.specs.Aligned.{row_line}
-use Rattle.plan_table.proofs.aligned.push_aligned.Given as goal
-
-abbrev pub invariant-loop-row : goal.invariant-loop-row
-invariant-loop-row l = string_bytes l.text ≡ string_bytes l.initial.text ++ flat_map (row_line l.sides l.rows) (take l.row-index l.rows)

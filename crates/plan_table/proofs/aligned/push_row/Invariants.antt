@@ -1,7 +1,0 @@
-use Rattle.std.proofs.Common.{◌≡◌, ◌++◌, string_bytes}
-use Rattle.std.specs.List.{flat_map, range_with_len}
-use Rattle.plan_table.specs.Aligned.{column_text}
-use Rattle.plan_table.proofs.aligned.push_row.Given as goal
-
-abbrev pub invariant-loop-k : goal.invariant-loop-k
-invariant-loop-k l = string_bytes l.text ≡ string_bytes l.initial.text ++ flat_map (column_text l.sides l.rows l.row) (range_with_len 0 l.k)

@@ -1,0 +1,9 @@
+pub mod Row
+pub mod RowsBelow
+pub mod Clock
+pub mod Aligned
+pub mod CsvRows
+pub mod JsonRows
+pub mod Form
+pub mod PlaceCells
+pub mod inner
