@@ -1,0 +1,2 @@
+pub mod WagonRows
+pub mod OrderRows
