@@ -1,0 +1,15 @@
+pub mod Arrivals
+pub mod Lateness
+pub mod Movements
+pub mod Needs
+pub mod Silence
+pub mod Choices
+pub mod ListOf
+pub mod Words
+pub mod Cells
+pub mod Rows
+pub mod Fields
+pub mod CsvText
+pub mod TableText
+pub mod FormText
+pub mod inner

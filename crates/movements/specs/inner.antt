@@ -1,0 +1,3 @@
+pub mod Listed
+pub mod Made
+pub mod Head
