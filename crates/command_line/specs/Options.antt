@@ -1,10 +1,11 @@
 -- What each word's options say, by what was given to them.
-use Rattle.std.specs.Prelude.{◌≡◌, ◌≢◌, ℕ, Bool, ◌||◌, ◌==◌, [], codes, Some, None, Ok, IfSome, IsTrue}
+use Rattle.std.specs.Prelude.{◌≡◌, ◌≢◌, ◌≤◌, ℕ, Bool, ◌||◌, ◌==◌, [], codes, Some, None, Ok, IfSome, IsTrue}
 use Rattle.std.specs.Char.{is_ascii_alphanumeric}
 use Rattle.std.specs.List.{list_all}
 use Rattle.command_line.specs.Values.{AreReadAs, Given, IsFlagOf, IsNumberOf, IsOptionalNumberOf, IsReadAs, Text, all_lent, lent, needed_value, value_of, values_of}
 use Rattle.command_line.specs.declared.line_options.LineOptions.{LineOptions}
 use Rattle.command_line.specs.declared.map_options.MapOptions.{MapOptions}
+use Rattle.command_line.specs.declared.moves_options.MovesOptions.{MovesOptions}
 use Rattle.command_line.specs.declared.office_options.FeedOptions.{FeedOptions}
 use Rattle.command_line.specs.declared.office_options.OfficeOptions.{OfficeOptions}
 use Rattle.command_line.specs.declared.office_options.ProblemOptions.{ProblemOptions}
@@ -13,6 +14,7 @@ use Rattle.command_line.specs.declared.office_options.Start.{Start}
 use Rattle.command_line.specs.declared.office_options.Start.TheVariants as start
 use Rattle.command_line.specs.declared.plan_options.PlanOptions.{PlanOptions}
 use Rattle.command_line.specs.declared.review_options.ReviewOptions.{ReviewOptions}
+use Rattle.command_line.specs.declared.state_options.StateOptions.{StateOptions}
 use Rattle.command_line.specs.declared.why_options.Asked.{Asked}
 use Rattle.command_line.specs.declared.why_options.Asked.TheVariants.{Plan, Order, Wagon}
 use Rattle.command_line.specs.declared.why_options.WhyOptions.{WhyOptions}
@@ -26,6 +28,10 @@ use Rattle.rail_codes.specs.WagonNumber.{wagon_number_of}
 -- the most threads that work out distances
 abbrev pub max_workers : ℕ
 max_workers = 64
+
+-- the most hours after which a wagon that was not heard from is shown
+abbrev pub max_silent_hours : ℕ
+max_silent_hours = 100000
 
 -- the most bytes of a line
 pub record AreLineOptions (given : Given) (options : LineOptions) : Type 0 where
@@ -65,6 +71,30 @@ is_zone_character c = is_ascii_alphanumeric c || c == 95 || c == 43 || c == 45 |
 -- a text that may name a time zone
 abbrev pub IsZoneName : Text → Type 0
 IsZoneName name = (name ≢ []) × IsTrue (list_all is_zone_character name)
+
+-- how an office is listed: with names of places, in a time zone, as CSV or JSON lines
+pub record AreStateOptions (given : Given) (options : StateOptions) : Type 0 where
+  pub office : AreOfficeOptions given options.office
+  pub places : lent options.places ≡ value_of (codes "places") given
+  pub zone : lent options.zone ≡ value_of (codes "zone") given
+  pub zone_name : IfSome options.zone (λ name. IsZoneName name.now)
+  pub csv : IsFlagOf (codes "csv") given options.csv
+  pub json : IsFlagOf (codes "json") given options.json
+
+-- how promised wagons are listed, and which: those that are late, those of one wagon or order, with those not heard from for so
+-- many hours
+pub record AreMovesOptions (given : Given) (options : MovesOptions) : Type 0 where
+  pub problem : AreProblemOptions given options.problem
+  pub places : lent options.places ≡ value_of (codes "places") given
+  pub zone : lent options.zone ≡ value_of (codes "zone") given
+  pub zone_name : IfSome options.zone (λ name. IsZoneName name.now)
+  pub csv : IsFlagOf (codes "csv") given options.csv
+  pub json : IsFlagOf (codes "json") given options.json
+  pub late : IsFlagOf (codes "late") given options.late
+  pub wagon : IsReadAs wagon_number_of (value_of (codes "wagon") given) options.wagon
+  pub order : IsReadAs order_id_of (value_of (codes "order") given) options.order
+  pub silent : IsOptionalNumberOf (codes "silent") given options.silent
+  pub silent_range : IfSome options.silent (λ hours. (1 ≤ hours) × (hours ≤ max_silent_hours))
 
 -- how a plan is printed: with names of places, in a time zone, as CSV
 pub record ArePlanOptions (given : Given) (options : PlanOptions) : Type 0 where

@@ -3,7 +3,7 @@ use Rattle.std.specs.Prelude.{false, true, List, [], ◌∷◌, ◌++◌, codes}
 use Rattle.clap.specs.Simple.{App, Shape, new_shape}
 use Rattle.clap.specs.Walk.{Rule}
 use Rattle.command_line.specs.Arguments.{flag, needed, needed_repeated, number, number_or, repeated, unnamed, unnamed_files, valued}
-use Rattle.command_line.specs.Options.{max_workers}
+use Rattle.command_line.specs.Options.{max_silent_hours, max_workers}
 use Rattle.command_line.specs.Values.{Text}
 use Rattle.line_engine.specs.Lines.{largest_line_limit, max_input_lines}
 use Rattle.price_checker.specs.Limits.{max_entries, max_kept_problems}
@@ -29,6 +29,18 @@ a_moment = needed (codes "at")
 abbrev pub some_places : Rule
 some_places = valued (codes "places")
 
+abbrev pub a_zone : Rule
+a_zone = valued (codes "zone")
+
+-- the options of the words that list an office
+abbrev pub of_a_state : List Rule
+of_a_state = some_places ∷ a_zone ∷ flag (codes "csv") ∷ flag (codes "json") ∷ []
+
+-- those of `moves` that say what is shown
+abbrev pub of_moves : List Rule
+of_moves =
+    flag (codes "late") ∷ valued (codes "order") ∷ valued (codes "wagon") ∷ number max_silent_hours (codes "silent") ∷ []
+
 -- a word with these arguments
 abbrev pub word : Text → List Rule → Shape
 word name arguments = record (new_shape name) { rules = arguments }
@@ -40,9 +52,12 @@ words =
     ∷ word (codes "solve") of_lines
     ∷ word (codes "run") of_an_office
     ∷ word (codes "feed") (of_an_office ++ unnamed_files (codes "file") ∷ [])
+    ∷ word (codes "moves") (of_an_office ++ a_moment ∷ of_a_state ++ of_moves)
+    ∷ word (codes "fleet") (of_an_office ++ of_a_state)
+    ∷ word (codes "orders") (of_an_office ++ of_a_state)
     ∷ word (codes "map")
     (of_an_office ++ some_places ∷ flag (codes "busy") ∷ valued (codes "order") ∷ valued (codes "class") ∷ [])
-    ∷ word (codes "plan") (of_an_office ++ a_moment ∷ some_places ∷ valued (codes "zone") ∷ flag (codes "csv") ∷ [])
+    ∷ word (codes "plan") (of_an_office ++ a_moment ∷ some_places ∷ a_zone ∷ flag (codes "csv") ∷ [])
     ∷ word (codes "table") (of_an_office ++ a_moment ∷ [])
     ∷ word (codes "why")
     (of_an_office ++ a_moment ∷ some_places ∷ valued (codes "order") ∷ valued (codes "wagon") ∷ flag (codes "json") ∷ [])

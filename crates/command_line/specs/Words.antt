@@ -2,7 +2,7 @@
 use Rattle.std.specs.Prelude.{◌≡◌, List, codes, Option, Some, None}
 use Rattle.clap.specs.Simple.{subcommand_of}
 use Rattle.command_line.specs.Explained.{IsExplained}
-use Rattle.command_line.specs.Options.{AreFeedOptions, AreLineOptions, AreMapOptions, AreOfficeOptions, ArePlanOptions, AreProblemOptions, AreReviewOptions, AreSaveOptions, AreWhyOptions}
+use Rattle.command_line.specs.Options.{AreFeedOptions, AreLineOptions, AreMapOptions, AreMovesOptions, AreOfficeOptions, ArePlanOptions, AreProblemOptions, AreReviewOptions, AreSaveOptions, AreStateOptions, AreWhyOptions}
 use Rattle.command_line.specs.Program.{program}
 use Rattle.command_line.specs.Values.{Given, Text}
 use Rattle.command_line.specs.declared.words.Word.{Word}
@@ -15,6 +15,9 @@ IsWordOf name given (asked.Check options) = (name ≡ codes "check") × AreLineO
 IsWordOf name given (asked.Solve options) = (name ≡ codes "solve") × AreLineOptions given options
 IsWordOf name given (asked.Run options) = (name ≡ codes "run") × AreOfficeOptions given options
 IsWordOf name given (asked.Feed options) = (name ≡ codes "feed") × AreFeedOptions given options
+IsWordOf name given (asked.Moves options) = (name ≡ codes "moves") × AreMovesOptions given options
+IsWordOf name given (asked.Fleet options) = (name ≡ codes "fleet") × AreStateOptions given options
+IsWordOf name given (asked.Orders options) = (name ≡ codes "orders") × AreStateOptions given options
 IsWordOf name given (asked.Map options) = (name ≡ codes "map") × AreMapOptions given options
 IsWordOf name given (asked.Plan options) = (name ≡ codes "plan") × ArePlanOptions given options
 IsWordOf name given (asked.Table options) = (name ≡ codes "table") × AreProblemOptions given options

@@ -1,6 +1,7 @@
 //! The texts of help. No line is longer than 80 characters where help prints it.
 
 use crate::arguments::{Argument, Group, Takes};
+use crate::moves_options::MAX_SILENT_HOURS;
 use line_engine::{LARGEST_LINE_LIMIT, MAX_INPUT_LINES};
 use line_network::MAX_WORKERS;
 use price_checker::{MAX_ENTRIES, MAX_KEPT_PROBLEMS};
@@ -95,6 +96,65 @@ pub(crate) const FEED: WordHelp = WordHelp {
     groups: &[START],
 };
 
+/// The help of `moves`.
+pub(crate) const MOVES: WordHelp = WordHelp {
+    name: "moves",
+    about: "Shows promised wagons and which are late: commands in, a table out",
+    long_about: "Reads the fleet and the network from files, then commands from standard input\n\
+     as `run` does, without a reply. At the end prints a table of the promised wagons\n\
+     at a moment: where each is, to which order it goes, the kilometres and minutes\n\
+     that are left, its earliest arrival, the order's latest moment, and the minutes\n\
+     to spare or late; then the orders that are not withdrawn, where those that are\n\
+     short or past their latest moment are marked; with `--silent` also the wagons\n\
+     not heard from.\n\
+     Exits with 0, also where a line was refused, or with 2 where it could not run or\n\
+     stopped; then there is no table.",
+    example: "Examples:\n  \
+     wagons moves --at 2026-03-02T11:00:00Z --roster roster.csv \\\n    \
+     --network network.csv --places places.csv < day.jsonl\n  \
+     wagons moves --late --silent 24 --at 2026-03-02T11:00:00Z \\\n    \
+     --roster roster.csv --network network.csv < day.jsonl",
+    arguments: &[OFFICE, &[MOVES_AT], STATE, MOVES_CHOICE],
+    groups: &[START, PRINTED, ASKED],
+};
+
+/// The help of `fleet`.
+pub(crate) const FLEET: WordHelp = WordHelp {
+    name: "fleet",
+    about: "Lists a fleet's wagons: commands in, a table out",
+    long_about: "Reads the fleet and the network from files, then commands from standard input\n\
+     as `run` does, without a reply. At the end prints a table of the wagons: each\n\
+     with its class, its load limit in kilograms, its status and place, the moment of\n\
+     its last message, whether it is held, and the order that it is promised to.\n\
+     Exits with 0, also where a line was refused, or with 2 where it could not run or\n\
+     stopped; then there is no table.",
+    example: "Examples:\n  \
+     wagons fleet --roster roster.csv --network network.csv < day.jsonl\n  \
+     wagons fleet --csv --places places.csv --roster roster.csv \\\n    \
+     --network network.csv < day.jsonl > fleet.csv",
+    arguments: &[OFFICE, STATE],
+    groups: &[START, PRINTED],
+};
+
+/// The help of `orders`.
+pub(crate) const ORDERS: WordHelp = WordHelp {
+    name: "orders",
+    about: "Lists a fleet's orders: commands in, a table out",
+    long_about: "Reads the fleet and the network from files, then commands from standard input\n\
+     as `run` does, without a reply. At the end prints a table of the orders: each\n\
+     with its place, the classes and the load that it asks for, its latest moment,\n\
+     its penalty, its state, how many wagons it wants and how many it misses, and\n\
+     the wagons that are promised to it or fill it.\n\
+     Exits with 0, also where a line was refused, or with 2 where it could not run or\n\
+     stopped; then there is no table.",
+    example: "Examples:\n  \
+     wagons orders --roster roster.csv --network network.csv < day.jsonl\n  \
+     wagons orders --json --zone Europe/Berlin --roster roster.csv \\\n    \
+     --network network.csv < day.jsonl",
+    arguments: &[OFFICE, STATE],
+    groups: &[START, PRINTED],
+};
+
 /// The help of `map`.
 pub(crate) const MAP: WordHelp = WordHelp {
     name: "map",
@@ -111,7 +171,7 @@ pub(crate) const MAP: WordHelp = WordHelp {
      neato -Tsvg > day.svg\n  \
      wagons map --busy --class Eanos --roster roster.csv --network network.csv \\\n    \
      < day.jsonl | neato -Tpdf > eanos.pdf",
-    arguments: &[OFFICE, &[PLACES, BUSY, MAP_ORDER, MAP_CLASS]],
+    arguments: &[OFFICE, &[PLACES, BUSY, ORDER_ALONE, MAP_CLASS]],
     groups: &[START],
 };
 
@@ -329,6 +389,17 @@ const AT: Argument = Argument {
     ),
 };
 
+/// The moment of a list of movements.
+const MOVES_AT: Argument = Argument {
+    name: "at",
+    takes: Takes::Needed("MOMENT"),
+    help: "The moment from which arrivals are reckoned",
+    long_help: Some(
+        "The moment at which the office is looked at, from which arrivals are\n\
+     reckoned, as 2026-03-02T11:00:00Z",
+    ),
+};
+
 /// The file of the names of places.
 const PLACES: Argument = Argument {
     name: "places",
@@ -368,8 +439,8 @@ const BUSY: Argument = Argument {
     ),
 };
 
-/// The order that a map shows alone.
-const MAP_ORDER: Argument = Argument {
+/// The order that is shown alone.
+const ORDER_ALONE: Argument = Argument {
     name: "order",
     takes: Takes::Value("NAME"),
     help: "Only this order, with the wagons promised to it",
@@ -415,6 +486,36 @@ const JSON: Argument = Argument {
     long_help: None,
 };
 
+/// Whether what needs a person is shown alone.
+const LATE: Argument = Argument {
+    name: "late",
+    takes: Takes::Nothing,
+    help: "Only what is late, short or past its latest moment",
+    long_help: Some(
+        "Only what needs a person: wagons that come too late or have no way,\n\
+     and orders that are short or past their latest moment",
+    ),
+};
+
+/// The wagon that is shown alone.
+const WAGON_ALONE: Argument = Argument {
+    name: "wagon",
+    takes: Takes::Value("NUMBER"),
+    help: "Only this wagon, and no order",
+    long_help: None,
+};
+
+/// For how long a wagon was not heard from.
+const SILENT: Argument = Argument {
+    name: "silent",
+    takes: Takes::Number(MAX_SILENT_HOURS),
+    help: "Also wagons not heard from for N hours, 1 to 100000",
+    long_help: Some(
+        "Also the wagons whose last message is N hours or more older than the\n\
+     moment of `--at`, 1 to 100000",
+    ),
+};
+
 /// How many lines are read.
 const UPTO: Argument = Argument {
     name: "upto",
@@ -449,11 +550,24 @@ const WITHOUT: Argument = Argument {
 /// The arguments of each word that opens an office.
 const OFFICE: &[Argument] = &[ROSTER, FROM, NETWORK, ENTRIES, KEPT, WORKERS];
 
+/// The arguments of each word that lists an office.
+const STATE: &[Argument] = &[PLACES, ZONE, CSV, JSON];
+
+/// The arguments that say what `moves` shows.
+const MOVES_CHOICE: &[Argument] = &[LATE, ORDER_ALONE, WAGON_ALONE, SILENT];
+
 /// An office begins with a roster or with a checkpoint.
 const START: Group = Group {
     name: "start",
     options: ["roster", "from"],
     required: true,
+};
+
+/// CSV is printed, or JSON lines, or neither.
+const PRINTED: Group = Group {
+    name: "printed",
+    options: ["csv", "json"],
+    required: false,
 };
 
 /// An order is asked about, or a wagon, or neither.

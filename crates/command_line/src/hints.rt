@@ -10,11 +10,12 @@ const FROM_INPUT: &str =
      `wagons check < tables.jsonl`";
 
 /// Each option that is a number, as faults name it, and what it must be.
-const RANGES: [(&str, &str); 5] = [
+const RANGES: [(&str, &str); 6] = [
     ("'--entries <N>'", "hint: a whole number from 1 to 1000000"),
     ("'--kept <N>'", "hint: a whole number from 1 to 64"),
     ("'--workers <N>'", "hint: a whole number from 1 to 64"),
     ("'--upto <N>'", "hint: a whole number from 1 to 1000000"),
+    ("'--silent <N>'", "hint: a whole number from 1 to 100000"),
     (
         "'--line-bytes <N>'",
         "hint: a whole number from 1 to 67108864",

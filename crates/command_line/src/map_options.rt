@@ -1,12 +1,10 @@
 //! The options of `map`.
-ghost use Rattle.std.specs.Prelude.{IfOk, codes};
-ghost use Rattle.rail_codes.specs.ClassCode.{class_code_of};
-ghost use Rattle.rail_codes.specs.OrderId.{order_id_of};
+ghost use Rattle.std.specs.Prelude.{IfOk};
 ghost use Rattle.command_line.specs.Options.{AreMapOptions};
-ghost use Rattle.command_line.specs.Values.{IsReadAs, given_in, value_of};
+ghost use Rattle.command_line.specs.Values.{given_in};
 
 use crate::office_options::OfficeOptions;
-use crate::values::{code_from, is_given, value_of};
+use crate::values::{code_of, is_given, value_of};
 use clap::{ArgMatches, Error};
 use rail_codes::{ClassCode, OrderId};
 use std::alloc::Global;
@@ -34,8 +32,8 @@ impl<'a> MapOptions<'a> {
     pub(crate) fn read(alloc: Global, matches: &ArgMatches<'a>) -> Result<MapOptions<'a>, Error>
         ensures { IfOk result (AreMapOptions (given_in matches.now)) }
     {
-        let order = order_of(alloc, matches)?;
-        let class = class_of(alloc, matches)?;
+        let order = code_of::<OrderId>(alloc, MAP, "order", "--order <NAME>", matches)?;
+        let class = code_of::<ClassCode>(alloc, MAP, "class", "--class <CODE>", matches)?;
         let office = OfficeOptions::read(alloc, matches)?;
         Ok(MapOptions {
             office,
@@ -44,25 +42,5 @@ impl<'a> MapOptions<'a> {
             order,
             class,
         })
-    }
-}
-
-/// The order that is shown alone.
-fn order_of(alloc: Global, matches: &ArgMatches<'_>) -> Result<Option<OrderId>, Error>
-    ensures { IfOk result (IsReadAs order_id_of (value_of (codes "order") (given_in matches.now))) }
-{
-    match value_of(matches, "order") {
-        Some(name) => Ok(Some(code_from(alloc, MAP, "--order <NAME>", name)?)),
-        None => Ok(None),
-    }
-}
-
-/// The class that is shown alone.
-fn class_of(alloc: Global, matches: &ArgMatches<'_>) -> Result<Option<ClassCode>, Error>
-    ensures { IfOk result (IsReadAs class_code_of (value_of (codes "class") (given_in matches.now))) }
-{
-    match value_of(matches, "class") {
-        Some(code) => Ok(Some(code_from(alloc, MAP, "--class <CODE>", code)?)),
-        None => Ok(None),
     }
 }

@@ -1,6 +1,6 @@
 //! What was given to the arguments of a word: texts, numbers and codes.
 ghost use Rattle.std.specs.Prelude.{◌≡◌, ◌≤◌, IfOk, Ok};
-ghost use Rattle.command_line.specs.Values.{IsFlagOf, IsNumberOf, IsOptionalNumberOf, all_lent, given_in, lent, needed_value, value_of, values_of};
+ghost use Rattle.command_line.specs.Values.{IsFlagOf, IsNumberOf, IsOptionalNumberOf, IsReadAs, all_lent, given_in, lent, needed_value, value_of, values_of};
 
 use clap::error::ErrorKind;
 use clap::{ArgMatches, Command, Error};
@@ -26,6 +26,22 @@ pub(crate) fn code_from<C: FromText>(
             let mut command = Command::new(alloc, "wagons").bin_name(word)?;
             Err(command.error(ErrorKind::InvalidValue, reason.as_str())?)
         }
+    }
+}
+
+/// The same of an option that may be missing, by its name and as usage lines show it.
+pub(crate) fn code_of<C: FromText>(
+    alloc: Global,
+    word: &str,
+    name: &str,
+    option: &str,
+    matches: &ArgMatches<'_>,
+) -> Result<Option<C>, Error>
+    ensures { IfOk result (IsReadAs C.meaning (value_of name.now (given_in matches.now))) }
+{
+    match value_of(matches, name) {
+        Some(text) => Ok(Some(code_from(alloc, word, option, text)?)),
+        None => Ok(None),
     }
 }
 

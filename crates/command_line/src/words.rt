@@ -12,9 +12,11 @@ use crate::help;
 use crate::help::WordHelp;
 use crate::line_options::LineOptions;
 use crate::map_options::MapOptions;
+use crate::moves_options::MovesOptions;
 use crate::office_options::{FeedOptions, OfficeOptions, ProblemOptions, SaveOptions};
 use crate::plan_options::PlanOptions;
 use crate::review_options::ReviewOptions;
+use crate::state_options::StateOptions;
 use crate::why_options::WhyOptions;
 use clap::error::ErrorKind;
 use clap::{ArgMatches, Command, Error};
@@ -22,11 +24,14 @@ use std::alloc::{AllocError, Global};
 use std::convert::AsStr;
 
 /// The words, in the order in which help lists them.
-const WORDS: [WordHelp; 11] = [
+const WORDS: [WordHelp; 14] = [
     help::CHECK,
     help::SOLVE,
     help::RUN,
     help::FEED,
+    help::MOVES,
+    help::FLEET,
+    help::ORDERS,
     help::MAP,
     help::PLAN,
     help::TABLE,
@@ -50,6 +55,12 @@ pub enum Word<'a> {
     Run(OfficeOptions<'a>),
     /// Bring the command lines of files to an office, all at once.
     Feed(FeedOptions<'a>),
+    /// Bring the command lines of standard input to an office, and print where its promised wagons are and what is late.
+    Moves(MovesOptions<'a>),
+    /// Bring the command lines of standard input to an office, and print its wagons.
+    Fleet(StateOptions<'a>),
+    /// Bring the command lines of standard input to an office, and print its orders.
+    Orders(StateOptions<'a>),
     /// Bring the command lines of standard input to an office, and draw it.
     Map(MapOptions<'a>),
     /// Bring the command lines of standard input to an office, plan it, and print the plan for people.
@@ -97,6 +108,9 @@ fn read_word<'a>(alloc: Global, name: &str, options: &ArgMatches<'a>) -> Result<
         "solve" => Ok(Word::Solve(LineOptions::read(options))),
         "run" => Ok(Word::Run(OfficeOptions::read(alloc, options)?)),
         "feed" => Ok(Word::Feed(FeedOptions::read(alloc, options)?)),
+        "moves" => Ok(Word::Moves(MovesOptions::read(alloc, options)?)),
+        "fleet" => Ok(Word::Fleet(StateOptions::read(alloc, "wagons fleet", options)?)),
+        "orders" => Ok(Word::Orders(StateOptions::read(alloc, "wagons orders", options)?)),
         "map" => Ok(Word::Map(MapOptions::read(alloc, options)?)),
         "plan" => Ok(Word::Plan(PlanOptions::read(alloc, options)?)),
         "table" => Ok(Word::Table(ProblemOptions::read(alloc, "wagons table", options)?)),
@@ -147,7 +161,7 @@ fn ungrouped_line<'a>(alloc: Global) -> Result<Command<'a>, AllocError>
 }
 
 /// The table of words. A proof goes over it here, and nowhere else.
-fn words() -> [WordHelp; 11]
+fn words() -> [WordHelp; 14]
     ensures { map shape_for result ≡ words }
 {
     WORDS
