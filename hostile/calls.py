@@ -26,11 +26,11 @@ from program import EACH, HERE, PROCESSES, SECONDS, Table
 
 ROOT = os.path.dirname(HERE)
 NAME = "hostile_calls"
-LIBRARIES = """last_texts fault_texts checkpoint command_line csv_records faults office office_map plan_table plan_reasons
+LIBRARIES = """last_texts fault_texts checkpoint command_line csv_records faults office office_map plan_table text_tables plan_reasons
 problem_table sessions assignment dispatch_sheet table_lines commit_book operating_db price_checker cost_table line_network
 line_engine fleet_rows wagons_and_orders place_names line_fields move_messages rail_codes test_samples""".split()
 # The request that is refused, and more requests than come before it. MANY stands in calls/trying.rs too.
-REFUSED, MANY = 1500, 5000
+REFUSED, MANY = 2500, 5000
 
 
 class Part(NamedTuple):
@@ -62,7 +62,7 @@ PARTS = {
     "plans": Part("plans and their texts", """work cells plan Snap::commit_text certificate_line plan_text certified_plan_text problem_line sheet_text
         map_text order_counts why_text order_text wagon_text list_of_plan table_text csv_text""".split()),
     "words": Part("what words print of a book's last version", ["last_saved (save)", "last_map (map)", "last_table (table)",
-        "last_reasons (why)", "last_plan_text (plan)"]),
+        "last_reasons (why)", "last_plan_text (plan)", "last_fleet (fleet)", "last_orders (orders)", "last_moves (moves)"]),
     "told": Part("what people are told of files that are refused", ["read_network", "network_text", "read_roster", "roster_text",
         "line_text", "unread_text", "checkpoint_text (of a fault)", "file_text", "manual_text"]),
     "runs": Part("runs over lines", [f"{call} ({what})" for call in ("run", "check_run", "solve_run")

@@ -15,7 +15,8 @@ use place_names::Places;
 use plan_reasons::{
     CertifiedPlan, LineForm, Style, order_counts, order_text, wagon_text, why_text,
 };
-use plan_table::{Clock, csv_text, list_of_plan, table_text};
+use plan_table::{csv_text, list_of_plan, table_text};
+use text_tables::Clock;
 use price_checker::Prices;
 use problem_table::cells;
 use sessions::work;

@@ -1,15 +1,18 @@
-//! What the words `save`, `table`, `why`, `plan` and `map` print of a book's last version. Where a call is refused memory the
+//! What the words `save`, `table`, `why`, `plan`, `map`, `moves`, `fleet` and `orders` print of a book's last version. Where a call is refused memory the
 //! book's office and its entries are as before, though it may keep the problem; the call made again is what is printed.
 
-use crate::books::{BEGIN, ORDER, OTHER_ORDER, answer, call_of};
+use crate::books::{BEGIN, COMMIT, ORDER, OTHER_ORDER, answer, call_of};
 use crate::samples::{PLACES, Sample};
 use crate::showing::{problem_moment, shown};
 use crate::trying::{must, prepared, say, say_refused};
-use command_line::{Asked, OfficeOptions, PlanOptions, ProblemOptions, Start, WhyOptions};
+use command_line::{
+    Asked, MovesOptions, OfficeOptions, PlanOptions, ProblemOptions, Start, StateOptions, WhyOptions,
+};
 use commit_book::{Book, Limits};
 use fleet_rows::Roster;
 use last_texts::{
-    ZoneFile, last_map, last_plan_text, last_reasons, last_saved, last_table, read_zone,
+    ZoneFile, last_fleet, last_map, last_moves, last_orders, last_plan_text, last_reasons, last_saved,
+    last_table, read_zone,
 };
 use line_network::{Network, read_lines};
 use office_map::Choice;
@@ -49,6 +52,8 @@ macro_rules! tried_last {
 #[derive(Drop)]
 struct Files<'a> {
     books: Vec<Book>,
+    /// One with a promise.
+    promised: Book,
     networks: Vec<Network>,
     named: Places,
     added: Option<Roster>,
@@ -68,6 +73,7 @@ impl Files<'_> {
         }
         Some(Files {
             books,
+            promised: book_with_promise(alloc, &sample)?,
             networks: all,
             named: Places::read_names(alloc, PLACES.as_bytes()).ok()?,
             added: Some(Roster::read_rows(alloc, ADDED.as_bytes()).ok()?),
@@ -86,6 +92,16 @@ fn book_with_orders(alloc: Global, sample: &Sample) -> Option<Book> {
     Some(book)
 }
 
+/// The same with a promised wagon: the first order's plan was accepted.
+fn book_with_promise(alloc: Global, sample: &Sample) -> Option<Book> {
+    let mut book = sample.book(alloc, 2)?;
+    for line in [ORDER, BEGIN, COMMIT, OTHER_ORDER] {
+        let call = call_of(alloc, line)?;
+        answer(alloc, &mut book, &call);
+    }
+    Some(book)
+}
+
 pub(crate) fn all(rt: &HostRuntime, alloc: Global, requests: u32) -> Option<()> {
     let mut files = Files::new(rt, alloc)?;
     prepared(rt, alloc, requests)?;
@@ -93,7 +109,9 @@ pub(crate) fn all(rt: &HostRuntime, alloc: Global, requests: u32) -> Option<()> 
     mapped(rt, alloc, &files)?;
     stated(rt, alloc, &mut files.books[0])?;
     reasons(rt, alloc, &mut files)?;
-    planned(rt, alloc, &mut files)
+    planned(rt, alloc, &mut files)?;
+    listed(rt, alloc, &files)?;
+    moved(rt, alloc, &files)
 }
 
 /// `save`: with a roster, without a wagon, and as it is.
@@ -191,15 +209,85 @@ fn planned(rt: &HostRuntime, alloc: Global, files: &mut Files<'_>) -> Option<()>
     Some(())
 }
 
+/// `fleet` as a table, and `orders` as JSON lines.
+fn listed(rt: &HostRuntime, alloc: Global, files: &Files<'_>) -> Option<()> {
+    let (book, named, zone) = (&files.promised, &files.named, &files.zone);
+    let options = state_options(alloc, false)?;
+    let text = tried_last!(
+        rt,
+        alloc,
+        "last_fleet (fleet)",
+        book,
+        last_fleet(alloc, book, &options, named, zone)
+    );
+    say(rt, str::from_utf8(&text).unwrap());
+    let options = state_options(alloc, true)?;
+    let text = tried_last!(
+        rt,
+        alloc,
+        "last_orders (orders)",
+        book,
+        last_orders(alloc, book, &options, named, zone)
+    );
+    say(rt, str::from_utf8(&text).unwrap());
+    Some(())
+}
+
+/// The options of `fleet` and `orders`. Their files are read before.
+fn state_options(alloc: Global, json: bool) -> Option<StateOptions<'static>> {
+    Some(StateOptions {
+        office: office_options(alloc)?,
+        places: None,
+        zone: None,
+        csv: false,
+        json,
+    })
+}
+
+/// The forms of a list: a table, CSV, JSON lines.
+const FORMS: [(bool, bool); 3] = [(false, false), (true, false), (false, true)];
+
+/// `moves`, in each form: a promised wagon, two orders, and the wagons that were not heard from for an hour.
+fn moved(rt: &HostRuntime, alloc: Global, files: &Files<'_>) -> Option<()> {
+    let (book, named, zone) = (&files.promised, &files.named, &files.zone);
+    for (csv, json) in FORMS {
+        let options = MovesOptions {
+            problem: problem_options(alloc)?,
+            places: None,
+            zone: None,
+            csv,
+            json,
+            late: false,
+            wagon: None,
+            order: None,
+            silent: Some(1),
+        };
+        let text = tried_last!(
+            rt,
+            alloc,
+            "last_moves (moves)",
+            book,
+            last_moves(alloc, book, &options, named, zone)
+        );
+        say(rt, str::from_utf8(&text).unwrap());
+    }
+    Some(())
+}
+
+/// The options of a word that opens an office. Its files are read before.
+fn office_options(alloc: Global) -> Option<OfficeOptions<'static>> {
+    Some(OfficeOptions {
+        start: Start::Roster(""),
+        networks: Vec::new(alloc),
+        limits: Limits::new(100, 2)?,
+        workers: 1,
+    })
+}
+
 /// The options of a word that asks for a problem. It reads the moment alone: its files are read before.
 fn problem_options(alloc: Global) -> Option<ProblemOptions<'static>> {
     Some(ProblemOptions {
-        office: OfficeOptions {
-            start: Start::Roster(""),
-            networks: Vec::new(alloc),
-            limits: Limits::new(100, 2)?,
-            workers: 1,
-        },
+        office: office_options(alloc)?,
         at: problem_moment(),
     })
 }

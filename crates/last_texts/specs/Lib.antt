@@ -4,3 +4,5 @@ pub mod PlanOfLast
 pub mod ZoneClock
 pub mod MapOfLast
 pub mod SavedOfLast
+pub mod StateOfLast
+pub mod MovesOfLast

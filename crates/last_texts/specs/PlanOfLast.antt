@@ -8,7 +8,7 @@ use Rattle.line_network.specs.Networks.{network_at}
 use Rattle.move_messages.specs.declared.event.Event.{Event}
 use Rattle.place_names.specs.declared.named_place.NamedPlace.{NamedPlace}
 use Rattle.plan_bounds.specs.PricedPlan.{IsCertified, PricedPlan}
-use Rattle.plan_table.specs.declared.clock.Clock.{Clock}
+use Rattle.text_tables.specs.declared.clock.Clock.{Clock}
 use Rattle.plan_table.specs.declared.plan_list.PlanList.{PlanList}
 use Rattle.plan_table.specs.CsvText.{IsCsvText}
 use Rattle.plan_table.specs.ListOf.{IsListOf}

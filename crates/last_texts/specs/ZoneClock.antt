@@ -8,7 +8,7 @@ use Rattle.jiff_core.specs.declared.error.Error.TheVariants as zone_error
 use Rattle.office_files.specs.InFile.{BytesAt}
 use Rattle.office_files.specs.declared.stop.Stop.{Stop}
 use Rattle.office_files.specs.declared.stop.Stop.TheVariants as stop
-use Rattle.plan_table.specs.declared.clock.Clock.{Clock}
+use Rattle.text_tables.specs.declared.clock.Clock.{Clock}
 use Rattle.last_texts.specs.declared.zone.ZoneFile.{ZoneFile}
 
 -- where the file of a zone is, by the zone's name

@@ -1,17 +1,21 @@
-//! What the words of the program print of a book's last version: its problem, its plan, the reasons of that plan, its map, and
-//! its checkpoint.
+//! What the words of the program print of a book's last version: its problem, its plan, the reasons of that plan, its map,
+//! its promised movements, its wagons and orders, and its checkpoint.
 #![tactic(auto)]
 
 mod map;
+mod moves;
 mod plan;
 mod save;
+mod state;
 mod table;
 mod why;
 mod zone;
 
 pub use map::{choice_of, last_map};
+pub use moves::last_moves;
 pub use plan::last_plan_text;
 pub use save::last_saved;
+pub use state::{last_fleet, last_orders};
 pub use table::last_table;
 pub use why::last_reasons;
 pub use zone::{ZoneFile, read_zone};

@@ -11,9 +11,10 @@ use commit_book::Book;
 use office_files::Stop;
 use place_names::Places;
 use plan_reasons::CertifiedPlan;
-use plan_table::{Clock, PlanList, csv_text, list_of_plan, table_text};
+use plan_table::{PlanList, csv_text, list_of_plan, table_text};
 use rail_codes::Moment;
 use std::alloc::Global;
+use text_tables::Clock;
 
 /// The plan of a book's last version at a moment, over the network in force, for people, as a table or as CSV; with moments as
 /// they are shown in the time zone that is asked for, which was read before. Refused only with `OutOfMemory` (1), or with

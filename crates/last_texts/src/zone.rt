@@ -6,9 +6,9 @@ use fault_texts::file_text;
 use jiff::Error;
 use jiff::tz::TimeZoneDatabase;
 use office_files::{FileSystem, Stop, Stopped, open};
-use plan_table::Clock;
 use std::alloc::{AllocError, Global};
 use std::io::{ErrorKind, Read};
+use text_tables::Clock;
 
 /// Where the files of the time zones are, each by the zone's name.
 const ZONES: &str = "/usr/share/zoneinfo/";

@@ -1,6 +1,7 @@
 //! `wagons`: the fleet office on a command line.
 #![tactic(auto)]
 
+use line_engine::StdDevice;
 use std::io::IsTerminal;
 use std::process::ExitCode;
 use std::rt::Runtime;
@@ -13,7 +14,8 @@ fn main(rt: HostRuntime) -> ExitCode {
     let is_terminal = input.is_terminal();
     let terminal = Terminal { input, is_terminal };
     let arguments = arguments_of(&rt);
-    ExitCode::from(run_program(&rt, arguments, terminal, io::writer(&rt)))
+    let mut output = StdDevice::new(io::writer(&rt));
+    ExitCode::from(run_program(&rt, arguments, terminal, &mut output))
 }
 
 /// The program's arguments, its name first.

@@ -2,16 +2,20 @@
 -- its checkpoint.
 use Rattle.std.specs.Prelude.{◌≡◌, ℕ, List, Option, Some, None, option_copied}
 use Rattle.command_line.specs.declared.map_options.MapOptions.{MapOptions}
+use Rattle.command_line.specs.declared.moves_options.MovesOptions.{MovesOptions}
 use Rattle.command_line.specs.declared.office_options.OfficeOptions.{OfficeOptions}
 use Rattle.command_line.specs.declared.office_options.ProblemOptions.{ProblemOptions}
 use Rattle.command_line.specs.declared.office_options.SaveOptions.{SaveOptions}
 use Rattle.command_line.specs.declared.plan_options.PlanOptions.{PlanOptions}
+use Rattle.command_line.specs.declared.state_options.StateOptions.{StateOptions}
 use Rattle.command_line.specs.declared.why_options.WhyOptions.{WhyOptions}
 use Rattle.commit_book.specs.Books.{BookValue}
 use Rattle.last_texts.specs.MapOfLast.{IsMapOfLast}
+use Rattle.last_texts.specs.MovesOfLast.{IsMovesTextOfLast}
 use Rattle.last_texts.specs.PlanOfLast.{IsPlanTextOfLast}
 use Rattle.last_texts.specs.ReasonsOfLast.{AreReasonsOfLast}
 use Rattle.last_texts.specs.SavedOfLast.{IsSaved, added_rows, last_state}
+use Rattle.last_texts.specs.StateOfLast.{AreOrdersOfLast, IsFleetOfLast}
 use Rattle.last_texts.specs.TableOfLast.{IsTableTextOfLast}
 use Rattle.last_texts.specs.ZoneClock.{AreZoneBytes}
 use Rattle.line_network.specs.Network.{NetworkValue}
@@ -39,11 +43,31 @@ pub record PrintsOfLast (bytes_at : BytesAt) (options : OfficeOptions) (IsText :
 abbrev pub IsTablePrinted : BytesAt → ProblemOptions → Streams → (status : ℕ) → Type 0
 IsTablePrinted bytes_at options given status = PrintsOfLast bytes_at options.office (λ book text. IsTableTextOfLast book.setting book.state.history options.at text) given status
 
--- the plan for people, with the names of places and in the time zone that its file says
+-- The text is shown with the names of places that a file says, and in the time zone of a file's bytes.
+abbrev pub IsShownPrinted : BytesAt → OfficeOptions → (places zone : Option (List ℕ)) → (IsText : BookValue → List NamedPlace → (zone text : List ℕ) → Type 0) → Streams → (status : ℕ) → Type 0
+IsShownPrinted bytes_at office places zone IsText given status = (named : List NamedPlace) × ArePlacesAt bytes_at places named
+    × (bytes : List ℕ) × AreZoneBytes bytes_at zone bytes
+    × PrintsOfLast bytes_at office (λ book text. IsText book named bytes text) given status
+
+-- the plan for people
 abbrev pub IsPlanPrinted : BytesAt → PlanOptions → Streams → (status : ℕ) → Type 0
-IsPlanPrinted bytes_at options given status = (places : List NamedPlace) × ArePlacesAt bytes_at (option_copied options.places) places
-    × (zone : List ℕ) × AreZoneBytes bytes_at (option_copied options.zone) zone
-    × PrintsOfLast bytes_at options.problem.office (λ book text. IsPlanTextOfLast book.setting book.state.history options places zone text) given status
+IsPlanPrinted bytes_at options given status = IsShownPrinted bytes_at options.problem.office (option_copied options.places) (option_copied options.zone)
+    (λ book places zone text. IsPlanTextOfLast book.setting book.state.history options places zone text) given status
+
+-- the promised movements
+abbrev pub AreMovesPrinted : BytesAt → MovesOptions → Streams → (status : ℕ) → Type 0
+AreMovesPrinted bytes_at options given status = IsShownPrinted bytes_at options.problem.office (option_copied options.places) (option_copied options.zone)
+    (λ book places zone text. IsMovesTextOfLast book.setting book.state.history options places zone text) given status
+
+-- the wagons
+abbrev pub IsFleetPrinted : BytesAt → StateOptions → Streams → (status : ℕ) → Type 0
+IsFleetPrinted bytes_at options given status = IsShownPrinted bytes_at options.office (option_copied options.places) (option_copied options.zone)
+    (λ book places zone text. IsFleetOfLast book.setting book.state.history options places zone text) given status
+
+-- the orders
+abbrev pub AreOrdersPrinted : BytesAt → StateOptions → Streams → (status : ℕ) → Type 0
+AreOrdersPrinted bytes_at options given status = IsShownPrinted bytes_at options.office (option_copied options.places) (option_copied options.zone)
+    (λ book places zone text. AreOrdersOfLast book.setting book.state.history options places zone text) given status
 
 -- the reasons of a plan, with the names of places where they are asked for
 abbrev pub AreReasonsPrinted : BytesAt → WhyOptions → Streams → (status : ℕ) → Type 0

@@ -13,7 +13,7 @@ use Rattle.office_files.specs.declared.stop.Stop.{Stop}
 use Rattle.wagons_program.specs.Brought.{IsInputAnswered, IsInputBrought, IsInputStopped, IsNotBrought}
 use Rattle.wagons_program.specs.Explanation.{IsExplained}
 use Rattle.wagons_program.specs.Fed.{IsFedPrinted}
-use Rattle.wagons_program.specs.OfLast.{AreReasonsPrinted, IsMapPrinted, IsPlanPrinted, IsSavedPrinted, IsTablePrinted}
+use Rattle.wagons_program.specs.OfLast.{AreMovesPrinted, AreOrdersPrinted, AreReasonsPrinted, IsFleetPrinted, IsMapPrinted, IsPlanPrinted, IsSavedPrinted, IsTablePrinted}
 use Rattle.wagons_program.specs.Reviewed.{IsInputNotReviewed, IsInputReviewed}
 use Rattle.wagons_program.specs.Streams.{IsUnprinted, PrintsNothing, Streams}
 
@@ -24,6 +24,9 @@ IsDone bytes_at remaining has_failed (word.Check options) given status = IsInput
 IsDone bytes_at remaining has_failed (word.Solve options) given status = IsInputAnswered ToTables options.limit options.limit given status
 IsDone bytes_at remaining has_failed (word.Run options) given status = IsInputBrought bytes_at options given status
 IsDone bytes_at remaining has_failed (word.Feed options) given status = IsFedPrinted bytes_at remaining has_failed options given status
+IsDone bytes_at remaining has_failed (word.Moves options) given status = AreMovesPrinted bytes_at options given status
+IsDone bytes_at remaining has_failed (word.Fleet options) given status = IsFleetPrinted bytes_at options given status
+IsDone bytes_at remaining has_failed (word.Orders options) given status = AreOrdersPrinted bytes_at options given status
 IsDone bytes_at remaining has_failed (word.Map options) given status = IsMapPrinted bytes_at options given status
 IsDone bytes_at remaining has_failed (word.Plan options) given status = IsPlanPrinted bytes_at options given status
 IsDone bytes_at remaining has_failed (word.Table options) given status = IsTablePrinted bytes_at options given status
@@ -38,6 +41,9 @@ IsUndone bytes_at (word.Check options) given why = IsInputStopped ToPlans option
 IsUndone bytes_at (word.Solve options) given why = IsInputStopped ToTables options.limit options.limit given why
 IsUndone bytes_at (word.Run options) given why = IsNotBrought bytes_at options given why
 IsUndone bytes_at (word.Feed options) given why = IsUnprinted given why
+IsUndone bytes_at (word.Moves options) given why = IsUnprinted given why
+IsUndone bytes_at (word.Fleet options) given why = IsUnprinted given why
+IsUndone bytes_at (word.Orders options) given why = IsUnprinted given why
 IsUndone bytes_at (word.Map options) given why = IsUnprinted given why
 IsUndone bytes_at (word.Plan options) given why = IsUnprinted given why
 IsUndone bytes_at (word.Table options) given why = IsUnprinted given why
@@ -61,3 +67,8 @@ abbrev pub IsEnded : {F : Type 0} → BytesAt → (remaining : F → Option (Lis
 IsEnded bytes_at remaining has_failed (Ok word) given status =
     IsDone bytes_at remaining has_failed word given status ⊎ ((status ≡ 2) × (why : Stop) × IsUndone bytes_at word given why)
 IsEnded bytes_at remaining has_failed (Err error) given status = IsTextOf error given status ⊎ ((status ≡ 2) × (why : Stop) × IsUnprinted given why)
+
+-- The words of the command line were read, and what they asked for was done, with this status; or it wasn't, and the status is 2.
+abbrev pub AreEnded : {F : Type 0} → BytesAt → (remaining : F → Option (List ℕ)) → (has_failed : F → Bool) → (texts : List (List ℕ)) → Streams → (status : ℕ) → Type 0
+AreEnded bytes_at remaining has_failed texts given status =
+    (asked : Result Word Error) × AreReadAs texts asked × IsEnded bytes_at remaining has_failed asked given status

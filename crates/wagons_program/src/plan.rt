@@ -3,13 +3,13 @@ ghost use Rattle.std.specs.Prelude.{IfErr, IfOk};
 ghost use Rattle.wagons_program.specs.OfLast.{IsPlanPrinted};
 ghost use Rattle.wagons_program.specs.Streams.{IsUnprinted, streams};
 
-use crate::bringing::{Brought, bring_without_output};
 use crate::opening::leave_book;
 use crate::printing::write_whole;
+use crate::shown::{Shown, bring_shown};
 use crate::status::DONE;
 use command_line::PlanOptions;
-use last_texts::{last_plan_text, read_zone};
-use office_files::{FileSystem, Stopped, read_places};
+use last_texts::last_plan_text;
+use office_files::{FileSystem, Stopped};
 use std::io::{Read, Write};
 use std::sync::Wait;
 use std::thread::Threads;
@@ -26,13 +26,17 @@ pub(crate) fn plan<R: FileSystem + Threads + Wait + AllocGlobal, I: Read + Drop,
     ensures ok { IfOk result (IsPlanPrinted (R.bytes_at rt.now) options.now (streams (I.remaining input) (O.contents output.old) (O.contents output.new))) }
     ensures err { IfErr result (λ stopped. IsUnprinted (streams (I.remaining input) (O.contents output.old) (O.contents output.new)) stopped.stop) }
 {
-    let places = read_places(rt, options.places)?;
-    let zone = read_zone(rt, options.zone)?;
-    let Brought {
+    let Shown {
         mut book,
-        networks: _,
-        status: _,
-    } = bring_without_output(rt, &options.problem.office, input)?;
+        places,
+        zone,
+    } = bring_shown(
+        rt,
+        &options.problem.office,
+        options.places,
+        options.zone,
+        input,
+    )?;
     let text = last_plan_text(rt.alloc(), &mut book, options, &places, &zone);
     leave_book(book);
     write_whole(output, &text?)?;

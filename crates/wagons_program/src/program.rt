@@ -1,21 +1,21 @@
 //! The program from its arguments to its exit status.
-ghost use Rattle.std.specs.Prelude.{◌≡◌, IfErr, IfOk, None, Result, false, map};
-ghost use Rattle.clap.specs.declared.error.Error.{Error};
-ghost use Rattle.command_line.specs.declared.words.Word.{Word};
+ghost use Rattle.std.specs.Prelude.{◌≡◌, IfErr, IfOk, None, false, map, string_bytes};
 ghost use Rattle.office_files.specs.declared.stop.Stop.TheVariants.{WriteFailed};
 ghost use Rattle.wagons_program.specs.Status.{exit_status};
 ghost use Rattle.wagons_program.specs.Streams.{IsUnprinted, streams};
-ghost use Rattle.wagons_program.specs.Words.{AreReadAs, IsDone, IsEnded, IsTextOf, IsUndone};
+ghost use Rattle.wagons_program.specs.Words.{AreEnded, IsDone, IsTextOf, IsUndone};
 
 use crate::check::check;
 use crate::explain::explain;
 use crate::feed::feed;
 use crate::map::map;
+use crate::moves::moves;
 use crate::plan::plan;
 use crate::review::review;
 use crate::run::run;
 use crate::save::save;
 use crate::solve::solve;
+use crate::state::{fleet, orders};
 use crate::status::{DONE, STOPPED};
 use crate::table::table;
 use crate::terminal::{Terminal, TerminalInput};
@@ -33,19 +33,22 @@ use std::thread::Threads;
 
 /// Does what the program's arguments ask for: what came of reading them, and standard input and output, are handed in. The status
 /// is 0, or 1 where a line was refused, or 2 where the program could not run or stopped; standard error says why then. It also
-/// says, once, that lines are read from a terminal, where they are.
+/// says, once, that lines are read from a terminal, where they are. Where the arguments can't be read, nothing is printed.
 pub fn run_program<
     R: FileSystem + Eprint + Threads + Wait + AllocGlobal + Sync,
     I: Read + Drop,
-    O: Write + Drop,
->(rt: &R, arguments: io::Result<Vec<String>>, input: Terminal<I>, output: O) -> u8 {
-    let mut output = StdDevice::new(output);
+    O: Write,
+>(rt: &R, arguments: io::Result<Vec<String>>, input: Terminal<I>, output: &mut StdDevice<O>) -> u8
+    requires { output.old.has_failed ≡ false }
+    ensures read { IfOk arguments (λ words. AreEnded (R.bytes_at rt.now) ⟦<StdDevice<R::File> as Source>⟧.remaining ⟦<StdDevice<R::File> as Source>⟧.has_failed (map string_bytes words.items) (streams (I.remaining input.input) (O.contents output.old.device) (O.contents output.new.device)) result) }
+    ensures unread { IfErr arguments (λ error. (result ≡ 2) × (output.new ≡ output.old)) }
+{
     match arguments {
         Ok(words) => {
             let input = TerminalInput::new(rt, input);
-            run_words(rt, words.as_slice(), input, &mut output)
+            run_words(rt, words.as_slice(), input, output)
         }
-        Err(error) => told(rt, refuse_arguments(rt, error, &mut output.device)),
+        Err(error) => told(rt, refuse_arguments(rt, &error)),
     }
 }
 
@@ -58,7 +61,7 @@ pub fn run_words<
     O: Write,
 >(rt: &R, words: &[S], input: I, output: &mut StdDevice<O>) -> u8
     requires { output.old.has_failed ≡ false }
-    ensures { (asked : Result Word Error) × AreReadAs (map S.text words.entry.now) asked × IsEnded (R.bytes_at rt.now) ⟦<StdDevice<R::File> as Source>⟧.remaining ⟦<StdDevice<R::File> as Source>⟧.has_failed asked (streams (I.remaining input) (O.contents output.old.device) (O.contents output.new.device)) result }
+    ensures { AreEnded (R.bytes_at rt.now) ⟦<StdDevice<R::File> as Source>⟧.remaining ⟦<StdDevice<R::File> as Source>⟧.has_failed (map S.text words.entry.now) (streams (I.remaining input) (O.contents output.old.device) (O.contents output.new.device)) result }
 {
     match read_words(rt.alloc(), words) {
         Ok(word) => told(rt, do_word(rt, &word, input, output)),
@@ -82,6 +85,9 @@ fn do_word<R: FileSystem + Threads + Wait + AllocGlobal + Sync, I: Read + Drop, 
         Word::Solve(options) => solve(rt.alloc(), options.limit, input, output),
         Word::Run(options) => run(rt, options, input, output),
         Word::Feed(options) => feed(rt, options, &mut output.device),
+        Word::Moves(options) => moves(rt, options, input, &mut output.device),
+        Word::Fleet(options) => fleet(rt, options, input, &mut output.device),
+        Word::Orders(options) => orders(rt, options, input, &mut output.device),
         Word::Map(options) => map(rt, options, input, &mut output.device),
         Word::Plan(options) => plan(rt, options, input, &mut output.device),
         Word::Table(options) => table(rt, options, input, &mut output.device),
@@ -107,17 +113,12 @@ fn told<R: Eprint>(rt: &R, status: Result<u8, Stopped>) -> u8
 }
 
 /// Says why the arguments could not be read: out of memory, or one that isn't UTF-8.
-fn refuse_arguments<R: Eprint + AllocGlobal, O: Write>(
-    rt: &R,
-    error: io::Error,
-    output: &mut O,
-) -> Result<u8, Stopped> {
+fn refuse_arguments<R: Eprint + AllocGlobal>(rt: &R, error: &io::Error) -> Result<u8, Stopped>
+    ensures { IfOk result (λ status. status ≡ 2) }
+{
     match error.kind() {
         io::ErrorKind::OutOfMemory => Err(Stopped::from(Stop::OutOfMemory)),
-        _ => {
-            let fault = not_utf8(rt.alloc())?;
-            print_text(rt, &fault, output)
-        }
+        _ => say_fault(rt, &not_utf8(rt.alloc())?),
     }
 }
 

@@ -1,4 +1,5 @@
 //! Standard input that may be a terminal.
+ghost use Rattle.std.specs.Prelude.{◌≡◌};
 
 use std::io;
 use std::io::Read;
@@ -23,7 +24,9 @@ pub(crate) struct TerminalInput<'a, R, I> {
 }
 
 impl<'a, R, I> TerminalInput<'a, R, I> {
-    pub(crate) fn new(rt: &'a R, terminal: Terminal<I>) -> TerminalInput<'a, R, I> {
+    pub(crate) fn new(rt: &'a R, terminal: Terminal<I>) -> TerminalInput<'a, R, I>
+        ensures { result.input ≡ terminal.input }
+    {
         TerminalInput {
             rt,
             input: terminal.input,

@@ -1,0 +1,101 @@
+//! The promised movements of a book's last version.
+ghost use Rattle.std.specs.Prelude.{◌≡◌, IfErr, IfOk, Some, option_copied};
+ghost use Rattle.commit_book.specs.Books.{present_office};
+ghost use Rattle.last_texts.specs.MovesOfLast.{AreMovesIn, AreMovesOf, IsMovesTextOfLast, choice_of};
+ghost use Rattle.last_texts.specs.ZoneClock.{HasZoneFor, IsNoClock, IsReadFor, name_of};
+ghost use Rattle.line_network.specs.Networks.{network_at};
+ghost use Rattle.movements.specs.FormText.{IsFormText};
+ghost use Rattle.office_files.specs.declared.stop.Stop.TheVariants.{OutOfMemory};
+
+use crate::state::form_of;
+use crate::zone::{ZoneFile, clock_of};
+use command_line::MovesOptions;
+use commit_book::Book;
+use line_network::Tables;
+use movements::{Choice, MovementList, list_of_movements, movements_text};
+use office_files::Stop;
+use place_names::Places;
+use std::alloc::Global;
+use text_tables::{Clock, Form};
+
+/// The promised movements of a book's last version at a moment, over the network in force, then its orders, then the wagons that
+/// were not heard from, as far as they are asked for: as tables, as CSV or as JSON lines; with moments as they are shown in the time
+/// zone that is asked for, which was read before. Refused only with `OutOfMemory` (1), or with `OpenFailed` (93) where that zone
+/// can't be looked up.
+pub fn last_moves(
+    alloc: Global,
+    book: &Book,
+    options: &MovesOptions<'_>,
+    places: &Places,
+    zone: &ZoneFile<'_>,
+) -> Result<Vec<u8>, Stop>
+    requires zone { IsReadFor (option_copied options.now.zone) zone.now }
+    ensures moves { IfOk result (λ text. IsMovesTextOfLast book.now.setting book.now.state.history options.now places.now zone.now.bytes.items text.items) }
+    ensures refused { IfErr result IsNoClock }
+{
+    let list = last_list(alloc, book, options)?;
+    let form = form_of(options.csv, options.json);
+    moves_in(alloc, form, places, zone, &list)
+}
+
+/// What is printed of a list, with moments as they are shown in a time zone.
+fn moves_in(
+    alloc: Global,
+    form: Form,
+    places: &Places,
+    zone: &ZoneFile<'_>,
+    list: &MovementList,
+) -> Result<Vec<u8>, Stop>
+    requires { HasZoneFor zone.now.database (name_of zone.now) zone.now.bytes.items }
+    ensures text { IfOk result (λ text. AreMovesIn form places.now (name_of zone.now) zone.now.bytes.items list.now text.items) }
+    ensures refused { IfErr result IsNoClock }
+{
+    match clock_of(zone) {
+        Ok(clock) => moves_by(alloc, form, places, &clock, list),
+        Err(stop) => Err(stop),
+    }
+}
+
+/// What is printed of a list, with moments as a clock shows them.
+fn moves_by(
+    alloc: Global,
+    form: Form,
+    places: &Places,
+    clock: &Clock<'_>,
+    list: &MovementList,
+) -> Result<Vec<u8>, Stop>
+    ensures text { IfOk result (λ text. IsFormText places.now clock.now form list.now text.items) }
+    ensures refused { IfErr result (λ why. why ≡ OutOfMemory) }
+{
+    Ok(movements_text(alloc, places, clock, form, list)?)
+}
+
+/// The movements that are asked for.
+fn last_list(alloc: Global, book: &Book, options: &MovesOptions<'_>) -> Result<MovementList, Stop>
+    ensures moves { IfOk result (AreMovesOf book.now.setting book.now.state.history options.now) }
+    ensures refused { IfErr result (λ why. why ≡ OutOfMemory) }
+{
+    let tables = tables_in_force(book);
+    let (state, at) = (book.state(), options.problem.at);
+    let choice = choice_of(options);
+    Ok(list_of_movements(alloc, book.len(), state, tables, at, &choice)?)
+}
+
+/// The distances of the network in force.
+fn tables_in_force(book: &Book) -> &Tables
+    ensures { network_at book.now.setting.networks (present_office book.now).office.network ≡ Some result.now }
+{
+    book.networks().get(book.state().network()).unwrap()
+}
+
+/// Which movements are asked for.
+fn choice_of(options: &MovesOptions<'_>) -> Choice
+    ensures { result ≡ choice_of options.now }
+{
+    Choice {
+        late: options.late,
+        wagon: options.wagon,
+        order: options.order,
+        silent: options.silent,
+    }
+}
