@@ -277,7 +277,7 @@ def reasons_of_the_day(minute: int) -> str | None:
 # Where memory is refused, and tables of full size.
 
 MORNING = "2026-03-02T06:00:00Z"
-WORDS = [["table"], ["why"], ["why", "--order", "SALT-1"], ["why", "--wagon", "318127710032", "--json"]]
+WORDS = [[*words, "--at", MORNING] for words in (["table"], ["why"], ["why", "--order", "SALT-1"], ["why", "--wagon", "318127710032", "--json"])]
 
 
 def morning() -> bytes:
@@ -289,7 +289,7 @@ def morning() -> bytes:
 def from_morning(asked: Sequence[str], text: bytes, **refusals: int | str) -> Outcome:
     with written(text) as path:
         networks = [word for network in DAY_FILES[1] for word in ("--network", network)]
-        return run([*asked, "--at", MORNING, "--from", path, *networks], b"", **refusals)
+        return run([*asked, "--from", path, *networks], b"", **refusals)
 
 
 def without_memory(case: tuple[list[str], bytes, bytes, Refusals]) -> str | None:
@@ -303,9 +303,9 @@ def without_memory(case: tuple[list[str], bytes, bytes, Refusals]) -> str | None
     return None if outcome.out == right else f"{outcome.out!r} where {right!r} is right"
 
 
-def refused_cases(count: int) -> Iterator[tuple[list[str], bytes, bytes, Refusals]]:
+def refused_cases(count: int, words: Sequence[list[str]]) -> Iterator[tuple[list[str], bytes, bytes, Refusals]]:
     text = morning()
-    for asked in WORDS:
+    for asked in words:
         right = from_morning(asked, text).out
         most = from_morning(asked, text, refuse_from=ALL).counts[0]
         yield from ((asked, text, right, {"refuse_from": n, "refuse_count": count}) for n in range(1, most))
@@ -339,8 +339,8 @@ def main() -> None:
     table.try_all("`why` of each order and wagon of random histories, as text and JSON, its bounds tried likewise", asked_of_random, range(HISTORIES))
     table.try_all("`why` of each order and wagon of the example day at many moments", asked_of_the_day, range(0, 720, 60))
     table.row("`table` and `why` from a checkpoint: requests for memory refused")
-    table.try_all("`table` and `why` from a checkpoint: one request for memory refused", without_memory, list(refused_cases(1)))
-    table.try_all("`table` and `why` from a checkpoint: all requests from one on refused", without_memory, list(refused_cases(ALL)))
+    table.try_all("`table` and `why` from a checkpoint: one request for memory refused", without_memory, list(refused_cases(1, WORDS)))
+    table.try_all("`table` and `why` from a checkpoint: all requests from one on refused", without_memory, list(refused_cases(ALL, WORDS)))
     table.row("tables of full size, and one wagon or order more")
     table.try_all("a table of 1,000 by 500 solved and judged, one wagon or order more refused", of_full_size, [(1_000, 500), (1_001, 500), (1_000, 501)])
     table.end()
