@@ -105,6 +105,7 @@ bench:
 	@bench/save/run.py
 	@bench/why/run.sh
 	@bench/service/run.py
+	@bench/page/run.py
 	@bench/streams/run.sh
 
 # Uses the program as nobody should, and prints what was tried, how often, and what was lost (see docs/HOSTILE.md).
@@ -159,7 +160,7 @@ install-program: $(BUILT)
 # The service, the router, XML, their manual pages and their units, which systemd starts only when they are enabled.
 install-service:
 	install -D -m 755 -t $(DESTDIR)$(PREFIX)/bin service/wagons-service service/wagons-router service/wagons-xml
-	install -D -m 644 -t $(LIB)/wagons_service service/wagons_service/*.py
+	install -D -m 644 -t $(LIB)/wagons_service service/wagons_service/*.py service/wagons_service/openapi.json
 	install -D -m 644 -t $(LIB)/wagons_service/page_files service/wagons_service/page_files/*
 	install -D -m 644 -t $(SHARE)/man/man1 service/wagons-service.1 service/wagons-router.1 service/wagons-xml.1
 	install -D -m 644 -t $(SHARE)/doc/wagons/service service/offices.csv service/nginx.conf service/alerts.yml

@@ -2,6 +2,7 @@
 
 import json
 from collections.abc import Iterator, Sequence
+from datetime import datetime
 
 from aiohttp import web
 
@@ -50,6 +51,16 @@ def judge_size(lines: Sequence[bytes]) -> None:
     if longest > MOST_LINE_BYTES:
         place = next(place for place, line in enumerate(lines, 1) if len(line) > MOST_LINE_BYTES)
         raise Refusal(413, f"Line {place} of the request has over {MOST_LINE_BYTES:,} bytes, at which the program would stop (92).")
+
+
+def moment_in(text: str, name: str) -> str:
+    """The text of a moment, as it stands in a query."""
+    try:
+        if datetime.fromisoformat(text).tzinfo is not None:
+            return text
+    except ValueError:
+        pass
+    raise Refusal(400, f"`{name}` must be a moment with Z or an offset.")
 
 
 def number_in(text: str | None, name: str, otherwise: int) -> int:

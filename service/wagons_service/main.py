@@ -25,6 +25,7 @@ from .seldom import Seldom
 from .senders import BadTokens
 from .server import Server
 from .service import Service
+from .state_route import StateRoute
 from .xml_lines import BadMap, Map
 from .xml_route import XmlRoute
 
@@ -66,6 +67,7 @@ async def serve(given: Options, seldom: Seldom) -> None:
     server = Server(service, given.tokens)
     loop.add_signal_handler(signal.SIGHUP, server.read_tokens_again)
     Page(server).add_to(server.router)
+    StateRoute(server).add_to(server.router)
     xml = XmlRoute(server, Map.read(given.map), Identifiers(f"{given.journal}/identifiers.jsonl", given.limits.share.identifiers)) if given.map else None
     if xml:
         xml.add_to(server.router)

@@ -107,6 +107,13 @@ class Viewer:
             printed = await self._print([*self._words("why"), "--json", "--at", at, *options], min(upto, self._lines.count))
         return [json.loads(line) for line in printed.splitlines()]
 
+    async def state(self, word: str, options: Sequence[str]) -> tuple[int, list[dict[str, Any]]]:
+        """The line of the journal after which the office is so, and the objects that a word prints of it then."""
+        async with self._turn:
+            upto = self._lines.count
+            printed = await self._print([*self._words(word), "--json", *options], upto)
+        return upto, [json.loads(line) for line in printed.splitlines()]
+
     async def explain(self, code: str) -> dict[str, str]:
         """The manual's entry of a refusal, in its parts."""
         if code not in self._entries:

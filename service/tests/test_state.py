@@ -1,0 +1,92 @@
+"""The state as JSON: what the addresses of /v1 answer over the example day, beside the document that describes them."""
+
+import json
+from pathlib import Path
+from typing import Any
+
+import jsonschema
+
+from conftest import Start
+from running import DAY, Service
+
+LINES = b"".join((DAY / "day.jsonl").read_bytes().splitlines(keepends=True)[:26])
+MALT = {
+    "wagon": "318127710016", "class": "Habbins", "status": "journey_empty", "place": "DE10002", "since": "2026-03-02T08:40:00Z",
+    "order": "MALT-1", "to": "DE10003", "km": 90, "minutes": 100, "latest": "2026-03-02T12:00:00Z"}
+
+
+def answered(service: Service, path: str, address: str) -> Any:
+    """An answer, which is as the document says of its address."""
+    document = json.loads(service.get("/v1/openapi.json").body)
+    schema = document["paths"][address]["get"]["responses"]["200"]["content"]["application/json"]["schema"]
+    answer = service.get(path)
+    assert (answer.status, answer.headers["Content-Type"].partition(";")[0]) == (200, "application/json"), answer
+    told = json.loads(answer.body)
+    jsonschema.Draft202012Validator(schema | {"components": document["components"]}).validate(told)
+    return told
+
+
+def test_the_state_of_the_day(start: Start) -> None:
+    service = start().until_running()
+    assert answered(service, "/v1/orders", "/v1/orders") == {"line": 0, "orders": []}
+    service.post(LINES)
+    told = answered(service, "/v1/wagons", "/v1/wagons")
+    assert told["line"] == 26 and len(told["wagons"]) == 40
+    numbers = [wagon["wagon"] for wagon in told["wagons"]]
+    assert numbers == sorted(numbers)
+    wagon = answered(service, "/v1/wagons/318127710016", "/v1/wagons/{number}")["wagon"]
+    assert wagon in told["wagons"] and wagon == {
+        "wagon": "318127710016", "class": "Habbins", "load_limit": 52000, "status": "journey_empty", "place": "DE10002", "place_name": None,
+        "last": "2026-03-02T08:40:00Z", "ready": None, "held": None, "order": "MALT-1"}
+    held = answered(service, "/v1/wagons/315466400076", "/v1/wagons/{number}")["wagon"]
+    assert (held["held"], held["status"], held["order"]) == ("held", "empty", None)
+    orders = answered(service, "/v1/orders", "/v1/orders")["orders"]
+    assert [order["order"] for order in orders] == ["MALT-1", "STEEL-1", "SCRAP-1", "SUGAR-1", "SALT-1"]
+    assert answered(service, "/v1/orders/SUGAR-1", "/v1/orders/{name}")["order"] == orders[3] == {
+        "order": "SUGAR-1", "place": "CZ20002", "place_name": None, "classes": ["Falns"], "load": 60000, "latest": "2026-03-02T16:00:00Z", "penalty": 500,
+        "state": "waiting", "wanted": 3, "missing": 1, "promised": ["315466400068"], "filled": ["315466400084"]}
+    # None of this stands in the journal.
+    assert service.journal == LINES
+
+
+def test_the_movements_of_the_day(start: Start) -> None:
+    service = start(options=["--places", str(DAY / "places.csv")]).until_running()
+    service.post(LINES)
+    path, address = "/v1/movements?at=2026-03-02T09:00:00Z", "/v1/movements"
+    told = answered(service, path, address)
+    assert (told["line"], told["at"], told["silent"]) == (26, "2026-03-02T09:00:00Z", [])
+    # One on its way that may be there by now, one between two yards, and one that stands where it is wanted.
+    assert [(row["wagon"], row["arrival"], row["spare"]) for row in told["movements"]] == [
+        ("315466400068", "2026-03-02T09:00:00Z", 420), ("318127710016", "2026-03-02T10:20:00Z", 100), ("318127710024", "2026-03-02T09:00:00Z", 0)]
+    names = {"place_name": "Moorburg", "to_name": "Lindenau"}
+    assert told["movements"][1] == MALT | names | {"arrival": "2026-03-02T10:20:00Z", "spare": 100, "state": "in time"}
+    assert [(row["order"], row["state"]) for row in told["orders"]] == [
+        ("MALT-1", "promised"), ("STEEL-1", "filled"), ("SUGAR-1", "short"), ("SALT-1", "short")]
+    # An hour past the latest moment.
+    told = answered(service, "/v1/movements?at=2026-03-02T13:00:00Z&late=yes", address)
+    assert [(row["wagon"], row["late"]) for row in told["movements"]] == [("318127710016", 60), ("318127710024", 240)]
+    assert [(row["order"], row["state"]) for row in told["orders"]] == [("MALT-1", "past"), ("SUGAR-1", "short"), ("SALT-1", "short and past")]
+    told = answered(service, f"{path}&order=MALT-1", address)
+    assert [row["wagon"] for row in told["movements"]] == ["318127710016"] and [row["order"] for row in told["orders"]] == ["MALT-1"]
+    told = answered(service, f"{path}&wagon=318127710016&silent=1", address)
+    assert [row["wagon"] for row in told["movements"]] == ["318127710016"] and told["orders"] == told["silent"] == []
+    # Only those that sent something within the hour aren't silent.
+    told = answered(service, f"{path}&silent=1", address)
+    assert len(told["silent"]) == 39 and "318127710016" not in [row["wagon"] for row in told["silent"]]
+    # Where no moment is given it is now, which is long past.
+    assert all(row["state"] == "late" for row in answered(service, "/v1/movements", address)["movements"])
+
+
+def test_what_the_state_refuses(start: Start, tmp_path: Path) -> None:
+    (tmp_path / "tokens").write_text("railway-1001-token railway 1001\nreader-s-long-token reader\n")
+    service = start(options=["--tokens", str(tmp_path / "tokens")]).until_running()
+    for path, status in [
+        ("/v1/wagons/318127710016", 200), ("/v1/wagons/218124712173", 404), ("/v1/wagons/1", 404), ("/v1/orders/NONE-1", 404), ("/v1/movements?at=now", 400),
+        ("/v1/movements?wagon=318127710017", 400), ("/v1/movements?wagon=%00", 400), ("/v1/movements?silent=0", 400), ("/v1/movements?silent=x", 400),
+        ("/v1/movements?wagon=318127710016&order=MALT-1", 400), ("/v1/movements?order=NONE-1", 200), ("/v1/openapi.json", 200), ("/v1/", 404),
+    ]:
+        answer = service.get(path, "reader-s-long-token")
+        assert answer.status == status, (path, answer)
+    for path in "/v1/wagons", "/v1/wagons/318127710016", "/v1/orders", "/v1/orders/MALT-1", "/v1/movements":
+        assert service.get(path, "railway-1001-token").status == 403, path
+        assert service.get(path).status == 401, path
