@@ -1,4 +1,6 @@
 """A real browser for the tests of the page, and a proxy between it and the service."""
+# Selenium's calls have no types.
+# mypy: allow-untyped-calls
 
 import socket
 import struct

@@ -69,9 +69,10 @@ def test_the_day_by_clicks(start: Start, browse: Browse) -> None:
     assert page.rows("#missing-table") == [["SALT-1", "1", "300", "Free wagons that suit and are there in time: 1. No plan gives it more."]]
     page.click("#accept")
     page.until_says("#said", "The plan is accepted: entry 8 of the book.")
-    # Its promises stay in a list, also when the page is opened again.
-    promise = ["3181 2771 001-6", "Habbins", "MALT-1", "DE10001 Seehafen", "DE10003 Lindenau", "150", "2026-03-02T08:50:00Z", "2026-03-02T12:00:00Z", "empty"]
+    # Its promises stand in a list, with their ways from the moment of the newest message, a quarter of an hour before the plan's.
+    promise = ["3181 2771 001-6", "Habbins", "MALT-1", "DE10001 Seehafen", "DE10003 Lindenau", "150", "2026-03-02T08:35:00Z", "2026-03-02T12:00:00Z", "205 min to spare", "empty"]
     page.until(lambda: page.rows("#promises-table")[0] == promise, "a promise")
+    assert page.rows("#late-table") == []
     page.open("/#promises")
     page.until(lambda: page.rows("#promises-table")[0] == promise, "the promise again")
     assert page.find("#promises-shown").text == "8 of 8"
@@ -148,6 +149,20 @@ def test_the_day_by_clicks(start: Start, browse: Browse) -> None:
     page.until_says("#state", "0 lines in journal 3")
     page.tab("wagons")
     page.until(lambda: ["51000", "empty", "DE10002", "Moorburg"] in [row[2:6] for row in page.rows("#wagons-table")], "the wagon as it was put right")
+
+
+def test_a_promise_that_will_be_late(start: Start, browse: Browse) -> None:
+    service = start(options=PLACES).until_running()
+    service.post(b"".join(line + b"\n" for line in LINES[:10]))
+    page = browse(service).open("/#promises")
+    page.until(lambda: all(row[8] for row in page.rows("#promises-table")) and len(page.rows("#promises-table")) == 8, "eight promises")
+    assert page.rows("#late-table") == []
+    # Eleven minutes past nine nobody has left. From there it takes 170 minutes to MALT-1, until twelve; SALT-1 was wanted at nine.
+    service.post(message("1003", 77, "315466400019", hold=True, moment="2026-03-02T09:11:00Z"))
+    page.until(lambda: [row[:3] for row in page.rows("#late-table")] == [
+        ["3181 2771 002-4", "SALT-1", "late by 11 min"], ["3181 2771 001-6", "MALT-1", "late by 1 min"]], "two late ones")
+    page.click('#late-table [data-row="318127710016"]')
+    page.until_says("#chosen-shown", "MALT-1")
 
 
 def test_what_comes_from_outside_is_text(start: Start, browse: Browse, tmp_path: Path) -> None:

@@ -3,7 +3,6 @@
 import hashlib
 import json
 import re
-from datetime import datetime
 from pathlib import Path
 from typing import Any
 from urllib.parse import parse_qs
@@ -11,7 +10,7 @@ from urllib.parse import parse_qs
 import jinja2
 from aiohttp import web
 
-from .answers import Refusal, number_in, sentence, with_lines
+from .answers import Refusal, moment_in, number_in, sentence, with_lines
 from .office import Office
 from .senders import Role, Sender
 from .server import COOKIE, Server, shown
@@ -107,13 +106,7 @@ class Page:
     async def get_why(self, request: web.Request) -> web.StreamResponse:
         self._judge_looks(request)
         line = number_in(request.query.get("line"), "line", self._service.office.answered)
-        at = request.query.get("at", "")
-        try:
-            is_moment = datetime.fromisoformat(at).tzinfo is not None
-        except ValueError:
-            is_moment = False
-        if not is_moment:
-            raise Refusal(400, "`at` must be a moment with Z or an offset.")
+        at = moment_in(request.query.get("at", ""), "at")
         asked = [(name, request.query[name]) for name in ASKED if name in request.query]
         if len(asked) > 1 or not all(ASKED[name].fullmatch(value) for name, value in asked):
             raise Refusal(400, "`order` must be an order's name, or `wagon` a wagon's number of twelve digits.")

@@ -19,12 +19,13 @@ const NO_SIGN = 20000; // Whoever follows the events gives a sign each 5 seconds
 const EVENTS = "wagons events";
 const MOST_REASONS = 200;
 const ROSTER = "wagon,class,load,status,place,moment";
-const ACCEPTED = "wagons accepted";
 
 let office = { journal: 0, line: 0, version: 0, wagons: [], orders: [], network: null, byWagon: new Map(), byOrder: new Map(), refused: 0 };
 let network = { places: [], lines: [], network: null, waits: false, words: "" };
 let places = new Map();
 let wants = new Map(); // Of each order its classes and its load.
+let movements = { journal: 0, line: -1, byWagon: new Map() }; // Of promised wagons.
+let askingMovements = null;
 let plan = null;
 let refusals = [];
 let chosen = { kind: "", id: "" };
@@ -47,6 +48,9 @@ const tables = {
   short: new Table(byId("short-rows"), {
     id: "short-table", label: text("short"), key: (row) => row.order, sorted: "latest", none: text("none_short"), choose: (row) => choose("order", row.order),
     columns: [plain("order", 4.6), number("lacks", 2.7), { name: "name", head: text("place"), width: 4.9, of: (row) => nameOf(row.place) || row.place }, moment("latest", 9.2)] }),
+  late: new Table(byId("late-rows"), {
+    id: "late-table", label: text("late"), key: (row) => row.wagon, none: text("none_late"), choose: (row) => choose("wagon", row.wagon),
+    columns: [{ ...wagonColumn, width: 7.6 }, plain("order", 5.4), plain("margin", 8)] }),
   orders: new Table(byId("orders-rows"), {
     id: "orders-table", label: text("orders"), key: (row) => row.order, none: text("no_orders"), choose: (row) => choose("order", row.order),
     rowClass: (row) => (row.lacks ? "waiting" : ""),
@@ -66,7 +70,7 @@ const tables = {
   promises: new Table(byId("promises-rows"), {
     id: "promises-table", label: text("promises"), key: (row) => row.wagon, sorted: "order", none: text("no_promises"), choose: (row) => choose("wagon", row.wagon),
     columns: [wagonColumn, plain("class", 6), plain("order", 7.5), { name: "from", width: 10, of: (row) => placeText(row.from) }, { name: "to", width: 10, of: (row) => placeText(row.to) },
-      number("km", 4), moment("arrival"), moment("latest"), plain("status", 9)] }),
+      number("km", 4), moment("arrival"), moment("latest"), plain("margin", 9), plain("status", 9)] }),
 };
 
 function listen(name, keeps) { // A table's search, filter and file.
@@ -235,36 +239,33 @@ async function beginNext() {
   });
 }
 
-// Plans. What was accepted is kept by this browser, since no sheet has kilometres and arrivals.
+// Promised movements, as the program reckons them at the moment of the newest message.
 
-function readAccepted() {
-  try {
-    const kept = JSON.parse(localStorage.getItem(ACCEPTED) ?? "{}");
-    return kept.journal === office.journal ? kept.wagons : {};
-  } catch {
-    return {};
-  }
-}
+const newest = () => office.wagons.map((wagon) => wagon.last).sort().at(-1) ?? "";
+const areMovementsOld = () => (movements.journal !== office.journal || movements.line < office.line) && office.wagons.some((wagon) => wagon.promise);
+const marginText = ({ spare, late }) => late ? text("late_by", { minutes: late }) : spare === undefined ? text("no_way") : text("spare", { minutes: spare });
 
-function keepAccepted(pairs) {
-  const kept = Object.fromEntries(Object.entries(readAccepted()).filter(([wagon, [order]]) => office.byWagon.get(wagon)?.promise === order));
-  for (const pair of pairs) kept[pair.wagon] = [pair.order, pair.km, pair.arrival];
+async function readMovements() { // They may be older than the office; then they are asked for again.
+  const journal = office.journal;
   try {
-    localStorage.setItem(ACCEPTED, JSON.stringify({ journal: office.journal, wagons: kept }));
+    const told = await askJson(`/v1/movements?at=${encodeURIComponent(newest())}`);
+    movements = { journal, line: told.line, byWagon: new Map(told.movements.map((movement) => [movement.wagon, movement])) };
   } catch {
-    // It is full or forbidden: kilometres and arrivals aren't shown then.
+    // They are asked for again.
   }
+  showOfficeParts();
+  askingMovements = areMovementsOld() ? setTimeout(readMovements, LATER) : null;
 }
 
 function promises() {
-  const accepted = readAccepted();
   return office.wagons.filter((wagon) => wagon.promise).map((wagon) => {
     const order = office.byOrder.get(wagon.promise);
-    const [to, km, arrival] = accepted[wagon.wagon] ?? [];
-    const isKnown = to === wagon.promise;
+    const movement = movements.journal === office.journal ? movements.byWagon.get(wagon.wagon) : undefined;
+    const isKnown = movement?.order === wagon.promise && movement.since === wagon.last;
     return {
       wagon: wagon.wagon, class: wagon.class, order: wagon.promise, from: wagon.place, to: order?.place ?? "", latest: order?.latest ?? "",
-      km: isKnown ? Number(km) : "", arrival: isKnown ? arrival : "", status: named("status_", wagon.status) };
+      km: (isKnown && movement.km) ?? "", arrival: (isKnown && movement.arrival) || "", margin: isKnown ? marginText(movement) : "",
+      isLate: isKnown && movement.state !== "in time", status: named("status_", wagon.status) };
   });
 }
 
@@ -353,10 +354,8 @@ function showPlan() {
 async function acceptPlan(pressed) {
   pressed.disabled = true;
   await doing(async () => {
-    const accepted = plan;
     const words = wordsOf((await send(plan.certificate)).reply);
     if (words[0] === "accepted") {
-      keepAccepted(accepted.pairs);
       say(text("accepted", { entry: words[1] }));
       plan = null;
       showPlan();
@@ -386,7 +385,7 @@ function showChosen() {
   const shown = { wagon: aboutWagon, order: aboutOrder, place: aboutPlace }[chosen.kind]?.(chosen.id);
   const one = office.byWagon.get(chosen.kind === "wagon" ? chosen.id : "") ?? office.byOrder.get(chosen.kind === "order" ? chosen.id : "");
   tables.wagons.mark(chosen.kind === "wagon" ? chosen.id : "");
-  tables.promises.mark(chosen.kind === "wagon" ? chosen.id : "");
+  for (const table of [tables.promises, tables.late]) table.mark(chosen.kind === "wagon" ? chosen.id : "");
   for (const name of ["orders", "short"]) tables[name].mark(chosen.kind === "order" ? chosen.id : "");
   tables.places.mark(chosen.kind === "place" ? chosen.id : "");
   map.mark(chosen.kind === "place" ? chosen.id : one?.place ?? "");
@@ -523,7 +522,10 @@ function showOfficeParts() { // What hasn't changed isn't shown again, so that w
     tables.orders.setRows(office.orders);
     tables.wagons.setRows(office.wagons);
     tables.places.setRows([...places.values()]);
-    tables.promises.setRows(promises());
+    const promised = promises();
+    tables.promises.setRows(promised);
+    tables.late.setRows(promised.filter((row) => row.isLate).sort((one, other) => (one.latest < other.latest ? -1 : 1)));
+    byId("late-count").textContent = tables.late.rows.length;
     plan?.tables?.forEach((table) => table.arrange());
     showChosen();
   });
@@ -557,12 +559,13 @@ function take(told) {
     wants = new Map();
     plan = null; // Its certificate isn't kept by the new one.
     showPlan();
-    byId("plan-at").value = office.wagons.map((wagon) => wagon.last).sort().at(-1) ?? "";
+    byId("plan-at").value = newest();
   }
   addWants(office, wants);
   showRoom();
   showOfficeParts();
   if (wants.size < office.orders.length && !askingWants) askingWants = setTimeout(readWants, 0);
+  if (areMovementsOld() && !askingMovements) askingMovements = setTimeout(readMovements, 0);
   if (isOld() && !askingNetwork) askingNetwork = setTimeout(readNetwork, 0);
   if (hasRefused) readRefusals();
   if (!isNew && told.trouble && told.trouble !== trouble) say(told.trouble);
