@@ -43,6 +43,8 @@ class Viewer:
         self._sheet: tuple[int, str] = -1, ""
         self._map: tuple[int, NetworkMap] | None = None
         self._map_again = 0.0
+        self._state_turn = asyncio.Lock()
+        self._state_again = 0.0
         self._entries: dict[str, dict[str, str]] = {}
 
     def _words(self, word: str) -> list[str]:
@@ -108,10 +110,17 @@ class Viewer:
         return [json.loads(line) for line in printed.splitlines()]
 
     async def state(self, word: str, options: Sequence[str]) -> tuple[int, list[dict[str, Any]]]:
-        """The line of the journal after which the office is so, and the objects that a word prints of it then."""
-        async with self._turn:
-            upto = self._lines.count
-            printed = await self._print([*self._words(word), "--json", *options], upto)
+        """The line of the journal after which the office is so, and the objects that a word prints of it then.
+
+        It is never older than the question. Who asks often waits, so that a tenth of the time goes into it at most.
+        """
+        async with self._state_turn:
+            await asyncio.sleep(max(self._state_again - time.monotonic(), 0))
+            async with self._turn:
+                upto, begun = self._lines.count, time.monotonic()
+                printed = await self._print([*self._words(word), "--json", *options], upto)
+            now = time.monotonic()
+            self._state_again = now + TIMES_FOR_OTHERS * (now - begun)
         return upto, [json.loads(line) for line in printed.splitlines()]
 
     async def explain(self, code: str) -> dict[str, str]:
