@@ -7,6 +7,7 @@ nothing is said: the median and the worst), and how much memory the page's scrip
 WAGONS=FILE times another build. --smoke takes the example day and three changes, and prints no time.
 """
 
+import json
 import os
 import statistics
 import subprocess
@@ -68,18 +69,20 @@ def post(port: int, lines: bytes) -> bytes:
     return told
 
 
-def order(name: str) -> bytes:
-    return b'{"type":"order","order":"%b","place":"DE10003","classes":["Habbins"],"load":1,"latest":"2026-03-02T12:00:00Z","penalty":1}\n' % name.encode()
+def change(k: int, wagon: str) -> bytes:
+    """Holds a wagon, or lets it go."""
+    fields = {"type": "exception", "company": "0099", "number": k + 1, "wagon": wagon, "place": "DE10003", "moment": "2026-12-31T00:00:00Z", "hold": k % 2 == 0}
+    return json.dumps(fields).encode() + b"\n"
 
 
-def changes(k: int) -> bytes:
-    """Places an order, or takes the one before back, so that none is too many."""
-    return order(f"BENCH-{k // 2}") if k % 2 == 0 else b'{"type":"withdraw","order":"BENCH-%d"}\n' % (k // 2)
+def first_wagon(fleet: str) -> str:
+    with open(f"{fleet}/roster.csv", encoding="utf-8") as file:
+        return file.readlines()[1].partition(",")[0]
 
 
-def seen_after(page: Browser, port: int, line: int, k: int) -> float:
+def seen_after(page: Browser, port: int, line: int, changed: bytes) -> float:
     """Milliseconds from a change's reply until the page shows it."""
-    if b" accepted " not in post(port, changes(k)):
+    if b" accepted " not in post(port, changed):
         raise SystemExit("bench/page: a change was refused")
     replied = time.time()
     page.until(lambda: page.run("return arguments[0] in window.seen", str(line)), f"line {line}")
@@ -94,7 +97,7 @@ def held(page: Browser) -> float:
     return next(float(metric["value"]) for metric in told if metric["name"] == "JSHeapUsedSize") / 1e6
 
 
-def tried(port: int, lines: bytes, places: int, count: int, more: int) -> tuple[float, list[float], float, float]:
+def tried(port: int, wagon: str, lines: bytes, places: int, count: int, more: int) -> tuple[float, list[float], float, float]:
     post(port, lines)
     line = lines.count(b"\n")
     page = Browser(port)
@@ -106,11 +109,11 @@ def tried(port: int, lines: bytes, places: int, count: int, more: int) -> tuple[
         page.until(lambda: page.run("return window.firstPicture !== undefined"), "the map", 120)
         first: float = page.run("return window.firstPicture")
         page.until_says("#state", f"{line} lines")
-        taken = [seen_after(page, port, line + k + 1, k) for k in range(count)]
+        taken = [seen_after(page, port, line + k + 1, change(k, wagon)) for k in range(count)]
         line += count
         before = held(page)
         for at in range(count, count + more, LINES_A_REQUEST):
-            post(port, b"".join(map(changes, range(at, min(at + LINES_A_REQUEST, count + more)))))
+            post(port, b"".join(change(k, wagon) for k in range(at, min(at + LINES_A_REQUEST, count + more))))
         page.until_says("#state", f"{line + more} lines", 300)
         return first, taken, before, held(page)
     finally:
@@ -124,12 +127,13 @@ def main(arguments: list[str]) -> None:
     with tempfile.TemporaryDirectory() as room:
         if is_smoke:
             with serving(program, room, DAY) as port, open(f"{DAY}/day.jsonl", "rb") as file:
-                tried(port, b"".join(file.readlines()[:10]), 12, 3, 4)
+                tried(port, first_wagon(DAY), b"".join(file.readlines()[:10]), 12, 3, 4)
             print("bench/page: the map, three changes and four more lines were shown")
             return
         subprocess.run([sys.executable, f"{ROOT}/examples/fleet.py", program, room, "1000", "2000", "500"], check=True)
         with serving(program, room, room) as port, open(f"{room}/fleet.jsonl", "rb") as file:
-            first, taken, before, after = tried(port, file.read(), 2000, int(arguments[0]) if arguments else 50, MORE_LINES)
+            count = int(arguments[0]) if arguments else 50
+            first, taken, before, after = tried(port, first_wagon(room), file.read(), 2000, count, MORE_LINES)
     print(f"1,000 wagons, 500 orders, 2,000 places: the first whole picture after {first / 1000:.2f} s (aim 1.00)")
     print(f"a change is shown after its reply: median {statistics.median(taken):.0f} ms, worst {max(taken):.0f} ms (aim 100)")
     print(f"the script holds {before:.0f} MB at first, {after:.0f} MB after {MORE_LINES:,} more lines (aim 150)")

@@ -616,7 +616,7 @@ function hear(said) {
   signed = Date.now();
   const wasOpen = isOpen;
   isOpen = said !== "lost";
-  if (said === "happened") refreshSoon(wait);
+  if (said === "happened") refreshSoon(Math.max(0, askedAt + 1.5 * wait - Date.now())); // At once, where nobody has asked lately.
   else if (!isOpen || !wasOpen || said === "opened") refreshSoon(0);
 }
 
