@@ -1,6 +1,7 @@
 """The state as JSON: what the addresses of /v1 answer over the example day, beside the document that describes them."""
 
 import json
+from datetime import UTC, datetime, timedelta
 from pathlib import Path
 from typing import Any
 
@@ -73,8 +74,9 @@ def test_the_movements_of_the_day(start: Start) -> None:
     # Only those that sent something within the hour aren't silent.
     told = answered(service, f"{path}&silent=1", address)
     assert len(told["silent"]) == 39 and "318127710016" not in [row["wagon"] for row in told["silent"]]
-    # Where no moment is given it is now, which is long past.
-    assert all(row["state"] == "late" for row in answered(service, "/v1/movements", address)["movements"])
+    # Where no moment is given it is now.
+    at = datetime.fromisoformat(answered(service, "/v1/movements", address)["at"])
+    assert abs(datetime.now(UTC) - at) < timedelta(seconds=60)
 
 
 def test_what_the_state_refuses(start: Start, tmp_path: Path) -> None:
