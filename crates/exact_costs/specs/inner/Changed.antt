@@ -1,0 +1,16 @@
+-- Tables that differ from another in one wagon's row, or in one order's penalty.
+use Rattle.std.specs.Prelude.{ℕ, List, [], ◌∷◌, Option, slice_set}
+use Rattle.cost_table.specs.Table.{Table, order_count}
+use Rattle.cost_table.specs.TableRows.{costs_of}
+
+-- the same but for the costs of wagon i
+abbrev pub with_costs : Table → (i : ℕ) → (costs : List (Option ℕ)) → Table
+with_costs t i costs = record t { costs = slice_set t.costs i costs }
+
+-- wagon i may serve order j alone, at no cost
+abbrev pub with_free_pair : Table → (i j : ℕ) → Table
+with_free_pair t i j = with_costs t i (costs_of (order_count t) ((j, 0) ∷ []))
+
+-- the wagons that order j misses cost nothing
+abbrev pub without_penalty : Table → (j : ℕ) → Table
+without_penalty t j = record t { penalties = slice_set t.penalties j 0 }
