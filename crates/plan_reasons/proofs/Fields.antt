@@ -1,5 +1,5 @@
 -- Fields from their parts.
-use Rattle.std.proofs.Common.{◌≡◌, ℕ, List, [], ◌∷◌, ◌++◌, refl, ap, ◌∙◌, append_assoc}
+use Rattle.std.proofs.Common.{◌≡◌, ℕ, List, ◌++◌, refl, ap, ◌∙◌, append_assoc}
 use Rattle.rail_codes.specs.Moment.{IsMomentText}
 use Rattle.reply_texts.specs.Lines.{Adds}
 use Rattle.plan_reasons.specs.declared.style.Style.{Style}

@@ -6,7 +6,7 @@ use Rattle.plan_bounds.specs.PricedPlan.{IsCertified, PricedPlan}
 use Rattle.plan_bounds.specs.Slack.{in_64_bits, slack}
 use Rattle.plan_bounds.specs.Bounds.{CostsMore, HasPair}
 use Rattle.plan_bounds.proofs.OtherPlans.{lower_bound, pairs_cost_their_slack}
-use Rattle.plan_reasons.specs.Pairs.{more_of}
+use Rattle.plan_reasons.specs.Numbers.{more_of}
 use Rattle.plan_reasons.specs.Laws.{NumbersOfPairsBound}
 
 no_more : (cost : Option ℕ) (n : ℕ) → unwrap_or (option_map (λ (km : ℕ). in_64_bits n) cost) 0 ≤ n

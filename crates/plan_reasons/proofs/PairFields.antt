@@ -17,8 +17,11 @@ use Rattle.problem_table.specs.Allowed.{Reaches}
 use Rattle.cost_table.specs.Problem.{ProblemValue}
 use Rattle.plan_bounds.specs.PricedPlan.{PricedPlan}
 use Rattle.reply_texts.specs.Lines.{Adds}
+use Rattle.plan_reasons.specs.declared.fit.Fit.{Fit}
+use Rattle.plan_reasons.specs.declared.numbers.Numbers.{Numbers}
 use Rattle.plan_reasons.specs.declared.style.Style.{Style}
 use Rattle.plan_reasons.specs.Fields.{ending, field, nothing, quoted}
+use Rattle.plan_reasons.specs.Numbers.{IsMoreOf}
 use Rattle.plan_reasons.specs.declared.reasons.Test.{Test}
 use Rattle.plan_reasons.specs.declared.reasons.Test.TheVariants.{Cheaper, InTime}
 use Rattle.plan_reasons.specs.Reasons.{FailsFirst, IsCheaper, IsInTime}
@@ -132,15 +135,17 @@ costly_added style net at wagon order way km old new distance in_time same is =
       whole = is;
     }
 
-module _ (style : Style) (net : NetworkValue) (problem : ProblemValue) (p : PricedPlan) (pair : ℕ × ℕ) (wagon : FreeWagon) (wanted : WantedOrder) where
-  pub fits_added : (order : Order) (old a b c : List ℕ) → slice_get problem.wagons pair.0 ≡ Some wagon → slice_get problem.orders pair.1 ≡ Some wanted → order ≡ wanted.order → IsCheaper net problem.at wagon wanted.order
-      → a ≡ old ++ pair_fields style (codes "fits") wagon order → b ≡ a ++ cost_fields style p pair → c ≡ b ++ ending style → Adds (IsFitsLine style net problem p pair) old c
-  fits_added order old a b c free stands same passes first second third = record {
-    added = fits_line style wagon wanted.order p pair;
-    is = record { wagon = wagon; free = free; wanted = wanted; order = stands; passes = passes; text = refl };
-    whole = three_parts old (pair_fields style (codes "fits") wagon wanted.order) (cost_fields style p pair) (ending style) a b c (first ∙ ap (λ (o : Order). old ++ pair_fields style (codes "fits") wagon o) same) second third;
+module _ (style : Style) (numbers : Numbers) (net : NetworkValue) (problem : ProblemValue) (p : PricedPlan) (fit : Fit) (wagon : FreeWagon) (wanted : WantedOrder) where
+  pub fits_added : (order : Order) (old a b c : List ℕ) → slice_get problem.wagons fit.pair.0 ≡ Some wagon → slice_get problem.orders fit.pair.1 ≡ Some wanted → order ≡ wanted.order → IsCheaper net problem.at wagon wanted.order
+      → IsMoreOf numbers p fit.pair fit.more
+      → a ≡ old ++ pair_fields style (codes "fits") wagon order → b ≡ a ++ cost_fields style numbers p fit → c ≡ b ++ ending style → Adds (IsFitsLine style numbers net problem p fit) old c
+  fits_added order old a b c free stands same passes more first second third = record {
+    added = fits_line style numbers wagon wanted.order p fit;
+    is = record { wagon = wagon; free = free; wanted = wanted; order = stands; passes = passes; is_more = more; text = refl };
+    whole = three_parts old (pair_fields style (codes "fits") wagon wanted.order) (cost_fields style numbers p fit) (ending style) a b c (first ∙ ap (λ (o : Order). old ++ pair_fields style (codes "fits") wagon o) same) second third;
   }
 
+module _ (style : Style) (net : NetworkValue) (problem : ProblemValue) (p : PricedPlan) (pair : ℕ × ℕ) (wagon : FreeWagon) (wanted : WantedOrder) where
   pub failed_added : (names : Option (List NamedPlace)) (at : ℕ) (order : Order) (test : Test) (old new : List ℕ) → slice_get problem.wagons pair.0 ≡ Some wagon → slice_get problem.orders pair.1 ≡ Some wanted → at ≡ problem.at → order ≡ wanted.order → FailsFirst net at wagon order test
       → Adds (IsTestLine style names net at wagon order test) old new → Adds (IsFailedLine style names net problem pair) old new
   failed_added names at order test old new free stands now same first line =

@@ -10,7 +10,7 @@ use Rattle.std.specs.Fn.{Called, ComputesKey}
 use Rattle.std.proofs.lemmas.Fn.{always_returns_same}
 use Rattle.std.proofs.lemmas.List.Elements.{All-filter, filter_passes}
 use Rattle.std.proofs.lemmas.List.FromFn.{get_or-map-range_with_len, length-map-range_with_len}
-use Rattle.std.proofs.lemmas.List.Sorted.{All-permutation, IsNonDecreasingBy-from_sort}
+use Rattle.std.proofs.lemmas.List.Sorted.{IsNonDecreasingBy-from_sort}
 use Rattle.line_network.specs.Network.{NetworkValue}
 use Rattle.place_names.specs.declared.named_place.NamedPlace.{NamedPlace}
 use Rattle.cost_table.specs.Problem.{ProblemValue}
@@ -18,12 +18,14 @@ use Rattle.cost_table.specs.Table.{Table}
 use Rattle.cost_table.specs.Plan.{AllAllowed, IsAllowed}
 use Rattle.plan_bounds.specs.PricedPlan.{PricedPlan}
 use Rattle.reply_texts.specs.Lines.{Adds, AreLines}
+use Rattle.plan_reasons.specs.declared.fit.Fit.{Fit}
+use Rattle.plan_reasons.specs.declared.numbers.Numbers.{Numbers}
 use Rattle.plan_reasons.specs.declared.style.Style.{Style}
 use Rattle.plan_reasons.specs.CertifiedPlan.{CertifiedPlanValue}
 use Rattle.plan_reasons.specs.WhyText.{IsOrderLine, IsWagonLine}
-use Rattle.plan_reasons.specs.Pairs.{IsFailedLine, IsFitsLine, more_of}
+use Rattle.plan_reasons.specs.Pairs.{IsFailedLine, IsFitsLine}
 use Rattle.plan_reasons.specs.PairLists.{AreByMore, ArePairLines, IsOrderText, IsOwnLine, IsWagonText, pairs_of_order, pairs_of_wagon, passes_all, stays_line}
-use Rattle.plan_reasons.specs.inner.AddedPairs.{IsFailing, IsFitting, IsPairOf}
+use Rattle.plan_reasons.specs.inner.AddedPairs.{IsFailing, IsFitting, IsFoundFit, IsPairOf}
 
 -- ---- what holds of each pair
 
@@ -32,11 +34,9 @@ not_true true h = absurd cc
 not_true false h = refl
 
 module _ (planned : CertifiedPlanValue) (pairs : List (ℕ × ℕ)) (all : All (IsPairOf planned.problem) pairs) where
-  pub all_fitting : (fits : List (ℕ × ℕ)) → IsPermutation (filter (passes_all planned.priced.table) pairs) fits → All (IsFitting planned) fits
-  all_fitting fits same =
-      let inside = All-filter (passes_all planned.priced.table) (IsPairOf planned.problem) pairs all in
-      let passes = filter_passes (passes_all planned.priced.table) pairs in
-      All-permutation (IsFitting planned) (filter (passes_all planned.priced.table) pairs) fits same (λ k d lt. (inside k d lt, passes k d lt))
+  pub all_passing : All (IsFitting planned) (filter (passes_all planned.priced.table) pairs)
+  all_passing k d lt =
+      (All-filter (passes_all planned.priced.table) (IsPairOf planned.problem) pairs all k d lt, filter_passes (passes_all planned.priced.table) pairs k d lt)
 
   pub all_failing : All (IsFailing planned) (filter (λ pair. not (passes_all planned.priced.table pair)) pairs)
   all_failing k d lt =
@@ -60,31 +60,35 @@ found_allowed t test (q ∷ pairs) pair allowed is = found_first (IsAllowed t) (
 
 -- ---- pairs in order
 
--- what a stable sort by what plans with a pair cost more makes of those that fail no test
-pub by_more : {F : Type 0} {g : Mut F (Bor (ℕ × ℕ) × Unit {0}) ℕ} {f : F} (p : PricedPlan) (pairs before after : List (ℕ × ℕ)) → before ≡ filter (passes_all p.table) pairs → IsPermutation before after
-    → ((key : ℕ × ℕ → ℕ) → ComputesKey g key f → IsSortedByKey key nat_cmp after) → ((key : ℕ × ℕ → ℕ) → ComputesKey g key f → IsStableByKey key nat_cmp before after)
-    → ((a : Bor (ℕ × ℕ) × Unit {0}) (r : ℕ) (f' : F) → Called g f a r f' → (r ≡ more_of p a.0.now) × (f' ≡ f)) → AreByMore p pairs after
-by_more {g = g} {f = f} p pairs before after is same sorted stable each =
-    let keys = always_returns_same g (λ a r. r ≡ more_of p a.0.now) f each in
+-- what a stable sort by what plans with a pair cost more makes of those that are found
+pub by_more : {F : Type 0} {g : Mut F (Bor Fit × Unit {0}) ℕ} {f : F} (numbers : Numbers) (planned : CertifiedPlanValue) (pairs : List (ℕ × ℕ)) (before after : List Fit)
+    → map (λ fit. fit.pair) before ≡ filter (passes_all planned.priced.table) pairs → All (IsFoundFit numbers planned) before → IsPermutation before after
+    → ((key : Fit → ℕ) → ComputesKey g key f → IsSortedByKey key nat_cmp after) → ((key : Fit → ℕ) → ComputesKey g key f → IsStableByKey key nat_cmp before after)
+    → ((a : Bor Fit × Unit {0}) (r : ℕ) (f' : F) → Called g f a r f' → (r ≡ a.0.now.more) × (f' ≡ f)) → AreByMore numbers planned.priced pairs after
+by_more {g = g} {f = f} numbers planned pairs before after are all same sorted stable each =
+    let keys = always_returns_same g (λ a r. r ≡ a.0.now.more) f each in
+    let key = λ (fit : Fit). fit.more in
     record {
-      same = subst (λ (xs : List (ℕ × ℕ)). IsPermutation xs after) is same;
-      ascending = IsNonDecreasingBy-from_sort (more_of p) after (sorted (more_of p) keys);
-      as_listed = subst (λ (xs : List (ℕ × ℕ)). IsStableByKey (more_of p) nat_cmp xs after) is (stable (more_of p) keys);
+      found = before;
+      are_found = record { of_pairs = are; each = λ k d lt. (all k d lt).1 };
+      same = same;
+      ascending = IsNonDecreasingBy-from_sort key after (sorted key keys);
+      as_listed = stable key keys;
     }
 
 -- ---- lines
 
-module _ (style : Style) (names : Option (List NamedPlace)) (net : NetworkValue) (problem : ProblemValue) (p : PricedPlan) (pairs : List (ℕ × ℕ)) where
+module _ (style : Style) (numbers : Numbers) (names : Option (List NamedPlace)) (net : NetworkValue) (problem : ProblemValue) (p : PricedPlan) (pairs : List (ℕ × ℕ)) where
   -- the lines of those that fail no test, and then of the others
-  pub pair_lines : (fits shown failing : List (ℕ × ℕ)) (old a b : List ℕ) → AreByMore p pairs fits → shown ≡ fits → failing ≡ filter (λ pair. not (passes_all p.table pair)) pairs
-      → Adds (AreLines (IsFitsLine style net problem p) shown) old a → Adds (AreLines (IsFailedLine style names net problem) failing) a b → Adds (ArePairLines style names net problem p pairs) old b
+  pub pair_lines : (fits shown : List Fit) (failing : List (ℕ × ℕ)) (old a b : List ℕ) → AreByMore numbers p pairs fits → shown ≡ fits → failing ≡ filter (λ pair. not (passes_all p.table pair)) pairs
+      → Adds (AreLines (IsFitsLine style numbers net problem p) shown) old a → Adds (AreLines (IsFailedLine style names net problem) failing) a b → Adds (ArePairLines style numbers names net problem p pairs) old b
   pair_lines fits shown failing old a b by_more same others first second = record {
     added = first.added ++ second.added;
     is = record {
       fits = fits;
       by_more = by_more;
       fitting = first.added;
-      fits_lines = subst (λ (xs : List (ℕ × ℕ)). AreLines (IsFitsLine style net problem p) xs first.added) same first.is;
+      fits_lines = subst (λ (xs : List Fit). AreLines (IsFitsLine style numbers net problem p) xs first.added) same first.is;
       failing = second.added;
       failed_lines = subst (λ (xs : List (ℕ × ℕ)). AreLines (IsFailedLine style names net problem) xs second.added) others second.is;
       whole = refl;
@@ -92,33 +96,33 @@ module _ (style : Style) (names : Option (List NamedPlace)) (net : NetworkValue)
     whole = second.whole ∙ ap (λ (xs : List ℕ). xs ++ second.added) first.whole ∙ append_assoc old first.added second.added;
   }
 
-module _ (style : Style) (names : Option (List NamedPlace)) (net : NetworkValue) (problem : ProblemValue) (p : PricedPlan) (pairs : List (ℕ × ℕ)) (old a b : List ℕ) (empty : old ≡ []) (rest : Adds (ArePairLines style names net problem p pairs) a b) where
+module _ (style : Style) (numbers : Numbers) (names : Option (List NamedPlace)) (net : NetworkValue) (problem : ProblemValue) (p : PricedPlan) (pairs : List (ℕ × ℕ)) (old a b : List ℕ) (empty : old ≡ []) (rest : Adds (ArePairLines style numbers names net problem p pairs) a b) where
   whole_text : (own : List ℕ) → a ≡ old ++ own → b ≡ own ++ rest.added
   whole_text own is = rest.whole ∙ ap (λ (t : List ℕ). t ++ rest.added) (is ∙ ap (λ (t : List ℕ). t ++ own) empty)
 
-  pub text_of_order : (j : ℕ) → pairs ≡ pairs_of_order problem j → Adds (IsOrderLine style net problem p j) old a → IsOrderText style names net problem p j b
+  pub text_of_order : (j : ℕ) → pairs ≡ pairs_of_order problem j → Adds (IsOrderLine style numbers net problem p j) old a → IsOrderText style numbers names net problem p j b
   text_of_order j all own = record {
     own = own.added;
     line = own.is;
     rest = rest.added;
-    pairs = subst (λ (xs : List (ℕ × ℕ)). ArePairLines style names net problem p xs rest.added) all rest.is;
+    pairs = subst (λ (xs : List (ℕ × ℕ)). ArePairLines style numbers names net problem p xs rest.added) all rest.is;
     whole = whole_text own.added own.whole;
   }
 
-  pub text_of_wagon : (i : ℕ) → pairs ≡ pairs_of_wagon problem i → Adds (IsOwnLine style net problem p i (find (λ pair. pair.0 == i) p.pairs)) old a → IsWagonText style names net problem p i b
+  pub text_of_wagon : (i : ℕ) → pairs ≡ pairs_of_wagon problem i → Adds (IsOwnLine style numbers net problem p i (find (λ pair. pair.0 == i) p.pairs)) old a → IsWagonText style numbers names net problem p i b
   text_of_wagon i all own = record {
     own = own.added;
     line = own.is;
     rest = rest.added;
-    pairs = subst (λ (xs : List (ℕ × ℕ)). ArePairLines style names net problem p xs rest.added) all rest.is;
+    pairs = subst (λ (xs : List (ℕ × ℕ)). ArePairLines style numbers names net problem p xs rest.added) all rest.is;
     whole = whole_text own.added own.whole;
   }
 
 -- ---- a wagon's own line
 
-module _ (style : Style) (net : NetworkValue) (problem : ProblemValue) (p : PricedPlan) (i : ℕ) (found : Option (ℕ × ℕ)) (old new : List ℕ) where
-  pub goes_line : (pair : ℕ × ℕ) → Some pair ≡ found → Adds (IsWagonLine style net problem p pair) old new → Adds (IsOwnLine style net problem p i found) old new
-  goes_line pair is adds = record { added = adds.added; is = subst (λ (o : Option (ℕ × ℕ)). IsOwnLine style net problem p i o adds.added) is adds.is; whole = adds.whole }
+module _ (style : Style) (numbers : Numbers) (net : NetworkValue) (problem : ProblemValue) (p : PricedPlan) (i : ℕ) (found : Option (ℕ × ℕ)) (old new : List ℕ) where
+  pub goes_line : (pair : ℕ × ℕ) → Some pair ≡ found → Adds (IsWagonLine style numbers net problem p pair) old new → Adds (IsOwnLine style numbers net problem p i found) old new
+  goes_line pair is adds = record { added = adds.added; is = subst (λ (o : Option (ℕ × ℕ)). IsOwnLine style numbers net problem p i o adds.added) is adds.is; whole = adds.whole }
 
-  pub stays_there : None ≡ found → new ≡ old ++ stays_line style problem i → Adds (IsOwnLine style net problem p i found) old new
-  stays_there is adds = record { added = stays_line style problem i; is = subst (λ (o : Option (ℕ × ℕ)). IsOwnLine style net problem p i o (stays_line style problem i)) is refl; whole = adds }
+  pub stays_there : None ≡ found → new ≡ old ++ stays_line style problem i → Adds (IsOwnLine style numbers net problem p i found) old new
+  stays_there is adds = record { added = stays_line style problem i; is = subst (λ (o : Option (ℕ × ℕ)). IsOwnLine style numbers net problem p i o (stays_line style problem i)) is refl; whole = adds }

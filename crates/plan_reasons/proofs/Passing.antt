@@ -7,12 +7,15 @@ use Rattle.std.proofs.lemmas.Option.{get_or_from_slice_get, slice_get_within}
 use Rattle.wagons_and_orders.specs.declared.free_wagon.FreeWagon.{FreeWagon}
 use Rattle.wagons_and_orders.specs.Wanted.{WantedOrder}
 use Rattle.line_network.specs.Network.{NetworkValue}
+use Rattle.cost_table.specs.Plan.{IsAllowed}
 use Rattle.cost_table.specs.Problem.{ProblemValue}
 use Rattle.cost_table.specs.Table.{Table, cost_at, penalty_at}
 use Rattle.problem_table.specs.Allowed.{IsTableOf}
 use Rattle.plan_reasons.specs.Reasons.{IsCheaper}
 use Rattle.plan_reasons.specs.PairLists.{is_below, passes_all}
 use Rattle.plan_reasons.specs.Laws.{FitsAreCheaper}
+use Rattle.plan_reasons.specs.inner.AddedPairs.{IsPairOf}
+use Rattle.plan_reasons.proofs.Arrivals.{order_count-table}
 
 below_some : (cost : Option ℕ) (limit : ℕ) → is_below cost limit ≡ true → (km : ℕ) × (cost ≡ Some km) × (km < limit)
 below_some None limit h = absurd cc
@@ -39,3 +42,10 @@ module _ (net : NetworkValue) (problem : ProblemValue) (t : Table) (table : IsTa
 
 pub fits_are_cheaper : FitsAreCheaper
 fits_are_cheaper net problem t table i j wagon wanted free order = (passing_cheaper net problem t table i j wagon wanted free order, cheaper_passing net problem t table i j wagon wanted free order)
+
+-- a pair of the problem that fails no test is allowed
+pub passing_allowed : (net : NetworkValue) (problem : ProblemValue) (t : Table) → IsTableOf net problem t → (pair : ℕ × ℕ) → IsPairOf problem pair → passes_all t pair ≡ true → IsAllowed t pair
+passing_allowed net problem t table pair there h =
+    let below = below_some (cost_at t pair.0 pair.1) (penalty_at t pair.1) h in
+    let wagons = table.wagons in
+    (omega (arith, there.0, wagons), omega (arith, there.1, order_count-table net problem t table), (below.0, below.1))

@@ -14,7 +14,7 @@ use Rattle.plan_bounds.specs.LeastSlack.{least_new_slack}
 use Rattle.plan_bounds.specs.Bounds.{AllCostMore, CostsMore, HasPair, IsIdle, NoneSavesMore, NoneServesMore, ServesMore}
 use Rattle.plan_reasons.specs.declared.reasons.Counts.{Counts}
 use Rattle.plan_reasons.specs.Reasons.{AreCounts, IsCheaper, IsCount, IsInTime}
-use Rattle.plan_reasons.specs.Pairs.{more_of}
+use Rattle.plan_reasons.specs.Numbers.{more_of}
 use Rattle.plan_reasons.specs.PairLists.{passes_all}
 
 -- how many wagons of a table may serve order j

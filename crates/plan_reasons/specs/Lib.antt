@@ -1,6 +1,7 @@
 pub mod Reasons
 pub mod OrderCounts
 pub mod Fields
+pub mod Numbers
 pub mod PlaceFields
 pub mod CertifiedPlan
 pub mod Journeys

@@ -1,6 +1,6 @@
--- The line of a free wagon with a waiting order: what every plan costs more, at least, that has this pair, where the wagon passes
--- each test for the order; else the first test that it fails, with the two values that were compared.
-use Rattle.std.specs.Prelude.{◌≡◌, ◌+◌, ◌*◌, ◌<◌, ◌≤◌, ◌==◌, if◌then◌else◌, ℕ, Bool, true, false, max, List, [], ◌∷◌, ◌++◌, map, codes, decimal, slice_get, Option, Some, unwrap_or}
+-- The line of a free wagon with a waiting order: what plans cost more that have this pair, where the wagon passes each test for the
+-- order; else the first test that it fails, with the two values that were compared.
+use Rattle.std.specs.Prelude.{◌≡◌, ◌+◌, ◌*◌, ◌<◌, ◌≤◌, ◌==◌, if◌then◌else◌, ℕ, Bool, true, false, max, List, [], ◌∷◌, ◌++◌, map, codes, decimal, slice_get, Option, Some}
 use Rattle.std.specs.List.{join_with_byte}
 use Rattle.rail_codes.specs.Moment.{IsMomentText, last_second}
 use Rattle.move_messages.specs.Order.{Order}
@@ -13,13 +13,16 @@ use Rattle.problem_table.specs.Allowed.{Reaches}
 use Rattle.cost_table.specs.Plan.{pair_cost}
 use Rattle.cost_table.specs.Problem.{ProblemValue}
 use Rattle.plan_bounds.specs.PricedPlan.{PricedPlan}
-use Rattle.plan_bounds.specs.Slack.{slack_of_pair}
 use Rattle.plan_bounds.specs.LeastSlack.{has_pair}
+use Rattle.plan_reasons.specs.declared.fit.Fit.{Fit}
+use Rattle.plan_reasons.specs.declared.numbers.Numbers.{Numbers}
+use Rattle.plan_reasons.specs.declared.numbers.Numbers.TheVariants.{Exact, Bounds}
 use Rattle.plan_reasons.specs.declared.style.Style.{Style}
 use Rattle.plan_reasons.specs.declared.style.Style.TheVariants.{Text, Json}
 use Rattle.plan_reasons.specs.declared.reasons.Test.{Test}
 use Rattle.plan_reasons.specs.declared.reasons.Test.TheVariants.{Class, Load, Way, InTime, Cheaper}
 use Rattle.plan_reasons.specs.Fields.{ending, field, first_field, nothing, quoted}
+use Rattle.plan_reasons.specs.Numbers.{IsMoreOf}
 use Rattle.plan_reasons.specs.PlaceFields.{place_field}
 use Rattle.plan_reasons.specs.Reasons.{FailsFirst, IsCheaper}
 
@@ -115,34 +118,36 @@ pub record IsFailedLine (style : Style) (names : Option (List NamedPlace)) (net 
 
 -- ---- a wagon that passes each test
 
--- what every plan costs more, at least, that has a pair: its slack, as far as 64 bits go
-abbrev pub more_of : PricedPlan → (pair : ℕ × ℕ) → ℕ
-more_of p pair = unwrap_or (slack_of_pair p pair.0 pair.1) 0
-
 abbrev pub truth : Bool → List ℕ
 truth true = codes "true"
 truth false = codes "false"
 
--- whether the plan has the pair. In a text of words it is said where it has, and where a plan with the pair may be as good
-abbrev pub planned_field : Style → (more : ℕ) → (planned : Bool) → List ℕ
-planned_field Json more planned = field Json (codes "planned") (truth planned)
-planned_field Text more true = codes " planned"
-planned_field Text more false = if more == 0 then codes " another plan may be as good" else []
+-- what is said of a pair that plans may have at no more cost
+abbrev pub as_good : Numbers → List ℕ
+as_good Exact = codes " another plan is as good"
+as_good Bounds = codes " another plan may be as good"
+
+-- whether the plan has the pair. In a text of words it is said where it has, and where a plan with the pair is or may be as good
+abbrev pub planned_field : Style → Numbers → (more : ℕ) → (planned : Bool) → List ℕ
+planned_field Json numbers more planned = field Json (codes "planned") (truth planned)
+planned_field Text numbers more true = codes " planned"
+planned_field Text numbers more false = if more == 0 then as_good numbers else []
 
 -- the kilometres of the pair, and what plans with it cost more
-abbrev pub cost_fields : Style → PricedPlan → (pair : ℕ × ℕ) → List ℕ
-cost_fields style p pair =
-    field style (codes "km") (decimal (pair_cost p.table pair)) ++ field style (codes "more") (decimal (more_of p pair))
-    ++ planned_field style (more_of p pair) (has_pair p.pairs pair.0 pair.1)
+abbrev pub cost_fields : Style → Numbers → PricedPlan → Fit → List ℕ
+cost_fields style numbers p fit =
+    field style (codes "km") (decimal (pair_cost p.table fit.pair)) ++ field style (codes "more") (decimal fit.more)
+    ++ planned_field style numbers fit.more (has_pair p.pairs fit.pair.0 fit.pair.1)
 
-abbrev pub fits_line : Style → FreeWagon → Order → PricedPlan → (pair : ℕ × ℕ) → List ℕ
-fits_line style wagon order p pair = pair_fields style (codes "fits") wagon order ++ cost_fields style p pair ++ ending style
+abbrev pub fits_line : Style → Numbers → FreeWagon → Order → PricedPlan → Fit → List ℕ
+fits_line style numbers wagon order p fit = pair_fields style (codes "fits") wagon order ++ cost_fields style numbers p fit ++ ending style
 
 -- the line of a pair that fails no test
-pub record IsFitsLine (style : Style) (net : NetworkValue) (problem : ProblemValue) (p : PricedPlan) (pair : ℕ × ℕ) (line : List ℕ) : Type 0 where
+pub record IsFitsLine (style : Style) (numbers : Numbers) (net : NetworkValue) (problem : ProblemValue) (p : PricedPlan) (fit : Fit) (line : List ℕ) : Type 0 where
   pub wagon : FreeWagon
-  pub free : slice_get problem.wagons pair.0 ≡ Some wagon
+  pub free : slice_get problem.wagons fit.pair.0 ≡ Some wagon
   pub wanted : WantedOrder
-  pub order : slice_get problem.orders pair.1 ≡ Some wanted
+  pub order : slice_get problem.orders fit.pair.1 ≡ Some wanted
   pub passes : IsCheaper net problem.at wagon wanted.order
-  pub text : line ≡ fits_line style wagon wanted.order p pair
+  pub is_more : IsMoreOf numbers p fit.pair fit.more
+  pub text : line ≡ fits_line style numbers wagon wanted.order p fit

@@ -14,10 +14,13 @@ use Rattle.plan_bounds.specs.Slack.{missed}
 use Rattle.plan_bounds.specs.LeastSlack.{least_new_slack}
 use Rattle.reply_texts.specs.Lines.{AreLines}
 use Rattle.plan_reasons.specs.declared.journey.Journey.{Journey}
+use Rattle.plan_reasons.specs.declared.numbers.Numbers.{Numbers}
+use Rattle.plan_reasons.specs.declared.numbers.Numbers.TheVariants.{Exact, Bounds}
 use Rattle.plan_reasons.specs.declared.style.Style.{Style}
 use Rattle.plan_reasons.specs.declared.reasons.Counts.{Counts}
 use Rattle.plan_reasons.specs.Journeys.{IsJourney}
 use Rattle.plan_reasons.specs.Fields.{ending, field, first_field, nothing, quoted}
+use Rattle.plan_reasons.specs.Numbers.{AreChanges, IsWithout}
 use Rattle.plan_reasons.specs.Reasons.{AreCounts}
 
 -- ---- the whole
@@ -67,21 +70,44 @@ abbrev pub further_value : Style → PricedPlan → (j : ℕ) → List ℕ
 further_value style p j =
     if missed p p.pairs j == 0 then nothing style else bound_value style (least_new_slack p j (wagon_count p.table))
 
+-- a number, or that there is none
+abbrev pub number_value : Style → Option ℕ → List ℕ
+number_value style None = nothing style
+number_value style (Some km) = decimal km
+
+-- what the best plan costs more where the order lacks one wagon more, and less where it lacks one less
+abbrev pub change_fields : Style → (more : Option ℕ) → (less : ℕ) → List ℕ
+change_fields style more less = field style (codes "more") (number_value style more) ++ field style (codes "less") (decimal less)
+
+-- both, and that bound
+pub record AreExactFields (style : Style) (p : PricedPlan) (j : ℕ) (fields : List ℕ) : Type 0 where
+  pub more : Option ℕ
+  pub less : ℕ
+  pub changes : AreChanges p j more less
+  pub text : fields ≡ change_fields style more less ++ field style (codes "further") (further_value style p j) ++ ending style
+
 -- the order's price and that bound
 abbrev pub price_fields : Style → PricedPlan → (j : ℕ) → List ℕ
 price_fields style p j =
     field style (codes "price") (decimal (slice_index p.v j)) ++ field style (codes "further") (further_value style p j) ++ ending style
 
-abbrev pub order_line : Style → ProblemValue → PricedPlan → (j : ℕ) → Counts → List ℕ
-order_line style problem p j counts = order_fields style problem p j ++ count_fields style counts ++ price_fields style p j
+-- the last fields of order j
+abbrev pub AreLastFields : Style → Numbers → PricedPlan → (j : ℕ) → (fields : List ℕ) → Type 0
+AreLastFields style Exact p j fields = AreExactFields style p j fields
+AreLastFields style Bounds p j fields = fields ≡ price_fields style p j
+
+abbrev pub order_line : Style → ProblemValue → PricedPlan → (j : ℕ) → Counts → (last : List ℕ) → List ℕ
+order_line style problem p j counts last = order_fields style problem p j ++ count_fields style counts ++ last
 
 -- the line of order j
-pub record IsOrderLine (style : Style) (net : NetworkValue) (problem : ProblemValue) (p : PricedPlan) (j : ℕ) (line : List ℕ) : Type 0 where
+pub record IsOrderLine (style : Style) (numbers : Numbers) (net : NetworkValue) (problem : ProblemValue) (p : PricedPlan) (j : ℕ) (line : List ℕ) : Type 0 where
   pub wanted : WantedOrder
   pub order : slice_get problem.orders j ≡ Some wanted
   pub counts : Counts
   pub counted : AreCounts net problem.at problem.wagons wanted.order counts
-  pub text : line ≡ order_line style problem p j counts
+  pub last : List ℕ
+  pub last_fields : AreLastFields style numbers p j last
+  pub text : line ≡ order_line style problem p j counts last
 
 -- ---- wagons
 
@@ -92,27 +118,29 @@ wagon_fields style problem p pair =
     ++ field style (codes "order") (quoted style (name_at (order_names problem.orders) pair.1))
     ++ field style (codes "km") (decimal (pair_cost p.table pair))
 
--- the wagon's price
-abbrev pub without_fields : Style → PricedPlan → (i : ℕ) → List ℕ
-without_fields style p i = field style (codes "without") (decimal (slice_index p.u i)) ++ ending style
+-- what plans cost more without it
+abbrev pub without_fields : Style → (km : ℕ) → List ℕ
+without_fields style km = field style (codes "without") (decimal km) ++ ending style
 
-abbrev pub wagon_line : Style → ProblemValue → PricedPlan → (pair : ℕ × ℕ) → (moment : List ℕ) → List ℕ
-wagon_line style problem p pair moment =
-    wagon_fields style problem p pair ++ field style (codes "arrival") (quoted style moment) ++ without_fields style p pair.0
+abbrev pub wagon_line : Style → ProblemValue → PricedPlan → (pair : ℕ × ℕ) → (moment : List ℕ) → (without : ℕ) → List ℕ
+wagon_line style problem p pair moment without =
+    wagon_fields style problem p pair ++ field style (codes "arrival") (quoted style moment) ++ without_fields style without
 
 -- the line of a wagon that goes
-pub record IsWagonLine (style : Style) (net : NetworkValue) (problem : ProblemValue) (p : PricedPlan) (pair : ℕ × ℕ) (line : List ℕ) : Type 0 where
+pub record IsWagonLine (style : Style) (numbers : Numbers) (net : NetworkValue) (problem : ProblemValue) (p : PricedPlan) (pair : ℕ × ℕ) (line : List ℕ) : Type 0 where
   pub journey : Journey
   pub goes : IsJourney net problem pair journey
   pub moment : List ℕ
   pub printed : IsMomentText journey.arrival moment
-  pub text : line ≡ wagon_line style problem p pair moment
+  pub without : ℕ
+  pub is_without : IsWithout numbers p pair.0 without
+  pub text : line ≡ wagon_line style problem p pair moment without
 
 -- ---- the text
 
-pub record IsWhyText (style : Style) (version : ℕ) (net : NetworkValue) (problem : ProblemValue) (p : PricedPlan) (text : List ℕ) : Type 0 where
+pub record IsWhyText (style : Style) (numbers : Numbers) (version : ℕ) (net : NetworkValue) (problem : ProblemValue) (p : PricedPlan) (text : List ℕ) : Type 0 where
   pub orders : List ℕ
   pub wagons : List ℕ
-  pub order_lines : AreLines (IsOrderLine style net problem p) (range_with_len 0 (length problem.orders)) orders
-  pub wagon_lines : AreLines (IsWagonLine style net problem p) p.pairs wagons
+  pub order_lines : AreLines (IsOrderLine style numbers net problem p) (range_with_len 0 (length problem.orders)) orders
+  pub wagon_lines : AreLines (IsWagonLine style numbers net problem p) p.pairs wagons
   pub whole : text ≡ why_line style version problem p ++ orders ++ wagons

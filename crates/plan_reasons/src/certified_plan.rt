@@ -5,6 +5,7 @@ ghost use Rattle.price_checker.specs.Certificate.{IsCertificate};
 ghost use Rattle.problem_table.specs.Allowed.{IsTableOf};
 
 use cost_table::{Cells, Plan, Problem};
+use exact_costs::ExactCosts;
 use line_network::Tables;
 use plan_bounds::Bounds;
 use price_checker::Prices;
@@ -83,6 +84,14 @@ impl<'a> CertifiedPlan<'a> {
         ensures certified { IsCertified self.now.priced }
     {
         self.plan
+    }
+
+    /// What the best plans cost that are other than this one.
+    pub fn exact_costs(&self) -> ExactCosts<'a>
+        ensures value { result ≡ self.now.priced }
+        ensures table { IsTableOf self.now.network self.now.problem self.now.priced.table }
+    {
+        ExactCosts::new(self.cells, self.plan, self.prices)
     }
 
     /// What the prices say of every other plan.

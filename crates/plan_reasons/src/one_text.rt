@@ -6,6 +6,7 @@ ghost use Rattle.plan_reasons.specs.inner.AddedPairs.{AddsOwnLine};
 
 use crate::certified_plan::CertifiedPlan;
 use crate::line_form::LineForm;
+use crate::numbers::Numbers;
 use crate::order_line::push_order_line;
 use crate::pair_lists::push_pairs;
 use crate::style::{Style, end_line, first_code};
@@ -17,9 +18,10 @@ use std::alloc::{AllocError, Global};
 
 /// The reasons of order `j`: its line as in the whole text, then a line for each free wagon.
 ///
-/// First those that pass each test for the order: `fits NUMBER NAME KM MORE`, where `MORE` is what every plan costs more, at
-/// least, that has this pair, in km; the least first, and where that is the same as placed. ` planned` stands behind it where
-/// the plan has the pair; ` another plan may be as good` where it hasn't and `MORE` is 0. Then the others as placed, by the
+/// First those that pass each test for the order: `fits NUMBER NAME KM MORE`, where `MORE` is what the best plan costs
+/// more that has this pair, in km; the least first, and where that is the same as placed. ` planned` stands behind it where the
+/// plan has the pair; ` another plan is as good` where it hasn't and `MORE` is 0. Where bounds are asked for, `MORE` is what every
+/// plan costs more, at least, that has the pair, and the words are ` another plan may be as good`. Then the others as placed, by the
 /// first test that each fails: `class NUMBER NAME CLASS CLASSES`, `load NUMBER NAME LIMIT LOAD` in kg, `way NUMBER NAME FROM
 /// TO`, `late NUMBER NAME ARRIVAL LATEST` (`-`, in JSON null, for an arrival past the year 2099), or `costly NUMBER NAME KM
 /// PENALTY`.
@@ -31,17 +33,18 @@ use std::alloc::{AllocError, Global};
 pub fn order_text(
     alloc: Global,
     form: &LineForm<'_>,
+    numbers: Numbers,
     planned: &CertifiedPlan,
     j: usize,
 ) -> Result<String, AllocError>
     requires { j < length planned.now.problem.orders }
-    ensures { IfOk result (λ text. IsOrderTextOf form.now planned.now j (string_bytes text)) }
+    ensures { IfOk result (λ text. IsOrderTextOf form.now numbers planned.now j (string_bytes text)) }
 {
     let pairs = pairs_of_order(alloc, planned.problem(), j)?;
     let tallies = Tallies::new(alloc, planned)?;
     let mut text = String::new(alloc);
-    push_order_line(alloc, &mut text, form.style, planned, &tallies, j)?;
-    push_pairs(alloc, &mut text, form, planned, &pairs)?;
+    push_order_line(alloc, &mut text, form.style, numbers, planned, &tallies, j)?;
+    push_pairs(alloc, &mut text, form, numbers, planned, &pairs)?;
     Ok(text)
 }
 
@@ -50,31 +53,34 @@ pub fn order_text(
 pub fn wagon_text(
     alloc: Global,
     form: &LineForm<'_>,
+    numbers: Numbers,
     planned: &CertifiedPlan,
     i: usize,
 ) -> Result<String, AllocError>
     requires { i < length planned.now.problem.wagons }
-    ensures { IfOk result (λ text. IsWagonTextOf form.now planned.now i (string_bytes text)) }
+    ensures { IfOk result (λ text. IsWagonTextOf form.now numbers planned.now i (string_bytes text)) }
 {
     let pairs = pairs_of_wagon(alloc, planned.problem(), i)?;
     let mut text = String::new(alloc);
-    push_own_line(&mut text, form.style, planned, i)?;
-    push_pairs(alloc, &mut text, form, planned, &pairs)?;
+    push_own_line(alloc, &mut text, form.style, numbers, planned, i)?;
+    push_pairs(alloc, &mut text, form, numbers, planned, &pairs)?;
     Ok(text)
 }
 
 /// Adds the line of wagon `i`: the one of the pair that the plan has of it, or that it stays.
 fn push_own_line(
+    alloc: Global,
     text: &mut String,
     style: Style,
+    numbers: Numbers,
     planned: &CertifiedPlan,
     i: usize,
 ) -> Result<(), AllocError>
     requires { i < length planned.now.problem.wagons }
-    ensures { OnOk result (AddsOwnLine style planned.now i (string_bytes text.old) (string_bytes text.new)) }
+    ensures { OnOk result (AddsOwnLine style numbers planned.now i (string_bytes text.old) (string_bytes text.new)) }
 {
     match pair_with(planned.plan().pairs(), i) {
-        Some(pair) => push_wagon_line(text, style, planned, pair),
+        Some(pair) => push_wagon_line(alloc, text, style, numbers, planned, pair),
         None => push_stays(text, style, planned.problem(), i),
     }
 }

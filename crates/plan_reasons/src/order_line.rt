@@ -4,12 +4,14 @@ ghost use Rattle.cost_table.specs.Table.{lack_at, order_count};
 ghost use Rattle.plan_bounds.specs.Bounds.{AllCostMore};
 ghost use Rattle.plan_bounds.specs.Changes.{with_lack};
 ghost use Rattle.plan_bounds.specs.Slack.{missed};
+ghost use Rattle.reply_texts.specs.Lines.{Adds};
 ghost use Rattle.plan_reasons.specs.Fields.{field, quoted};
-ghost use Rattle.plan_reasons.specs.WhyText.{count_fields, further_value, order_fields, price_fields};
+ghost use Rattle.plan_reasons.specs.WhyText.{AreExactFields, AreLastFields, change_fields, count_fields, further_value, number_value, order_fields, price_fields};
 ghost use Rattle.plan_reasons.specs.inner.Added.{AddsOrderLine};
 ghost use Rattle.plan_reasons.specs.inner.Tallied.{AreTallies};
 
 use crate::certified_plan::CertifiedPlan;
+use crate::numbers::Numbers;
 use crate::reasons::Counts;
 use crate::style::{Style, code_field, end_line, first_code, nothing, number_field, push_field};
 use crate::tallies::Tallies;
@@ -22,18 +24,19 @@ pub(crate) fn push_order_line(
     alloc: Global,
     text: &mut String,
     style: Style,
+    numbers: Numbers,
     planned: &CertifiedPlan,
     tallies: &Tallies,
     j: usize,
 ) -> Result<(), AllocError>
     requires tallies { AreTallies planned.now tallies.now }
     requires order { j < length planned.now.problem.orders }
-    ensures { OnOk result (AddsOrderLine style planned.now j (string_bytes text.old) (string_bytes text.new)) }
+    ensures { OnOk result (AddsOrderLine style numbers planned.now j (string_bytes text.old) (string_bytes text.new)) }
 {
     let counts = tallies.counts(alloc, planned, j)?;
     push_order_fields(text, style, planned, tallies, j)?;
     push_counts(text, style, counts)?;
-    push_prices(text, style, planned, tallies, j)
+    push_last(alloc, text, style, numbers, planned, tallies, j)
 }
 
 /// Adds the name of order `j`, how many wagons it lacks, gets, and misses.
@@ -68,6 +71,71 @@ fn push_counts(text: &mut String, style: Style, counts: Counts) -> Result<(), Al
     number_field(text, style, "way", counts.way)?;
     number_field(text, style, "time", counts.in_time)?;
     number_field(text, style, "cheaper", counts.cheaper)
+}
+
+/// Adds the last fields of order `j`: what plans cost in which it lacks, or gets, another number of wagons.
+fn push_last(
+    alloc: Global,
+    text: &mut String,
+    style: Style,
+    numbers: Numbers,
+    planned: &CertifiedPlan,
+    tallies: &Tallies,
+    j: usize,
+) -> Result<(), AllocError>
+    requires tallies { AreTallies planned.now tallies.now }
+    requires order { j < length planned.now.problem.orders }
+    ensures { OnOk result (Adds (AreLastFields style numbers planned.now.priced j) (string_bytes text.old) (string_bytes text.new)) }
+{
+    match numbers {
+        Numbers::Exact => push_exact(alloc, text, style, planned, tallies, j),
+        Numbers::Bounds => push_prices(text, style, planned, tallies, j),
+    }
+}
+
+/// Adds what the best plan costs more where order `j` lacks one wagon more, what it costs less where it lacks one less, and
+/// what every plan that gives it more wagons costs more, at least.
+fn push_exact(
+    alloc: Global,
+    text: &mut String,
+    style: Style,
+    planned: &CertifiedPlan,
+    tallies: &Tallies,
+    j: usize,
+) -> Result<(), AllocError>
+    requires tallies { AreTallies planned.now tallies.now }
+    requires order { j < length planned.now.problem.orders }
+    ensures { OnOk result (Adds (AreExactFields style planned.now.priced j) (string_bytes text.old) (string_bytes text.new)) }
+{
+    let costs = planned.exact_costs();
+    let more = costs.one_more(alloc, j)?;
+    let less = costs.one_less(alloc, j)?;
+    push_changes(text, style, more, less)?;
+    push_further(text, style, planned, tallies, &planned.bounds(), j)?;
+    end_line(text, style)
+}
+
+/// Adds what one wagon more costs, and what one less saves.
+fn push_changes(
+    text: &mut String,
+    style: Style,
+    more: Option<u64>,
+    less: u64,
+) -> Result<(), AllocError>
+    ensures { OnOk result (string_bytes text.new ≡ string_bytes text.old ++ change_fields style more less) }
+{
+    push_more(text, style, more)?;
+    number_field(text, style, "less", less)
+}
+
+/// Adds what one wagon more costs, if there may be one.
+fn push_more(text: &mut String, style: Style, more: Option<u64>) -> Result<(), AllocError>
+    ensures { OnOk result (string_bytes text.new ≡ string_bytes text.old ++ field style (codes "more") (number_value style more)) }
+{
+    match more {
+        Some(km) => number_field(text, style, "more", km),
+        None => push_field(text, style, "more", nothing(style)),
+    }
 }
 
 /// Adds the price of order `j`, and what every plan that gives it more wagons costs more, at least.

@@ -1,34 +1,36 @@
 //! The line of a free wagon with a waiting order.
-ghost use Rattle.std.specs.Prelude.{◌≡◌, ◌++◌, IsTrue, OnOk, false, string_bytes};
+ghost use Rattle.std.specs.Prelude.{◌≡◌, ◌++◌, OnOk, false, string_bytes};
 ghost use Rattle.plan_reasons.specs.declared.style.Style.TheVariants.{Text};
-ghost use Rattle.plan_reasons.specs.Pairs.{cost_fields, more_of, planned_field, truth};
+ghost use Rattle.plan_reasons.specs.Pairs.{as_good, cost_fields, planned_field, truth};
 ghost use Rattle.plan_reasons.specs.PairLists.{passes_all};
-ghost use Rattle.plan_reasons.specs.inner.AddedPairs.{AddsFailedLine, AddsFitsLine, IsPairOf};
+ghost use Rattle.plan_reasons.specs.inner.AddedPairs.{AddsFailedLine, AddsFitsLine, IsFoundFit, IsPairOf};
 
 use crate::certified_plan::CertifiedPlan;
 use crate::failed_line::{push_pair, push_test_line};
+use crate::fit::Fit;
 use crate::line_form::LineForm;
+use crate::numbers::Numbers;
 use crate::reasons::first_failed;
 use crate::style::{Style, end_line, number_field, push_field};
-use plan_bounds::{Bounds, has_pair};
+use plan_bounds::has_pair;
 use std::alloc::AllocError;
 
 /// Adds the line of a pair that fails no test.
 pub(crate) fn push_fits_line(
     text: &mut String,
     style: Style,
+    numbers: Numbers,
     planned: &CertifiedPlan,
-    pair: (usize, usize),
+    fit: Fit,
 ) -> Result<(), AllocError>
-    requires pair { IsPairOf planned.now.problem pair }
-    requires passes { IsTrue (passes_all planned.now.priced.table pair) }
-    ensures { OnOk result (AddsFitsLine style planned.now pair (string_bytes text.old) (string_bytes text.new)) }
+    requires { IsFoundFit numbers planned.now fit }
+    ensures { OnOk result (AddsFitsLine style numbers planned.now fit (string_bytes text.old) (string_bytes text.new)) }
 {
     let problem = planned.problem();
-    let wagon = &problem.wagons()[pair.0];
-    let order = problem.orders()[pair.1].order();
+    let wagon = &problem.wagons()[fit.pair.0];
+    let order = problem.orders()[fit.pair.1].order();
     push_pair(text, style, "fits", wagon, order)?;
-    push_costs(text, style, planned, pair)?;
+    push_costs(text, style, numbers, planned, fit)?;
     end_line(text, style)
 }
 
@@ -56,33 +58,32 @@ pub(crate) fn push_failed_line(
 fn push_costs(
     text: &mut String,
     style: Style,
+    numbers: Numbers,
     planned: &CertifiedPlan,
-    pair: (usize, usize),
+    fit: Fit,
 ) -> Result<(), AllocError>
-    ensures { OnOk result (string_bytes text.new ≡ string_bytes text.old ++ cost_fields style planned.now.priced pair) }
+    ensures { OnOk result (string_bytes text.new ≡ string_bytes text.old ++ cost_fields style numbers planned.now.priced fit) }
 {
-    let (i, j) = pair;
-    let bounds = planned.bounds();
-    let more = more_of(&bounds, pair);
+    let (i, j) = fit.pair;
     number_field(text, style, "km", planned.cells().cell(i, j).unwrap_or(0))?;
-    number_field(text, style, "more", more)?;
-    push_planned(text, style, more, has_pair(planned.plan().pairs(), i, j))
-}
-
-/// What every plan costs more, at least, that has a pair.
-pub(crate) fn more_of(bounds: &Bounds, pair: (usize, usize)) -> u64
-    ensures { result ≡ more_of bounds.now pair }
-{
-    bounds.pair_bound(pair.0, pair.1).unwrap_or(0)
+    number_field(text, style, "more", fit.more)?;
+    let is_planned = has_pair(planned.plan().pairs(), i, j);
+    push_planned(text, style, numbers, fit.more, is_planned)
 }
 
 /// Adds whether the plan has a pair.
-fn push_planned(text: &mut String, style: Style, more: u64, planned: bool) -> Result<(), AllocError>
-    ensures { OnOk result (string_bytes text.new ≡ string_bytes text.old ++ planned_field style more planned) }
+fn push_planned(
+    text: &mut String,
+    style: Style,
+    numbers: Numbers,
+    more: u64,
+    planned: bool,
+) -> Result<(), AllocError>
+    ensures { OnOk result (string_bytes text.new ≡ string_bytes text.old ++ planned_field style numbers more planned) }
 {
     match style {
         Style::Json => push_field(text, style, "planned", truth(planned)),
-        Style::Text => text.push_str(planned_words(more, planned)),
+        Style::Text => text.push_str(planned_words(numbers, more, planned)),
     }
 }
 
@@ -94,15 +95,21 @@ fn truth(is_so: bool) -> &'static str
 }
 
 /// The words at the end of a pair's line.
-fn planned_words(more: u64, planned: bool) -> &'static str
-    ensures { result.now ≡ planned_field Text more planned }
+fn planned_words(numbers: Numbers, more: u64, planned: bool) -> &'static str
+    ensures { result.now ≡ planned_field Text numbers more planned }
 {
     if planned {
         return " planned";
     }
-    if more == 0 {
-        " another plan may be as good"
-    } else {
-        ""
+    if more == 0 { as_good(numbers) } else { "" }
+}
+
+/// What is said of a pair that plans may have at no more cost.
+fn as_good(numbers: Numbers) -> &'static str
+    ensures { result.now ≡ as_good numbers }
+{
+    match numbers {
+        Numbers::Exact => " another plan is as good",
+        Numbers::Bounds => " another plan may be as good",
     }
 }

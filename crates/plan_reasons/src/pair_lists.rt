@@ -1,5 +1,5 @@
 //! The lines of pairs.
-ghost use Rattle.std.specs.Prelude.{◌≡◌, All, IfOk, OnOk, not, string_bytes};
+ghost use Rattle.std.specs.Prelude.{◌≡◌, All, IfOk, OnOk, map, not, string_bytes};
 ghost use Rattle.std.specs.List.{filter};
 ghost use Rattle.plan_reasons.specs.PairLists.{AreByMore, passes_all};
 ghost use Rattle.plan_reasons.specs.inner.AddedPairs.{
@@ -8,12 +8,15 @@ ghost use Rattle.plan_reasons.specs.inner.AddedPairs.{
   AddsPairLines,
   IsFailing,
   IsFitting,
+  IsFoundFit,
   IsPairOf,
 };
 
 use crate::certified_plan::CertifiedPlan;
+use crate::fit::Fit;
 use crate::line_form::LineForm;
-use crate::pair_line::{more_of, push_failed_line, push_fits_line};
+use crate::numbers::{Numbers, more_of};
+use crate::pair_line::{push_failed_line, push_fits_line};
 use crate::style::Style;
 use cost_table::Cells;
 use std::alloc::{AllocError, Global};
@@ -23,30 +26,54 @@ pub(crate) fn push_pairs(
     alloc: Global,
     text: &mut String,
     form: &LineForm<'_>,
+    numbers: Numbers,
     planned: &CertifiedPlan,
     pairs: &[(usize, usize)],
 ) -> Result<(), AllocError>
     requires { All (IsPairOf planned.now.problem) pairs.now }
-    ensures { OnOk result (AddsPairLines form.now planned.now pairs.now (string_bytes text.old) (string_bytes text.new)) }
+    ensures { OnOk result (AddsPairLines form.now numbers planned.now pairs.now (string_bytes text.old) (string_bytes text.new)) }
 {
-    let fits = fits_by_more(alloc, planned, pairs)?;
+    let fits = fits_by_more(alloc, numbers, planned, pairs)?;
     let failing = failing(alloc, planned.cells(), pairs)?;
-    push_fits(text, form.style, planned, &fits)?;
+    push_fits(text, form.style, numbers, planned, &fits)?;
     push_failing(text, form, planned, &failing)
 }
 
 /// Those of the pairs that fail no test, by what plans with them cost more.
 fn fits_by_more(
     alloc: Global,
+    numbers: Numbers,
     planned: &CertifiedPlan,
     pairs: &[(usize, usize)],
-) -> Result<Vec<(usize, usize)>, AllocError>
-    ensures { IfOk result (λ fits. AreByMore planned.now.priced pairs.now fits.items) }
+) -> Result<Vec<Fit>, AllocError>
+    requires { All (IsPairOf planned.now.problem) pairs.now }
+    ensures by_more { IfOk result (λ fits. AreByMore numbers planned.now.priced pairs.now fits.items) }
+    ensures fitting { IfOk result (λ fits. All (IsFoundFit numbers planned.now) fits.items) }
 {
-    let bounds = planned.bounds();
-    let mut fits = fitting(alloc, planned.cells(), pairs)?;
-    fits.sort_by_key(|pair| more_of(&bounds, *pair))?;
+    let fitting = fitting(alloc, planned.cells(), pairs)?;
+    let mut fits = found(alloc, numbers, planned, &fitting)?;
+    fits.sort_by_key(|fit| fit.more)?;
     Ok(fits)
+}
+
+/// Pairs that fail no test, each with what plans with it cost more.
+fn found(
+    alloc: Global,
+    numbers: Numbers,
+    planned: &CertifiedPlan,
+    fitting: &[(usize, usize)],
+) -> Result<Vec<Fit>, AllocError>
+    requires { All (IsFitting planned.now) fitting.now }
+    ensures pairs { IfOk result (λ found. map (λ fit. fit.pair) found.items ≡ fitting.now) }
+    ensures fitting { IfOk result (λ found. All (IsFoundFit numbers planned.now) found.items) }
+{
+    let mut found = Vec::with_capacity(alloc, fitting.len())?;
+    for pair in fitting {
+        let pair = *pair;
+        let more = more_of(alloc, numbers, planned, pair)?;
+        found.push(Fit { pair, more })?;
+    }
+    Ok(found)
 }
 
 /// Those of the pairs that fail no test.
@@ -90,14 +117,15 @@ fn passes_all(cells: &Cells, pair: (usize, usize)) -> bool
 fn push_fits(
     text: &mut String,
     style: Style,
+    numbers: Numbers,
     planned: &CertifiedPlan,
-    fits: &[(usize, usize)],
+    fits: &[Fit],
 ) -> Result<(), AllocError>
-    requires { All (IsFitting planned.now) fits.now }
-    ensures { OnOk result (AddsFitsLines style planned.now fits.now (string_bytes text.old) (string_bytes text.new)) }
+    requires { All (IsFoundFit numbers planned.now) fits.now }
+    ensures { OnOk result (AddsFitsLines style numbers planned.now fits.now (string_bytes text.old) (string_bytes text.new)) }
 {
-    for pair in fits {
-        push_fits_line(text, style, planned, *pair)?;
+    for fit in fits {
+        push_fits_line(text, style, numbers, planned, *fit)?;
     }
     Ok(())
 }

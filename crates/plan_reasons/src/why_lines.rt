@@ -6,6 +6,7 @@ ghost use Rattle.plan_reasons.specs.inner.Added.{AddsOrderLines, AddsWagonLines}
 ghost use Rattle.plan_reasons.specs.inner.Tallied.{AreTallies};
 
 use crate::certified_plan::CertifiedPlan;
+use crate::numbers::Numbers;
 use crate::order_line::{missed, push_order_line};
 use crate::style::{Style, end_line, first_number, number_field, push_field};
 use crate::tallies::Tallies;
@@ -14,29 +15,35 @@ use cost_table::cost;
 use itoa::Buffer;
 use std::alloc::{AllocError, Global};
 
-/// Why a plan is as it is, by the prices that are its certificate. In a text of words it is `why VERSION FREE ORDERS COST GO
-/// STAY MISS`, then `order NAME LACKS GETS MISSES CLASS LOAD WAY TIME CHEAPER PRICE FURTHER` for each order as placed, then
-/// `wagon NUMBER ORDER KM ARRIVAL WITHOUT` for each wagon that goes, in the plan's order. As JSON each line is an object with
-/// the members `why`, `free`, `orders`, `cost`, `go`, `stay`, `miss`; `order`, `lacks`, `gets`, `misses`, `class`, `load`,
-/// `way`, `time`, `cheaper`, `price`, `further`; or `wagon`, `order`, `km`, `arrival`, `without`.
+/// Why a plan is as it is. In a text of words it is `why VERSION FREE ORDERS COST GO STAY MISS`, then `order NAME LACKS GETS
+/// MISSES CLASS LOAD WAY TIME CHEAPER MORE LESS FURTHER` for each order as placed, then `wagon NUMBER ORDER KM ARRIVAL WITHOUT`
+/// for each wagon that goes, in the plan's order. As JSON each line is an object with the members `why`, `free`, `orders`, `cost`,
+/// `go`, `stay`, `miss`; `order`, `lacks`, `gets`, `misses`, `class`, `load`, `way`, `time`, `cheaper`, `more`, `less`, `further`;
+/// or `wagon`, `order`, `km`, `arrival`, `without`.
 ///
-/// `CLASS` to `CHEAPER` are how many free wagons pass each test for the order, one after the other. `PRICE` is what every plan
-/// costs more, at least, where the order lacks one wagon more, and what any plan saves, at most, where it lacks one less.
-/// `FURTHER` is what every plan costs more, at least, that gives the order more wagons: `-` (in JSON null) where it misses
-/// none, and `none` where no plan does. `WITHOUT` is what every plan costs more, at least, in which the wagon stays.
+/// `CLASS` to `CHEAPER` are how many free wagons pass each test for the order, one after the other. `MORE` is what the best plan
+/// costs more where the order lacks one wagon more: `-` (in JSON null) where a table may not have one more. `LESS` is what the
+/// best plan costs less where it lacks one less. `FURTHER` is what every plan costs more, at least, that gives the order more
+/// wagons: `-` where it misses none, and `none` where no plan does. `WITHOUT` is what the best plan costs more in which the wagon
+/// stays.
+///
+/// Where bounds are asked for, `PRICE`, as JSON `price`, stands in place of `MORE LESS`: what every plan costs more, at least,
+/// where the order lacks one wagon more, and what any plan saves, at most, where it lacks one less. `WITHOUT` is what every plan
+/// costs more, at least, in which the wagon stays.
 pub fn why_text(
     alloc: Global,
     style: Style,
+    numbers: Numbers,
     version: u64,
     planned: &CertifiedPlan,
 ) -> Result<String, AllocError>
-    ensures { IfOk result (λ text. IsWhyText style version planned.now.network planned.now.problem planned.now.priced (string_bytes text)) }
+    ensures { IfOk result (λ text. IsWhyText style numbers version planned.now.network planned.now.problem planned.now.priced (string_bytes text)) }
 {
     let mut text = String::new(alloc);
     let tallies = Tallies::new(alloc, planned)?;
     push_why_line(&mut text, style, version, planned, &tallies)?;
-    push_orders(alloc, &mut text, style, planned, &tallies)?;
-    push_wagons(&mut text, style, planned)?;
+    push_orders(alloc, &mut text, style, numbers, planned, &tallies)?;
+    push_wagons(alloc, &mut text, style, numbers, planned)?;
     Ok(text)
 }
 
@@ -123,24 +130,31 @@ fn push_orders(
     alloc: Global,
     text: &mut String,
     style: Style,
+    numbers: Numbers,
     planned: &CertifiedPlan,
     tallies: &Tallies,
 ) -> Result<(), AllocError>
     requires { AreTallies planned.now tallies.now }
-    ensures { OnOk result (AddsOrderLines style planned.now (length planned.now.problem.orders) (string_bytes text.old) (string_bytes text.new)) }
+    ensures { OnOk result (AddsOrderLines style numbers planned.now (length planned.now.problem.orders) (string_bytes text.old) (string_bytes text.new)) }
 {
     for j in 0..planned.problem().orders().len() {
-        push_order_line(alloc, text, style, planned, tallies, j)?;
+        push_order_line(alloc, text, style, numbers, planned, tallies, j)?;
     }
     Ok(())
 }
 
 /// Adds the line of each wagon that goes.
-fn push_wagons(text: &mut String, style: Style, planned: &CertifiedPlan) -> Result<(), AllocError>
-    ensures { OnOk result (AddsWagonLines style planned.now planned.now.priced.pairs (string_bytes text.old) (string_bytes text.new)) }
+fn push_wagons(
+    alloc: Global,
+    text: &mut String,
+    style: Style,
+    numbers: Numbers,
+    planned: &CertifiedPlan,
+) -> Result<(), AllocError>
+    ensures { OnOk result (AddsWagonLines style numbers planned.now planned.now.priced.pairs (string_bytes text.old) (string_bytes text.new)) }
 {
     for pair in planned.plan().pairs() {
-        push_wagon_line(text, style, planned, *pair)?;
+        push_wagon_line(alloc, text, style, numbers, planned, *pair)?;
     }
     Ok(())
 }

@@ -3,6 +3,7 @@ use Rattle.std.specs.Prelude.{◌≡◌, ℕ, List}
 use Rattle.std.specs.List.{range_with_len}
 use Rattle.rail_codes.specs.Moment.{IsMomentText}
 use Rattle.reply_texts.specs.Lines.{Adds, AreLines}
+use Rattle.plan_reasons.specs.declared.numbers.Numbers.{Numbers}
 use Rattle.plan_reasons.specs.declared.style.Style.{Style}
 use Rattle.plan_reasons.specs.CertifiedPlan.{CertifiedPlanValue}
 use Rattle.plan_reasons.specs.Fields.{field, quoted}
@@ -21,16 +22,16 @@ pub record IsMomentField (style : Style) (name : List ℕ) (seconds : ℕ) (writ
   pub whole : written ≡ field style name (quoted style text)
 
 -- the line of an order, or of a wagon that goes, was added to a text
-abbrev pub AddsOrderLine : Style → CertifiedPlanValue → (j : ℕ) → (old new : List ℕ) → Type 0
-AddsOrderLine style planned j = Adds (IsOrderLine style planned.network planned.problem planned.priced j)
+abbrev pub AddsOrderLine : Style → Numbers → CertifiedPlanValue → (j : ℕ) → (old new : List ℕ) → Type 0
+AddsOrderLine style numbers planned j = Adds (IsOrderLine style numbers planned.network planned.problem planned.priced j)
 
-abbrev pub AddsWagonLine : Style → CertifiedPlanValue → (pair : ℕ × ℕ) → (old new : List ℕ) → Type 0
-AddsWagonLine style planned pair = Adds (IsWagonLine style planned.network planned.problem planned.priced pair)
+abbrev pub AddsWagonLine : Style → Numbers → CertifiedPlanValue → (pair : ℕ × ℕ) → (old new : List ℕ) → Type 0
+AddsWagonLine style numbers planned pair = Adds (IsWagonLine style numbers planned.network planned.problem planned.priced pair)
 
 -- the lines of the first n orders, or of the wagons of these pairs
-abbrev pub AddsOrderLines : Style → CertifiedPlanValue → (n : ℕ) → (old new : List ℕ) → Type 0
-AddsOrderLines style planned n =
-    Adds (AreLines (IsOrderLine style planned.network planned.problem planned.priced) (range_with_len 0 n))
+abbrev pub AddsOrderLines : Style → Numbers → CertifiedPlanValue → (n : ℕ) → (old new : List ℕ) → Type 0
+AddsOrderLines style numbers planned n =
+    Adds (AreLines (IsOrderLine style numbers planned.network planned.problem planned.priced) (range_with_len 0 n))
 
-abbrev pub AddsWagonLines : Style → CertifiedPlanValue → (pairs : List (ℕ × ℕ)) → (old new : List ℕ) → Type 0
-AddsWagonLines style planned pairs = Adds (AreLines (IsWagonLine style planned.network planned.problem planned.priced) pairs)
+abbrev pub AddsWagonLines : Style → Numbers → CertifiedPlanValue → (pairs : List (ℕ × ℕ)) → (old new : List ℕ) → Type 0
+AddsWagonLines style numbers planned pairs = Adds (AreLines (IsWagonLine style numbers planned.network planned.problem planned.priced) pairs)

@@ -6,11 +6,14 @@ use Rattle.line_network.specs.Network.{NetworkValue}
 use Rattle.move_messages.specs.Order.{Order}
 use Rattle.reply_texts.specs.Lines.{Adds, AreLines}
 use Rattle.wagons_and_orders.specs.declared.free_wagon.FreeWagon.{FreeWagon}
+use Rattle.plan_reasons.specs.declared.fit.Fit.{Fit}
 use Rattle.plan_reasons.specs.declared.line_form.LineForm.{LineForm}
 use Rattle.plan_reasons.specs.declared.reasons.Test.{Test}
+use Rattle.plan_reasons.specs.declared.numbers.Numbers.{Numbers}
 use Rattle.plan_reasons.specs.declared.style.Style.{Style}
 use Rattle.plan_reasons.specs.CertifiedPlan.{CertifiedPlanValue}
 use Rattle.plan_reasons.specs.Fields.{field}
+use Rattle.plan_reasons.specs.Numbers.{IsMoreOf}
 use Rattle.plan_reasons.specs.PlaceFields.{names_of}
 use Rattle.plan_reasons.specs.Pairs.{IsArrivalValue, IsFailedLine, IsFitsLine, IsTestLine}
 use Rattle.plan_reasons.specs.PairLists.{ArePairLines, IsOwnLine, passes_all}
@@ -22,6 +25,10 @@ IsPairOf problem pair = (pair.0 < length problem.wagons) × (pair.1 < length pro
 -- one that fails no test, or fails one
 abbrev pub IsFitting : CertifiedPlanValue → ℕ × ℕ → Type 0
 IsFitting planned pair = IsPairOf planned.problem pair × IsTrue (passes_all planned.priced.table pair)
+
+-- one that fails no test, with what plans with it cost more
+abbrev pub IsFoundFit : Numbers → CertifiedPlanValue → Fit → Type 0
+IsFoundFit numbers planned fit = IsFitting planned fit.pair × IsMoreOf numbers planned.priced fit.pair fit.more
 
 abbrev pub IsFailing : CertifiedPlanValue → ℕ × ℕ → Type 0
 IsFailing planned pair = IsPairOf planned.problem pair × (passes_all planned.priced.table pair ≡ false)
@@ -41,23 +48,23 @@ abbrev pub AddsTestLine : LineForm → NetworkValue → (at : ℕ) → FreeWagon
 AddsTestLine form net at wagon order test = Adds (IsTestLine form.style (names_of form) net at wagon order test)
 
 -- the line of a pair was added to a text
-abbrev pub AddsFitsLine : Style → CertifiedPlanValue → (pair : ℕ × ℕ) → (old new : List ℕ) → Type 0
-AddsFitsLine style planned pair = Adds (IsFitsLine style planned.network planned.problem planned.priced pair)
+abbrev pub AddsFitsLine : Style → Numbers → CertifiedPlanValue → Fit → (old new : List ℕ) → Type 0
+AddsFitsLine style numbers planned fit = Adds (IsFitsLine style numbers planned.network planned.problem planned.priced fit)
 
 abbrev pub AddsFailedLine : LineForm → CertifiedPlanValue → (pair : ℕ × ℕ) → (old new : List ℕ) → Type 0
 AddsFailedLine form planned pair = Adds (IsFailedLine form.style (names_of form) planned.network planned.problem pair)
 
 -- the lines of pairs
-abbrev pub AddsFitsLines : Style → CertifiedPlanValue → (pairs : List (ℕ × ℕ)) → (old new : List ℕ) → Type 0
-AddsFitsLines style planned pairs = Adds (AreLines (IsFitsLine style planned.network planned.problem planned.priced) pairs)
+abbrev pub AddsFitsLines : Style → Numbers → CertifiedPlanValue → (fits : List Fit) → (old new : List ℕ) → Type 0
+AddsFitsLines style numbers planned fits = Adds (AreLines (IsFitsLine style numbers planned.network planned.problem planned.priced) fits)
 
 abbrev pub AddsFailedLines : LineForm → CertifiedPlanValue → (pairs : List (ℕ × ℕ)) → (old new : List ℕ) → Type 0
 AddsFailedLines form planned pairs = Adds (AreLines (IsFailedLine form.style (names_of form) planned.network planned.problem) pairs)
 
-abbrev pub AddsPairLines : LineForm → CertifiedPlanValue → (pairs : List (ℕ × ℕ)) → (old new : List ℕ) → Type 0
-AddsPairLines form planned pairs = Adds (ArePairLines form.style (names_of form) planned.network planned.problem planned.priced pairs)
+abbrev pub AddsPairLines : LineForm → Numbers → CertifiedPlanValue → (pairs : List (ℕ × ℕ)) → (old new : List ℕ) → Type 0
+AddsPairLines form numbers planned pairs = Adds (ArePairLines form.style numbers (names_of form) planned.network planned.problem planned.priced pairs)
 
 -- the line of a wagon
-abbrev pub AddsOwnLine : Style → CertifiedPlanValue → (i : ℕ) → (old new : List ℕ) → Type 0
-AddsOwnLine style planned i =
-    Adds (IsOwnLine style planned.network planned.problem planned.priced i (find (λ pair. pair.0 == i) planned.priced.pairs))
+abbrev pub AddsOwnLine : Style → Numbers → CertifiedPlanValue → (i : ℕ) → (old new : List ℕ) → Type 0
+AddsOwnLine style numbers planned i =
+    Adds (IsOwnLine style numbers planned.network planned.problem planned.priced i (find (λ pair. pair.0 == i) planned.priced.pairs))

@@ -13,4 +13,4 @@ push_pairs-requires c =
 
 pub returns : goal.returns
 returns c =
-    text_of_order c.args.form.now.style (names_of c.args.form.now) c.args.planned.now.network c.args.planned.now.problem c.args.planned.now.priced _ _ _ _ c.new-text.ensures.bytes (c.in_ok-push_pairs.ensures {u = tt}) c.args.j (c.deref.ensures.value ∙ c.in_ok-pairs.ensures ∙ ap (λ (p : ProblemValue). pairs_of_order p c.args.j) c.problem.ensures.value) (c.in_ok-push_order_line.ensures {u = tt})
+    text_of_order c.args.form.now.style c.args.numbers (names_of c.args.form.now) c.args.planned.now.network c.args.planned.now.problem c.args.planned.now.priced _ _ _ _ c.new-text.ensures.bytes (c.in_ok-push_pairs.ensures {u = tt}) c.args.j (c.deref.ensures.value ∙ c.in_ok-pairs.ensures ∙ ap (λ (p : ProblemValue). pairs_of_order p c.args.j) c.problem.ensures.value) (c.in_ok-push_order_line.ensures {u = tt})

@@ -15,9 +15,9 @@ push_wagon_line-requires c =
 pub returns-in-Some : goal.returns-in-Some
 returns-in-Some c =
     let same = c.pair_with.ensures ∙ ap (find (λ (q : ℕ × ℕ). q.0 == c.args.i)) (c.pairs.ensures.pairs ∙ c.plan.ensures.value) in
-    on_ok_weaker c.push_wagon_line.result (goes_line c.args.style c.args.planned.now.network c.args.planned.now.problem c.args.planned.now.priced c.args.i _ _ _ _ (sym c.in-Some.is ∙ same)) c.push_wagon_line.ensures
+    on_ok_weaker c.push_wagon_line.result (goes_line c.args.style c.args.numbers c.args.planned.now.network c.args.planned.now.problem c.args.planned.now.priced c.args.i _ _ _ _ (sym c.in-Some.is ∙ same)) c.push_wagon_line.ensures
 
 pub returns-in-None : goal.returns-in-None
 returns-in-None c =
     let same = c.pair_with.ensures ∙ ap (find (λ (q : ℕ × ℕ). q.0 == c.args.i)) (c.pairs.ensures.pairs ∙ c.plan.ensures.value) in
-    on_ok_weaker c.push_stays.result (stays_there c.args.style c.args.planned.now.network c.args.planned.now.problem c.args.planned.now.priced c.args.i _ _ _ (sym c.in-None.is ∙ same)) (subst (λ (p : ProblemValue). OnOk c.push_stays.result (string_bytes c.push_stays.new.text ≡ string_bytes c.args.text.now ++ stays_line c.args.style p c.args.i)) c.problem.ensures.value c.push_stays.ensures)
+    on_ok_weaker c.push_stays.result (stays_there c.args.style c.args.numbers c.args.planned.now.network c.args.planned.now.problem c.args.planned.now.priced c.args.i _ _ _ (sym c.in-None.is ∙ same)) (subst (λ (p : ProblemValue). OnOk c.push_stays.result (string_bytes c.push_stays.new.text ≡ string_bytes c.args.text.now ++ stays_line c.args.style p c.args.i)) c.problem.ensures.value c.push_stays.ensures)

@@ -4,4 +4,4 @@ use Rattle.plan_reasons.proofs.wagon_line.push_wagon_line.Goals as goal
 
 pub returns : goal.returns
 returns c =
-    on_ok_weaker c.push_without.result (λ last. line_of_wagon c.args.style c.args.planned.now.network c.args.planned.now.problem c.args.planned.now.priced c.args.pair c.journey_of-journey.result _ _ _ _ c.journey_of-journey.ensures c.in_ok-push_wagon_fields.ensures c.in_ok-moment_field.ensures last) c.push_without.ensures
+    on_ok_weaker c.push_without.result (λ last. line_of_wagon c.args.style c.args.numbers c.args.planned.now.network c.args.planned.now.problem c.args.planned.now.priced c.args.pair c.journey_of-journey.result c.in_ok-without.without _ _ _ _ c.journey_of-journey.ensures c.in_ok-without.ensures c.in_ok-push_wagon_fields.ensures c.in_ok-moment_field.ensures last) c.push_without.ensures

@@ -13,7 +13,7 @@ push_wagon_line-requires c =
 
 pub loop-pair-preserved : goal.loop-pair-preserved
 loop-pair-preserved c =
-    let is_line = IsWagonLine c.args.style c.args.planned.now.network c.args.planned.now.problem c.args.planned.now.priced in
+    let is_line = IsWagonLine c.args.style c.args.numbers c.args.planned.now.network c.args.planned.now.problem c.args.planned.now.priced in
     let pairs = c.pairs-pair-items.result.now in
     let i = c.loop-pair.pair-index in
     let pair : ℕ × ℕ = get_or pairs i (0, 0) in
