@@ -12,18 +12,22 @@ use Rattle.plan_reasons.specs.Reasons.{AreCounts}
 use Rattle.plan_reasons.specs.Journeys.{IsJourney}
 use Rattle.plan_table.specs.declared.plan_list.PlanList.{PlanList}
 use Rattle.plan_table.specs.declared.plan_list.Reason.{Reason}
-use Rattle.plan_table.specs.declared.plan_list.Reason.TheVariants.{Class, Load, Way, InTime, Cheaper, Elsewhere}
+use Rattle.plan_table.specs.declared.plan_list.Reason.TheVariants.{Past, Class, Load, Way, InTime, Cheaper, Elsewhere}
 use Rattle.plan_table.specs.declared.plan_list.Shortfall.{Shortfall}
 
 -- the first test that no more wagons pass than the order gets
-abbrev pub reason_of : (gets : ℕ) → Counts → Reason
-reason_of gets passed =
+abbrev pub failed_test : (gets : ℕ) → Counts → Reason
+failed_test gets passed =
     if nat_le passed.class gets then Class
     else if nat_le passed.load gets then Load
     else if nat_le passed.way gets then Way
     else if nat_le passed.in_time gets then InTime
     else if nat_le passed.cheaper gets then Cheaper
     else Elsewhere
+
+-- that the order's latest moment is before the plan's; else that test
+abbrev pub reason_of : (at latest gets : ℕ) → Counts → Reason
+reason_of at latest gets passed = if nat_lt latest at then Past else failed_test gets passed
 
 -- order j: how many wagons the plan gives it, how many it misses, and why
 pub record IsShortfall (net : NetworkValue) (problem : ProblemValue) (p : PricedPlan) (j : ℕ) (shortfall : Shortfall) : Type 0 where
@@ -36,7 +40,7 @@ pub record IsShortfall (net : NetworkValue) (problem : ProblemValue) (p : Priced
   pub missing : shortfall.missing ≡ missed p p.pairs j
   pub passed : Counts
   pub counted : AreCounts net problem.at problem.wagons wanted.order passed
-  pub reason : shortfall.reason ≡ reason_of (serves j p.pairs) passed
+  pub reason : shortfall.reason ≡ reason_of problem.at wanted.order.latest (serves j p.pairs) passed
 
 -- the orders that miss wagons, as placed
 abbrev pub short_orders : ProblemValue → PricedPlan → List ℕ

@@ -4,12 +4,13 @@ ghost use Rattle.std.specs.List.{AllZip};
 ghost use Rattle.cost_table.specs.Plan.{serves};
 ghost use Rattle.plan_reasons.specs.Journeys.{IsJourney};
 ghost use Rattle.plan_reasons.specs.OrderCounts.{AreOrderCounts};
-ghost use Rattle.plan_table.specs.ListOf.{IsListOf, IsShortfall, reason_of};
+ghost use Rattle.plan_table.specs.ListOf.{IsListOf, IsShortfall, failed_test, reason_of};
 ghost use Rattle.plan_table.specs.inner.Listed.{AreShortfalls, with_missing};
 
 use crate::plan_list::{PlanList, Reason, Shortfall};
 use cost_table::cost;
 use plan_reasons::{CertifiedPlan, Counts, Journey, journey_of, order_counts};
+use rail_codes::Moment;
 use std::alloc::{AllocError, Global};
 
 /// A plan of a version as a list: each wagon that goes with its way, in the plan's order; each order that misses wagons as
@@ -81,7 +82,7 @@ fn shortfall_of(planned: &CertifiedPlan, counts: &[Counts], j: usize) -> Shortfa
         gets,
         missing: u64::from(planned.cells().lack(j)).saturating_sub(gets),
         penalty: order.penalty(),
-        reason: reason_of(gets, &passed),
+        reason: reason_of(planned.problem().at(), order.latest(), gets, &passed),
     }
 }
 
@@ -100,9 +101,19 @@ fn given(pairs: &[(usize, usize)], j: usize) -> u64
     pairs.iter().filter(|pair| pair.1 == j).count() as u64
 }
 
+/// Why an order misses wagons at a moment.
+fn reason_of(at: Moment, latest: Moment, gets: u64, passed: &Counts) -> Reason
+    ensures { result ≡ reason_of at latest gets passed.now }
+{
+    if latest < at {
+        return Reason::Past;
+    }
+    failed_test(gets, passed)
+}
+
 /// The first test that no more wagons pass than an order gets.
-fn reason_of(gets: u64, passed: &Counts) -> Reason
-    ensures { result ≡ reason_of gets passed.now }
+fn failed_test(gets: u64, passed: &Counts) -> Reason
+    ensures { result ≡ failed_test gets passed.now }
 {
     if passed.class <= gets {
         Reason::Class

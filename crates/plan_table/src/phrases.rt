@@ -10,6 +10,7 @@ pub(crate) fn phrase(alloc: Global, gets: u64, reason: Reason) -> Result<String,
     ensures { IfOk result (λ text. string_bytes text ≡ reason_phrase gets reason) }
 {
     match reason {
+        Reason::Past => String::from_str(alloc, "its latest moment is past"),
         Reason::Class => none_that(alloc, gets, " has a class that it lists"),
         Reason::Load => none_that(alloc, gets, " of its classes carries its load"),
         Reason::Way => none_that(alloc, gets, " that suits it has a way to its place"),

@@ -3,9 +3,12 @@
 use plan_reasons::Journey;
 use rail_codes::{Moment, OrderId, Place};
 
-/// The first test that no wagon passes for an order, but those that it gets. A wagon that passes a test passes those before it.
+/// Why an order misses wagons: its latest moment is past; else the first test that no wagon passes for it, but those that it gets. A
+/// wagon that passes a test passes those before it.
 #[derive(Clone, Copy)]
 pub enum Reason {
+    /// The order's latest moment is past.
+    Past,
     /// The order lists the wagon's class.
     Class,
     /// The wagon carries the order's load.

@@ -1,7 +1,7 @@
 //! The text of a plan for people.
 ghost use Rattle.std.specs.Prelude.{◌≡◌, ◌++◌, ◌∷◌, IfOk, OnOk, decimal, map, string_bytes};
 ghost use Rattle.plan_table.specs.Cells.{shortfall_row, shortfall_titles};
-ghost use Rattle.plan_table.specs.TableText.{IsTableText, head_line, moment_words, shortfalls_text, sum_line, version_words};
+ghost use Rattle.plan_table.specs.TableText.{IsTableText, head_line, kilometres_of, moment_words, numbered, shortfalls_text, sum_line, sum_parts, version_words};
 ghost use Rattle.plan_table.specs.inner.Rows.{AddsHead, AddsJourneys, AreJourneyRows};
 
 use crate::plan_list::{PlanList, Shortfall};
@@ -30,8 +30,8 @@ const SHORTFALL_SIDES: [Side; 4] = [Side::Left, Side::Right, Side::Right, Side::
 /// A plan for people: `plan of version VERSION at MOMENT`, and below an empty line a table with a line for each wagon that
 /// goes, under the titles `wagon`, `class`, `from`, `to`, `km`, `minutes`, `arrival` and `order`. Where orders miss wagons
 /// there is a table of them behind another empty line, under the titles `order`, `missing`, `penalty` and `why`; the penalty
-/// is that of each missing wagon, in km. At the end stands `sum KM km` behind an empty line. A name of `places` stands behind
-/// its place.
+/// is that of each missing wagon, in km. At the end stands `sum KM km: DRIVEN km to drive, PENALTIES km of penalties` behind an
+/// empty line. A name of `places` stands behind its place.
 pub fn table_text(
     alloc: Global,
     places: &Places,
@@ -44,7 +44,7 @@ pub fn table_text(
     push_head(alloc, &mut text, clock, plan)?;
     push_journeys(alloc, &mut text, places, clock, &plan.journeys)?;
     push_shortfalls(alloc, &mut text, &plan.shortfalls)?;
-    push_sum(&mut text, plan.sum)?;
+    push_sum(&mut text, plan.sum, kilometres(&plan.journeys))?;
     Ok(text)
 }
 
@@ -153,12 +153,41 @@ fn shortfall_rows(alloc: Global, shortfalls: &[Shortfall]) -> Result<Vec<Row>, A
     Ok(rows)
 }
 
-/// Adds the sum.
-fn push_sum(text: &mut String, sum: u128) -> Result<(), AllocError>
-    ensures { OnOk result (string_bytes text.new ≡ string_bytes text.old ++ sum_line sum) }
+/// The kilometres of all wagons that go.
+fn kilometres(journeys: &[Journey]) -> u128
+    ensures { result ≡ kilometres_of journeys.now }
+{
+    let mut total: u128 = 0;
+    for journey in journeys {
+        total += u128::from(journey.km);
+    }
+    total
+}
+
+/// Adds the sum, how much of it is driven, and how much of it is penalties.
+fn push_sum(text: &mut String, sum: u128, driven: u128) -> Result<(), AllocError>
+    ensures { OnOk result (string_bytes text.new ≡ string_bytes text.old ++ sum_line sum driven) }
+{
+    push_words(text, "\nsum ", sum)?;
+    push_parts(text, driven, sum.saturating_sub(driven))
+}
+
+/// Adds the parts of the sum.
+fn push_parts(text: &mut String, driven: u128, penalties: u128) -> Result<(), AllocError>
+    ensures { OnOk result (string_bytes text.new ≡ string_bytes text.old ++ sum_parts driven penalties) }
+{
+    push_words(text, " km: ", driven)?;
+    push_words(text, " km to drive, ", penalties)?;
+    text.push_str(" km of penalties\n")?;
+    Ok(())
+}
+
+/// Adds words, and a number behind them.
+#[tactic(auto, unfolding(crate::specs::TableText::numbered))]
+fn push_words(text: &mut String, words: &str, number: u128) -> Result<(), AllocError>
+    ensures { OnOk result (string_bytes text.new ≡ string_bytes text.old ++ numbered words.now number) }
 {
     let mut digits = Buffer::new();
-    text.push_str("\nsum ")?;
-    text.push_str(digits.format(sum))?;
-    text.push_str(" km\n")
+    text.push_str(words)?;
+    text.push_str(digits.format(number))
 }

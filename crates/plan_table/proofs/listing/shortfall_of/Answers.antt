@@ -39,5 +39,5 @@ returns c =
       missing = c.saturating_sub.ensures ∙ ap₂ (λ (a b : ℕ). a - b) (c.from.ensures ∙ c.lack.ensures.value ∙ ap (λ (t : Table). lack_at t j) c.cells.ensures) gets;
       passed = c.passed_at-passed.result;
       counted = AllZip-both (λ wanted passed. AreCounts net problem.at problem.wagons wanted.order passed) problem.orders c.args.counts.now j wanted c.passed_at-passed.result c.requires.counts order c.passed_at-passed.ensures;
-      reason = c.reason_of.ensures ∙ ap (λ (g : ℕ). reason_of g c.passed_at-passed.result) gets;
+      reason = c.reason_of.ensures ∙ ap₂ (λ (at latest : ℕ). reason_of at latest c.given-gets.result c.passed_at-passed.result) (c.at.ensures ∙ ap (λ (p : ProblemValue). p.at) c.problem-2.ensures.value) (c.latest.ensures ∙ ap (λ (o : Order). o.latest) same) ∙ ap (λ (g : ℕ). reason_of problem.at wanted.order.latest g c.passed_at-passed.result) gets;
     }
