@@ -1,0 +1,10 @@
+pub mod Asked
+pub mod Events
+pub mod Steps
+pub mod Traces
+pub mod Laws
+pub mod Cells
+pub mod WagonSteps
+pub mod OrderSteps
+pub mod TraceText
+pub mod inner
