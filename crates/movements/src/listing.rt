@@ -34,7 +34,7 @@ pub fn list_of_movements(
     state: &OfficeState,
     tables: &Tables,
     at: Moment,
-    choice: &Choice,
+    choice: &Choice<'_>,
 ) -> Result<MovementList, AllocError>
     ensures { IfOk result (IsListOf version state.now.office tables.now at choice.now) }
 {
@@ -56,7 +56,7 @@ fn kept_movements(
     state: &OfficeState,
     tables: &Tables,
     at: Moment,
-    choice: &Choice,
+    choice: &Choice<'_>,
 ) -> Result<Vec<Movement>, AllocError>
     ensures { IfOk result (λ kept. AreKept tables.now at state.now.office choice.now kept.items) }
 {
@@ -68,7 +68,7 @@ fn kept_movements(
 fn movements_of_choice(
     alloc: Global,
     movements: &[Movement],
-    choice: &Choice,
+    choice: &Choice<'_>,
 ) -> Result<Vec<Movement>, AllocError>
     ensures { IfOk result (λ kept. kept.items ≡ filter (keeps_movement choice.now) movements.now) }
 {
@@ -153,7 +153,7 @@ fn kept_orders(
     alloc: Global,
     rows: &[OrderRow],
     at: Moment,
-    choice: &Choice,
+    choice: &Choice<'_>,
 ) -> Result<Vec<OrderNeed>, AllocError>
     ensures { IfOk result (λ kept. kept.items ≡ listed_orders at choice.now rows.now) }
 {
@@ -176,7 +176,7 @@ fn kept_silent(
     alloc: Global,
     rows: &[WagonRow],
     at: Moment,
-    choice: &Choice,
+    choice: &Choice<'_>,
 ) -> Result<Vec<SilentWagon>, AllocError>
     ensures { IfOk result (λ kept. kept.items ≡ listed_silent at choice.now rows.now) }
 {
@@ -192,7 +192,7 @@ fn silent_for(
     rows: &[WagonRow],
     at: Moment,
     hours: u64,
-    choice: &Choice,
+    choice: &Choice<'_>,
 ) -> Result<Vec<SilentWagon>, AllocError>
     ensures { IfOk result (λ kept. kept.items ≡ filter (keeps_silent choice.now) (silent_wagons at (Some hours) rows.now)) }
 {
