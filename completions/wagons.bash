@@ -1,7 +1,7 @@
 # Completion of wagons for bash.
 _wagons() {
     local current=${COMP_WORDS[COMP_CWORD]} previous=${COMP_WORDS[COMP_CWORD - 1]} word=${COMP_WORDS[1]}
-    local words='check solve run feed moves fleet orders map plan table why review save explain'
+    local words='check solve run feed moves fleet orders trace map plan table why review save explain'
     local office='--roster --from --network --entries --kept --workers --help'
     # bash parts `--roster=FILE` at its sign.
     if [ "$current" = = ]; then
@@ -16,17 +16,18 @@ _wagons() {
     fi
     case $previous in
         --roster | --from | --network | --with | --places) mapfile -t COMPREPLY < <(compgen -f -- "$current"); return ;;
-        --entries | --kept | --workers | --at | --upto | --without | --order | --wagon | --class | --zone | --silent | --line-bytes) return ;;
+        --entries | --kept | --workers | --at | --upto | --without | --order | --wagon | --class | --zone | --company | --silent | --line-bytes) return ;;
     esac
     case $word in
         run) ;;
         review) office+=' --places' ;;
-        moves) office+=' --at --places --zone --csv --json --late --order --wagon --silent' ;;
+        moves) office+=' --at --places --zone --csv --json --late --order --wagon --company --silent' ;;
         fleet | orders) office+=' --places --zone --csv --json' ;;
+        trace) office+=' --places --zone --csv --json --order --wagon' ;;
         map) office+=' --places --busy --order --class' ;;
         plan) office+=' --at --places --zone --csv' ;;
         table) office+=' --at' ;;
-        why) office+=' --at --places --order --wagon --json' ;;
+        why) office+=' --at --places --order --wagon --json --quick' ;;
         save) office+=' --upto --with --without' ;;
         feed) [[ $current == -* ]] || { mapfile -t COMPREPLY < <(compgen -f -- "$current"); return; } ;;
         check | solve) office='--line-bytes --help' ;;

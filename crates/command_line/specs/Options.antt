@@ -15,12 +15,16 @@ use Rattle.command_line.specs.declared.office_options.Start.TheVariants as start
 use Rattle.command_line.specs.declared.plan_options.PlanOptions.{PlanOptions}
 use Rattle.command_line.specs.declared.review_options.ReviewOptions.{ReviewOptions}
 use Rattle.command_line.specs.declared.state_options.StateOptions.{StateOptions}
+use Rattle.command_line.specs.declared.trace_options.Followed.{Followed}
+use Rattle.command_line.specs.declared.trace_options.Followed.TheVariants as followed
+use Rattle.command_line.specs.declared.trace_options.TraceOptions.{TraceOptions}
 use Rattle.command_line.specs.declared.why_options.Asked.{Asked}
 use Rattle.command_line.specs.declared.why_options.Asked.TheVariants.{Plan, Order, Wagon}
 use Rattle.command_line.specs.declared.why_options.WhyOptions.{WhyOptions}
 use Rattle.line_engine.specs.Lines.{largest_line_limit}
 use Rattle.price_checker.specs.Limits.{LimitNumbers, max_entries, max_kept_problems}
 use Rattle.rail_codes.specs.ClassCode.{class_code_of}
+use Rattle.rail_codes.specs.Company.{company_of}
 use Rattle.rail_codes.specs.Moment.{moment_of}
 use Rattle.rail_codes.specs.OrderId.{order_id_of}
 use Rattle.rail_codes.specs.WagonNumber.{wagon_number_of}
@@ -81,8 +85,19 @@ pub record AreStateOptions (given : Given) (options : StateOptions) : Type 0 whe
   pub csv : IsFlagOf (codes "csv") given options.csv
   pub json : IsFlagOf (codes "json") given options.json
 
--- how promised wagons are listed, and which: those that are late, those of one wagon or order, with those not heard from for so
--- many hours
+-- what a trace follows: the order that `order` says, else the wagon that `wagon` says
+abbrev pub IsFollowed : Given → Followed → Type 0
+IsFollowed given (followed.Order id) = IsReadAs order_id_of (value_of (codes "order") given) (Some id)
+IsFollowed given (followed.Wagon number) =
+    (value_of (codes "order") given ≡ None) × (wagon_number_of (needed_value (codes "wagon") given) ≡ Ok number)
+
+-- how a trace is printed, and what it follows
+pub record AreTraceOptions (given : Given) (options : TraceOptions) : Type 0 where
+  pub state : AreStateOptions given options.state
+  pub followed : IsFollowed given options.followed
+
+-- how promised wagons are listed, and which: those that are late, those of one wagon, order or company, with those not heard from
+-- for so many hours
 pub record AreMovesOptions (given : Given) (options : MovesOptions) : Type 0 where
   pub problem : AreProblemOptions given options.problem
   pub places : lent options.places ≡ value_of (codes "places") given
@@ -93,6 +108,7 @@ pub record AreMovesOptions (given : Given) (options : MovesOptions) : Type 0 whe
   pub late : IsFlagOf (codes "late") given options.late
   pub wagon : IsReadAs wagon_number_of (value_of (codes "wagon") given) options.wagon
   pub order : IsReadAs order_id_of (value_of (codes "order") given) options.order
+  pub company : IsReadAs company_of (value_of (codes "company") given) options.company
   pub silent : IsOptionalNumberOf (codes "silent") given options.silent
   pub silent_range : IfSome options.silent (λ hours. (1 ≤ hours) × (hours ≤ max_silent_hours))
 
@@ -111,12 +127,13 @@ IsAsked given (Wagon number) =
     (value_of (codes "order") given ≡ None) × IsReadAs wagon_number_of (value_of (codes "wagon") given) (Some number)
 IsAsked given Plan = (value_of (codes "order") given ≡ None) × (value_of (codes "wagon") given ≡ None)
 
--- what is asked, with names of places, and whether JSON lines are printed
+-- what is asked, with names of places, whether JSON lines are printed, and whether bounds are printed alone
 pub record AreWhyOptions (given : Given) (options : WhyOptions) : Type 0 where
   pub problem : AreProblemOptions given options.problem
   pub places : lent options.places ≡ value_of (codes "places") given
   pub asked : IsAsked given options.asked
   pub json : IsFlagOf (codes "json") given options.json
+  pub quick : IsFlagOf (codes "quick") given options.quick
 
 -- what a map shows: names of places, quiet places or not, the order and the class that are shown alone
 pub record AreMapOptions (given : Given) (options : MapOptions) : Type 0 where

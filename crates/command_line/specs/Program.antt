@@ -39,7 +39,11 @@ of_a_state = some_places ∷ a_zone ∷ flag (codes "csv") ∷ flag (codes "json
 -- those of `moves` that say what is shown
 abbrev pub of_moves : List Rule
 of_moves =
-    flag (codes "late") ∷ valued (codes "order") ∷ valued (codes "wagon") ∷ number max_silent_hours (codes "silent") ∷ []
+    flag (codes "late")
+    ∷ valued (codes "order")
+    ∷ valued (codes "wagon")
+    ∷ valued (codes "company")
+    ∷ number max_silent_hours (codes "silent") ∷ []
 
 -- a word with these arguments
 abbrev pub word : Text → List Rule → Shape
@@ -55,12 +59,13 @@ words =
     ∷ word (codes "moves") (of_an_office ++ a_moment ∷ of_a_state ++ of_moves)
     ∷ word (codes "fleet") (of_an_office ++ of_a_state)
     ∷ word (codes "orders") (of_an_office ++ of_a_state)
+    ∷ word (codes "trace") (of_an_office ++ of_a_state ++ valued (codes "order") ∷ valued (codes "wagon") ∷ [])
     ∷ word (codes "map")
     (of_an_office ++ some_places ∷ flag (codes "busy") ∷ valued (codes "order") ∷ valued (codes "class") ∷ [])
     ∷ word (codes "plan") (of_an_office ++ a_moment ∷ some_places ∷ a_zone ∷ flag (codes "csv") ∷ [])
     ∷ word (codes "table") (of_an_office ++ a_moment ∷ [])
     ∷ word (codes "why")
-    (of_an_office ++ a_moment ∷ some_places ∷ valued (codes "order") ∷ valued (codes "wagon") ∷ flag (codes "json") ∷ [])
+    (of_an_office ++ a_moment ∷ some_places ∷ valued (codes "order") ∷ valued (codes "wagon") ∷ flag (codes "json") ∷ flag (codes "quick") ∷ [])
     ∷ word (codes "review") (of_an_office ++ some_places ∷ [])
     ∷ word (codes "save")
     (of_an_office ++ number max_input_lines (codes "upto") ∷ valued (codes "with") ∷ repeated (codes "without") ∷ [])

@@ -2,7 +2,7 @@
 use Rattle.std.specs.Prelude.{◌≡◌, List, codes, Option, Some, None}
 use Rattle.clap.specs.Simple.{subcommand_of}
 use Rattle.command_line.specs.Explained.{IsExplained}
-use Rattle.command_line.specs.Options.{AreFeedOptions, AreLineOptions, AreMapOptions, AreMovesOptions, AreOfficeOptions, ArePlanOptions, AreProblemOptions, AreReviewOptions, AreSaveOptions, AreStateOptions, AreWhyOptions}
+use Rattle.command_line.specs.Options.{AreFeedOptions, AreLineOptions, AreMapOptions, AreMovesOptions, AreOfficeOptions, ArePlanOptions, AreProblemOptions, AreReviewOptions, AreSaveOptions, AreStateOptions, AreTraceOptions, AreWhyOptions}
 use Rattle.command_line.specs.Program.{program}
 use Rattle.command_line.specs.Values.{Given, Text}
 use Rattle.command_line.specs.declared.words.Word.{Word}
@@ -18,6 +18,7 @@ IsWordOf name given (asked.Feed options) = (name ≡ codes "feed") × AreFeedOpt
 IsWordOf name given (asked.Moves options) = (name ≡ codes "moves") × AreMovesOptions given options
 IsWordOf name given (asked.Fleet options) = (name ≡ codes "fleet") × AreStateOptions given options
 IsWordOf name given (asked.Orders options) = (name ≡ codes "orders") × AreStateOptions given options
+IsWordOf name given (asked.Trace options) = (name ≡ codes "trace") × AreTraceOptions given options
 IsWordOf name given (asked.Map options) = (name ≡ codes "map") × AreMapOptions given options
 IsWordOf name given (asked.Plan options) = (name ≡ codes "plan") × ArePlanOptions given options
 IsWordOf name given (asked.Table options) = (name ≡ codes "table") × AreProblemOptions given options

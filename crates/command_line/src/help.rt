@@ -155,6 +155,27 @@ pub(crate) const ORDERS: WordHelp = WordHelp {
     groups: &[START, PRINTED],
 };
 
+/// The help of `trace`.
+pub(crate) const TRACE: WordHelp = WordHelp {
+    name: "trace",
+    about: "Shows what happened to a wagon or an order: commands in, a table out",
+    long_about: "Reads the fleet and the network from files, then commands from standard input\n\
+     as `run` does, without a reply. At the end prints a table with a row for each\n\
+     line that changed or named the wagon or the order: the line's number, its entry\n\
+     or the refusal's number, what it said, who sent it and when, and what the office\n\
+     knew before and after: for a wagon its status, its place, whether it was held,\n\
+     and its order; for an order its state and its wagons.\n\
+     Exits with 0, also where a line was refused, or with 2 where it could not run or\n\
+     stopped; then there is no table.",
+    example: "Examples:\n  \
+     wagons trace --wagon 318127710016 --roster roster.csv \\\n    \
+     --network network.csv --places places.csv < day.jsonl\n  \
+     wagons trace --json --order MALT-1 --roster roster.csv \\\n    \
+     --network network.csv < day.jsonl",
+    arguments: &[OFFICE, STATE, &[TRACE_ORDER, TRACE_WAGON]],
+    groups: &[START, PRINTED, FOLLOWED],
+};
+
 /// The help of `map`.
 pub(crate) const MAP: WordHelp = WordHelp {
     name: "map",
@@ -213,19 +234,20 @@ pub(crate) const TABLE: WordHelp = WordHelp {
 /// The help of `why`.
 pub(crate) const WHY: WordHelp = WordHelp {
     name: "why",
-    about: "Says why a plan is as it is: commands in, reasons and bounds out",
+    about: "Says why a plan is as it is: commands in, reasons and costs out",
     long_about: "Reads the fleet and the network from files, then commands from standard input\n\
      as `run` does, without a reply. At the end plans the problem at a moment and\n\
-     says for each order how many free wagons pass which test, and for each order\n\
-     and each wagon that goes what other plans cost more, at least, in kilometres.\n\
-     With `--order` or `--wagon` it says which test each pair fails, and what the\n\
-     plans with the other pairs cost more, at least.\n\
+     says for each order how many free wagons pass which test, and what one wagon\n\
+     more or less for it costs or saves; and for each wagon that goes, what the best\n\
+     plan without it costs more, in kilometres. With `--order` or `--wagon` it says\n\
+     which test each pair fails, and of the others what the best plan with that pair\n\
+     costs more. `--quick` gives bounds in place of exact numbers.\n\
      Exits with 0, also where a line was refused, or with 2 where it could not run or\n\
      stopped; then nothing is said.",
     example: "Example:\n  \
      wagons why --at 2026-03-02T11:00:00Z --roster roster.csv \\\n    \
      --network network.csv < day.jsonl",
-    arguments: &[OFFICE, &[AT, PLACES, ORDER, WAGON, JSON]],
+    arguments: &[OFFICE, &[AT, PLACES, ORDER, WAGON, JSON, QUICK]],
     groups: &[START, ASKED],
 };
 
@@ -462,7 +484,7 @@ const ORDER: Argument = Argument {
     help: "Only this order, with each free wagon",
     long_help: Some(
         "Only this order: which test each free wagon fails, and of the others\n\
-     what every plan costs more, at least, in which it goes there",
+     what the best plan costs more in which it goes there",
     ),
 };
 
@@ -473,8 +495,7 @@ const WAGON: Argument = Argument {
     help: "Only this free wagon, with each waiting order",
     long_help: Some(
         "Only this free wagon: which test it fails for each waiting order, and\n\
-     of the others what every plan costs more, at least, in which it goes\n\
-     there",
+     of the others what the best plan costs more in which it goes there",
     ),
 };
 
@@ -503,6 +524,44 @@ const WAGON_ALONE: Argument = Argument {
     takes: Takes::Value("NUMBER"),
     help: "Only this wagon, and no order",
     long_help: None,
+};
+
+/// The company whose wagons are shown alone.
+const COMPANY: Argument = Argument {
+    name: "company",
+    takes: Takes::Value("CODE"),
+    help: "Only wagons that this company moved last, and no order",
+    long_help: Some(
+        "Only the wagons whose last accepted message this company sent, and\n\
+     no order",
+    ),
+};
+
+/// The order that is followed.
+const TRACE_ORDER: Argument = Argument {
+    name: "order",
+    takes: Takes::Value("NAME"),
+    help: "What happened to this order",
+    long_help: None,
+};
+
+/// The wagon that is followed.
+const TRACE_WAGON: Argument = Argument {
+    name: "wagon",
+    takes: Takes::Value("NUMBER"),
+    help: "What happened to this wagon",
+    long_help: None,
+};
+
+/// Whether bounds are printed in place of exact numbers.
+const QUICK: Argument = Argument {
+    name: "quick",
+    takes: Takes::Nothing,
+    help: "Bounds, without a plan for each number",
+    long_help: Some(
+        "Prints what other plans cost more, at least, by the plan's own\n\
+     prices; without it each number is exact, by a plan of its own",
+    ),
 };
 
 /// For how long a wagon was not heard from.
@@ -554,7 +613,7 @@ const OFFICE: &[Argument] = &[ROSTER, FROM, NETWORK, ENTRIES, KEPT, WORKERS];
 const STATE: &[Argument] = &[PLACES, ZONE, CSV, JSON];
 
 /// The arguments that say what `moves` shows.
-const MOVES_CHOICE: &[Argument] = &[LATE, ORDER_ALONE, WAGON_ALONE, SILENT];
+const MOVES_CHOICE: &[Argument] = &[LATE, ORDER_ALONE, WAGON_ALONE, COMPANY, SILENT];
 
 /// An office begins with a roster or with a checkpoint.
 const START: Group = Group {
@@ -568,6 +627,13 @@ const PRINTED: Group = Group {
     name: "printed",
     options: ["csv", "json"],
     required: false,
+};
+
+/// An order is followed, or a wagon.
+const FOLLOWED: Group = Group {
+    name: "followed",
+    options: ["order", "wagon"],
+    required: true,
 };
 
 /// An order is asked about, or a wagon, or neither.

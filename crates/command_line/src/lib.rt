@@ -12,6 +12,7 @@ mod office_options;
 mod plan_options;
 mod review_options;
 mod state_options;
+mod trace_options;
 mod values;
 mod why_options;
 mod words;
@@ -26,5 +27,6 @@ pub use office_options::{FeedOptions, OfficeOptions, ProblemOptions, SaveOptions
 pub use plan_options::PlanOptions;
 pub use review_options::ReviewOptions;
 pub use state_options::StateOptions;
+pub use trace_options::{Followed, TraceOptions};
 pub use why_options::{Asked, WhyOptions};
 pub use words::{Word, not_utf8, read_words};

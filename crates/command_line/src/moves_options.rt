@@ -8,7 +8,7 @@ use crate::values::{code_of, is_given, number_if_given, value_of};
 use crate::zone::zone_of;
 use clap::error::ErrorKind;
 use clap::{ArgMatches, Command, Error};
-use rail_codes::{OrderId, WagonNumber};
+use rail_codes::{Company, OrderId, WagonNumber};
 use std::alloc::{AllocError, Global};
 
 /// The most hours after which a wagon that was not heard from is shown.
@@ -36,18 +36,21 @@ pub struct MovesOptions<'a> {
     pub wagon: Option<WagonNumber>,
     /// The order that is shown alone. `clap` has refused a wagon and an order before.
     pub order: Option<OrderId>,
+    /// The company whose wagons are shown alone: those whose last accepted message it sent.
+    pub company: Option<Company>,
     /// After how many hours, 1 to 100,000, a wagon that was not heard from is shown; none where no such wagon is.
     pub silent: Option<u64>,
 }
 
 impl<'a> MovesOptions<'a> {
-    /// The options that were given. A moment, a wagon's number or an order's name that is none, or a time zone whose name
-    /// can't be one, is a fault of the arguments.
+    /// The options that were given. A moment, a wagon's number, an order's name or a company that is none, or a time zone
+    /// whose name can't be one, is a fault of the arguments.
     pub(crate) fn read(alloc: Global, matches: &ArgMatches<'a>) -> Result<MovesOptions<'a>, Error>
         ensures { IfOk result (AreMovesOptions (given_in matches.now)) }
     {
         let wagon = code_of::<WagonNumber>(alloc, MOVES, "wagon", "--wagon <NUMBER>", matches)?;
         let order = code_of::<OrderId>(alloc, MOVES, "order", "--order <NAME>", matches)?;
+        let company = code_of::<Company>(alloc, MOVES, "company", "--company <CODE>", matches)?;
         let silent = silent_of(alloc, matches)?;
         let zone = zone_of(alloc, MOVES, matches)?;
         let problem = ProblemOptions::read(alloc, MOVES, matches)?;
@@ -60,6 +63,7 @@ impl<'a> MovesOptions<'a> {
             late: is_given(matches, "late"),
             wagon,
             order,
+            company,
             silent,
         })
     }

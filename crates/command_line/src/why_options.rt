@@ -34,6 +34,8 @@ pub struct WhyOptions<'a> {
     pub asked: Asked,
     /// Whether JSON lines are printed.
     pub json: bool,
+    /// Whether bounds are printed, without a plan for each number.
+    pub quick: bool,
 }
 
 impl<'a> WhyOptions<'a> {
@@ -48,6 +50,7 @@ impl<'a> WhyOptions<'a> {
             places: value_of(matches, "places"),
             asked,
             json: is_given(matches, "json"),
+            quick: is_given(matches, "quick"),
         })
     }
 }

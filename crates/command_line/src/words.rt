@@ -17,6 +17,7 @@ use crate::office_options::{FeedOptions, OfficeOptions, ProblemOptions, SaveOpti
 use crate::plan_options::PlanOptions;
 use crate::review_options::ReviewOptions;
 use crate::state_options::StateOptions;
+use crate::trace_options::TraceOptions;
 use crate::why_options::WhyOptions;
 use clap::error::ErrorKind;
 use clap::{ArgMatches, Command, Error};
@@ -24,7 +25,7 @@ use std::alloc::{AllocError, Global};
 use std::convert::AsStr;
 
 /// The words, in the order in which help lists them.
-const WORDS: [WordHelp; 14] = [
+const WORDS: [WordHelp; 15] = [
     help::CHECK,
     help::SOLVE,
     help::RUN,
@@ -32,6 +33,7 @@ const WORDS: [WordHelp; 14] = [
     help::MOVES,
     help::FLEET,
     help::ORDERS,
+    help::TRACE,
     help::MAP,
     help::PLAN,
     help::TABLE,
@@ -61,6 +63,8 @@ pub enum Word<'a> {
     Fleet(StateOptions<'a>),
     /// Bring the command lines of standard input to an office, and print its orders.
     Orders(StateOptions<'a>),
+    /// Bring the command lines of standard input to an office, and print what happened to a wagon or an order.
+    Trace(TraceOptions<'a>),
     /// Bring the command lines of standard input to an office, and draw it.
     Map(MapOptions<'a>),
     /// Bring the command lines of standard input to an office, plan it, and print the plan for people.
@@ -111,6 +115,7 @@ fn read_word<'a>(alloc: Global, name: &str, options: &ArgMatches<'a>) -> Result<
         "moves" => Ok(Word::Moves(MovesOptions::read(alloc, options)?)),
         "fleet" => Ok(Word::Fleet(StateOptions::read(alloc, "wagons fleet", options)?)),
         "orders" => Ok(Word::Orders(StateOptions::read(alloc, "wagons orders", options)?)),
+        "trace" => Ok(Word::Trace(TraceOptions::read(alloc, options)?)),
         "map" => Ok(Word::Map(MapOptions::read(alloc, options)?)),
         "plan" => Ok(Word::Plan(PlanOptions::read(alloc, options)?)),
         "table" => Ok(Word::Table(ProblemOptions::read(alloc, "wagons table", options)?)),
@@ -161,7 +166,7 @@ fn ungrouped_line<'a>(alloc: Global) -> Result<Command<'a>, AllocError>
 }
 
 /// The table of words. A proof goes over it here, and nowhere else.
-fn words() -> [WordHelp; 14]
+fn words() -> [WordHelp; 15]
     ensures { map shape_for result ≡ words }
 {
     WORDS
