@@ -1,1 +1,2 @@
 pub mod ZoneBytes
+pub mod MoverLemmas

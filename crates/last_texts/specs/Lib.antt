@@ -6,3 +6,5 @@ pub mod MapOfLast
 pub mod SavedOfLast
 pub mod StateOfLast
 pub mod MovesOfLast
+pub mod Movers
+pub mod TraceShown

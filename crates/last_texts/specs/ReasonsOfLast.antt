@@ -16,6 +16,8 @@ use Rattle.plan_bounds.specs.PricedPlan.{IsCertified, PricedPlan}
 use Rattle.plan_reasons.specs.PairLists.{IsOrderText, IsWagonText}
 use Rattle.plan_reasons.specs.WhyText.{IsWhyText}
 use Rattle.plan_reasons.specs.CertifiedPlan.{CertifiedPlanValue}
+use Rattle.plan_reasons.specs.declared.numbers.Numbers.{Numbers}
+use Rattle.plan_reasons.specs.declared.numbers.Numbers.TheVariants.{Exact, Bounds}
 use Rattle.plan_reasons.specs.declared.style.Style.{Style}
 use Rattle.plan_reasons.specs.declared.style.Style.TheVariants.{Text, Json}
 use Rattle.problem_table.specs.Allowed.{IsTableOf}
@@ -25,14 +27,19 @@ abbrev pub style_of : (json : Bool) → Style
 style_of true = Json
 style_of false = Text
 
+-- which numbers are printed
+abbrev pub numbers_of : (quick : Bool) → Numbers
+numbers_of true = Bounds
+numbers_of false = Exact
+
 -- the text that answers what is asked about a plan of a problem: of the whole, of a waiting order, or of a free wagon, with the
 -- names of places where they are asked for
-abbrev pub IsAnswer : Style → (names : Option (List NamedPlace)) → Asked → (last : ℕ) → NetworkValue → ProblemValue → PricedPlan → (text : List ℕ) → Type 0
-IsAnswer style names Plan last network problem plan text = IsWhyText style last network problem plan text
-IsAnswer style names (Order id) last network problem plan text =
-    (j : ℕ) × (slice_get (order_names problem.orders) j ≡ Some id) × IsOrderText style names network problem plan j text
-IsAnswer style names (Wagon number) last network problem plan text =
-    (i : ℕ) × (slice_get (wagon_names problem.wagons) i ≡ Some number) × IsWagonText style names network problem plan i text
+abbrev pub IsAnswer : Style → Numbers → (names : Option (List NamedPlace)) → Asked → (last : ℕ) → NetworkValue → ProblemValue → PricedPlan → (text : List ℕ) → Type 0
+IsAnswer style numbers names Plan last network problem plan text = IsWhyText style numbers last network problem plan text
+IsAnswer style numbers names (Order id) last network problem plan text =
+    (j : ℕ) × (slice_get (order_names problem.orders) j ≡ Some id) × IsOrderText style numbers names network problem plan j text
+IsAnswer style numbers names (Wagon number) last network problem plan text =
+    (i : ℕ) × (slice_get (wagon_names problem.wagons) i ≡ Some number) × IsWagonText style numbers names network problem plan i text
 
 -- why nothing answers what is asked about a problem: no order waits by this name, or no wagon is free by this number
 abbrev pub IsLacking : Asked → ProblemValue → (why : Stop) → Type 0
@@ -43,7 +50,7 @@ IsLacking (Wagon number) problem why = ((i : ℕ) → slice_get (wagon_names pro
 -- the same of a planned problem, by the options of `why`
 abbrev pub IsAnswerFor : WhyOptions → (names : Option (List NamedPlace)) → (last : ℕ) → CertifiedPlanValue → (text : List ℕ) → Type 0
 IsAnswerFor options names last planned text =
-    IsAnswer (style_of options.json) names options.asked last planned.network planned.problem planned.priced text
+    IsAnswer (style_of options.json) (numbers_of options.quick) names options.asked last planned.network planned.problem planned.priced text
 
 -- The problem of the last version at a moment, over the network in force, has a plan whose prices show that none costs less;
 -- and the text answers what is asked about that plan.
@@ -53,7 +60,7 @@ pub record AreReasonsOfLast (setting : Setting) (history : List Event) (options 
   pub plan : PricedPlan
   pub table : IsTableOf network (problem_at setting history (length history) options.problem.at) plan.table
   pub certified : IsCertified plan
-  pub answers : IsAnswer (style_of options.json) names options.asked (length history) network (problem_at setting history (length history) options.problem.at) plan text
+  pub answers : IsAnswer (style_of options.json) (numbers_of options.quick) names options.asked (length history) network (problem_at setting history (length history) options.problem.at) plan text
 
 -- why there are none: the problem of the last version lacks what is asked about, or memory was refused
 abbrev pub AreNoReasonsOfLast : Setting → List Event → WhyOptions → (why : Stop) → Type 0

@@ -1,13 +1,15 @@
 //! What the words of the program print of a book's last version: its problem, its plan, the reasons of that plan, its map,
-//! its promised movements, its wagons and orders, and its checkpoint.
+//! its promised movements, its wagons and orders, and its checkpoint; and the trace of what happened to a wagon or an order.
 #![tactic(auto)]
 
 mod map;
+mod movers;
 mod moves;
 mod plan;
 mod save;
 mod state;
 mod table;
+mod trace;
 mod why;
 mod zone;
 
@@ -17,5 +19,6 @@ pub use plan::last_plan_text;
 pub use save::last_saved;
 pub use state::{last_fleet, last_orders};
 pub use table::last_table;
+pub use trace::shown_trace;
 pub use why::last_reasons;
 pub use zone::{ZoneFile, read_zone};

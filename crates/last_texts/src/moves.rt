@@ -1,12 +1,14 @@
 //! The promised movements of a book's last version.
-ghost use Rattle.std.specs.Prelude.{◌≡◌, IfErr, IfOk, Some, option_copied};
+ghost use Rattle.std.specs.Prelude.{◌≡◌, IfErr, IfOk, Some, option_copied, option_map};
 ghost use Rattle.commit_book.specs.Books.{present_office};
 ghost use Rattle.last_texts.specs.MovesOfLast.{AreMovesIn, AreMovesOf, IsMovesTextOfLast, choice_of};
+ghost use Rattle.last_texts.specs.Movers.{wagons_moved_by};
 ghost use Rattle.last_texts.specs.ZoneClock.{HasZoneFor, IsNoClock, IsReadFor, name_of};
 ghost use Rattle.line_network.specs.Networks.{network_at};
 ghost use Rattle.movements.specs.FormText.{IsFormText};
 ghost use Rattle.office_files.specs.declared.stop.Stop.TheVariants.{OutOfMemory};
 
+use crate::movers::wagons_moved_by;
 use crate::state::form_of;
 use crate::zone::{ZoneFile, clock_of};
 use command_line::MovesOptions;
@@ -15,7 +17,8 @@ use line_network::Tables;
 use movements::{Choice, MovementList, list_of_movements, movements_text};
 use office_files::Stop;
 use place_names::Places;
-use std::alloc::Global;
+use rail_codes::{Company, WagonNumber};
+use std::alloc::{AllocError, Global};
 use text_tables::{Clock, Form};
 
 /// The promised movements of a book's last version at a moment, over the network in force, then its orders, then the wagons that
@@ -77,7 +80,8 @@ fn last_list(alloc: Global, book: &Book, options: &MovesOptions<'_>) -> Result<M
 {
     let tables = tables_in_force(book);
     let (state, at) = (book.state(), options.problem.at);
-    let choice = choice_of(options);
+    let moved = wagons_of(alloc, book, options.company)?;
+    let choice = choice_of(options, lent(&moved));
     Ok(list_of_movements(alloc, book.len(), state, tables, at, &choice)?)
 }
 
@@ -88,14 +92,39 @@ fn tables_in_force(book: &Book) -> &Tables
     book.networks().get(book.state().network()).unwrap()
 }
 
-/// Which movements are asked for.
-fn choice_of(options: &MovesOptions<'_>) -> Choice
-    ensures { result ≡ choice_of options.now }
+/// The wagons that a company moved last, where one is asked for.
+fn wagons_of(
+    alloc: Global,
+    book: &Book,
+    company: Option<Company>,
+) -> Result<Option<Vec<WagonNumber>>, AllocError>
+    ensures { IfOk result (λ wagons. option_map (λ some. some.items) wagons ≡ option_map (λ company. wagons_moved_by book.now.state.history company (present_office book.now).office.wagons) company) }
+{
+    match company {
+        Some(company) => Ok(Some(wagons_moved_by(alloc, book, company)?)),
+        None => Ok(None),
+    }
+}
+
+/// Wagons, lent.
+fn lent(wagons: &Option<Vec<WagonNumber>>) -> Option<&[WagonNumber]>
+    ensures { option_map (λ some. some.now) result ≡ option_map (λ some. some.items) wagons.now }
+{
+    match wagons {
+        Some(wagons) => Some(wagons.as_slice()),
+        None => None,
+    }
+}
+
+/// Which movements are asked for, where these wagons are listed alone.
+fn choice_of<'a>(options: &MovesOptions<'_>, among: Option<&'a [WagonNumber]>) -> Choice<'a>
+    ensures { result ≡ choice_of options.now among.entry }
 {
     Choice {
         late: options.late,
         wagon: options.wagon,
         order: options.order,
+        among,
         silent: options.silent,
     }
 }

@@ -1,6 +1,6 @@
 //! Why the plan of a book's last version is as it is.
 ghost use Rattle.std.specs.Prelude.{◌≡◌, ◌⊎◌, IfErr, IfOk, option_copied, string_bytes};
-ghost use Rattle.last_texts.specs.ReasonsOfLast.{AreNoReasonsOfLast, AreReasonsOfLast, IsAnswerFor, IsLacking, style_of};
+ghost use Rattle.last_texts.specs.ReasonsOfLast.{AreNoReasonsOfLast, AreReasonsOfLast, IsAnswerFor, IsLacking, numbers_of, style_of};
 ghost use Rattle.office_files.specs.declared.stop.Stop.TheVariants.{OutOfMemory};
 
 use command_line::{Asked, WhyOptions};
@@ -8,13 +8,15 @@ use commit_book::Book;
 use office_files::Stop;
 use place_names::Places;
 use plan_reasons::{
-    CertifiedPlan, LineForm, Style, find_order, find_wagon, order_text, wagon_text, why_text,
+    CertifiedPlan, LineForm, Numbers, Style, find_order, find_wagon, order_text, wagon_text,
+    why_text,
 };
 use std::alloc::Global;
 
 /// What is asked about a plan of a book's last version at a moment, over the network in force, with the names of places where they
-/// are asked for. Refused with `OrderNotInProblem` or `WagonNotInProblem` (84) where the problem doesn't have what is asked about,
-/// else only with `OutOfMemory` (1). The problem is kept by the book, as a begin keeps it.
+/// are asked for. Its numbers are exact, or bounds where it is to be quick. Refused with `OrderNotInProblem` or `WagonNotInProblem`
+/// (84) where the problem doesn't have what is asked about, else only with `OutOfMemory` (1). The problem is kept by the book, as a
+/// begin keeps it.
 pub fn last_reasons(
     alloc: Global,
     book: &mut Book,
@@ -43,17 +45,29 @@ fn answer(
     ensures none { IfErr result (λ why. IsLacking options.now.asked planned.now.problem why ⊎ (why ≡ OutOfMemory)) }
 {
     let style = style_of(options.json);
+    let numbers = numbers_of(options.quick);
     let form = LineForm { style, names };
     match &options.asked {
-        Asked::Plan => Ok(why_text(alloc, style, version, planned)?),
+        Asked::Plan => Ok(why_text(alloc, style, numbers, version, planned)?),
         Asked::Order(id) => match find_order(planned.problem(), id) {
-            Some(j) => Ok(order_text(alloc, &form, planned, j)?),
+            Some(j) => Ok(order_text(alloc, &form, numbers, planned, j)?),
             None => Err(Stop::OrderNotInProblem(*id)),
         },
         Asked::Wagon(number) => match find_wagon(planned.problem(), number) {
-            Some(i) => Ok(wagon_text(alloc, &form, planned, i)?),
+            Some(i) => Ok(wagon_text(alloc, &form, numbers, planned, i)?),
             None => Err(Stop::WagonNotInProblem(*number)),
         },
+    }
+}
+
+/// Which numbers are printed.
+fn numbers_of(quick: bool) -> Numbers
+    ensures { result ≡ numbers_of quick }
+{
+    if quick {
+        Numbers::Bounds
+    } else {
+        Numbers::Exact
     }
 }
 

@@ -8,5 +8,6 @@ pub mod FirstLines
 pub mod OfLast
 pub mod Fed
 pub mod Explanation
+pub mod Traced
 pub mod Words
 pub mod Run

@@ -16,6 +16,7 @@ use Rattle.wagons_program.specs.Fed.{IsFedPrinted}
 use Rattle.wagons_program.specs.OfLast.{AreMovesPrinted, AreOrdersPrinted, AreReasonsPrinted, IsFleetPrinted, IsMapPrinted, IsPlanPrinted, IsSavedPrinted, IsTablePrinted}
 use Rattle.wagons_program.specs.Reviewed.{IsInputNotReviewed, IsInputReviewed}
 use Rattle.wagons_program.specs.Streams.{IsUnprinted, PrintsNothing, Streams}
+use Rattle.wagons_program.specs.Traced.{IsTracePrinted}
 
 -- A word came to its end with this status. What is known of a file are its bytes by its path; of an open file of a feed, those that
 -- it has left, and whether its reading failed.
@@ -27,6 +28,7 @@ IsDone bytes_at remaining has_failed (word.Feed options) given status = IsFedPri
 IsDone bytes_at remaining has_failed (word.Moves options) given status = AreMovesPrinted bytes_at options given status
 IsDone bytes_at remaining has_failed (word.Fleet options) given status = IsFleetPrinted bytes_at options given status
 IsDone bytes_at remaining has_failed (word.Orders options) given status = AreOrdersPrinted bytes_at options given status
+IsDone bytes_at remaining has_failed (word.Trace options) given status = IsTracePrinted bytes_at options given status
 IsDone bytes_at remaining has_failed (word.Map options) given status = IsMapPrinted bytes_at options given status
 IsDone bytes_at remaining has_failed (word.Plan options) given status = IsPlanPrinted bytes_at options given status
 IsDone bytes_at remaining has_failed (word.Table options) given status = IsTablePrinted bytes_at options given status
@@ -44,6 +46,7 @@ IsUndone bytes_at (word.Feed options) given why = IsUnprinted given why
 IsUndone bytes_at (word.Moves options) given why = IsUnprinted given why
 IsUndone bytes_at (word.Fleet options) given why = IsUnprinted given why
 IsUndone bytes_at (word.Orders options) given why = IsUnprinted given why
+IsUndone bytes_at (word.Trace options) given why = IsUnprinted given why
 IsUndone bytes_at (word.Map options) given why = IsUnprinted given why
 IsUndone bytes_at (word.Plan options) given why = IsUnprinted given why
 IsUndone bytes_at (word.Table options) given why = IsUnprinted given why

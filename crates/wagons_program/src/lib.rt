@@ -22,6 +22,7 @@ mod state;
 mod status;
 mod table;
 mod terminal;
+mod trace;
 mod why;
 
 pub use laws::{

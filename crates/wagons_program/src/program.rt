@@ -19,6 +19,7 @@ use crate::state::{fleet, orders};
 use crate::status::{DONE, STOPPED};
 use crate::table::table;
 use crate::terminal::{Terminal, TerminalInput};
+use crate::trace::trace;
 use crate::why::why;
 use clap::Error;
 use clap::error::ErrorKind;
@@ -88,6 +89,7 @@ fn do_word<R: FileSystem + Threads + Wait + AllocGlobal + Sync, I: Read + Drop, 
         Word::Moves(options) => moves(rt, options, input, &mut output.device),
         Word::Fleet(options) => fleet(rt, options, input, &mut output.device),
         Word::Orders(options) => orders(rt, options, input, &mut output.device),
+        Word::Trace(options) => trace(rt, options, input, &mut output.device),
         Word::Map(options) => map(rt, options, input, &mut output.device),
         Word::Plan(options) => plan(rt, options, input, &mut output.device),
         Word::Table(options) => table(rt, options, input, &mut output.device),
