@@ -14,6 +14,7 @@ from running import DAY, WAGONS, Service, line, message, order
 
 LINES = (DAY / "day.jsonl").read_bytes().splitlines()
 PLACES = ["--places", str(DAY / "places.csv")]
+FALNS = "315466400019"
 # The page with a plan, for whoever wants to see it before it is tried.
 PICTURE = ROOT / "out" / "page.png"
 
@@ -64,8 +65,8 @@ def test_the_day_by_clicks(start: Start, browse: Browse) -> None:
     page.until(lambda: page.rows("#plan-table")[0][5], "an arrival")
     pairs = page.rows("#plan-table")
     assert pairs[0] == ["3181 2771 001-6", "MALT-1", "DE10001 Seehafen", "DE10003 Lindenau", "150", "2026-03-02T08:50:00Z",
-                        "The prices don't say what it costs to do without it."]
-    assert len(pairs) == 8 and any("Every plan in which it stays costs at least 300 km more." == pair[6] for pair in pairs)
+                        "The best plan without it costs 250 km more."]
+    assert len(pairs) == 8 and any("The best plan without it costs 300 km more." == pair[6] for pair in pairs)
     assert page.rows("#missing-table") == [["SALT-1", "1", "300", "Free wagons that suit and are there in time: 1. No plan gives it more."]]
     page.click("#accept")
     page.until_says("#said", "The plan is accepted: entry 8 of the book.")
@@ -328,6 +329,24 @@ def test_who_could_go(start: Start, browse: Browse) -> None:
     assert "km, as planned" in said and "of class Eanos, and Habbins is wanted" in said
 
 
+def test_what_happened(start: Start, browse: Browse) -> None:
+    service = start(options=PLACES).until_running()
+    service.post(LINES[:26])
+    page = browse(service).open("/#wagons")
+    page.until_says("#state", "version 20")
+    page.click('#wagons-table [data-row="318127710016"]')
+    page.until_says("#chosen-shown", "Habbins")
+    page.use('[data-key="trace wagon 318127710016"]', lambda button: button.click())
+    page.until_says("#reasons-head", "up to line 26")
+    said = [row.text for row in page.driver.find_elements(By.CSS_SELECTOR, "#reasons li")]
+    assert len(said) == 5 and said[0].startswith("line 26: yard_departure, 1001, ") and said[0].endswith(": on its way, empty at DE10002 Moorburg, promised to MALT-1")
+    assert said[1].endswith(": refused 33") and said[4].startswith("line 10: commit, ")
+    page.click('#short-table [data-row="SUGAR-1"]')
+    page.use('[data-key="trace order SUGAR-1"]', lambda button: button.click())
+    page.until_says("#reasons", "line 18: exception, 1003")
+    assert page.driver.find_elements(By.CSS_SELECTOR, "#reasons li")[0].text.endswith(": waiting, 1 missing")
+
+
 def test_tokens_are_asked_for(start: Start, browse: Browse, tmp_path: Path) -> None:
     (tmp_path / "tokens").write_text("a-token-to-read-with reader\nsend-by-this-token-1 dispatcher\nrailway-1001-token railway 1001\n")
     service = start(options=["--tokens", str(tmp_path / "tokens")]).until_running()
@@ -350,7 +369,39 @@ def test_tokens_are_asked_for(start: Start, browse: Browse, tmp_path: Path) -> N
     page.until(lambda: page.rows("#short-table")[0][0] == "O1", "the order")
     service.post(message("1001", 1, WAGONS[0]), "railway-1001-token")
     page.until_says("#state", "2 lines in journal 1")
-    for path in "/", "/office", "/network", "/wants", "/why?at=x", "/refusals":
+    for path in "/", "/office", "/network", "/wants", "/why?at=x", "/refusals", "/v1/stuck":
         assert service.get(path, "railway-1001-token").status == 403
     for path in "/office", "/network", "/wants", "/why?at=x", "/refusals", "/explain/82":
         assert service.get(path).status == 401
+
+
+def test_a_wagon_that_waits_for_a_lost_message(start: Start, browse: Browse) -> None:
+    service = start(options=[*PLACES, "--retry", "60"]).until_running()
+    # Its departure is lost.
+    service.post([line(kind="yard_arrival", company="1001", number=2, wagon=FALNS, place="DE10002", moment="2026-03-02T08:00:00Z"),
+                  line(kind="yard_departure", company="1001", number=3, wagon=FALNS, place="DE10002", moment="2026-03-02T09:00:00Z")])
+    page = browse(service).open()
+    page.until(lambda: page.rows("#stuck-table") == [["3154 6640 001-9", "empty", "Kiesgrube", "2"]], "a wagon that waits")
+    assert page.find("#stuck-count").text == "1"
+    page.click(f'#stuck-table [data-row="{FALNS}"]')
+    page.until_says("#chosen-shown", "2 messages, the first at")
+    page.until_says("#chosen-shown", 'refused 32: {"type":"yard_departure"')
+    # The dispatcher sends it by hand; the form knows the wagon, where it stands, and whose message was refused.
+    page.click('#chosen-shown [data-key="message"]')
+    page.until(lambda: page.find("#message-wagon").get_attribute("value") == FALNS, "the form")
+    assert [page.find(f"#message-{name}").get_attribute("value") for name in ("company", "place", "number", "moment")] == ["1001", "DE10006", "", ""]
+    page.choose("#message-type", "departure")
+    page.click("#message-send")
+    page.until_says('#message-form [data-field="number"]', "This field is missing.")
+    page.fill("#message-number", "1")
+    page.fill("#message-moment", "2026-03-01T07:00:00Z")
+    page.click("#message-send")
+    page.until_says('#message-form [data-field="moment"]', "Refused, 31 Earlier")
+    page.fill("#message-moment", "2026-03-02T07:00:00Z")
+    page.click("#message-send")
+    page.until_says("#said", "The message is accepted: entry 1 of the book.")
+    # What came early is offered again behind it.
+    page.until(lambda: page.rows("#stuck-table") == [], "no wagon that waits")
+    page.until_says("#chosen-shown", "on its way, empty")
+    assert [reply.split(" ", 1)[1] for reply in service.kept[-3:]] == ["accepted 1", "accepted 2", "accepted 3"]
+    assert page.faults == []

@@ -15,8 +15,8 @@ import pytest
 
 from conftest import Start
 from running import WAGONS, Service, message, order
-from wagons_service.company_index import CompanyIndex
-from wagons_service.journal import FileOfLines, KeptReplies
+from wagons_service.journal import Journal, KeptReplies
+from wagons_service.journal_index import JournalIndex
 from wagons_service.seldom import Seldom
 from wagons_service.senders import Role, Sender
 
@@ -84,9 +84,9 @@ def test_a_long_search_holds_up_nobody(start: Start, tokens: list[str], tmp_path
 def test_the_index_has_just_what_a_company_may_see(tmp_path: Path) -> None:
     odd = [message("1001", 1, WAGONS[0]), message("1002", 1, WAGONS[0]), order("O1"), b"x", b"", b"[]", b'{"type":["release"],"company":"1001"}', b'{"company":"1001"}',
            b'{"type":"release","company":"1002","company":"1001"}', b'{"type":"release","company":1001}', b'{"type":"rele\\u0061se","company":"1001"}', b"\xff", b"[" * 9000]
-    file = FileOfLines(str(tmp_path / "lines"))
-    file.append(odd * 40, is_synced=False)
-    index = CompanyIndex(file)
+    journal = Journal(str(tmp_path))
+    journal.lines.append(odd * 40, is_synced=False)
+    index = JournalIndex(journal.lines, journal.replies)
     for company in "1001", "1002", "1003":
         sender = Sender(Role.RAILWAY, company)
         seen = [number for number, line in enumerate(odd * 40, 1) if sender.may_see(line)]

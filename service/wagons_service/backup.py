@@ -14,11 +14,11 @@ from pathlib import Path
 
 from .archive import NotReadable, sync
 from .gauges import BACKED_UP
-from .journal import CHUNK, IDS, ORIGIN, Broken, Journal, KeptReplies, Unreadable
+from .journal import CHUNK, IDS, ORIGIN, WAGONS, Broken, Journal, KeptReplies, Unreadable
 from .options import Options
 from .program import DONE, Program, Replies
 
-ORDER = ("checkpoint.jsonl", "checksums.jsonl", "replies.jsonl", ORIGIN, "journal.jsonl", "senders.jsonl", IDS)
+ORDER = ("checkpoint.jsonl", WAGONS, "checksums.jsonl", "replies.jsonl", ORIGIN, "journal.jsonl", "senders.jsonl", IDS)
 # A checksum that is read while it is written may look spoiled, and a file may be compressed in between.
 TRIES = 3
 

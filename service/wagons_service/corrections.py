@@ -7,6 +7,7 @@ from contextlib import contextmanager
 from dataclasses import dataclass
 
 from .answers import Refusal
+from .senders import NOT_READ
 
 
 @dataclass(frozen=True, slots=True)
@@ -32,6 +33,12 @@ class Corrections:
 
     def __bool__(self) -> bool:
         return bool(self.rows or self.leaving)
+
+    @property
+    def wagons(self) -> list[str]:
+        """The wagons that are put right or leave."""
+        numbers = [row.partition(",")[0] for row in self.rows.splitlines()[1:]]
+        return [number.translate(NOT_READ) for number in (*numbers, *self.leaving)]
 
     @contextmanager
     def options(self) -> Iterator[tuple[list[str], Sequence[int]]]:

@@ -1,8 +1,9 @@
 """The journal: the lines as they came, each on disk before the office sees it, and the replies kept beside them.
 
 A folder has a folder for each journal, `1`, `2` and so on, with `journal.jsonl`, `replies.jsonl`, `checksums.jsonl` and
-`senders.jsonl` in it; the last one is written. All but the first have `checkpoint.jsonl`, from which their office begins. Lines are numbered from 1, as
-`wagons run` numbers them, so the journal is what the office read: `wagons run < journal.jsonl` gives the same replies.
+`senders.jsonl` in it; the last one is written. All but the first have `checkpoint.jsonl`, from which their office begins, and
+`wagons.jsonl`. Lines are numbered from 1, as `wagons run` numbers them, so the journal is what the office read:
+`wagons run < journal.jsonl` gives the same replies.
 """
 
 import fcntl
@@ -12,9 +13,10 @@ import re
 import shutil
 import time
 from array import array
-from collections.abc import Iterator, Sequence
+from collections.abc import Iterator, Mapping, Sequence
 from itertools import accumulate
 from operator import add
+from types import MappingProxyType
 
 from .archive import NotReadable, opened, unpack_all
 from .checksums import Changed, Checksums
@@ -27,6 +29,9 @@ BLANK = b" \t\r"
 CHUNK = 1 << 20
 # What a copy of a stream has beside a journal's lines: where the journal comes from, and the id of each line.
 ORIGIN, IDS = "stream.json", "ids"
+# What is known of wagons when a journal begins (`known_wagons.py`).
+WAGONS = "wagons.jsonl"
+NO_FILES: Mapping[str, bytes] = MappingProxyType({})
 RECORD = re.compile(rb'\{"number":([0-9]{1,9}),"reply":"[^\0]*\Z')
 
 
@@ -293,9 +298,9 @@ class Folder:
         """The last journal, or the one of a number."""
         return Journal(f"{self.path}/{number or self.last}", number or self.last)
 
-    def begin_next(self, checkpoint: bytes) -> None:
-        """Begins a new journal from a checkpoint. It is there wholly or, with `OSError`, not at all."""
-        self._begin({"checkpoint.jsonl": checkpoint})
+    def begin_next(self, checkpoint: bytes, files: Mapping[str, bytes] = NO_FILES) -> None:
+        """Begins a new journal from a checkpoint, with some files more. It is there wholly or, with `OSError`, not at all."""
+        self._begin({"checkpoint.jsonl": checkpoint, **files})
 
     def begin_again(self, number: int, files: dict[str, bytes]) -> None:
         """Begins the journal of a number with these files. What stands in its place, and behind it, is renamed."""
@@ -359,6 +364,7 @@ class Journal:
 
     def __init__(self, folder: str, number: int = 1) -> None:
         self.number = number
+        self.folder = folder
         checkpoint = f"{folder}/checkpoint.jsonl"
         self.checkpoint = checkpoint if os.path.exists(checkpoint) else None
         self.lines = FileOfLines(f"{folder}/journal.jsonl")

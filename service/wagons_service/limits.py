@@ -38,12 +38,14 @@ class Limits:
     next_at: int = 80
     answer_within: float = 30.0
     ahead: float = 24.0
+    # In minutes; 0 where nothing is kept aside.
+    retry: float = 0.0
     patience: float = 30.0
     share: Share = field(default_factory=Share)
 
     @classmethod
     def of(cls, given: argparse.Namespace) -> "Limits":
-        return cls(given.entries or DEFAULT_ENTRIES, given.next_at, given.answer_within, given.ahead, given.patience, given.share)
+        return cls(given.entries or DEFAULT_ENTRIES, given.next_at, given.answer_within, given.ahead, given.retry, given.patience, given.share)
 
 
 def add_arguments(parser: argparse.ArgumentParser) -> None:
@@ -54,6 +56,8 @@ def add_arguments(parser: argparse.ArgumentParser) -> None:
                         help="a program that gives no reply for so long is killed and started again; 30 where nothing is said")
     parser.add_argument("--ahead", metavar="HOURS", type=positive, default=defaults.ahead,
                         help="how far past this machine's clock the moment of a railway's message may be; 24 where nothing is said")
+    parser.add_argument("--retry", metavar="MINUTES", type=positive, default=defaults.retry,
+                        help="a message that came before the one that it follows is kept aside for so long, and offered again; not at all where nothing is said")
     parser.add_argument("--share", metavar="NAME=N,..", type=Share.read, default=defaults.share,
                         help="what each token may use: " + ",".join(f"{name.name}={getattr(defaults.share, name.name)}" for name in fields(Share)))
     parser.add_argument("--patience", metavar="SECONDS", type=positive, default=defaults.patience,

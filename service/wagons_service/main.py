@@ -78,6 +78,8 @@ async def serve(given: Options, seldom: Seldom) -> None:
     site = web.TCPSite(runner, given.host, given.port, shutdown_timeout=5)
     await site.start()
     service.start()
+    if server.retry:
+        server.retry.start()
     keep_small(service.folder, given.keep_days)
     gc.freeze()
     gc.set_threshold(OBJECTS_BETWEEN_SEARCHES)
@@ -89,6 +91,8 @@ async def serve(given: Options, seldom: Seldom) -> None:
     notify("STOPPING=1")
     log.info("ends")
     server.end_streams()
+    if server.retry:
+        server.retry.end()
     if xml:
         xml.end()
     await site.stop()

@@ -9,7 +9,7 @@ import math
 import time
 from bisect import bisect_right
 from collections import deque
-from collections.abc import Sequence
+from collections.abc import Callable, Sequence
 from contextlib import suppress
 from dataclasses import dataclass
 from enum import Enum
@@ -103,6 +103,8 @@ class Office:
         self.state = State.STARTING
         self.words = "the office is starting: it reads its journal"
         self.refused: deque[int] = deque(maxlen=LAST_REFUSALS)
+        # Is told of replies that weren't given before, also while the journal is read.
+        self.hear: Callable[[Replies], None] | None = None
         self._command = command
         self._program: Program | None = None
         # The same, also while it still reads the journal.
@@ -478,6 +480,8 @@ class Office:
         self._counted = replies.numbers[-1]
         self.metrics.count(replies)
         self.room.count(replies)
+        if self.hear:
+            self.hear(replies)
         refused = replies.refused
         lines = self.journal.lines.read(refused[0][0], refused[-1][0]).split(b"\n") if refused else []
         for number, text in refused:

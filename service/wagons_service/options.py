@@ -109,6 +109,8 @@ def read(arguments: Sequence[str]) -> Options:
             parser.error(f"argument --journal: {fault}")
         if given.map:
             parser.error("argument --map: XML is taken where the journal is a folder")
+        if given.retry:
+            parser.error("argument --retry: messages are kept aside where the journal is a folder")
         if given.lease < LEAST_LEASE:
             parser.error(f"argument --lease: {LEAST_LEASE} milliseconds are the least")
         if given.journal_lines is not None and not 0 < given.journal_lines <= MOST_JOURNAL_LINES:

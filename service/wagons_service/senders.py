@@ -25,6 +25,8 @@ MESSAGES = frozenset(
     ["release", "departure", "yard_arrival", "yard_departure", "exception", "arrival", "delivery"])
 COMPANY = re.compile("[0-9A-Z]{4}")
 NAME = re.compile("[A-Za-z0-9._-]{1,64}")
+# What the office doesn't read of a wagon's number.
+NOT_READ = str.maketrans("", "", " -")
 LEAST_TOKEN = 16
 # So many bytes of a line stand in a sentence about it.
 MOST_SAID = 300
@@ -129,13 +131,22 @@ def read(line: bytes) -> Any:
 
 def company_of(line: bytes) -> str | None:
     """Whose message a line is; of no company where it is none."""
+    message = message_of(line)
+    return message[0] if message else None
+
+
+def message_of(line: bytes) -> tuple[str, str] | None:
+    """Whose message a line is and of which wagon, whose number may have no digits where it isn't accepted."""
     try:
         fields = read(line)
     except ValueError:
         return None
     kind = fields.get("type") if isinstance(fields, dict) else None
     company = fields.get("company") if isinstance(kind, str) and kind in MESSAGES else None
-    return company if isinstance(company, str) and COMPANY.fullmatch(company) else None
+    if not isinstance(company, str) or not COMPANY.fullmatch(company):
+        return None
+    wagon = fields.get("wagon")
+    return company, wagon.translate(NOT_READ) if isinstance(wagon, str) else ""
 
 
 class Tokens:
@@ -174,6 +185,11 @@ class Tokens:
     def has(self, sender: Sender) -> bool:
         """Whether a token is still known, with the same role, and hasn't expired."""
         return sender in self._senders.values() and not sender.has_expired
+
+    def named(self, name: str, company: str) -> Sender | None:
+        """One of those who have a name, and who may send messages of a company."""
+        return next((it for it in self._senders.values() if it.name == name and it.role is not Role.READER and it.company in (None, company)
+                     and not it.has_expired), None)
 
     def find(self, token: str) -> Sender | None:
         """Whose token it is; nobody's where it has expired."""

@@ -122,5 +122,10 @@ class SentLines:
             self._found = self._read(self._places[place - 1]) if place else None
         return self._found if self._found and number <= self._found.last else None
 
+    def first_since(self, moment: str) -> int:
+        """The number of the first line that was taken at a moment or later, as records have it; past the last one where none was."""
+        place = bisect_left(self._places, moment, key=lambda place: found.taken if (found := self._read(place)) else "")
+        return self._firsts[place] if place < len(self._firsts) else self.last + 1
+
     def close(self) -> None:
         self._file.close()

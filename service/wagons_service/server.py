@@ -4,30 +4,30 @@ import asyncio
 import logging
 import time
 from collections import OrderedDict
-from collections.abc import Sequence
+from collections.abc import Mapping, Sequence
 from contextlib import suppress
 from dataclasses import dataclass
 from functools import lru_cache
 from http.cookies import CookieError, SimpleCookie
 from urllib.parse import urlsplit
-from weakref import WeakKeyDictionary
 
 from aiohttp import web
 
 from .answers import JSON_LINES, PAGE, Refusal, cut, number_in, page_end, sentence, with_lines
 from .bodies import Bodies, Body
-from .company_index import CompanyIndex
 from .corrections import Corrections
 from .front import Front, Handler, Request
 from .gauges import gauges
 from .identifiers import Identifiers
 from .journal import MOST_LINES, Journal, Unreadable, is_blank
 from .office import NotTaken, Office, Stopped
-from .old_journals import OldJournals
 from .pace import Pace
+from .railway_views import RailwayViews, Seen, events
+from .retry import Retry
 from .senders import ANYONE, Ahead, BadTokens, Forbidden, NoLine, Role, Sender, Tokens, is_loopback
 from .service import Service
 from .shares import Shares
+from .standings import Standings
 
 log = logging.getLogger("wagons-service")
 
@@ -41,6 +41,8 @@ OPEN_AT_ONCE = {"/events": "listeners", "/replies": "replies"}
 GONE = 499
 SECONDS_FOR_REPLIES = 60
 SECONDS_OF_SILENCE = 15
+# Where the program couldn't print what railways see, it is asked again after so long.
+SECONDS_BETWEEN_VIEWS = 5
 MOST_LISTENERS = 200
 # So many lines of a company are read at once, each by itself.
 NUMBERS_A_PAGE = 200
@@ -75,13 +77,16 @@ class Server:
         # Those of XML, where it is taken.
         self.identifiers: Identifiers | None = None
         self.shares = Shares(service.options.limits.share)
+        self.railway_views = RailwayViews(service)
+        self.standings = Standings(service)
+        self.retry = Retry(self, service.options.limits.retry) if service.options.limits.retry else None
+        if self.retry:
+            service.tell(self.retry.hear)
         self._bodies = Bodies(service.metrics)
         # The connections of which a request is being done.
         self.busy: set[asyncio.BaseProtocol] = set()
         self._streams: set[_Stream] = set()
         self._pace = Pace()
-        self._indexes: WeakKeyDictionary[Journal, CompanyIndex] = WeakKeyDictionary()
-        self._old_journals = OldJournals(service.folder)
         # Pages of events that were told last.
         self._told: OrderedDict[tuple[Journal, int, int, str | None], tuple[bytes, int]] = OrderedDict()
         self._front = Front()
@@ -115,6 +120,10 @@ class Server:
 
     def knows(self, token: str) -> bool:
         return self._tokens is None or self._tokens.find(token) is not None
+
+    def sender_named(self, name: str, company: str) -> Sender | None:
+        """One of those who have a name, and who may send messages of a company."""
+        return ANYONE if self._tokens is None else self._tokens.named(name, company)
 
     def end_streams(self) -> None:
         for stream in self._streams:
@@ -249,18 +258,16 @@ class Server:
             where = f"/replies?journal={office.journal.number}&from={numbers.start}"
             raise Refusal(503, f"{stopped}; lines {numbers.start} to {numbers[-1]} are in the journal, and their replies come at {where}") from None
 
-    @staticmethod
-    async def _kept(request: web.Request, headers: dict[str, str], kept: Sequence[tuple[Journal, int, int]]) -> web.StreamResponse:
+    async def _kept(self, request: web.Request, headers: dict[str, str], kept: Sequence[tuple[Journal, int, int]]) -> web.StreamResponse:
         """The replies to the lines of these numbers."""
         if len(kept) == 1 and page_end(*kept[0]) == kept[0][2]:
-            journal, first, last = kept[0]
-            return web.Response(body=journal.replies.read(first, last), headers=headers)
+            return web.Response(body=await self.standings.told(*kept[0]), headers=headers)
         response = web.StreamResponse(headers=headers)
         await response.prepare(request)
         for journal, first, last in kept:
             while first <= last:
                 end = page_end(journal, first, last)
-                await response.write(journal.replies.read(first, end))
+                await response.write(await self.standings.told(journal, first, end))
                 first = end + 1
         return response
 
@@ -275,16 +282,19 @@ class Server:
             return await self._replies(request, now)
         if not self.service.folder.has(number):
             raise Refusal(400, f"The journal {number} isn't kept here.")
-        return await self._replies(request, await self._old_journals.find(number))
+        return await self._replies(request, await self.service.known_wagons.old_journals.find(number))
 
     async def _replies(self, request: web.Request, journal: Journal) -> web.StreamResponse:
         first = number_in(request.query.get("from"), "from", 1)
-        last = min(number_in(request.query.get("to"), "to", MOST_LINES), journal.replies.last)
+        now = journal.replies.last
+        last = min(number_in(request.query.get("to"), "to", MOST_LINES), now)
+        sender: Sender = request["sender"]
         response = web.StreamResponse(headers={"Content-Type": JSON_LINES, "Cache-Control": "no-store", "Journal": str(journal.number)})
         await response.prepare(request)
         while first <= last:
-            page, first = await self._page(journal, first, last, request["sender"])
-            await response.write(b"".join(shown(journal, *told, request["sender"]) + b"\n" for told in page))
+            page, first = await self._page(journal, first, last, sender)
+            records = await self.standings.added(journal, [shown(journal, *told, sender) for told in page], now, sender)
+            await response.write(b"".join(record + b"\n" for record in records))
             await asyncio.sleep(0)
         return response
 
@@ -293,8 +303,7 @@ class Server:
         if sender.company is None:
             end = page_end(journal, first, last, page)
             return list(with_lines(journal, first, end, sender)), end + 1
-        index = self._indexes.setdefault(journal, CompanyIndex(journal.lines))
-        numbers = await index.numbers(sender.company, first, last, NUMBERS_A_PAGE)
+        numbers = await self.service.known_wagons.index(journal).numbers(sender.company, first, last, NUMBERS_A_PAGE)
         found = [told for number in numbers for told in with_lines(journal, number, number, sender)]
         return found, numbers[-1] + 1 if len(numbers) == NUMBERS_A_PAGE else last + 1
 
@@ -314,7 +323,7 @@ class Server:
         self._streams.add(stream)
         try:
             if journal == office.journal.number:
-                await self._tell(stream, office, first)
+                await self._tell_all(stream, office, first)
             else:
                 await response.write(NEXT)
         except ConnectionError:
@@ -324,8 +333,42 @@ class Server:
             self.metrics.listening -= 1
         return response
 
-    async def _tell(self, stream: _Stream, office: Office, first: int) -> None:
+    async def _tell_all(self, stream: _Stream, office: Office, first: int) -> None:
+        """Tells of replies and, to a railway, of its wagons."""
         await stream.response.write(b"retry: 1000\n\n")
+        wagons = asyncio.create_task(self._tell_wagons(stream, office, stream.sender.company)) if stream.sender.company else None
+        try:
+            await self._tell(stream, office, first)
+        finally:
+            if wagons:
+                wagons.cancel()
+                (fault,) = await asyncio.gather(wagons, return_exceptions=True)
+                if isinstance(fault, Exception) and not isinstance(fault, ConnectionError):
+                    log.error("a railway wasn't told of its wagons: %r", fault)
+
+    async def _tell_wagons(self, stream: _Stream, office: Office, company: str) -> None:
+        """Tells a railway of all its wagons, and then of what changes, until it is cancelled."""
+        line = -1
+        seen: Mapping[str, Seen] | None = None
+        while True:
+            try:
+                view = await self.railway_views.behind(office, line)
+            except (Refusal, Stopped, OSError) as fault:
+                if not isinstance(fault, Stopped):
+                    log.warning("railways aren't told of their wagons now: %s", fault)
+                await asyncio.sleep(SECONDS_BETWEEN_VIEWS)
+                continue
+            await self._pace.until_free()
+            if stream.sender.has_expired:
+                return
+            start = time.monotonic()
+            data = events(view, company, seen)
+            line, seen = view.line, view.of(company)
+            if data:
+                await stream.response.write(data)
+            self._pace.spend(time.monotonic() - start)
+
+    async def _tell(self, stream: _Stream, office: Office, first: int) -> None:
         while not stream.over.done() and not stream.sender.has_expired:
             if first <= office.answered:
                 await self._pace.until_free()
@@ -385,6 +428,7 @@ class Server:
         lines = self.office.journal.lines
         text = self.metrics.text(lines.count, lines.size, self.office.is_up)
         text += "".join(f"{line}\n" for line in gauges(self.service, self._tokens, self.identifiers))
+        text += "".join(f"{line}\n" for line in self.retry.gauges()) if self.retry else ""
         return web.Response(body=text.encode(), headers={"Content-Type": "text/plain; version=0.0.4; charset=utf-8"})
 
 

@@ -2,16 +2,19 @@
 
 import asyncio
 import logging
-from collections.abc import Sequence
+from collections.abc import Callable, Sequence
+from functools import partial
 from typing import NamedTuple
 
 from .answers import Refusal
 from .corrections import Corrections
 from .journal import Folder
+from .known_wagons import KnownWagons
 from .layouts import Layouts
 from .metrics import Metrics
 from .office import TURNS, Full, NotTaken, Office, State, Stopped
 from .options import Options
+from .program import Replies
 from .viewer import Viewer
 
 log = logging.getLogger("wagons-service")
@@ -35,11 +38,13 @@ class Service:
     # Of a stream: until when this one holds the lease, by the monotonic clock, and how many replicas its server has.
     lease_until: float | None = None
     replicas: int | None = None
+    _hear: Callable[[Office, Replies], None] | None = None
 
     def __init__(self, options: Options) -> None:
         self.options = options
         self.metrics = Metrics()
         self.folder = Folder(self._path)
+        self.known_wagons = KnownWagons(self.folder)
         self._turn = asyncio.Lock()
         self._turning: asyncio.Task[None] | None = None
         self.layouts = Layouts()
@@ -101,6 +106,7 @@ class Service:
             await office.room.is_scarce.wait()
             while office.state is State.STARTING:
                 await asyncio.sleep(0.02)
+            await self.known_wagons.read_ahead(office.journal)
             try:
                 await self._begin_behind(office, Full(""))
             except NotTaken as fault:
@@ -110,7 +116,14 @@ class Service:
     def _open(self) -> None:
         journal = self.folder.journal()
         self.office = Office(journal, self.options.words("run", journal.checkpoint), self.metrics, self.options.limits)
+        if self._hear:
+            self.tell(self._hear)
         self.viewer = Viewer(self.office, self.options, self.layouts)
+
+    def tell(self, hear: Callable[[Office, Replies], None]) -> None:
+        """Tells this one of the replies of each office; it is to be said before the start."""
+        self._hear = hear
+        self.office.hear = partial(hear, self.office)
 
     def start(self) -> None:
         self.office.start()
@@ -119,6 +132,7 @@ class Service:
 
     async def begin_next(self, corrections: Corrections = Corrections()) -> int:
         """Saves the office as a checkpoint, and begins a new journal from it: the journal's number."""
+        await self.known_wagons.read_ahead(self.office.journal)
         async with self._turn:
             return await self._begin_next(corrections)
 
@@ -126,7 +140,9 @@ class Service:
         office = self.office
         try:
             await office.pause()
-            self.folder.begin_next(await self.viewer.checkpoint(corrections))
+            checkpoint, wagons = await asyncio.gather(
+                self.viewer.checkpoint(corrections), self.known_wagons.at_end(office.journal, corrections.wagons))
+            self.folder.begin_next(checkpoint, wagons)
         except (Stopped, OSError) as fault:
             office.resume()
             raise Refusal(503, f"no new journal begins: {fault}") from None

@@ -14,7 +14,7 @@ import shutil
 import socket
 import time
 from bisect import bisect_left
-from collections.abc import Sequence
+from collections.abc import Mapping, Sequence
 from contextlib import suppress
 from dataclasses import dataclass
 from typing import Any
@@ -23,7 +23,7 @@ from . import temporary
 from .address import Address
 from .answers import Refusal
 from .corrections import Corrections
-from .journal import ORIGIN, NotKept
+from .journal import NO_FILES, ORIGIN, NotKept
 from .lease import Lease
 from .office import NotTaken, State, Stopped
 from .options import DEFAULT_ENTRIES, Options
@@ -289,8 +289,8 @@ class StreamService(Service):
         if first > last + 1 or (first > last and self.office.journal.lines.count < self._journal_lines):
             log.warning("the copy %s ends in journal %d, and what follows is in the stream from journal %d on alone", self._copy, last, first)
 
-    async def _open_office(self, link: Link, start: Checkpoint) -> None:
-        """Begins a journal, or goes on with what the copy has of it."""
+    async def _open_office(self, link: Link, start: Checkpoint, files: Mapping[str, bytes] = NO_FILES) -> None:
+        """Begins a journal, with some files more, or goes on with what the copy has of it."""
         assert self._identity is not None
         origin = Origin(self._identity, start.id, self._journal_lines)
         known = self._known.pop(start.journal, None)
@@ -304,7 +304,7 @@ class StreamService(Service):
         if is_there:
             origin.keep(f"{self.folder.path}/{start.journal}")
         else:
-            self.folder.begin_again(start.journal, {ORIGIN: origin.text} | ({"checkpoint.jsonl": start.text} if start.text else {}))
+            self.folder.begin_again(start.journal, {ORIGIN: origin.text, **files} | ({"checkpoint.jsonl": start.text} if start.text else {}))
         if self._is_temporary:
             self.folder.drop_before(start.journal - 1)
         self._open_journal(start.journal, known)
@@ -362,12 +362,12 @@ class StreamService(Service):
         if office.answered < self._journal_lines:
             return
         try:
-            text = await self.viewer.checkpoint()
+            text, wagons = await asyncio.gather(self.viewer.checkpoint(), self.known_wagons.at_end(office.journal))
         except Refusal as fault:
             office.stop(f"no new journal begins: {fault}")
             return
         self._checkpoint = Checkpoint(self._line.id, office.journal.number + 1, text)
-        await self._open_office(link, self._checkpoint)
+        await self._open_office(link, self._checkpoint, wagons)
         self.office.may_lead(None if self._is_caught_up else NOT_READ)
         log.info("journal %d begins from a checkpoint of the one before", self._checkpoint.journal)
         if self.is_first:

@@ -28,6 +28,15 @@ TIMES_FOR_OTHERS = 9
 # Any moment does: no line is given.
 A_MOMENT = "2026-01-01T00:00:00Z"
 
+
+class _Pause:
+    """Who asks often waits for those before, and then so long that a tenth of the time goes into it at most."""
+
+    def __init__(self) -> None:
+        self.turn = asyncio.Lock()
+        self.until = 0.0
+
+
 class Viewer:
     def __init__(self, office: Office, options: Options, layouts: Layouts) -> None:
         self._journal = office.journal
@@ -43,8 +52,8 @@ class Viewer:
         self._sheet: tuple[int, str] = -1, ""
         self._map: tuple[int, NetworkMap] | None = None
         self._map_again = 0.0
-        self._state_turn = asyncio.Lock()
-        self._state_again = 0.0
+        # Of those who see the whole office, and of railways, so that the former don't wait for the latter's.
+        self._pause, self._pause_of_railways = _Pause(), _Pause()
         self._entries: dict[str, dict[str, str]] = {}
 
     def _words(self, word: str) -> list[str]:
@@ -110,18 +119,22 @@ class Viewer:
         return [json.loads(line) for line in printed.splitlines()]
 
     async def state(self, word: str, options: Sequence[str]) -> tuple[int, list[dict[str, Any]]]:
-        """The line of the journal after which the office is so, and the objects that a word prints of it then.
+        """The line of the journal after which the office is so, and the objects that a word prints of it then."""
+        upto, (rows,) = await self.states([(word, options)])
+        return upto, rows
 
-        It is never older than the question. Who asks often waits, so that a tenth of the time goes into it at most.
-        """
-        async with self._state_turn:
-            await asyncio.sleep(max(self._state_again - time.monotonic(), 0))
+    async def states(self, asked: Sequence[tuple[str, Sequence[str]]], are_railways: bool = False) -> tuple[int, list[list[dict[str, Any]]]]:
+        """The line of the journal after which the office is so, and the objects that each of some words prints of it then. It
+        is never older than the question."""
+        pause = self._pause_of_railways if are_railways else self._pause
+        async with pause.turn:
+            await asyncio.sleep(max(pause.until - time.monotonic(), 0))
             async with self._turn:
                 upto, begun = self._lines.count, time.monotonic()
-                printed = await self._print([*self._words(word), "--json", *options], upto)
+                printed = [await self._print([*self._words(word), "--json", *options], upto) for word, options in asked]
             now = time.monotonic()
-            self._state_again = now + TIMES_FOR_OTHERS * (now - begun)
-        return upto, [json.loads(line) for line in printed.splitlines()]
+            pause.until = now + TIMES_FOR_OTHERS * (now - begun)
+        return upto, [[json.loads(line) for line in text.splitlines()] for text in printed]
 
     async def explain(self, code: str) -> dict[str, str]:
         """The manual's entry of a refusal, in its parts."""

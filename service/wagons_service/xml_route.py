@@ -47,7 +47,7 @@ class XmlRoute:
             if not is_partial:
                 return await self._server.answer(request, lines, start)
             headers, kept = await self._server.take(request, lines, start)
-            records = [record for journal, first, last in kept for record in journal.replies.read(first, last).splitlines()]
+            records = [record for part in kept for record in (await self._server.standings.told(*part)).splitlines()]
             return web.Response(body=b"".join(became(rows, iter(records))), headers=headers)
 
     async def _rows(self, body: bytes, is_partial: bool) -> list[Row]:

@@ -26,6 +26,8 @@ let places = new Map();
 let wants = new Map(); // Of each order its classes and its load.
 let movements = { journal: 0, line: -1, byWagon: new Map() }; // Of promised wagons.
 let askingMovements = null;
+let stuck = { journal: 0, refused: -1, line: 0, byWagon: new Map() }; // Wagons with refused messages behind the last accepted one.
+let askingStuck = null;
 let plan = null;
 let refusals = [];
 let chosen = { kind: "", id: "" };
@@ -51,6 +53,10 @@ const tables = {
   late: new Table(byId("late-rows"), {
     id: "late-table", label: text("late"), key: (row) => row.wagon, none: text("none_late"), choose: (row) => choose("wagon", row.wagon),
     columns: [{ ...wagonColumn, width: 7.6 }, plain("order", 5.4), plain("margin", 8)] }),
+  stuck: new Table(byId("stuck-rows"), {
+    id: "stuck-table", label: text("stuck"), key: (row) => row.wagon, none: text("none_stuck"), choose: (row) => choose("wagon", row.wagon),
+    columns: [{ ...wagonColumn, width: 7.2 }, { name: "status", width: 5.6, of: (row) => named("status_", row.status) },
+      { name: "name", head: text("place"), width: 4.6, of: (row) => nameOf(row.place) || row.place }, { ...number("refused", 3.6), head: text("times") }] }),
   orders: new Table(byId("orders-rows"), {
     id: "orders-table", label: text("orders"), key: (row) => row.order, none: text("no_orders"), choose: (row) => choose("order", row.order),
     rowClass: (row) => (row.lacks ? "waiting" : ""),
@@ -198,6 +204,20 @@ async function placeOrder(event) { // What is wrong is said by the program, and 
   });
 }
 
+async function sendMessage(event) { // As a railway would: what is right the program says.
+  event.preventDefault();
+  const form = event.target;
+  const value = (name) => form.elements[name].value.trim();
+  const line = { type: value("type") };
+  for (const name of ["company", "wagon", "place", "moment"]) if (value(name)) line[name] = value(name);
+  if (value("number")) line.number = numberOr(value("number"));
+  if (line.type === "exception") line.hold = value("hold") === "true";
+  await sendForm(form, line, async (words) => {
+    say(text(words[0] === "repeated" ? "message_repeated" : "message_done", { entry: words[1] }));
+    form.reset();
+  });
+}
+
 const numberOr = (word) => /^(0|[1-9][0-9]*)$/.test(word) && Number.isSafeInteger(Number(word)) ? Number(word) : word;
 
 async function sendForm(form, line, accepted) {
@@ -214,7 +234,7 @@ async function sendForm(form, line, accepted) {
   pressed.disabled = false;
 }
 
-const FIELD_OF_REFUSAL = { 74: "order", 75: "wagons" };
+const FIELD_OF_REFUSAL = { 31: "moment", 32: "type", 33: "place", 71: "number", 73: "wagon", 74: "order", 75: "wagons" };
 
 async function showWrong(form, words) {
   const field = ["24", "25"].includes(words[1]) ? words[2] : FIELD_OF_REFUSAL[words[1]] ?? "";
@@ -255,6 +275,23 @@ async function readMovements() { // They may be older than the office; then they
   }
   showOfficeParts();
   askingMovements = areMovementsOld() ? setTimeout(readMovements, LATER) : null;
+}
+
+// Wagons with refused messages behind their last accepted one. The list is read again where a line was refused since, and
+// where one may have been accepted.
+
+const isStuckOld = () => stuck.journal !== office.journal || stuck.refused !== office.refused || (stuck.byWagon.size > 0 && stuck.line < office.line);
+
+async function readStuck() {
+  const { journal, refused } = office;
+  try {
+    const told = await askJson("/v1/stuck");
+    stuck = { journal, refused, line: told.line, byWagon: new Map(told.wagons.map((wagon) => [wagon.wagon, wagon])) };
+  } catch {
+    // It is asked again.
+  }
+  showOfficeParts();
+  askingStuck = isStuckOld() ? setTimeout(readStuck, LATER) : null;
 }
 
 function promises() {
@@ -385,7 +422,7 @@ function showChosen() {
   const shown = { wagon: aboutWagon, order: aboutOrder, place: aboutPlace }[chosen.kind]?.(chosen.id);
   const one = office.byWagon.get(chosen.kind === "wagon" ? chosen.id : "") ?? office.byOrder.get(chosen.kind === "order" ? chosen.id : "");
   tables.wagons.mark(chosen.kind === "wagon" ? chosen.id : "");
-  for (const table of [tables.promises, tables.late]) table.mark(chosen.kind === "wagon" ? chosen.id : "");
+  for (const table of [tables.promises, tables.late, tables.stuck]) table.mark(chosen.kind === "wagon" ? chosen.id : "");
   for (const name of ["orders", "short"]) tables[name].mark(chosen.kind === "order" ? chosen.id : "");
   tables.places.mark(chosen.kind === "place" ? chosen.id : "");
   map.mark(chosen.kind === "place" ? chosen.id : one?.place ?? "");
@@ -401,16 +438,35 @@ const sends = (made) => {
   made.classList.add("sends");
   return made;
 };
+const traceButton = (kind, id) => button(text("trace"), () => askTrace(kind, id), { key: `trace ${kind} ${id}` });
 const whyButton = (kind, id) => button(text(`why_${kind}`), () => askWhy(kind, id), { key: `why ${kind} ${id}` });
 
 function aboutWagon(id) {
   const wagon = office.byWagon.get(id);
   if (!wagon) return { told: "", title: wagonText(id), facts: [], acts: [text("gone")] };
+  const waits = stuck.byWagon.get(id);
   return {
-    told: [wagon, nameOf(wagon.place), zone], title: wagonText(id),
+    told: [wagon, waits, nameOf(wagon.place), zone], title: wagonText(id),
     facts: [["number", id], ["class", wagon.class], ["load_limit", wagon.load], ["status", named("status_", wagon.status)], ["place", link("place", wagon.place, placeText(wagon.place))],
-      ["last", momentElement(wagon.last)], ["held", yes(wagon.held)], ["promise", wagon.promise ? link("order", wagon.promise) : ""]],
-    acts: [...(isFree(wagon) ? [whyButton("wagon", id)] : []), sends(button(text("correct_it"), () => correct(wagon), { key: "correct" }))] };
+      ["last", momentElement(wagon.last)], ["held", yes(wagon.held)], ["promise", wagon.promise ? link("order", wagon.promise) : ""], ...(waits ? aboutStuck(waits) : [])],
+    acts: [traceButton("wagon", id), ...(isFree(wagon) ? [whyButton("wagon", id)] : []), sends(button(text("correct_it"), () => correct(wagon), { key: "correct" })),
+      sends(button(text("message_of"), () => messageOf(wagon, waits), { key: "message" }))] };
+}
+
+const aboutStuck = ({ refused, since, message }) => [
+  ["stuck_times", element("span", [text("stuck_times_text", { refused }), " ", since ? momentElement(since.replace(/\.\d+Z$/, "Z")) : "–"])],
+  ["stuck_last", element("span", [`${wordsOf(message.reply).join(" ")}: `, element("code", message.line)])]];
+
+function messageOf(wagon, waits) { // Where the wagon stands, and whose message was refused last: most likely the one before is missing.
+  showTab("new_message");
+  let company = "";
+  try {
+    company = JSON.parse(waits?.message.line ?? "{}").company ?? "";
+  } catch {
+    // Its members are written in a way that the program alone reads.
+  }
+  for (const [name, value] of [["company", company], ["number", ""], ["wagon", wagon.wagon], ["place", wagon.place], ["moment", ""]]) byId(`message-${name}`).value = value;
+  byId("message-type").focus();
 }
 
 function aboutOrder(id) {
@@ -421,8 +477,8 @@ function aboutOrder(id) {
     facts: [["state", named("state_", order.state)], ["lacks", order.lacks], ["wants", order.wants], ["place", link("place", order.place, placeText(order.place))],
       ["classes", order.classes.join(", ")], ["load_each", order.load], ["latest", momentElement(order.latest)], ["penalty", order.penalty],
       ["promised", links("wagon", order.promised)], ["filled", links("wagon", order.filled)]],
-    acts: OPEN.includes(order.state) ? [...(order.lacks ? [whyButton("order", id)] : []),
-      sends(button(text("withdraw"), (pressed) => withdraw(order, pressed), { label: text("withdraw_order", order), key: `withdraw ${id}` }))] : [] };
+    acts: [traceButton("order", id), ...(OPEN.includes(order.state) ? [...(order.lacks ? [whyButton("order", id)] : []),
+      sends(button(text("withdraw"), (pressed) => withdraw(order, pressed), { label: text("withdraw_order", order), key: `withdraw ${id}` }))] : [])] };
 }
 
 function aboutPlace(id) {
@@ -464,6 +520,32 @@ async function askWhy(kind, id) {
   } catch (fault) {
     head.replaceChildren(element("span", fault.message, { className: "wrong" }));
   }
+}
+
+async function askTrace(kind, id) {
+  const [head, shown] = [byId("reasons-head"), byId("reasons")];
+  shown.replaceChildren();
+  head.replaceChildren(text("why_waits"));
+  try {
+    const { line, steps } = await askJson(`/v1/${kind}s/${encodeURIComponent(id)}/trace`);
+    if (chosen.kind !== kind || chosen.id !== id) return;
+    head.replaceChildren(text("trace_head", { line }));
+    const about = steps.slice(-MOST_REASONS).reverse().map((step) => element("li", [aboutStep(step, kind)]));
+    shown.replaceChildren(
+      element("ul", about.length ? about : [element("li", text("trace_none"))]),
+      ...(steps.length > MOST_REASONS ? [element("p", text("more", { n: steps.length - MOST_REASONS }))] : []));
+  } catch (fault) {
+    head.replaceChildren(element("span", fault.message, { className: "wrong" }));
+  }
+}
+
+function aboutStep(step, kind) { // What a line said, and what the office knew behind it.
+  const said = text("trace_line", step) + (step.company ? text("trace_by", step) : "");
+  const knew = step.refused !== null ? text("trace_refused", step)
+    : kind === "order" ? text("trace_order", { ...step, state: named("state_", step.state) })
+    : text("trace_wagon", { status: named("status_", step.status), place: placeText(step.place) }) + (step.held ? text("trace_held") : "")
+      + (step.order ? text("trace_promised", step) : step.was_order ? text("trace_ended", step) : "");
+  return element("span", [said, ...(step.moment ? [", ", momentElement(step.moment)] : []), ": ", knew]);
 }
 
 function aboutPair(reason, kind) { // What is compared stands beside the test that fails.
@@ -526,6 +608,8 @@ function showOfficeParts() { // What hasn't changed isn't shown again, so that w
     tables.promises.setRows(promised);
     tables.late.setRows(promised.filter((row) => row.isLate).sort((one, other) => (one.latest < other.latest ? -1 : 1)));
     byId("late-count").textContent = tables.late.rows.length;
+    tables.stuck.setRows(stuck.journal === office.journal ? [...stuck.byWagon.values()] : []);
+    byId("stuck-count").textContent = tables.stuck.rows.length;
     plan?.tables?.forEach((table) => table.arrange());
     showChosen();
   });
@@ -566,6 +650,7 @@ function take(told) {
   showOfficeParts();
   if (wants.size < office.orders.length && !askingWants) askingWants = setTimeout(readWants, 0);
   if (areMovementsOld() && !askingMovements) askingMovements = setTimeout(readMovements, 0);
+  if (isStuckOld() && !askingStuck) askingStuck = setTimeout(readStuck, 0);
   if (isOld() && !askingNetwork) askingNetwork = setTimeout(readNetwork, 0);
   if (hasRefused) readRefusals();
   if (!isNew && told.trouble && told.trouble !== trouble) say(told.trouble);
@@ -681,6 +766,7 @@ function start() {
   byId("next").addEventListener("click", beginNext);
   byId("plan-form").addEventListener("submit", askPlan);
   byId("order-form").addEventListener("submit", placeOrder);
+  byId("message-form").addEventListener("submit", sendMessage);
   for (const [id, act] of [["map-nearer", () => map.zoom(1.5)], ["map-farther", () => map.zoom(1 / 1.5)], ["map-all", () => map.fit()]]) byId(id).addEventListener("click", act);
   document.addEventListener("visibilitychange", () => refreshSoon(0));
   addEventListener("online", () => refreshSoon(0));
