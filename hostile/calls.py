@@ -26,7 +26,7 @@ from program import EACH, HERE, PROCESSES, SECONDS, Table
 
 ROOT = os.path.dirname(HERE)
 NAME = "hostile_calls"
-LIBRARIES = """last_texts fault_texts checkpoint command_line csv_records faults office office_map plan_table text_tables plan_reasons
+LIBRARIES = """last_texts traces fault_texts checkpoint command_line csv_records faults office office_map plan_table text_tables plan_reasons
 problem_table sessions assignment dispatch_sheet table_lines commit_book operating_db price_checker cost_table line_network
 line_engine fleet_rows wagons_and_orders place_names line_fields move_messages rail_codes test_samples""".split()
 # The request that is refused, and more requests than come before it. MANY stands in calls/trying.rs too.
@@ -68,6 +68,8 @@ PARTS = {
     "runs": Part("runs over lines", [f"{call} ({what})" for call in ("run", "check_run", "solve_run")
         for what in ("the memory for its lines", "a line")]),
     "reviews": Part("the review of a journal", ["review_journal (the memory for its lines)", "review_journal (a line)"]),
+    "traces": Part("the trace of a wagon or an order", ["Trace::new", "trace_journal (the memory for its lines)", "trace_journal (a line)",
+        "trace_text"]),
     "feeds": Part("`feed` of one reader, and its report", ["feed", "feed (the memory for its lines)", "feed (a line)",
         "report_text"]),
 }

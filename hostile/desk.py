@@ -1,6 +1,6 @@
 #!/usr/bin/env python3
-"""What a desk asks of an office: of random histories and of the example day `fleet`, `orders` and `moves` print the rows of the
-model of office.py as JSON lines, and the same rows as CSV and as tables. Where memory is refused, nothing is printed."""
+"""What a desk asks of an office: of random histories and of the example day `fleet`, `orders`, `moves` and `trace` print the rows of
+the model of office.py as JSON lines, and the same rows as CSV and as tables. Where memory is refused, nothing is printed."""
 
 import csv
 import io
@@ -11,6 +11,7 @@ import re
 from collections.abc import Sequence
 
 import office
+import traces
 from checkpoints import History, words_of
 from memory import ALL
 from problems import day_at, random_history, refused_cases, without_memory
@@ -20,10 +21,14 @@ HISTORIES = int(os.environ.get("HOSTILE_DESK", 1_000))
 # A row as JSON has it, and the cells of a table's row.
 Row = dict[str, object]
 LAST_SECOND = 4_102_444_799
+# A wagon that no roster has.
+UNKNOWN = "338479619995"
 FLEET = "wagon class load_limit status place place_name last ready held order".split()
 ORDERS = "order place place_name classes load latest penalty state wanted missing promised filled".split()
 MOVES = ("kind wagon class status place place_name since order to to_name km minutes arrival latest spare late wanted filled promised "
          "missing penalty state").split()
+WAGON_TRACE = "line entry refused event company moment version was_status was_place status place held order"
+ORDER_TRACE = "line entry refused event wagon company moment version state missing promised filled"
 TABLES = {"fleet": FLEET, "orders": ORDERS}
 
 
@@ -122,6 +127,9 @@ def texts(row: Row) -> dict[str, str]:
 def cells_of(row: Row) -> list[str]:
     """What stands in a table's row, from the left, but for empty cells."""
     cells = texts(row)
+    if "line" in row:
+        names = (WAGON_TRACE if "was_status" in row else ORDER_TRACE).split()
+        return [cell for name in names if (cell := cells[name])]
     if "kind" not in row:
         return [cell for cell in cells.values() if cell]
     names = {
@@ -133,7 +141,7 @@ def cells_of(row: Row) -> list[str]:
 
 def table_rows(text: str) -> list[list[str]]:
     """The rows of tables, each by its cells; titles and the first line are left out."""
-    titles = r"(wagon|order|silent)  .*"
+    titles = r"(wagon|order|silent|line)  .*"
     return [re.split("  +", line.strip()) for line in text.splitlines() if line and not re.fullmatch(titles, line) and not line.startswith("movements of ")]
 
 
@@ -151,12 +159,24 @@ def wrong(words: Sequence[str], given: bytes, rows: list[Row], names: Sequence[s
     return None
 
 
+def traced(history: History, dice: random.Random) -> list[str]:
+    """Two wagons and two orders whose traces are asked for; one of each may be unknown."""
+    state = history.state
+    return [dice.choice(sorted(state.wagons)), dice.choice([*sorted(state.wagons), UNKNOWN]),
+            *dice.choices([*state.orders, "NONE"], k=2)]
+
+
 def judged(history: History, at: int, dice: random.Random) -> str | None:
     """What is wrong with what is told of a history's last version, which changes nothing."""
     state = history.state
     given = "".join(line + "\n" for line in history.lines).encode()
     for word, rows in (("fleet", fleet_rows(state)), ("orders", order_rows(state))):
         if fault := wrong(words_of(word, history.files), given, rows, TABLES[word]):
+            return fault
+    for asked in traced(history, dice):
+        option = "--wagon" if asked.isdigit() else "--order"
+        rows, columns = traces.trace_rows(history, asked), traces.WAGON if asked.isdigit() else traces.ORDER
+        if fault := wrong([*words_of("trace", history.files), option, asked], given, rows, columns):
             return fault
     moment = max(at + 60 * dice.randint(-600, 600) + dice.choice([0, 0, 1, 59]), 946_684_800)
     choice = Choice(state, dice)
@@ -175,15 +195,15 @@ def of_the_day(minute: int) -> str | None:
     return judged(*day_at(minute), random.Random(minute))
 
 
-ASKED = [["fleet"], ["orders", "--json"], ["moves", "--at", "2026-03-02T06:00:00Z", "--silent", "1"], ["moves", "--at", "2026-03-02T06:00:00Z", "--csv"]]
+ASKED = [["fleet"], ["trace", "--wagon", "318053700015"], ["trace", "--json", "--order", "O1"], ["orders", "--json"], ["moves", "--at", "2026-03-02T06:00:00Z", "--silent", "1"], ["moves", "--at", "2026-03-02T06:00:00Z", "--csv"]]
 
 
 def main() -> None:
     table = Table()
-    table.row("`fleet`, `orders` and `moves` of random histories and the example day, in each form")
-    table.try_all("`fleet`, `orders` and `moves` of random histories", of_random, range(HISTORIES))
-    table.try_all("`fleet`, `orders` and `moves` of the example day around many moments", of_the_day, range(0, 720, 20))
-    table.row("`fleet`, `orders` and `moves` from a checkpoint: requests for memory refused")
+    table.row("`fleet`, `orders`, `moves` and `trace` of random histories and the example day, in each form")
+    table.try_all("`fleet`, `orders`, `moves` and `trace` of random histories", of_random, range(HISTORIES))
+    table.try_all("`fleet`, `orders`, `moves` and `trace` of the example day around many moments", of_the_day, range(0, 720, 20))
+    table.row("`fleet`, `orders`, `moves` and `trace` from a checkpoint: requests for memory refused")
     table.try_all("from a checkpoint: one request for memory refused", without_memory, list(refused_cases(1, ASKED)))
     table.try_all("from a checkpoint: all requests from one on refused", without_memory, list(refused_cases(ALL, ASKED)))
     table.end()

@@ -112,13 +112,51 @@ def with_lack(table: office.Fields, j: int, change: int) -> office.Fields:
     return table | {"lacks": lacks}
 
 
-def broken_bound(table: office.Fields, plans: Plans, cost: int, orders: Sequence[tuple[int, int, str]], wagons: Sequence[tuple[int, int]]) -> str | None:
-    """A bound that a plan breaks."""
+def without(table: office.Fields, i: int | None = None, j: int | None = None) -> office.Fields:
+    """A table without a wagon, and with one wagon less for an order."""
+    return drop_filled({**(table if j is None else with_lack(table, j, -1)), "cells": [row for k, row in enumerate(table["cells"]) if k != i],
+                        "wagons": [name for k, name in enumerate(table["wagons"]) if k != i]})
+
+
+def drop_filled(table: office.Fields) -> office.Fields:
+    """A table without the orders that lack nothing."""
+    kept = [j for j, lack in enumerate(table["lacks"]) if lack]
+    return {"wagons": table["wagons"], "cells": [[row[j] for j in kept] for row in table["cells"]]} | {
+        name: [table[name][j] for j in kept] for name in ("orders", "penalties", "lacks")}
+
+
+def least_cost(table: office.Fields) -> float:
+    """What the best plan of a table costs: among all plans where they are few, else by `wagons solve`."""
+    plans = plans_of(table)
+    if plans is not None:
+        return least(plans)
+    cost: int = json.loads(run(["solve"], json.dumps(table).encode() + b"\n").out)["cost"]
+    return cost
+
+
+def wrong_number(table: office.Fields, cost: int, orders: Sequence[Sequence[str]], wagons: Sequence[tuple[int, int]]) -> str | None:
+    """A number of an order or a wagon that isn't the difference of two least costs."""
+    if least_cost(table) != cost:
+        return f"cost {cost}, and {least_cost(table)} is the least"
+    for j, (more, less) in enumerate(orders):
+        is_full = table["lacks"][j] == 20 or sum(table["lacks"]) == 500
+        if more != ("-" if is_full else str(least_cost(with_lack(table, j, 1)) - cost)):
+            return f"{more} for one more of {table['orders'][j]}"
+        if less != str(cost - least_cost(without(table, None, j))):
+            return f"{less} for one less of {table['orders'][j]}"
+    for i, without_it in wagons:
+        if least_cost(without(table, i)) != cost + without_it:
+            return f"{without_it} without {table['wagons'][i]}"
+    return None
+
+
+def broken_bound(table: office.Fields, plans: Plans, cost: int, orders: Sequence[tuple[int, int | None, str]], wagons: Sequence[tuple[int, int]]) -> str | None:
+    """A bound that a plan breaks; no price stands where numbers are exact."""
     if least(plans) != cost:
         return f"cost {cost}, and {least(plans)} is the least"
     for j, (gets, price, further) in enumerate(orders):
         more, fewer = (plans_of(with_lack(table, j, change)) or [] for change in (1, -1))
-        if least(more) < cost + price or least(fewer) < cost - price:
+        if price is not None and (least(more) < cost + price or least(fewer) < cost - price):
             return f"the price {price} of {table['orders'][j]}"
         served = least([plan for plan in plans if plan[1].count(j) > gets])
         if further == "none" and served < math.inf or further not in ("none", "-") and served < cost + int(further):
@@ -130,11 +168,15 @@ def broken_bound(table: office.Fields, plans: Plans, cost: int, orders: Sequence
 
 
 def reasons(history: History, at: int) -> str | None:
-    """What is wrong with the reasons of a history's last version at a moment."""
+    """What is wrong with the reasons of a history's last version at a moment, as exact numbers and as bounds."""
+    return reasons_of(history, at, []) or reasons_of(history, at, ["--quick"])
+
+
+def reasons_of(history: History, at: int, quick: list[str]) -> str | None:
     state = history.state
     problem = office.Problem(state, at)
     given = "".join(line + "\n" for line in history.lines).encode()
-    why = run([*words_of("why", history.files), "--at", office.moment_text(at)], given)
+    why = run([*words_of("why", history.files), "--at", office.moment_text(at), *quick], given)
     if why.fault() or why.status == 2:
         return f"{why.out!r} {why.err!r}"
     rows = [row.split() for row in why.out.decode().splitlines()]
@@ -153,18 +195,21 @@ def reasons(history: History, at: int) -> str | None:
         way = ways[free[number][3]][state.orders[name].fields["place"]]
         if int(km) != way[0] or arrival != office.moment_text(max(free[number][4], at) + 60 * way[1]):
             return f"{number} {km} {arrival}"
+    stays = [(problem.table["wagons"].index(row[1]), int(row[5])) for row in wagons]
+    if not quick and (wrong := wrong_number(problem.table, cost, [row[10:12] for row in orders], stays)):
+        return wrong
     plans = plans_of(problem.table)
     if plans is None:
         return None
-    served = [(int(row[3]), int(row[10]), row[11]) for row in orders]
-    stays = [(problem.table["wagons"].index(row[1]), int(row[5])) for row in wagons]
+    served = [(int(row[3]), int(row[10]) if quick else None, row[-1]) for row in orders]
     return broken_bound(problem.table, plans, cost, served, stays)
 
 
 # One order or one wagon.
 
 NAMES: dict[str, list[str]] = {
-    "order": ["lacks", "gets", "misses", "class", "load", "way", "time", "cheaper", "price", "further"],
+    "order": ["lacks", "gets", "misses", "class", "load", "way", "time", "cheaper", "more", "less", "further"],
+    "quick order": ["lacks", "gets", "misses", "class", "load", "way", "time", "cheaper", "price", "further"],
     "wagon": ["order", "km", "arrival", "without"], "stays": [], "fits": ["order", "km", "more"], "class": ["order", "has", "wants"],
     "load": ["order", "has", "wants"], "way": ["order", "from", "to"], "late": ["order", "arrival", "latest"],
     "costly": ["order", "km", "penalty"], "why": ["free", "orders", "cost", "go", "stay", "miss"],
@@ -176,7 +221,7 @@ def member_of(word: str, name: str, value: str) -> object:
     """The value of a member of a JSON line, by its word in the text."""
     if name == "wants" and word == "class":
         return value.split(",")
-    if name == "further" and not value.isdigit():
+    if name in ("further", "more") and not value.isdigit():
         return None if value == "-" else value
     if name in TEXTS or name == "order" or word == "class":
         return value
@@ -187,7 +232,8 @@ def json_of(line: str) -> str:
     """The JSON line that says what a line of text says."""
     word, first, *values = line.split(" ")
     said: dict[str, object] = {word: int(first) if word == "why" else first}
-    said |= {name: member_of(word, name, value) for name, value in zip(NAMES[word], values)}
+    names = NAMES["quick order" if word == "order" and len(values) == 10 else word]
+    said |= {name: member_of(word, name, value) for name, value in zip(names, values)}
     if word == "fits":
         said["planned"] = values[3:] == ["planned"]
     return json.dumps(said, separators=(",", ":"))
@@ -210,7 +256,8 @@ def failed_line(state: office.Office, wagon: office.Free, order: office.Order, a
     return f"costly {pair} {way[0]} {fields['penalty']}" if way[0] >= fields["penalty"] else None
 
 
-def wrong_pairs(table: office.Fields, lines: Sequence[str], pairs: Sequence[tuple[tuple[int, int], str | None]], plans: Plans | None, whole: Sequence[str]) -> str | None:
+def wrong_pairs(table: office.Fields, lines: Sequence[str], pairs: Sequence[tuple[tuple[int, int], str | None]], plans: Plans | None, whole: Sequence[str],
+                is_quick: bool) -> str | None:
     """What is wrong with the lines of pairs, each with its line where it fails a test."""
     failed = [line for _, line in pairs if line]
     fits = {f"{table['wagons'][i]} {table['orders'][j]}": (i, j) for (i, j), line in pairs if not line}
@@ -221,22 +268,29 @@ def wrong_pairs(table: office.Fields, lines: Sequence[str], pairs: Sequence[tupl
         word, number, name, km, more, *rest = line.split(" ")
         i, j = fits.pop(f"{number} {name}", (-1, -1))
         planned = any(row.startswith(f"wagon {number} {name} ") for row in whole)
-        words = ["planned"] if planned else "another plan may be as good".split() if more == "0" else []
+        as_good = "another plan may be as good" if is_quick else "another plan is as good"
+        words = ["planned"] if planned else as_good.split() if more == "0" else []
         if word != "fits" or i < 0 or int(km) != table["cells"][i][j] or int(more) < last or rest != words:
             return f"{line!r}"
         last = int(more)
-        if plans is not None and least([plan for plan in plans if plan[1][i] == j]) < cost + last:
+        if is_quick and plans is not None and least([plan for plan in plans if plan[1][i] == j]) < cost + last:
             return f"the bound of {line!r}"
+        if not is_quick and int(km) + least_cost(without(table, i, j)) != cost + last:
+            return f"the number of {line!r}"
     return None
 
 
 def asked(history: History, at: int) -> str | None:
-    """What is wrong with what is said of each order and of each wagon, as text and as JSON lines."""
+    """What is wrong with what is said of each order and of each wagon, as text and as JSON lines, as exact numbers and as bounds."""
+    return asked_of(history, at, []) or asked_of(history, at, ["--quick"])
+
+
+def asked_of(history: History, at: int, quick: list[str]) -> str | None:
     state = history.state
     problem = office.Problem(state, at)
     table, waiting = problem.table, [order for order in state.orders.values() if order.lack()]
     given = "".join(line + "\n" for line in history.lines).encode()
-    words = [*words_of("why", history.files), "--at", office.moment_text(at)]
+    words = [*words_of("why", history.files), "--at", office.moment_text(at), *quick]
     whole = run(words, given).out.decode().splitlines()
     plans = plans_of(table)
     failed = [[failed_line(state, wagon, order, at) for order in waiting] for wagon in problem.free]
@@ -248,7 +302,7 @@ def asked(history: History, at: int) -> str | None:
         heads = [row for row in whole if row.startswith(f"{option[2:]} {name} ")] or [f"stays {name}"]
         if told.fault() or first != heads[0]:
             return f"{told.out!r} {told.err!r}"
-        if wrong := wrong_pairs(table, lines, pairs, plans, whole):
+        if wrong := wrong_pairs(table, lines, pairs, plans, whole, bool(quick)):
             return f"{option} {name}: {wrong}"
         if run([*words, option, name, "--json"], given).out.decode().splitlines() != [json_of(line) for line in (first, *lines)]:
             return f"{option} {name} --json"
@@ -334,7 +388,7 @@ def main() -> None:
     table.row("`table` and `why` of random histories and the example day, beside all plans where these are few")
     table.try_all("`table` of random histories, and `solve` beside `plan`", of_random, range(HISTORIES))
     table.try_all("`table` of the example day at many moments, and `solve` beside `plan`", of_the_day, range(0, 720, 20))
-    table.try_all("`why` of random histories, its bounds tried by all plans where they are few", reasons_of_random, range(HISTORIES))
+    table.try_all("`why` of random histories, its numbers tried by plans of their own, its bounds by all plans where they are few", reasons_of_random, range(HISTORIES))
     table.try_all("`why` of the example day at many moments", reasons_of_the_day, range(0, 720, 20))
     table.try_all("`why` of each order and wagon of random histories, as text and JSON, its bounds tried likewise", asked_of_random, range(HISTORIES))
     table.try_all("`why` of each order and wagon of the example day at many moments", asked_of_the_day, range(0, 720, 60))

@@ -50,6 +50,7 @@ mod seats;
 mod showing;
 mod tables;
 mod told;
+mod traces;
 mod trying;
 mod words;
 
@@ -100,6 +101,7 @@ fn part_done<T: Threads + Wait + Sync>(
         "closing" => seats::closing(rt, threads, alloc, requests),
         "runs" => runs::all(rt, alloc, requests),
         "reviews" => reviews::all(rt, alloc, requests),
+        "traces" => traces::all(rt, alloc, requests),
         "feeds" => feeds::all(rt, threads, alloc, requests),
         _ => unreachable!(),
     }

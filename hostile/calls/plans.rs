@@ -13,7 +13,7 @@ use line_network::{Network, read_lines};
 use office_map::{Choice, map_text};
 use place_names::Places;
 use plan_reasons::{
-    CertifiedPlan, LineForm, Style, order_counts, order_text, wagon_text, why_text,
+    CertifiedPlan, LineForm, Numbers, Style, order_counts, order_text, wagon_text, why_text,
 };
 use plan_table::{csv_text, list_of_plan, table_text};
 use text_tables::Clock;
@@ -139,17 +139,17 @@ fn reasons(
 ) -> Option<()> {
     let counts = tried!(rt, "order_counts", order_counts(alloc, planned));
     must(counts.len() == planned.problem().orders().len());
-    for style in [Style::Text, Style::Json] {
-        let text = tried!(rt, "why_text", why_text(alloc, style, 2, planned));
+    for (style, numbers) in [(Style::Text, Numbers::Exact), (Style::Json, Numbers::Bounds)] {
+        let text = tried!(rt, "why_text", why_text(alloc, style, numbers, 2, planned));
         say(rt, &text);
         let names = Some(named);
         let form = LineForm { style, names };
         for j in 0..planned.problem().orders().len() {
-            let text = tried!(rt, "order_text", order_text(alloc, &form, planned, j));
+            let text = tried!(rt, "order_text", order_text(alloc, &form, numbers, planned, j));
             say(rt, &text);
         }
         for i in 0..planned.problem().wagons().len() {
-            let text = tried!(rt, "wagon_text", wagon_text(alloc, &form, planned, i));
+            let text = tried!(rt, "wagon_text", wagon_text(alloc, &form, numbers, planned, i));
             say(rt, &text);
         }
     }

@@ -17,7 +17,7 @@ use last_texts::{
 use line_network::{Network, read_lines};
 use office_map::Choice;
 use place_names::Places;
-use rail_codes::{OrderId, WagonNumber};
+use rail_codes::{Company, OrderId, WagonNumber};
 use std::alloc::Global;
 use std::str;
 use test_samples::{LONGER, NETWORK};
@@ -83,7 +83,7 @@ impl Files<'_> {
 }
 
 /// A book with two orders, which keeps no problem yet.
-fn book_with_orders(alloc: Global, sample: &Sample) -> Option<Book> {
+pub(crate) fn book_with_orders(alloc: Global, sample: &Sample) -> Option<Book> {
     let mut book = sample.book(alloc, 2)?;
     for line in [ORDER, OTHER_ORDER] {
         let call = call_of(alloc, line)?;
@@ -171,6 +171,7 @@ fn reasons(rt: &HostRuntime, alloc: Global, files: &mut Files<'_>) -> Option<()>
             places: None,
             asked: *one,
             json: k == 1,
+            quick: k == 2,
         };
         let book = &mut files.books[k + 1];
         let names = Some(&files.named);
@@ -260,6 +261,7 @@ fn moved(rt: &HostRuntime, alloc: Global, files: &Files<'_>) -> Option<()> {
             late: false,
             wagon: None,
             order: None,
+            company: if json { Some(Company::read("0080").ok()?) } else { None },
             silent: Some(1),
         };
         let text = tried_last!(
