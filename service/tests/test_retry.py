@@ -72,13 +72,24 @@ def sheet(service: Service) -> list[str]:
 
 
 def send_in_rounds(service: Service, told: Sequence[Sequence[bytes]]) -> list[set[str]]:
-    """Sends the next message of each wagon, round by round: after each of them the wagons that are stuck."""
+    """Sends the next message of each wagon, round by round: after each of them the wagons that are stuck. Between two messages of a
+    wagon there are hours, so what is kept aside is offered before the next round."""
     stuck = []
     for turn in range(max(map(len, told))):
         service.post([messages[turn] for messages in told if turn < len(messages)])
+        until_nothing_is_due(service)
         listed = json.loads(service.get("/v1/stuck").body)["wagons"]
         stuck.append({row["wagon"] for row in listed})
     return stuck
+
+
+def until_nothing_is_due(service: Service) -> None:
+    for _ in range(600):
+        told = service.get("/metrics").text
+        if "wagons_early_due" not in told or "\nwagons_early_due 0\n" in told:
+            return
+        time.sleep(0.02)
+    raise AssertionError(told)
 
 
 def until_none_is_stuck(service: Service) -> None:

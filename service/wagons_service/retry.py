@@ -120,6 +120,10 @@ class EarlyMessages:
                 self.drop(early)
         return wagon in self._due
 
+    def is_due(self, early: Early) -> bool:
+        """Whether a message is kept still, and is to be offered."""
+        return early.is_due and self._kept.get(early.key) is early
+
     def drop(self, early: Early) -> None:
         if self._kept.get(early.key) is early:
             del self._kept[early.key]
@@ -210,6 +214,9 @@ class Retry:
     async def _offer(self, name: str, all_of_them: Sequence[Early]) -> None:
         """Offers messages of a sender, each of another wagon."""
         for early in all_of_them:
+            # While another one was offered a later message of the wagon may have been accepted.
+            if not self._early.is_due(early):
+                continue
             sender = self._server.sender_named(name, early.key[0])
             if sender is None:
                 # The token isn't known any more.
@@ -234,6 +241,7 @@ class Retry:
 
     def gauges(self) -> Iterator[str]:
         yield from one("wagons_early_messages", "gauge", "messages that are kept aside, to be offered again", len(self._early))
+        yield from one("wagons_early_due", "gauge", "messages of these that are to be offered now", sum(early.is_due for early in self._early))
         yield from head("wagons_offered_total", "counter", "messages that were offered again since the start")
         yield f"wagons_offered_total {self._offered}"
 
