@@ -157,7 +157,9 @@ def requests(request: pytest.FixtureRequest) -> int:
 
 def test_random_requests(start: Start, tmp_path: Path, requests: int) -> None:
     (tmp_path / "tokens").write_text("".join(f"{token} {role}\n" for token, role in TOKENS.items()))
-    service = start(options=["--tokens", str(tmp_path / "tokens"), "--map", str(ROOT / "examples" / "service" / "map.toml"), "--entries", "1000000"])
+    # Shares aren't tried here: a machine that is quick enough would use them up.
+    service = start(options=["--tokens", str(tmp_path / "tokens"), "--map", str(ROOT / "examples" / "service" / "map.toml"), "--entries", "1000000",
+                             "--share", "lines=1000000,bytes=1000000000"])
     service.until_running()
     attackers: list[Attacker] = []
     memory = 0
