@@ -25,8 +25,8 @@ preface =
     ++ codes "`wagons: 41 17`. Where an entry doesn't say otherwise, nothing has changed. The\n"
     ++ codes "manual of lines, replies and files is FORMATS.md.\n\n"
     ++ codes "`wagons explain` prints this page, and `wagons explain 25` one entry of it. What\n"
-    ++ codes "is said of `run` holds of `map`, `plan`, `table`, `why`, `review` and `save`\n"
-    ++ codes "too, but that they print no replies.\n"
+    ++ codes "is said of `run` holds too of `map`, `moves`, `fleet`, `orders`, `trace`,\n"
+    ++ codes "`plan`, `table`, `why`, `review` and `save`, which print no replies.\n"
 
 -- a text: the preface, and then an entry of each of these refusals, in their order, each after an empty line
 pub record HasEntries (listed : List (ℕ × List ℕ)) (text : List ℕ) : Type 0 where

@@ -15,8 +15,8 @@ Each refusal has a number. A reply has it after the line's number, as
 manual of lines, replies and files is FORMATS.md.
 
 `wagons explain` prints this page, and `wagons explain 25` one entry of it. What
-is said of `run` holds of `map`, `plan`, `table`, `why`, `review` and `save`
-too, but that they print no replies.
+is said of `run` holds too of `map`, `moves`, `fleet`, `orders`, `trace`,
+`plan`, `table`, `why`, `review` and `save`, which print no replies.
 ";
 
 /// The manual's entry of a refusal number; none where no refusal has this number. It is Markdown, in lines of at most 80

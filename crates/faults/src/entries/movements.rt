@@ -19,9 +19,9 @@ that stands at a siding to be loaded.
 - Where: movement messages: `run`, `feed`.
 - Cause: a message before it is missing or was refused, or it is about another
   wagon.
-- Remedy: send what is missing first. The sheet has the wagon's status; a
-  railway, which can't ask for it at the service, asks the dispatcher. The
-  manual's status table in MESSAGES.md says what may follow what.
+- Remedy: send what is missing first. The sheet has the wagon's status, and the
+  service gives it with the refusal; `trace --wagon` shows how it came there.
+  The manual's status table in MESSAGES.md says what may follow what.
 ";
 
 pub(crate) const WRONG_PLACE: &str = "## 33 WrongPlace
@@ -31,6 +31,6 @@ The message names another place than the wagon's own.
 - Where: `release`, `departure` and `yard_departure`: `run`, `feed`.
 - Cause: an arrival before it is missing, or one of the two places is wrong.
 - Remedy: send the missing arrival first, or the message with the right place;
-  its number is still free. The sheet has the wagon's place; a railway, which
-  can't ask for it at the service, asks the dispatcher.
+  its number is still free. The sheet has the wagon's place, and the service
+  gives it with the refusal.
 ";

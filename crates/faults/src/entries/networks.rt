@@ -7,7 +7,7 @@ place has a name already. The number after it is the record's; the header is
 record 1.
 
 - Where: on standard error, as `wagons: 41 17`: `run`, `feed`; of the names of
-  places `plan`, `why`, `review` and `map`.
+  places each word that has `--places`.
 - Cause: for record 1 a missing or other header, or an empty file; else
   semicolons in place of commas, a place of another form, kilometres or minutes
   of 0, over 10,000 or with a fraction, or a way other than `one` and `both`. Of
@@ -23,7 +23,7 @@ A network names over 2,000 places, or the names of places have over 2,000
 records.
 
 - Where: on standard error, as `wagons: 42`: `run`, `feed`; of the names of
-  places `plan`, `why`, `review` and `map`.
+  places each word that has `--places`.
 - Cause: a network larger than the office is made for, or misspelled places.
 - Remedy: leave out places at which wagons only pass, and give one line the
   kilometres and minutes of the two that met there.
