@@ -1,3 +1,4 @@
 pub mod Ascending
 pub mod Membership
+pub mod Possible
 pub mod Rows

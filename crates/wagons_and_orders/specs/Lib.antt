@@ -7,6 +7,7 @@ pub mod States
 pub mod Numbers
 pub mod NumberChanges
 pub mod OrderRow
+pub mod PossibleRows
 pub mod RowParts
 pub mod Suits
 pub mod Listed
