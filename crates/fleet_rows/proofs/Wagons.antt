@@ -1,5 +1,5 @@
 -- The rows of the wagons.
-use Rattle.std.proofs.Common.{◌≡◌, ◌∙◌, ◌≤◌, ℕ, Bool, true, false, not, cond, if◌then◌else◌, List, [], ◌∷◌, length, map, get_or, Option, Some, None, Result, Ok, Err, IfSome, IfNone, option_map, refl, ap, sym, subst, inl, inr, arith}
+use Rattle.std.proofs.Common.{◌≡◌, ◌∙◌, ◌≤◌, ℕ, Bool, true, false, not, cond, if◌then◌else◌, List, [], ◌∷◌, length, map, get_or, Option, Some, None, Result, Ok, Err, IfSome, IfNone, IsSomeAnd, All, option_map, refl, ap, sym, subst, inl, inr, arith}
 use Rattle.std.specs.Cmp.Lexicographic.{bytes_decides, slice_cmp, texts_ties}
 use Rattle.std.specs.List.{AllByRecursion, IsDistinct, slice_get, slice_set}
 use Rattle.std.specs.List.Sorted.{IsBinarySearchResult, IsSearchInRange, IsStrictlySortedBy}
@@ -8,19 +8,23 @@ use Rattle.std.specs.Result.{result_ok}
 use Rattle.std.specs.declared.cmp.Ordering.TheVariants.{Less, Equal}
 use Rattle.std.proofs.lemmas.Bool.{cases_Bool}
 use Rattle.std.proofs.lemmas.List.{length-set}
-use Rattle.std.proofs.lemmas.List.Elements.{All-set}
+use Rattle.std.proofs.lemmas.List.Elements.{All-head, All-set, All-tail}
 use Rattle.std.proofs.lemmas.Map.Keys.{IsDistinct-from_sorted}
 use Rattle.std.proofs.lemmas.Option.{get_or_from_slice_get, slice_get-get_or, slice_get_within}
 use Rattle.std.proofs.Math.Bool.{beq}
 use Rattle.std.proofs.Math.Seq.{map-set, map-set_same}
 use Rattle.move_messages.specs.MaxLoad.{max_load}
 use Rattle.fleet_rows.specs.FreeWagons.{is_free}
-use Rattle.fleet_rows.specs.Roster.{IsRoster}
+use Rattle.fleet_rows.specs.Roster.{IsReadySince, IsRoster, IsRosterRow}
 use Rattle.fleet_rows.specs.SameWagons.{has_wagon}
 use Rattle.fleet_rows.proofs.RosterLemmas.{none_at_gap, searched}
+use Rattle.wagons_and_orders.proofs.Possible.{possible_promised, possible_unpromised}
+use Rattle.wagons_and_orders.specs.PossibleRows.{IsPossibleRow, IsReadyBy}
+use Rattle.wagons_and_orders.specs.declared.status.Status.{Status}
+use Rattle.wagons_and_orders.specs.declared.status.Status.TheVariants.{Empty, Loading, Ready, Journey, Yard, Arrived, Unloading}
 use Rattle.wagons_and_orders.specs.declared.wagon_row.WagonRow.{WagonRow}
 use Rattle.fleet_rows.specs.Kept.{IsWagonRows, by_number, compare_numbers}
-use Rattle.fleet_rows.specs.Rows.{at_wagon, is_wagon, wagon_in}
+use Rattle.fleet_rows.specs.Rows.{at_wagon, is_wagon, wagon_in, with_promise}
 use Rattle.fleet_rows.proofs.Named.{changed_at, find-changed, found_by_name, has_name, is_same, length_map, names-changed}
 
 -- the numbers of the wagons
@@ -127,8 +131,8 @@ pub put_is : (rows : List WagonRow) (k : ℕ) (old new : WagonRow) → IsStrictl
 put_is rows k old new h e same =
     changed_at (λ (row : WagonRow). row.number) (λ _. new) rows k old (numbers_distinct rows h) e ∙ ap (λ number. at_wagon number (λ _. new) rows) same
 
-pub rows_with : (rows : List WagonRow) (k : ℕ) (old new : WagonRow) → IsWagonRows rows → slice_get rows k ≡ Some old → old.number ≡ new.number → new.load_limit ≤ max_load → IsWagonRows (slice_set rows k new)
-rows_with rows k old new h e same light =
+pub rows_with : (rows : List WagonRow) (k : ℕ) (old new : WagonRow) → IsWagonRows rows → slice_get rows k ≡ Some old → old.number ≡ new.number → new.load_limit ≤ max_load → IsPossibleRow new → IsWagonRows (slice_set rows k new)
+rows_with rows k old new h e same light possible =
     let at : get_or rows k new ≡ old = get_or_from_slice_get rows k old new e in
     let numbers : numbers_of (slice_set rows k new) ≡ numbers_of rows =
     map-set_same (λ (row : WagonRow). row.number) rows k new new (sym same ∙ sym (ap (λ (row : WagonRow). row.number) at)) in
@@ -136,6 +140,7 @@ rows_with rows k old new h e same light =
       few = omega (arith, length-set rows k new, h.few);
       ascending = rows_ascend (slice_set rows k new) (subst (IsStrictlySortedBy (slice_cmp nat_cmp)) (sym numbers) (numbers_ascend rows h.ascending));
       few_kg = All-set (λ (row : WagonRow). row.load_limit ≤ max_load) rows k new light h.few_kg;
+      possible = All-set IsPossibleRow rows k new possible h.possible;
     }
 
 -- what the wagon of a row carries
@@ -143,9 +148,62 @@ pub light_at : (rows : List WagonRow) (k : ℕ) (row : WagonRow) → IsWagonRows
 light_at rows k row h there =
     subst (λ (row : WagonRow). row.load_limit ≤ max_load) (get_or_from_slice_get rows k row row there) (h.few_kg k row (slice_get_within rows k row there))
 
+-- ---- an office can have the rows of a roster
+
+ready_by : (moment : ℕ) (status : Status) → IsReadySince moment status → IsReadyBy moment status
+ready_by moment (Empty place ready) h = omega arith
+ready_by moment (Loading place) h = tt
+ready_by moment (Ready place) h = tt
+ready_by moment (Journey load place) h = tt
+ready_by moment (Yard load place) h = tt
+ready_by moment (Arrived load place) h = tt
+ready_by moment (Unloading place) h = tt
+
+possible_in_roster : (row : WagonRow) → IsRosterRow row → IsPossibleRow row
+possible_in_roster row h = record {
+  held = λ held. cc;
+  ready = ready_by row.last row.status h.ready;
+  promised = λ some. cc (rw h.not_promised at some);
+}
+
 -- the rows of a roster
 pub IsWagonRows-roster : (roster : List WagonRow) → IsRoster roster → IsWagonRows roster
-IsWagonRows-roster roster h = record { few = h.few; ascending = h.ascending; few_kg = λ k d within. (h.each k d within).few_kg }
+IsWagonRows-roster roster h = record {
+  few = h.few;
+  ascending = h.ascending;
+  few_kg = λ k d within. (h.each k d within).few_kg;
+  possible = λ k d within. possible_in_roster (get_or roster k d) (h.each k d within);
+}
+
+-- ---- promises that an office can have
+
+first_or_later : (P : WagonRow → Type 0) (here : Bool) (row : WagonRow) (later : Option WagonRow) → P row → IfSome later P → IfSome (cond here (Some row) later) P
+first_or_later P true row later h rest = h
+first_or_later P false row later h rest = rest
+
+-- the row of a wagon is as all rows are
+pub found_is : (P : WagonRow → Type 0) (number : List ℕ) (rows : List WagonRow) → All P rows → IfSome (wagon_in rows number) P
+found_is P number [] all = tt
+found_is P number (row ∷ rows) all = first_or_later P (is_wagon number row) row (wagon_in rows number) (All-head P row rows all) (found_is P number rows (All-tail P row rows all))
+
+-- a promise may end
+pub unpromised_possible : (number : List ℕ) (rows : List WagonRow) → IsWagonRows rows → IfSome (wagon_in rows number) (λ row. IsPossibleRow (with_promise None row))
+unpromised_possible number rows h = found_is (λ row. IsPossibleRow (with_promise None row)) number rows (λ k d within. possible_unpromised (get_or rows k d) (h.possible k d within))
+
+both_found : (id : List ℕ) (found : Option WagonRow) → IsSomeAnd found (λ row. is_free row ≡ true) → IfSome found IsPossibleRow → IfSome found (λ row. IsPossibleRow (with_promise (Some id) row))
+both_found id None free possible = tt
+both_found id (Some row) free possible = possible_promised row id free possible
+
+-- a free wagon may be promised
+pub promised_possible : (number id : List ℕ) (rows : List WagonRow) → IsSomeAnd (wagon_in rows number) (λ row. is_free row ≡ true) → IsWagonRows rows → IfSome (wagon_in rows number) (λ row. IsPossibleRow (with_promise (Some id) row))
+promised_possible number id rows free h = both_found id (wagon_in rows number) free (found_is IsPossibleRow number rows h.possible)
+
+-- with its new promise the row of a wagon is one that an office can have
+pub still_possible : (rows : List WagonRow) (k : ℕ) (row : WagonRow) (number : List ℕ) (promise : Option (List ℕ)) → IsWagonRows rows → slice_get rows k ≡ Some row → row.number ≡ number
+    → IfSome (wagon_in rows number) (λ row. IsPossibleRow (with_promise promise row)) → IsPossibleRow (with_promise promise row)
+still_possible rows k row number promise h there named possible =
+    let found : wagon_in rows number ≡ Some row = ap (wagon_in rows) (sym named) ∙ wagon_in-there rows k row h.ascending there in
+    rw found at possible
 
 -- what is read at the index of a row
 pub found_in : (rows : List WagonRow) (index : ℕ) (row : WagonRow) (number : List ℕ) (r : Option WagonRow) → IsStrictlySortedBy by_number rows → slice_get rows index ≡ Some row → row.number ≡ number

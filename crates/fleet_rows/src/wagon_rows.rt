@@ -1,5 +1,5 @@
 //! The rows of the wagons.
-ghost use Rattle.std.specs.Prelude.{◌≡◌, ◌≤◌, ◌<◌, ◌↔◌, IfNone, IfOk, IfSome, IsTrue, None, Some, count_by, length, map, option_copied, option_map, slice_get, slice_set, vec_capacity};
+ghost use Rattle.std.specs.Prelude.{◌≡◌, ◌≤◌, ◌<◌, ◌↔◌, IfNone, IfOk, IfSome, IsSomeAnd, IsTrue, None, Some, count_by, length, map, option_copied, option_map, slice_get, slice_set, vec_capacity};
 ghost use Rattle.std.specs.List.{filter_map};
 ghost use Rattle.std.specs.List.Sorted.{IsStrictlySortedBy};
 ghost use Rattle.fleet_rows.specs.FreeWagons.{is_free, is_free_at};
@@ -8,6 +8,7 @@ ghost use Rattle.fleet_rows.specs.Kept.{by_number, max_roster_wagons};
 ghost use Rattle.fleet_rows.specs.inner.EmptyList.{is_unpromised};
 ghost use Rattle.fleet_rows.specs.EmptyWagons.{empty_at, empty_in, empty_wagons};
 ghost use Rattle.move_messages.specs.MaxLoad.{max_load};
+ghost use Rattle.wagons_and_orders.specs.PossibleRows.{IsPossibleRow};
 ghost use Rattle.wagons_and_orders.specs.declared.wagon_row.WagonRow.{WagonRow};
 
 use crate::empty_wagons::{Stand, empty_list, replace, standing_so};
@@ -56,7 +57,8 @@ impl Model for WagonRows {
 impl WagonRows {
     ghost use Rattle.fleet_rows.specs.Kept.{IsWagonRows};
 
-    /// A copy of these rows: at most 1,000, ascending by number, none of which carries over 200,000 kg.
+    /// A copy of these rows: at most 1,000, ascending by number, none of which carries over 200,000 kg, and each of which an
+    /// office can have.
     pub fn from_rows(alloc: Global, rows: &[WagonRow]) -> Result<WagonRows, AllocError>
         requires { IsWagonRows rows.now }
         ensures { IfOk result (λ wagons. wagons ≡ rows.now) }
@@ -157,14 +159,33 @@ impl WagonRows {
     pub fn put(&mut self, index: usize, row: &WagonRow)
         requires its_index { (old : WagonRow) × (slice_get self.old index ≡ Some old) × (old.number ≡ row.now.number) }
         requires few_kg { row.now.load_limit ≤ max_load }
+        requires possible { IsPossibleRow row.now }
         ensures { self.new ≡ at_wagon row.now.number (λ _. row.now) self.old }
     {
         self.for_the_prover();
         self.set(index, row);
     }
 
-    /// Sets the promise of a wagon, where the office has it.
-    pub fn set_promise(&mut self, number: WagonNumber, promise: Option<OrderId>)
+    /// Promises a free wagon to an order.
+    pub fn promise(&mut self, number: WagonNumber, id: OrderId)
+        requires { IsSomeAnd (wagon_in self.old number) (λ row. IsTrue (is_free row)) }
+        ensures { self.new ≡ at_wagon number (with_promise (Some id)) self.old }
+    {
+        self.for_the_prover();
+        self.set_promise(number, Some(id));
+    }
+
+    /// Ends the promise of a wagon, where the office has it.
+    pub fn end_promise(&mut self, number: WagonNumber)
+        ensures { self.new ≡ at_wagon number (with_promise None) self.old }
+    {
+        self.for_the_prover();
+        self.set_promise(number, None);
+    }
+
+    /// Sets the promise of a wagon, where the office has it, and its row is still one that an office can have.
+    fn set_promise(&mut self, number: WagonNumber, promise: Option<OrderId>)
+        requires { IfSome (wagon_in self.old number) (λ row. IsPossibleRow (with_promise promise row)) }
         ensures { self.new ≡ at_wagon number (with_promise promise) self.old }
     {
         if let Some(index) = index_near(&self.rows, number, self.hint(number)) {

@@ -1,6 +1,6 @@
 -- Pairs that can be promised together can be promised one after the other.
 use Rattle.std.proofs.Common.{◌≡◌, ◌∙◌, ℕ, ◌+◌, ◌-◌, ◌<◌, ◌≤◌, Bool, true, false, cond, List, [], ◌∷◌, ◌++◌, length, take, drop, get_or, ◌&&◌, refl, ap, sym, subst, arith, zero, suc}
-use Rattle.std.specs.Prelude.{◌↔◌, IsTrue, nat_le, Option, Some, None, option_map, is_some, IsSome, IfSome, All}
+use Rattle.std.specs.Prelude.{◌↔◌, IsTrue, nat_le, Option, Some, None, option_map, is_some, IsSome, IsSomeAnd, IfSome, All}
 use Rattle.std.specs.List.{Contains, list_all, slice_index_or, sum_by}
 use Rattle.std.proofs.lemmas.List.Elements.{All-head, All-tail, All-weaker}
 use Rattle.std.proofs.lemmas.Bool.Decides.{nat_tests}
@@ -14,6 +14,7 @@ use Rattle.wagons_and_orders.specs.Lack.{lack_of}
 use Rattle.wagons_and_orders.specs.Numbers.{with_number}
 use Rattle.wagons_and_orders.specs.OrderRow.{OrderRowValue}
 use Rattle.wagons_and_orders.proofs.Rows.{length-with}
+use Rattle.fleet_rows.specs.FreeWagons.{is_free}
 use Rattle.fleet_rows.specs.Rows.{wagon_in, order_in, promised_to}
 use Rattle.operating_db.specs.Commits.{Pair, times_of_wagon, times_of_order, is_free_row, lack_in, IsPromisable, CanPromise, given_to, promise_pair, promise_all}
 use Rattle.operating_db.specs.inner.EventParts.{IsNext, is_promisable}
@@ -176,6 +177,11 @@ lacks_by (Some row) lacking = lacking
 
 pub next_lacks : (office : Office) (p : Pair) → IsNext office p → IfSome (order_in office.orders p.1) (λ row. 0 < lack_of row)
 next_lacks office p next = lacks_by (order_in office.orders p.1) next.lacking
+
+-- the wagon of a pair is there, and free
+pub free_there : (o : Option WagonRow) → is_free_row o ≡ true → IsSomeAnd o (λ row. is_free row ≡ true)
+free_there None h = cc h
+free_there (Some row) h = h
 
 free_by_row : (o : Option WagonRow) → is_free_row o ≡ true → promise_of o ≡ None
 free_by_row None h = refl

@@ -20,11 +20,12 @@ use Rattle.std.proofs.lemmas.Map.Views.{All-found}
 use Rattle.std.proofs.lemmas.Option.{get_or_from_slice_get, slice_get-get_or, slice_get_within}
 use Rattle.faults.specs.declared.faults.FleetFault.{FleetFault}
 use Rattle.move_messages.specs.MaxLoad.{max_load}
+use Rattle.wagons_and_orders.specs.PossibleRows.{IsPossibleRow}
 use Rattle.wagons_and_orders.specs.declared.wagon_row.WagonRow.{WagonRow}
 use Rattle.fleet_rows.specs.Kept.{IsWagonRows, by_number, compare_numbers, max_roster_wagons}
 use Rattle.fleet_rows.specs.Roster.{IsRoster, IsRosterRow}
 use Rattle.fleet_rows.specs.Rows.{is_wagon, wagon_in}
-use Rattle.fleet_rows.proofs.Wagons.{number-wagon_in, wagon_in-there}
+use Rattle.fleet_rows.proofs.Wagons.{found_is, number-wagon_in, wagon_in-there}
 use Rattle.operating_db.specs.FleetChange.{AreRowsOf, IsFleetAfter, IsFleetRefusal, RowOf, adding_fault, fault_of_leaver, fleet_fault, is_promised, leaving_fault, may_leave, row_with, row_without}
 use Rattle.operating_db.specs.Office.{Office}
 use Rattle.operating_db.specs.Promises.{PromisesAgree, is_among, is_promise_to, promise_of}
@@ -128,16 +129,19 @@ fleet_agrees office added leaving changed roster no_fault fleet agree = record {
   orders = agree.orders;
 }
 
--- ---- no wagon carries too much
-
-light_in : (rows : List WagonRow) → IsWagonRows rows → (number : List ℕ) → IfSome (wagon_in rows number) (λ row. row.load_limit ≤ max_load)
-light_in rows h number = if_found (λ (row : WagonRow). row.load_limit ≤ max_load) (wagon_in rows number) (λ row found.
-    all_found (λ (row : WagonRow). row.load_limit ≤ max_load) (is_wagon number) rows row h.few_kg found)
+-- ---- the rows of a changed fleet are as those before and those added
 
 either : {X : Type 0} (P : X → Type 0) (gone : Bool) (new old : Option X) → IfSome new P → IfSome old P → IfSome (cond gone None (option_or new old)) P
 either P true new old h g = tt
 either P false None old h g = g
 either P false (Some x) old h g = h
+
+each_in : (P : WagonRow → Type 0) (rows added : List WagonRow) (leaving : List (List ℕ)) (changed : List WagonRow) → All P rows → All P added → IsFleetAfter rows added leaving changed → All P changed
+each_in P rows added leaving changed h g fleet k d below =
+    let row = get_or changed k d in
+    let found : wagon_in changed row.number ≡ Some row = wagon_in-there changed k row fleet.ascending (slice_get-get_or changed k d below) in
+    let has = either P (is_among row.number leaving) (wagon_in added row.number) (wagon_in rows row.number) (found_is P row.number added g) (found_is P row.number rows h) in
+    at_found P _ row has (sym (fleet.each row.number) ∙ found)
 
 -- the rows of a changed fleet
 pub fleet_valid : (rows added : List WagonRow) (leaving : List (List ℕ)) (changed : List WagonRow) → IsWagonRows rows → IsWagonRows added → IsFleetAfter rows added leaving changed → length changed ≤ max_roster_wagons
@@ -145,11 +149,8 @@ pub fleet_valid : (rows added : List WagonRow) (leaving : List (List ℕ)) (chan
 fleet_valid rows added leaving changed h g fleet few = record {
   few = few;
   ascending = fleet.ascending;
-  few_kg = λ k d below.
-      let row = get_or changed k d in
-      let found : wagon_in changed row.number ≡ Some row = wagon_in-there changed k row fleet.ascending (slice_get-get_or changed k d below) in
-      let light = either (λ (row : WagonRow). row.load_limit ≤ max_load) (is_among row.number leaving) (wagon_in added row.number) (wagon_in rows row.number) (light_in added g row.number) (light_in rows h row.number) in
-      at_found (λ (row : WagonRow). row.load_limit ≤ max_load) _ row light (sym (fleet.each row.number) ∙ found);
+  few_kg = each_in (λ (row : WagonRow). row.load_limit ≤ max_load) rows added leaving changed h.few_kg g.few_kg fleet;
+  possible = each_in IsPossibleRow rows added leaving changed h.possible g.possible fleet;
 }
 
 -- ---- rows as a map gives them

@@ -7,9 +7,11 @@ use Rattle.wagons_and_orders.specs.declared.change.Change.{Change}
 use Rattle.wagons_and_orders.specs.declared.wagon_row.WagonRow.{WagonRow}
 use Rattle.fleet_rows.specs.Roster.{IsRoster}
 use Rattle.wagons_and_orders.specs.Lack.{is_open}
+use Rattle.wagons_and_orders.specs.PossibleRows.{IsPossibleRow}
+use Rattle.wagons_and_orders.proofs.Possible.{stay_possible}
 use Rattle.wagons_and_orders.specs.OrderRow.{OrderRowValue, placed_row}
 use Rattle.fleet_rows.specs.Kept.{IsWagonRows}
-use Rattle.fleet_rows.proofs.Wagons.{number-wagon_in}
+use Rattle.fleet_rows.proofs.Wagons.{found_is, number-wagon_in}
 use Rattle.fleet_rows.specs.Rows.{wagon_in, order_in, at_wagon, at_order, max_open_wagons, open_wagons, promised_to, taken_back, with_promise}
 use Rattle.operating_db.specs.inner.EventParts.{IsNext, unpromised_among}
 use Rattle.operating_db.specs.MessageChange.{IsChange}
@@ -89,6 +91,13 @@ place_there office n row r found is agree = place_by office n row r row.promise 
 change_number : (office : Office) (m : message.Message) (change : Change) (promise : Option (List ℕ)) → IsChange office m change promise → change.row.number ≡ m.wagon
 change_number office m change promise h =
     (step_keeps h.row m (order_place office.orders h.row.promise) change h.stepped).number ∙ number-wagon_in office.wagons m.wagon h.row h.found
+
+-- the row that it leads to is one that an office can have
+pub change_possible : (office : Office) (m : message.Message) (change : Change) (promise : Option (List ℕ)) → IsChange office m change promise → IsWagonRows office.wagons → IsPossibleRow change.row
+change_possible office m change promise h valid =
+    let each = found_is IsPossibleRow m.wagon office.wagons valid.possible in
+    let before : IsPossibleRow h.row = subst (λ (row : Option WagonRow). IfSome row IsPossibleRow) h.found each in
+    stay_possible h.row m (order_place office.orders h.row.promise) change h.stepped before
 
 settles_by : (office : Office) (n : List ℕ) (row : WagonRow) (p : Option (List ℕ)) → Some row ≡ wagon_in office.wagons n → p ≡ row.promise → PromisesAgree office → IfSome p (λ id. is_among n (promised_of (order_in office.orders id)) ≡ true)
 settles_by office n row None found is agree = tt

@@ -361,6 +361,8 @@ impl OfficeState {
         ensures done { after_call self.old.networks self.old.office (event.Message message.now) ≡ Ok self.new.office }
         ensures networks { self.new.networks ≡ self.old.networks }
     {
+        // The row that the message finds is one that an office can have.
+        self.wagons.for_the_prover();
         self.wagons.put(found.index, &found.change.row);
         let effect = found.change.effect;
         settle(&mut self.orders, effect, found.promise, message.wagon);
@@ -444,7 +446,7 @@ impl OfficeState {
         requires { IsNext self.old.office (number, id) }
         ensures { self.new ≡ record self.old { office = promise_pair self.old.office (number, id) } }
     {
-        self.wagons.set_promise(number, Some(id));
+        self.wagons.promise(number, id);
         self.orders.promise(id, number);
     }
 

@@ -14,7 +14,7 @@ pub(crate) fn end_promises(wagons: &mut WagonRows, numbers: &[WagonNumber])
     ensures { wagons.new ≡ unpromised_among numbers.now wagons.old }
 {
     for number in numbers {
-        wagons.set_promise(*number, None);
+        wagons.end_promise(*number);
     }
 }
 

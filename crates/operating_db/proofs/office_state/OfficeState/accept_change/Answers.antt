@@ -1,10 +1,15 @@
 use Rattle.operating_db.specs.After.{after_call}
 use Rattle.operating_db.specs.Office.{Office}
-use Rattle.operating_db.proofs.States.{change_done, change_settles, change_state}
+use Rattle.operating_db.proofs.States.{change_done, change_possible, change_settles, change_state}
 use Rattle.operating_db.proofs.office_state.OfficeState.accept_change.Goals as goal
 
 pub put-requires-clause-its_index : goal.put-requires-clause-its_index
 put-requires-clause-its_index c = rw (← c.self.view_is) at c.requires.index
+
+pub put-requires-clause-possible : goal.put-requires-clause-possible
+put-requires-clause-possible c =
+    let office : Office = record { wagons = c.self.inside.wagons; orders = c.self.inside.orders; network = c.self.inside.network } in
+    change_possible office c.args.message.now c.args.found.now.change c.args.found.now.promise (rw (← c.self.view_is) at c.requires.change) c.for_the_prover.ensures
 
 pub settle-requires : goal.settle-requires
 settle-requires c =
