@@ -14,7 +14,9 @@ use Rattle.line_engine.specs.Lines.{is_blank}
 use Rattle.wagons_and_orders.specs.declared.wagon_row.WagonRow.{WagonRow}
 use Rattle.wagons_and_orders.specs.Lack.{is_open}
 use Rattle.wagons_and_orders.specs.OrderRow.{IsOrderRow, OrderRowValue}
+use Rattle.wagons_and_orders.specs.PossibleRows.{IsPossibleRow, is_possible}
 use Rattle.wagons_and_orders.specs.RowParts.{row_of_parts}
+use Rattle.wagons_and_orders.proofs.Possible.{is_possible_by}
 use Rattle.fleet_rows.specs.Kept.{by_number, max_roster_wagons}
 use Rattle.fleet_rows.specs.Rows.{max_open_wagons, names_of, open_wagons, order_in, wanted_open}
 use Rattle.fleet_rows.proofs.Named.{is_same, same_name}
@@ -53,23 +55,28 @@ stage network wagons orders = record { network = Some network; wagons = wagons; 
 
 -- ---- wagons
 
-wagon_taken : (n network : ℕ) (rows : List WagonRow) (row : WagonRow) → nat_le row.load_limit max_load ≡ true → nat_le max_roster_wagons (length rows) ≡ false → is_above_last rows row.number ≡ true
+-- a wagon's row that may stand in a checkpoint
+record MayStand (row : WagonRow) : Type 0 where
+  pub few_kg : row.load_limit ≤ max_load
+  pub possible : IsPossibleRow row
+
+wagon_taken : (n network : ℕ) (rows : List WagonRow) (row : WagonRow) → nat_le row.load_limit max_load ≡ true → is_possible row ≡ true → nat_le max_roster_wagons (length rows) ≡ false → is_above_last rows row.number ≡ true
     → take_wagon n (stage network rows []) row ≡ Ok (stage network (rows ++ row ∷ []) [])
 unfolding take_wagon
-wagon_taken n network rows row light few above = rw (light, few, above) refl
+wagon_taken n network rows row light possible few above = rw (light, possible, few, above) refl
 
-takes_wagons : (networks network : ℕ) (front back : List WagonRow) → IsStrictlySortedBy by_number (front ++ back) → length (front ++ back) ≤ max_roster_wagons → AllByRecursion (λ (row : WagonRow). row.load_limit ≤ max_load) back
+takes_wagons : (networks network : ℕ) (front back : List WagonRow) → IsStrictlySortedBy by_number (front ++ back) → length (front ++ back) ≤ max_roster_wagons → AllByRecursion MayStand back
     → TakesAll networks (stage network front []) (map Wagon back) (stage network (front ++ back) [])
-takes_wagons networks network front [] sorted few light = ap (λ (rows : List WagonRow). stage network rows []) (append-nil front)
-takes_wagons networks network front (row ∷ back) sorted few light =
+takes_wagons networks network front [] sorted few stand = ap (λ (rows : List WagonRow). stage network rows []) (append-nil front)
+takes_wagons networks network front (row ∷ back) sorted few stand =
     let regrouped : (front ++ row ∷ []) ++ back ≡ front ++ row ∷ back = append_assoc front (row ∷ []) back in
-    let within : nat_le row.load_limit max_load ≡ true = let most = light.0 in grind (arith, nat_tests) in
+    let within : nat_le row.load_limit max_load ≡ true = let most = stand.0.few_kg in grind (arith, nat_tests) in
     let room : nat_le max_roster_wagons (length front) ≡ false =
     (let counted : length front + (1 + length back) ≤ max_roster_wagons = omega (arith, length-append front (row ∷ back)) in grind (arith, nat_tests)) in (
       stage network (front ++ row ∷ []) [],
-      λ n. wagon_taken n network front row within room (above_before front row back sorted),
+      λ n. wagon_taken n network front row within (is_possible_by row stand.0.possible) room (above_before front row back sorted),
       subst (λ (rows : List WagonRow). TakesAll networks (stage network (front ++ row ∷ []) []) (map Wagon back) (stage network rows [])) regrouped
-          (takes_wagons networks network (front ++ row ∷ []) back (subst (IsStrictlySortedBy by_number) (sym regrouped) sorted) (subst (λ (rows : List WagonRow). length rows ≤ max_roster_wagons) (sym regrouped) few) light.1),
+          (takes_wagons networks network (front ++ row ∷ []) back (subst (IsStrictlySortedBy by_number) (sym regrouped) sorted) (subst (λ (rows : List WagonRow). length rows ≤ max_roster_wagons) (sym regrouped) few) stand.1),
     )
 
 -- ---- orders
@@ -166,10 +173,11 @@ whole_parts office = record { network = Some office.network; wagons = office.wag
 
 takes_office : (networks : ℕ) (office : Office) → IsFirstOffice networks office → list_all is_open office.orders ≡ true → TakesAll networks no_parts (lines_for office) (whole_parts office)
 takes_office networks office first opened =
-    let light : AllByRecursion (λ (row : WagonRow). row.load_limit ≤ max_load) office.wagons = recursion_from_All (λ (row : WagonRow). row.load_limit ≤ max_load) office.wagons first.wagons.few_kg in
+    let stand : AllByRecursion MayStand office.wagons =
+    recursion_from_All MayStand office.wagons (λ k d below. record { few_kg = first.wagons.few_kg k d below; possible = first.wagons.possible k d below }) in
     let valid : All IsOrderRow office.orders = λ k d below. (first.promises.orders k d below).valid in
     let fit = all_fit office valid opened (orders_have_their_wagons office first.promises) in
-    let wagons = takes_wagons networks office.network [] office.wagons first.wagons.ascending first.wagons.few light in
+    let wagons = takes_wagons networks office.network [] office.wagons first.wagons.ascending first.wagons.few stand in
     let orders = takes_orders networks office.network office.wagons [] office.orders first.promises.names first.few_open fit in
     let last : TakesAll networks (stage office.network office.wagons office.orders) (End (lines_before_last office.wagons office.orders) ∷ []) (whole_parts office) =
     (whole_parts office, λ n. last_taken n office.network office.wagons office.orders (wagons_are_kept networks office first), refl) in (

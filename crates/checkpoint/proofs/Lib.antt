@@ -14,4 +14,5 @@ pub mod HeadReads
 pub mod WagonReads
 pub mod OrderReads
 pub mod LineReads
+pub mod Short
 pub mod OneLine

@@ -79,7 +79,7 @@ pub first_office : (networks : ℕ) (parts : PartsValue) (network : ℕ) → IsP
 first_office networks parts network h known ended =
     let within : (1 ≤ network) × (network ≤ networks) = subst (λ (o : Option ℕ). IfSome o (λ k. (1 ≤ k) × (k ≤ networks))) known h.in_force in
     record {
-      wagons = record { few = h.few; ascending = h.ascending; few_kg = h.few_kg };
+      wagons = record { few = h.few; ascending = h.ascending; few_kg = h.few_kg; possible = h.possible };
       promises = record {
         agree = sides_agree (record { wagons = parts.wagons; orders = parts.orders; network = network }) h.promised (h.known ended);
         names = h.distinct;

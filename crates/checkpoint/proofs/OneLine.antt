@@ -1,16 +1,16 @@
 -- A text of JSON is one line: a line feed in a text is escaped.
-use Rattle.std.proofs.Common.{◌≡◌, ℕ, zero, suc, ◌^◌, ◌<◌, Bool, true, false, not, ◌&&◌, ◌==◌, List, [], ◌∷◌, ◌++◌, Option, Some, None, map, decimal, codes, inl, inr, ◌≤◌, refl, ap, ◌∙◌, subst, arith}
+use Rattle.std.proofs.Common.{◌≡◌, ℕ, ◌^◌, ◌<◌, Bool, true, false, not, ◌==◌, List, [], ◌∷◌, ◌++◌, Option, Some, None, map, length, decimal, codes, inl, inr, ◌≤◌, refl, ap, ◌∙◌, subst, arith}
 use Rattle.std.specs.Prelude.{⊤}
 use Rattle.std.specs.Char.{digit_value}
 use Rattle.std.specs.Str.Parse.{AllDigits}
-use Rattle.std.proofs.lemmas.Bool.{and_parts, cases_lt, ne_eqb}
+use Rattle.std.proofs.lemmas.Bool.{cases_lt, ne_eqb}
 use Rattle.std.proofs.lemmas.Fmt.{decimal_is_IsNumeral}
 use Rattle.json.specs.Print.{escape_byte, escape, quoted}
 use Rattle.json.proofs.Printed.Strings.{escape_byte_plain}
 use Rattle.serde_json.specs.Data.{Data, null, boolean, number, string, array, object, Items, no_items, item, Members, no_members, member}
 use Rattle.serde_json.specs.View.{items_of}
 use Rattle.serde_json.specs.Written.{number_text, comma_if, compact_text, items_text, members_text}
-use Rattle.line_engine.specs.Lines.{has_feed, is_blank}
+use Rattle.line_engine.specs.Lines.{has_feed, is_blank, max_line_bytes}
 use Rattle.line_engine.proofs.Feeds.{has_feed-append}
 use Rattle.line_fields.specs.Commands.{max_revision}
 use Rattle.move_messages.specs.OrderLimits.{IsOrder}
@@ -19,18 +19,9 @@ use Rattle.wagons_and_orders.specs.declared.wagon_row.WagonRow.{WagonRow}
 use Rattle.wagons_and_orders.specs.OrderRow.{OrderRowValue}
 use Rattle.checkpoint.specs.Limits.{line_format, max_lines}
 use Rattle.checkpoint.specs.LineWriting.{end_data, head_data, order_data, text_if_there, wagon_data, IsOneLine}
+use Rattle.checkpoint.proofs.Short.{all_below, holds_below, most_bytes, text_short}
 
 -- ---- texts and numbers
-
-abbrev all_below : (ℕ → Bool) → ℕ → Bool
-all_below p zero = true
-all_below p (suc n) = p n && all_below p n
-
-holds_below : (p : ℕ → Bool) (n x : ℕ) → all_below p n ≡ true → x < n → p x ≡ true
-holds_below p zero x all lt = absurd (omega arith)
-holds_below p (suc n) x all lt =
-    let both = and_parts (p n) (all_below p n) all in
-    elim (cases_lt x n) [ inl below ↦ holds_below p n x both.1 below | inr above ↦ let same : n ≡ x = omega arith in subst (λ y. p y ≡ true) same both.0 ]
 
 abbrev is_free : ℕ → Bool
 is_free x = not (has_feed (escape_byte x))
@@ -115,9 +106,11 @@ mutual
       has_feed-append (comma_if later) (quoted k ++ 58 ∷ (compact_text d ++ members_text true ms)) (comma_free later)
       (has_feed-append (quoted k) (58 ∷ (compact_text d ++ members_text true ms)) (quoted_free k) value)
 
--- a text that isn't blank
-one-line : (text : List ℕ) (d : Data) → text ≡ compact_text d → is_blank (compact_text d) ≡ false → HasFreeNumbers d → IsOneLine text
-one-line text d is some free = (ap has_feed is ∙ text_free d free, ap is_blank is ∙ some)
+-- a text that isn't blank, and isn't long
+one-line : (text : List ℕ) (d : Data) → text ≡ compact_text d → is_blank (compact_text d) ≡ false → HasFreeNumbers d → most_bytes d ≤ max_line_bytes → IsOneLine text
+one-line text d is some free short =
+    let bytes : length text ≡ length (compact_text d) = ap length is in
+    (ap has_feed is ∙ text_free d free, ap is_blank is ∙ some, omega (arith, bytes, text_short d, short))
 
 -- ---- the parts of a line
 
@@ -129,22 +122,23 @@ texts_free : (texts : List (List ℕ)) → ItemsHaveFreeNumbers (items_of (map s
 texts_free [] = tt
 texts_free (t ∷ texts) = (tt, texts_free texts)
 
-pub head_one : (network : ℕ) (newest : Option (List ℕ)) (text : List ℕ) → network ≤ max_revision → text ≡ compact_text (head_data network newest) → IsOneLine text
-head_one network newest text small is =
-    one-line text (head_data network newest) is refl (tt, (decimal_free line_format (omega arith), (decimal_free network (omega (arith, small)), if_there_free (codes "newest") newest no_members tt)))
+pub head_one : (network : ℕ) (newest : Option (List ℕ)) (text : List ℕ) → network ≤ max_revision → most_bytes (head_data network newest) ≤ max_line_bytes → text ≡ compact_text (head_data network newest) → IsOneLine text
+head_one network newest text small short is =
+    one-line text (head_data network newest) is refl (tt, (decimal_free line_format (omega arith), (decimal_free network (omega (arith, small)), if_there_free (codes "newest") newest no_members tt))) short
 
-pub wagon_one : (row : WagonRow) (ready : Option (List ℕ)) (last text : List ℕ) → row.load_limit ≤ max_load → text ≡ compact_text (wagon_data row ready last) → IsOneLine text
-wagon_one row ready last text small is =
+pub wagon_one : (row : WagonRow) (ready : Option (List ℕ)) (last text : List ℕ) → row.load_limit ≤ max_load → most_bytes (wagon_data row ready last) ≤ max_line_bytes → text ≡ compact_text (wagon_data row ready last)
+    → IsOneLine text
+wagon_one row ready last text small short is =
     let promise = if_there_free (codes "promise") row.promise no_members tt in
     let back = if_there_free (codes "ready") ready (member (codes "last") (string last) (member (codes "held") (boolean row.held) (text_if_there (codes "promise") row.promise no_members))) (tt, (tt, promise)) in
-    one-line text (wagon_data row ready last) is refl (tt, (tt, (tt, (decimal_free row.load_limit (omega (arith, small)), (tt, (tt, back))))))
+    one-line text (wagon_data row ready last) is refl (tt, (tt, (tt, (decimal_free row.load_limit (omega (arith, small)), (tt, (tt, back)))))) short
 
-pub order_one : (row : OrderRowValue) (latest text : List ℕ) → IsOrder row.text → text ≡ compact_text (order_data row latest) → IsOneLine text
-order_one row latest text limits is =
+pub order_one : (row : OrderRowValue) (latest text : List ℕ) → IsOrder row.text → most_bytes (order_data row latest) ≤ max_line_bytes → text ≡ compact_text (order_data row latest) → IsOneLine text
+order_one row latest text limits short is =
     let load = decimal_free row.text.load (omega (arith, limits.0)) in
     let penalty = decimal_free row.text.penalty (omega (arith, limits.1)) in
     let wagons = decimal_free row.text.wagons (omega (arith, limits.3)) in
-    one-line text (order_data row latest) is refl (tt, (tt, (tt, (texts_free row.text.classes, (load, (tt, (penalty, (wagons, (texts_free row.promised, (texts_free row.filled, tt))))))))))
+    one-line text (order_data row latest) is refl (tt, (tt, (tt, (texts_free row.text.classes, (load, (tt, (penalty, (wagons, (texts_free row.promised, (texts_free row.filled, tt)))))))))) short
 
-pub end_one : (lines : ℕ) (text : List ℕ) → lines ≤ max_lines → text ≡ compact_text (end_data lines) → IsOneLine text
-end_one lines text small is = one-line text (end_data lines) is refl (tt, (decimal_free lines (omega (arith, small)), tt))
+pub end_one : (lines : ℕ) (text : List ℕ) → lines ≤ max_lines → most_bytes (end_data lines) ≤ max_line_bytes → text ≡ compact_text (end_data lines) → IsOneLine text
+end_one lines text small short is = one-line text (end_data lines) is refl (tt, (decimal_free lines (omega (arith, small)), tt)) short

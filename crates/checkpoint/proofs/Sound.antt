@@ -15,7 +15,9 @@ use Rattle.line_engine.specs.Lines.{is_blank}
 use Rattle.wagons_and_orders.specs.declared.wagon_row.WagonRow.{WagonRow}
 use Rattle.wagons_and_orders.specs.Lack.{is_open}
 use Rattle.wagons_and_orders.specs.OrderRow.{IsOrderRow, OrderRowValue}
+use Rattle.wagons_and_orders.specs.PossibleRows.{IsPossibleRow, is_possible}
 use Rattle.wagons_and_orders.specs.RowParts.{row_of_parts}
+use Rattle.wagons_and_orders.proofs.Possible.{possible_is}
 use Rattle.fleet_rows.specs.Kept.{max_roster_wagons}
 use Rattle.fleet_rows.specs.Rows.{max_open_wagons, names_of, open_wagons, order_in, wanted_open}
 use Rattle.fleet_rows.specs.SameWagons.{has_wagon}
@@ -27,12 +29,12 @@ use Rattle.checkpoint.specs.declared.line.CheckpointLine.TheVariants.{Head, Wago
 use Rattle.checkpoint.specs.Checkpoint.{order_said, written_lines}
 use Rattle.checkpoint.specs.OfficeOf.{with_lines}
 use Rattle.checkpoint.specs.Parts.{PartsValue, no_parts}
-use Rattle.checkpoint.specs.Taking.{Taken, is_above_last, is_full, is_kept_by, lines_before_last, stands_before, take_end, take_head, take_line, take_next, take_order, take_read, take_said, take_wagon, with_order}
+use Rattle.checkpoint.specs.Taking.{Taken, is_above_last, is_full, is_kept_by, lines_before_last, may_follow, take_end, take_head, take_line, take_next, take_order, take_read, take_said, take_wagon, with_order}
 use Rattle.checkpoint.specs.declared.read_fault.ReadFault.{ReadFault}
 use Rattle.checkpoint.specs.inner.IsParts.{IsParts, has_its_wagons}
 use Rattle.checkpoint.proofs.Above.{ascending_push}
 use Rattle.checkpoint.proofs.RowParts.{OfParts, of_parts}
-use Rattle.checkpoint.proofs.Tests.{all_push}
+use Rattle.checkpoint.proofs.Tests.{all_push, and_left, and_right}
 
 -- ---- what parts say, line by line
 
@@ -102,6 +104,7 @@ with_head networks k some within = record {
   few = omega arith;
   ascending = tt;
   few_kg = All-nil (λ (row : WagonRow). row.load_limit ≤ max_load);
+  possible = All-nil IsPossibleRow;
   distinct = tt;
   each = All-nil IsOrderRow;
   few_open = omega arith;
@@ -121,8 +124,8 @@ head_step networks n parts new k h none taken =
       valid = subst (IsParts networks) (sym is) (with_head networks k some within);
     }
 
-no_orders : (orders : List OrderRowValue) (row : WagonRow) → stands_before orders row ≡ true → (orders ≡ []) × (nat_le row.load_limit max_load ≡ true)
-no_orders [] row h = (refl, h)
+no_orders : (orders : List OrderRowValue) (row : WagonRow) → may_follow orders row ≡ true → (orders ≡ []) × (nat_le row.load_limit max_load ≡ true) × (is_possible row ≡ true)
+no_orders [] row h = (refl, and_left (nat_le row.load_limit max_load) (is_possible row) h, and_right (nat_le row.load_limit max_load) (is_possible row) h)
 no_orders (order ∷ orders) row h = cc
 
 wagon_more : (parts : PartsValue) (row : WagonRow) (orders : List OrderRowValue) (ended : Bool) → orders ≡ [] → ended ≡ false
@@ -130,14 +133,15 @@ wagon_more : (parts : PartsValue) (row : WagonRow) (orders : List OrderRowValue)
     ≡ said_in (head_said parts.network) parts.wagons orders (end_said ended (lines_before_last parts.wagons orders)) ++ Wagon row ∷ []
 wagon_more parts row orders ended none opened = rw (none, opened) (said_wagon (head_said parts.network) parts.wagons row)
 
-with_wagon : (networks known : ℕ) (parts : PartsValue) (row : WagonRow) → IsParts networks parts → parts.network ≡ Some known → parts.ended ≡ false → parts.orders ≡ [] → nat_le row.load_limit max_load ≡ true
+with_wagon : (networks known : ℕ) (parts : PartsValue) (row : WagonRow) → IsParts networks parts → parts.network ≡ Some known → parts.ended ≡ false → parts.orders ≡ [] → nat_le row.load_limit max_load ≡ true → is_possible row ≡ true
     → nat_le max_roster_wagons (length parts.wagons) ≡ false → is_above_last parts.wagons row.number ≡ true → IsParts networks (record parts { wagons = parts.wagons ++ row ∷ [] })
-with_wagon networks known parts row h there opened none light few above = record {
+with_wagon networks known parts row h there opened none light possible few above = record {
   head = λ e. cc;
   in_force = h.in_force;
   few = let short : length parts.wagons < max_roster_wagons = grind (arith, nat_tests) in omega (arith, length-append parts.wagons (row ∷ []));
   ascending = ascending_push parts.wagons row h.ascending above;
   few_kg = All-push (λ (row : WagonRow). row.load_limit ≤ max_load) parts.wagons row h.few_kg (grind (arith, nat_tests));
+  possible = All-push IsPossibleRow parts.wagons row h.possible (possible_is row possible);
   distinct = h.distinct;
   each = h.each;
   few_open = h.few_open;
@@ -149,13 +153,13 @@ with_wagon networks known parts row h there opened none light few above = record
 wagon_step : (networks n known : ℕ) (parts new : PartsValue) (row : WagonRow) → IsParts networks parts → parts.network ≡ Some known → parts.ended ≡ false → take_wagon n parts row ≡ Ok new → HasMore networks parts new (Wagon row)
 unfolding take_wagon
 wagon_step networks n known parts new row h there opened taken =
-    let (stands, rest) = not_refused (not (stands_before parts.orders row)) _ _ new taken in
+    let (stands, rest) = not_refused (not (may_follow parts.orders row)) _ _ new taken in
     let (few, last) = not_refused (nat_le max_roster_wagons (length parts.wagons)) _ _ new rest in
     let (above, is) = accepted_else (is_above_last parts.wagons row.number) (has_wagon parts.wagons row.number) _ new _ _ last in
-    let (none, light) = no_orders parts.orders row (not_not (stands_before parts.orders row) stands) in
+    let (none, light, possible) = no_orders parts.orders row (not_not (may_follow parts.orders row) stands) in
     record {
       more = ap said_by is ∙ wagon_more parts row parts.orders parts.ended none opened;
-      valid = subst (IsParts networks) (sym is) (with_wagon networks known parts row h there opened none light few above);
+      valid = subst (IsParts networks) (sym is) (with_wagon networks known parts row h there opened none light possible few above);
     }
 
 order_more : (parts : PartsValue) (row : OrderRowValue) (ended : Bool) → ended ≡ false
@@ -176,6 +180,7 @@ with_row networks known parts row h there unended new valid opened few its = rec
   few = h.few;
   ascending = h.ascending;
   few_kg = h.few_kg;
+  possible = h.possible;
   distinct = subst (IsDistinct is_same) (sym (map-append (λ (row : OrderRowValue). row.text.id) parts.orders (row ∷ [])))
       (IsDistinct-push same_name (names_of parts.orders) row.text.id h.distinct (nothing_named (λ (row : OrderRowValue). row.text.id) row.text.id parts.orders new));
   each = All-push IsOrderRow parts.orders row h.each valid;
@@ -235,6 +240,7 @@ end_step networks n known parts new lines h there opened taken =
         few = h.few;
         ascending = h.ascending;
         few_kg = h.few_kg;
+        possible = h.possible;
         distinct = h.distinct;
         each = h.each;
         few_open = h.few_open;
@@ -326,6 +332,7 @@ no_parts_valid networks = record {
   few = omega arith;
   ascending = tt;
   few_kg = All-nil (λ (row : WagonRow). row.load_limit ≤ max_load);
+  possible = All-nil IsPossibleRow;
   distinct = tt;
   each = All-nil IsOrderRow;
   few_open = omega arith;

@@ -19,7 +19,7 @@ use Rattle.checkpoint.specs.declared.line.CheckpointLine.TheVariants.{Head, Wago
 use Rattle.checkpoint.specs.OfficeOf.{closed, office_of_lines, office_of_taken, with_lines}
 use Rattle.checkpoint.specs.Parts.{PartsValue, no_parts}
 use Rattle.checkpoint.specs.Reads.{IsUnread}
-use Rattle.checkpoint.specs.Taking.{Taken, is_above_last, stands_before, take_end, take_line, take_next, take_order, take_read, take_said, take_wagon, with_order}
+use Rattle.checkpoint.specs.Taking.{Taken, is_above_last, may_follow, take_end, take_line, take_next, take_order, take_read, take_said, take_wagon, with_order}
 use Rattle.checkpoint.specs.declared.read_fault.ReadFault.{ReadFault}
 use Rattle.checkpoint.specs.declared.read_fault.ReadFault.TheVariants.{Line, Unread}
 use Rattle.checkpoint.proofs.Sound.{fault_stays}
@@ -45,7 +45,7 @@ wagon_other n parts row =
     let known = either (has_wagon parts.wagons row.number) _ _ (by_line (DuplicateWagon n)) (by_line (BadCheckpointLine n)) in
     let above = either (is_above_last parts.wagons row.number) _ _ (taken (record parts { wagons = parts.wagons ++ row ∷ [] })) known in
     let few = either (nat_le max_roster_wagons (length parts.wagons)) _ _ (by_line (TooLarge n)) above in
-    either (not (stands_before parts.orders row)) _ _ (by_line (BadCheckpointLine n)) few
+    either (not (may_follow parts.orders row)) _ _ (by_line (BadCheckpointLine n)) few
 
 row_other : (n : ℕ) (parts : PartsValue) (o : Option OrderRowValue) → IsOther (with_order n parts o)
 row_other n parts None = by_line _

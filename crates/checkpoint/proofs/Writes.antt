@@ -9,7 +9,7 @@ use Rattle.std.proofs.lemmas.List.Concat.{flat_map-append, flat_map-cons}
 use Rattle.std.proofs.lemmas.List.Elements.{filter-append}
 use Rattle.std.proofs.lemmas.List.Sums.{sum_by-cons}
 use Rattle.line_engine.proofs.Running.{lines_of-with_feeds}
-use Rattle.line_engine.specs.Lines.{has_feed, is_blank, line_feed, lines_of, with_feeds}
+use Rattle.line_engine.specs.Lines.{IsWithin, has_feed, is_blank, line_feed, lines_of, max_line_bytes, with_feeds}
 use Rattle.line_fields.specs.declared.fault.LineFault.{LineFault}
 use Rattle.wagons_and_orders.specs.declared.wagon_row.WagonRow.{WagonRow}
 use Rattle.wagons_and_orders.specs.Lack.{is_open}
@@ -76,6 +76,18 @@ read_back (x ∷ said) (line ∷ lines) h =
 -- the lines of a text are those of which it was made
 lines_of_text : (lines : List (List ℕ)) → AllByRecursion (λ (line : List ℕ). has_feed line ≡ false) lines → lines_of (with_feeds lines) ≡ lines
 lines_of_text lines free = ap lines_of (sym (append-nil (with_feeds lines))) ∙ (lines_of-with_feeds lines [] free ∙ append-nil lines)
+
+all_short : (said : List CheckpointLine) (lines : List (List ℕ)) → AreLinesOf SaysLine said lines → AllByRecursion (IsWithin max_line_bytes) lines
+all_short [] [] h = tt
+all_short [] (line ∷ lines) h = absurd h
+all_short (x ∷ said) [] h = absurd h
+all_short (x ∷ said) (line ∷ lines) h = (h.0.one.2, all_short said lines h.1)
+
+-- each line of a text is short
+short_lines : (said : List CheckpointLine) (lines : List (List ℕ)) (text : List ℕ) → text ≡ with_feeds lines → AreLinesOf SaysLine said lines → AllByRecursion (IsWithin max_line_bytes) (lines_of text)
+short_lines said lines text whole say =
+    let same : lines_of text ≡ lines = ap lines_of whole ∙ lines_of_text lines (no_feeds said lines say) in
+    subst (AllByRecursion (IsWithin max_line_bytes)) (sym same) (all_short said lines say)
 
 reads_back : (networks : ℕ) (office : Office) (lines : List (List ℕ)) (text : List ℕ) → text ≡ with_feeds lines → AreLinesOf SaysLine (lines_for office) lines → IsFirstOffice networks office → list_all is_open office.orders ≡ true
     → office_of_lines networks (lines_of text) ≡ Ok office
@@ -157,6 +169,7 @@ all_pass p (x ∷ xs) = elim (cases_Bool (p x)) [ inl passes ↦ rw (passes, pas
 pub record IsWritten (networks : ℕ) (office : Office) (text : List ℕ) : Type 0 where
   pub is_text : IsCheckpointText office text
   pub reads : office_of_lines networks (lines_of text) ≡ Ok (compact office)
+  pub short : AllByRecursion (IsWithin max_line_bytes) (lines_of text)
 
 grown : (a b c d e head last : List ℕ) (wagons orders : List (List ℕ)) → a ≡ [] → b ≡ a ++ (head ++ line_feed ∷ []) → c ≡ b ++ with_feeds wagons → d ≡ c ++ with_feeds orders → e ≡ d ++ (last ++ line_feed ∷ [])
     → e ≡ with_feeds (head ∷ (wagons ++ (orders ++ last ∷ [])))
@@ -198,6 +211,7 @@ written networks office a b c d e head last lines begins none first wagons order
         whole = whole;
       };
       reads = reads_back networks (compact office) (head ∷ (wagons.0 ++ (orders.0 ++ last ∷ []))) e whole say (compact_begins networks office begins) (all_pass is_open office.orders);
+      short = short_lines (lines_for (compact office)) (head ∷ (wagons.0 ++ (orders.0 ++ last ∷ []))) e whole say;
     }
 
 -- how few lines a checkpoint has

@@ -3,7 +3,7 @@ use Rattle.std.specs.Prelude.{◌≡◌, ℕ, false, List, Option, Some, None, c
 use Rattle.serde_json.specs.Data.{Data, boolean, string, object, Members, no_members, member}
 use Rattle.serde_json.specs.Written.{compact_text}
 use Rattle.rail_codes.specs.Moment.{IsMomentText}
-use Rattle.line_engine.specs.Lines.{has_feed, is_blank}
+use Rattle.line_engine.specs.Lines.{IsWithin, has_feed, is_blank, max_line_bytes}
 use Rattle.line_fields.specs.Written.{list_data, number_data}
 use Rattle.wagons_and_orders.specs.declared.wagon_row.WagonRow.{WagonRow}
 use Rattle.wagons_and_orders.specs.OrderRow.{OrderRowValue}
@@ -89,6 +89,6 @@ IsEndLine lines line = line ≡ compact_text (end_data lines)
 
 -- ---- every line
 
--- it has no line feed, and isn't blank, so it is one line of a file
+-- it has no line feed, isn't blank, and has at most 65,536 bytes, so it is read as one line of a file
 abbrev pub IsOneLine : List ℕ → Type 0
-IsOneLine line = (has_feed line ≡ false) × (is_blank line ≡ false)
+IsOneLine line = (has_feed line ≡ false) × (is_blank line ≡ false) × IsWithin max_line_bytes line

@@ -1,5 +1,5 @@
 -- What one line of a checkpoint makes of the parts before it, or its fault: the first that holds, with the line's number n.
-use Rattle.std.specs.Prelude.{ℕ, ◌+◌, ◌-◌, ◌==◌, ◌||◌, nat_le, nat_lt, not, Bool, true, false, if◌then◌else◌, List, [], ◌∷◌, ◌++◌, length, Option, Some, None, is_some, Result, Ok, Err, slice_get}
+use Rattle.std.specs.Prelude.{ℕ, ◌+◌, ◌-◌, ◌==◌, ◌||◌, ◌&&◌, nat_le, nat_lt, not, Bool, true, false, if◌then◌else◌, List, [], ◌∷◌, ◌++◌, length, Option, Some, None, is_some, Result, Ok, Err, slice_get}
 use Rattle.std.specs.List.{list_all}
 use Rattle.std.specs.Ordering.{is_lt}
 use Rattle.faults.specs.declared.faults.CheckpointFault.TheVariants.{DuplicateWagon, DuplicateOrder, TooLarge, TooManyOpen, UnknownNetwork, BadCheckpointLine, OneSidedPromise, OrderFull, CheckpointCut}
@@ -7,6 +7,7 @@ use Rattle.move_messages.specs.MaxLoad.{max_load}
 use Rattle.line_fields.specs.declared.fault.LineFault.{LineFault}
 use Rattle.wagons_and_orders.specs.declared.wagon_row.WagonRow.{WagonRow}
 use Rattle.wagons_and_orders.specs.OrderRow.{OrderRowValue}
+use Rattle.wagons_and_orders.specs.PossibleRows.{is_possible}
 use Rattle.wagons_and_orders.specs.RowParts.{row_of_parts}
 use Rattle.fleet_rows.specs.Kept.{compare_numbers, max_roster_wagons}
 use Rattle.fleet_rows.specs.Rows.{max_open_wagons, open_wagons, order_in, wagon_in}
@@ -40,15 +41,16 @@ is_above_row (Some row) number = is_lt (compare_numbers row.number number)
 abbrev pub is_above_last : List WagonRow → List ℕ → Bool
 is_above_last rows number = is_above_row (slice_get rows (length rows - 1)) number
 
--- whether a wagon's row may stand here: no order stands before it, and it carries no more than a wagon may
-abbrev pub stands_before : List OrderRowValue → WagonRow → Bool
-stands_before [] row = nat_le row.load_limit max_load
-stands_before (order ∷ orders) row = false
+-- whether a wagon's row may follow these orders: there is none, and the row carries no more than a wagon may, and is one that an
+-- office can have
+abbrev pub may_follow : List OrderRowValue → WagonRow → Bool
+may_follow [] row = nat_le row.load_limit max_load && is_possible row
+may_follow (order ∷ orders) row = false
 
 -- one wagon more, above the one before
 unfoldable pub take_wagon : (n : ℕ) → PartsValue → WagonRow → Taken
 take_wagon n parts row =
-    if not (stands_before parts.orders row) then Err (Line (BadCheckpointLine n))
+    if not (may_follow parts.orders row) then Err (Line (BadCheckpointLine n))
     else if nat_le max_roster_wagons (length parts.wagons) then Err (Line (TooLarge n))
     else if is_above_last parts.wagons row.number then Ok (record parts { wagons = parts.wagons ++ row ∷ [] })
     else if has_wagon parts.wagons row.number then Err (Line (DuplicateWagon n))

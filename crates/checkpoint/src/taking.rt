@@ -1,7 +1,7 @@
 //! What one line makes of the parts of a checkpoint.
 ghost use Rattle.std.specs.Prelude.{◌≡◌, IfErr, None, Ok, OnOk, Some, option_copied, true};
 ghost use Rattle.std.specs.List.{list_all};
-ghost use Rattle.checkpoint.specs.Taking.{has_wagon_of, is_above_last, is_full, is_kept_by, is_promised_by, stands_before, take_end, take_head, take_line, take_next, take_order, take_wagon, with_order};
+ghost use Rattle.checkpoint.specs.Taking.{has_wagon_of, is_above_last, is_full, is_kept_by, is_promised_by, may_follow, take_end, take_head, take_line, take_next, take_order, take_wagon, with_order};
 ghost use Rattle.checkpoint.specs.inner.Steps.{IsFaultOf};
 ghost use Rattle.fleet_rows.specs.Rows.{order_in, wagon_in};
 ghost use Rattle.operating_db.specs.Promises.{is_among, is_promise_to};
@@ -18,7 +18,7 @@ use line_fields::LineFault;
 use move_messages::MAX_LOAD;
 use rail_codes::{OrderId, WagonNumber};
 use std::alloc::Global;
-use wagons_and_orders::{OrderRow, WagonRow};
+use wagons_and_orders::{OrderRow, WagonRow, is_possible};
 
 impl Parts {
     /// Takes a line that isn't blank, number `number` of its file. After a refusal the parts are of no use.
@@ -81,7 +81,7 @@ impl Parts {
         ensures done { OnOk result (take_wagon number self.old row ≡ Ok self.new) }
         ensures refused { IfErr result (IsFaultOf (take_wagon number self.old row)) }
     {
-        if !stands_before(self.orders.as_slice(), &row) {
+        if !may_follow(self.orders.as_slice(), &row) {
             return Err(ReadFault::Line(CheckpointFault::BadCheckpointLine(number)));
         }
         if self.wagons.len() >= MAX_ROSTER_WAGONS as usize {
@@ -156,12 +156,13 @@ impl Parts {
     }
 }
 
-/// Whether a wagon's row may stand behind these orders.
-fn stands_before(orders: &[OrderRow], row: &WagonRow) -> bool
-    ensures { result ≡ stands_before orders.now row.now }
+/// Whether a wagon's row may follow these orders: there is none, and the row carries no more than a wagon may, and is one that
+/// an office can have.
+fn may_follow(orders: &[OrderRow], row: &WagonRow) -> bool
+    ensures { result ≡ may_follow orders.now row.now }
 {
     match orders {
-        [] => row.load_limit <= MAX_LOAD,
+        [] => row.load_limit <= MAX_LOAD && is_possible(row),
         [_, ..] => false,
     }
 }

@@ -1,6 +1,6 @@
 //! Writing a checkpoint.
 ghost use Rattle.std.specs.Prelude.{◌≡◌, ◌≤◌, ◌++◌, ◌∷◌, [], List, ℕ, IfOk, Ok, OnOk, length, string_bytes};
-ghost use Rattle.std.specs.List.{filter};
+ghost use Rattle.std.specs.List.{AllByRecursion, filter};
 ghost use Rattle.checkpoint.specs.Checkpoint.{order_said};
 ghost use Rattle.checkpoint.specs.OfficeOf.{office_of_lines};
 ghost use Rattle.checkpoint.specs.Written.{IsCheckpointText, later_of, newest_of};
@@ -8,7 +8,7 @@ ghost use Rattle.checkpoint.specs.inner.Lines.{AddsLines};
 ghost use Rattle.checkpoint.specs.LineWriting.{IsOrderLine, IsWagonLine};
 ghost use Rattle.checkpoint.specs.declared.line.CheckpointLine.TheVariants.{Wagon};
 ghost use Rattle.fleet_rows.specs.Kept.{IsWagonRows};
-ghost use Rattle.line_engine.specs.Lines.{line_feed, lines_of};
+ghost use Rattle.line_engine.specs.Lines.{IsWithin, line_feed, lines_of, max_line_bytes};
 ghost use Rattle.operating_db.specs.Compact.{compact};
 ghost use Rattle.wagons_and_orders.specs.Lack.{is_open};
 
@@ -20,10 +20,11 @@ use wagons_and_orders::{OrderRow, WagonRow};
 
 /// The text of a checkpoint: its head, a line for each wagon, ascending by number, a line for each open order, as placed,
 /// and the last line, each with its line feed. Closed orders are left out. Read again, where there are as many networks, it
-/// gives this very office without its closed orders.
+/// gives this very office without its closed orders. Each line is within the 65,536 bytes that a run reads.
 pub fn checkpoint_text(alloc: Global, state: &OfficeState) -> Result<String, AllocError>
     ensures text { IfOk result (λ text. IsCheckpointText state.now.office (string_bytes text)) }
     ensures reads { IfOk result (λ text. office_of_lines state.now.networks (lines_of (string_bytes text)) ≡ Ok (compact state.now.office)) }
+    ensures short { IfOk result (λ text. AllByRecursion (IsWithin max_line_bytes) (lines_of (string_bytes text))) }
 {
     state.for_the_prover();
     let wagons = state.wagon_rows();

@@ -33,7 +33,7 @@ fn line_fault(fault: CheckpointFault) -> &'static str
             ": its network in force is none of those that --network gives"
         }
         CheckpointFault::BadCheckpointLine(_) => {
-            ": first a line of type checkpoint must stand, then wagons ascending by number, then orders, and last a line of type end, as wagons save prints them"
+            ": first a line of type checkpoint must stand, then wagons ascending by number, each as an office can have it, then orders, and last a line of type end, as wagons save prints them"
         }
         CheckpointFault::OneSidedPromise(_) => {
             ": a promise must stand both with the wagon and with the order, and stands with one of them alone"

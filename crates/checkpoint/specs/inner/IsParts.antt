@@ -7,6 +7,7 @@ use Rattle.move_messages.specs.MaxLoad.{max_load}
 use Rattle.wagons_and_orders.specs.declared.wagon_row.WagonRow.{WagonRow}
 use Rattle.wagons_and_orders.specs.Lack.{is_open}
 use Rattle.wagons_and_orders.specs.OrderRow.{IsOrderRow, OrderRowValue}
+use Rattle.wagons_and_orders.specs.PossibleRows.{IsPossibleRow}
 use Rattle.fleet_rows.specs.Kept.{by_number, max_roster_wagons}
 use Rattle.fleet_rows.specs.Rows.{max_open_wagons, names_of, open_wagons}
 use Rattle.checkpoint.specs.Parts.{PartsValue, no_parts}
@@ -24,6 +25,7 @@ pub record IsParts (networks : ℕ) (parts : PartsValue) : Type 0 where
   pub few : length parts.wagons ≤ max_roster_wagons
   pub ascending : IsStrictlySortedBy by_number parts.wagons
   pub few_kg : All (λ row. row.load_limit ≤ max_load) parts.wagons
+  pub possible : All IsPossibleRow parts.wagons
   pub distinct : IsDistinct (pointwise nat_eq) (names_of parts.orders)
   pub each : All IsOrderRow parts.orders
   pub few_open : open_wagons parts.orders ≤ max_open_wagons

@@ -7,7 +7,7 @@ use Rattle.move_messages.specs.OrderLimits.{IsOrder}
 use Rattle.line_fields.specs.Written.{list_data, number_data}
 use Rattle.line_fields.specs.WrittenTokens.{data_tokens, member_tokens}
 use Rattle.wagons_and_orders.specs.declared.wagon_row.WagonRow.{WagonRow}
-use Rattle.wagons_and_orders.specs.OrderRow.{OrderRowValue}
+use Rattle.wagons_and_orders.specs.OrderRow.{IsOrderRow, OrderRowValue}
 use Rattle.wagons_and_orders.specs.StatusTable.{place_of}
 use Rattle.wagons_and_orders.specs.StatusWords.{ready_moment, status_word}
 use Rattle.checkpoint.specs.LineWriting.{end_data, head_data, order_data, wagon_data}
@@ -117,6 +117,7 @@ pub record AddsOrderBack (row : OrderRowValue) (old new : List Token) : Type 0 w
   pub readable : IsReadableText row.text.latest latest
   pub promised : AreNumbersRead row.promised
   pub filled : AreNumbersRead row.filled
+  pub valid : IsOrderRow row
   pub tokens : new ≡ old ++ order_back row latest
 
 pub record AddsOrder (row : OrderRowValue) (old new : List Token) : Type 0 where
@@ -124,4 +125,5 @@ pub record AddsOrder (row : OrderRowValue) (old new : List Token) : Type 0 where
   pub readable : IsReadableText row.text.latest latest
   pub codes_read : AreOrderCodes row
   pub limits : IsOrder row.text
+  pub valid : IsOrderRow row
   pub tokens : new ≡ old ++ data_tokens (order_data row latest)

@@ -6,6 +6,7 @@ use Rattle.checkpoint.proofs.HeadReads.{end_kind, end_nests, end_spells, end_typ
 use Rattle.checkpoint.proofs.LineReads.{line-reads, printed, IsPrinted}
 use Rattle.checkpoint.proofs.Objects.{end_object}
 use Rattle.checkpoint.proofs.OneLine.{end_one}
+use Rattle.checkpoint.proofs.Short.{end_short}
 use Rattle.checkpoint.proofs.lines.end_line.Goals as goal
 
 written : (c : goal.After-written_text) → IsPrinted (end_data c.args.lines) (string_bytes c.written_text.result)
@@ -22,4 +23,4 @@ returns-clause-reads c =
     (written c).same (end_nests lines) (end_spells lines c.requires) refl (end_kind lines) (end_typed lines c.requires)
 
 pub returns-clause-whole : goal.returns-clause-whole
-returns-clause-whole c = end_one c.args.lines (string_bytes c.written_text.result) c.requires (written c).text_is
+returns-clause-whole c = end_one c.args.lines (string_bytes c.written_text.result) c.requires (end_short c.args.lines c.requires) (written c).text_is

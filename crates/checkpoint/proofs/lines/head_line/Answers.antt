@@ -6,6 +6,7 @@ use Rattle.checkpoint.proofs.HeadReads.{head_kind, head_nests, head_spells, head
 use Rattle.checkpoint.proofs.LineReads.{line-reads, printed, text_if_readable, IsPrinted}
 use Rattle.checkpoint.proofs.Objects.{head_object}
 use Rattle.checkpoint.proofs.OneLine.{head_one}
+use Rattle.checkpoint.proofs.Short.{head_short}
 use Rattle.checkpoint.proofs.lines.head_line.Goals as goal
 
 written : (c : goal.After-written_text) → IsPrinted (head_data c.args.network (c.in_ok-write_head.ensures {u = tt}).tokens.newest_text) (string_bytes c.written_text.result)
@@ -26,4 +27,6 @@ returns-clause-reads c =
     (written c).same (head_nests network newest) (head_spells network newest c.requires.1) refl (head_kind network newest) (head_typed network newest c.requires)
 
 pub returns-clause-whole : goal.returns-clause-whole
-returns-clause-whole c = head_one c.args.network (c.in_ok-write_head.ensures {u = tt}).tokens.newest_text (string_bytes c.written_text.result) c.requires.1 (written c).text_is
+returns-clause-whole c =
+    let added = (c.in_ok-write_head.ensures {u = tt}).tokens in
+    head_one c.args.network added.newest_text (string_bytes c.written_text.result) c.requires.1 (head_short c.args.network c.args.newest added.newest_text c.requires.1 added.readable) (written c).text_is

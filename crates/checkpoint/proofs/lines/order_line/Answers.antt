@@ -6,6 +6,7 @@ use Rattle.checkpoint.specs.declared.line.CheckpointLine.TheVariants.{Order}
 use Rattle.checkpoint.proofs.LineReads.{line-reads, printed, IsPrinted}
 use Rattle.checkpoint.proofs.Objects.{order_object}
 use Rattle.checkpoint.proofs.OneLine.{order_one}
+use Rattle.checkpoint.proofs.Short.{order_short}
 use Rattle.checkpoint.proofs.OrderReads.{order_kind, order_nests, order_spells, order_typed}
 use Rattle.checkpoint.proofs.lines.order_line.Goals as goal
 
@@ -30,4 +31,5 @@ returns-clause-reads c =
 pub returns-clause-whole : goal.returns-clause-whole
 returns-clause-whole c =
     let added = (c.in_ok-write_order.ensures {u = tt}).tokens in
-    order_one c.args.row.now added.latest (string_bytes c.written_text.result) added.limits (written c).text_is
+    order_one c.args.row.now added.latest (string_bytes c.written_text.result) added.limits
+    (order_short c.args.row.now added.latest added.limits added.valid added.codes_read added.readable) (written c).text_is

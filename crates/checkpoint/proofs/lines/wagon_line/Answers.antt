@@ -4,6 +4,7 @@ use Rattle.checkpoint.specs.LineWriting.{wagon_data}
 use Rattle.checkpoint.specs.declared.line.CheckpointLine.TheVariants.{Wagon}
 use Rattle.checkpoint.proofs.LineReads.{line-reads, printed, text_if_readable, IsPrinted}
 use Rattle.checkpoint.proofs.OneLine.{wagon_one}
+use Rattle.checkpoint.proofs.Short.{wagon_short}
 use Rattle.checkpoint.proofs.Objects.{wagon_object}
 use Rattle.checkpoint.proofs.WagonReads.{wagon_kind, wagon_nests, wagon_spells, wagon_typed}
 use Rattle.checkpoint.proofs.lines.wagon_line.Goals as goal
@@ -35,4 +36,5 @@ returns-clause-reads c =
 pub returns-clause-whole : goal.returns-clause-whole
 returns-clause-whole c =
     let added = (c.in_ok-write_wagon.ensures {u = tt}).tokens in
-    wagon_one c.args.row.now added.ready added.last (string_bytes c.written_text.result) c.requires (written c).text_is
+    wagon_one c.args.row.now added.ready added.last (string_bytes c.written_text.result) c.requires
+    (wagon_short c.args.row.now added.ready added.last c.requires added.codes_read added.ready_readable added.last_readable) (written c).text_is

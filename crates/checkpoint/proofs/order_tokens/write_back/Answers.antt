@@ -25,5 +25,6 @@ returns-clause-tokens c =
       readable = subst (λ moment. IsReadableText moment latest.text) latest_is latest.readable;
       promised = subst AreNumbersRead c.promised.ensures.value (c.in_ok-write_codes.ensures {u = tt}).read;
       filled = subst AreNumbersRead c.filled.ensures.value (c.in_ok-write_codes-2.ensures {u = tt}).read;
+      valid = c.promised.ensures.valid;
       tokens = whole;
     }) c.end_object.ensures.ok

@@ -13,5 +13,6 @@ returns-clause-tokens c =
       readable = back.readable;
       codes_read = record { id = front.id; place = front.place; classes = front.classes; class_count = front.class_count; promised = back.promised; filled = back.filled };
       limits = front.limits;
+      valid = back.valid;
       tokens = whole ∙ ap (λ ts. c.args.out.now.tokens ++ ts) (order-parts c.args.row.now back.latest);
     }) c.write_back.ensures.tokens

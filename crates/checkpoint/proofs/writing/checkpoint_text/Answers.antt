@@ -40,3 +40,6 @@ returns-clause-text c = (text_is c).is_text
 
 pub returns-clause-reads : goal.returns-clause-reads
 returns-clause-reads c = (text_is c).reads
+
+pub returns-clause-short : goal.returns-clause-short
+returns-clause-short c = (text_is c).short
