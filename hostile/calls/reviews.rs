@@ -13,13 +13,20 @@ use place_names::Places;
 use std::alloc::{AllocError, Global};
 use test_samples::{LONGER, MemorySource, NETWORK};
 
+/// The count of a journal whose last line, the 26th, has no line feed.
+const UNENDED: RunCount = RunCount {
+    lines: 26,
+    refused: 0,
+    unended: true,
+};
+
 pub(crate) fn all(rt: &HostRuntime, alloc: Global, requests: u32) -> Option<()> {
     let text = run_lines_text(alloc, None)?;
     let mut page = Page::new(alloc)?;
     let sample = Sample::new(alloc)?;
     let mut review = begun(alloc, &sample)?;
     prepared(rt, alloc, requests)?;
-    let note = tried!(rt, "end_note", end_note(alloc, 26, Some(b'x')));
+    let note = tried!(rt, "end_note", end_note(alloc, UNENDED));
     say(rt, &note);
     let count = match reviewed(alloc, &text, &mut page, &mut review) {
         Ok(count) => count,

@@ -1,14 +1,14 @@
 -- Where line feeds are, and how an input is cut at them.
 use Rattle.std.proofs.Common.{◌≡◌, ℕ, zero, suc, ◌+◌, ◌-◌, ◌<◌, ◌≤◌, Bool, true, false, List, [], ◌∷◌, ◌++◌, length, get_or, take, drop, refl, sym, ap, ◌∙◌, subst, arith, add-one, append_assoc}
-use Rattle.std.specs.Prelude.{◌==◌, ◌||◌, Some, None, Result, Ok, Err, is_err, OnOk}
+use Rattle.std.specs.Prelude.{◌==◌, nat_lt, ◌||◌, Some, None, Result, Ok, Err, is_err, OnOk}
 use Rattle.std.specs.List.{slice_range}
 use Rattle.std.proofs.lemmas.List.Folds.{list_any_more, list_any-append}
-use Rattle.std.proofs.lemmas.List.{take_all, length-take, length-append, drop-take, drop-drop, take-append-drop}
+use Rattle.std.proofs.lemmas.List.{take_all, length-take, length-append, drop-take, drop-drop, take-append-drop, get_or-append-add}
 use Rattle.std.proofs.Math.Seq.{drop-cons, drop-append_seam}
 use Rattle.std.proofs.lemmas.Bool.Decides.{nat_tests}
 use Rattle.memchr.specs.Find.{IsFirstByte, is_byte}
 use Rattle.line_engine.specs.inner.Cutting.{Moves}
-use Rattle.line_engine.specs.Lines.{line_feed, has_feed, lines_of, first_line}
+use Rattle.line_engine.specs.Lines.{line_feed, has_feed, is_unended, lines_of, first_line}
 
 not_true : (b : Bool) → (b ≡ true → ⊥) → b ≡ false
 not_true true h = absurd (h refl)
@@ -109,6 +109,32 @@ lines_of-last (c ∷ []) h some = let parts = first_free c [] h in rw parts.0 re
 lines_of-last (c ∷ d ∷ line) h some =
     let parts = first_free c (d ∷ line) h in
     rw (parts.0, lines_of-last (d ∷ line) parts.1 (omega arith)) refl
+
+-- ---- how an input ends
+
+-- bytes with others before them
+pub is_unended-behind : (front back : List ℕ) → 0 < length back → is_unended (front ++ back) ≡ is_unended back
+unfolding is_unended
+is_unended-behind front back some =
+    let last : length (front ++ back) - 1 ≡ length front + (length back - 1) = omega (arith, length-append front back, some) in
+    let byte : get_or (front ++ back) (length (front ++ back) - 1) 0 ≡ get_or back (length back - 1) 0
+    = ap (λ (k : ℕ). get_or (front ++ back) k 0) last ∙ get_or-append-add front back (length back - 1) 0 in
+    let more : nat_lt 0 (length (front ++ back)) ≡ nat_lt 0 (length back) = grind (arith, nat_tests, length-append front back, some) in
+    rw (more, byte) refl
+
+-- bytes that a line feed ends
+pub is_unended-feed : (line : List ℕ) → is_unended (line ++ line_feed ∷ []) ≡ false
+unfolding is_unended
+is_unended-feed line = is_unended-behind line (line_feed ∷ []) (omega arith) ∙ refl
+
+-- bytes without one
+pub is_unended-last : (line : List ℕ) → has_feed line ≡ false → 0 < length line → is_unended line ≡ true
+unfolding is_unended
+is_unended-last [] h some = absurd (omega arith)
+is_unended-last (c ∷ []) h some = let parts = first_free c [] h in rw parts.0 refl
+is_unended-last (c ∷ d ∷ line) h some =
+    let parts = first_free c (d ∷ line) h in
+    is_unended-behind (c ∷ []) (d ∷ line) (omega arith) ∙ is_unended-last (d ∷ line) parts.1 (omega arith)
 
 -- bytes with no line feed stand in the first line
 pub first_line-within : (front rest : List ℕ) → has_feed front ≡ false → length front ≤ length (first_line (front ++ rest))

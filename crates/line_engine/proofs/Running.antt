@@ -8,7 +8,7 @@ use Rattle.std.proofs.lemmas.List.{length-append, append-nil}
 use Rattle.std.proofs.lemmas.List.Concat.{flat_map-cons, flat_map-append}
 use Rattle.std.specs.Io.KnownBytes.{Consumes, Appends, IsAtEnd}
 use Rattle.std.proofs.KnownBytes.{Consumes-nil, Consumes-trans, Appends-nil, Appends-trans}
-use Rattle.line_engine.specs.Lines.{line_feed, has_feed, lines_of, first_line, max_input_lines, with_feeds, IsWithin}
+use Rattle.line_engine.specs.Lines.{line_feed, has_feed, is_unended, lines_of, first_line, max_input_lines, with_feeds, IsWithin}
 use Rattle.line_engine.specs.inner.Cutting.{CutsLine, StopsLine}
 use Rattle.line_engine.specs.Replies.{Replying, ServesLine, ServesLines, refusal_count}
 use Rattle.line_engine.specs.Runs.{Failures, Run, IsLineOrNext, RunEnds, RunStandsAt, RunStops, Runs}
@@ -20,7 +20,7 @@ use Rattle.line_engine.specs.declared.window.LineEnd.{LineEnd}
 use Rattle.line_engine.specs.declared.window.LineEnd.TheVariants.{Feed, Input}
 use Rattle.line_engine.specs.declared.window.LineStop.{LineStop}
 use Rattle.line_engine.specs.declared.window.LineStop.TheVariants as stop
-use Rattle.line_engine.proofs.Feeds.{lines_of-feed, lines_of-last, has_feed-feed}
+use Rattle.line_engine.proofs.Feeds.{lines_of-feed, lines_of-last, has_feed-feed, is_unended-feed, is_unended-behind, is_unended-last}
 use Rattle.line_engine.proofs.Answering.{ServesLines-push}
 
 -- ---- lines at the front of an input
@@ -37,11 +37,24 @@ lines_of-with_feeds (line ∷ lines) rest free =
     ap lines_of (with_feeds-cons line lines rest) ∙ lines_of-feed line (with_feeds lines ++ rest) free.0
     ∙ ap (λ (ls : List (List ℕ)). line ∷ ls) (lines_of-with_feeds lines rest free.1)
 
+with_feeds-some : (line : List ℕ) (lines : List (List ℕ)) → 0 < length (with_feeds (line ∷ lines))
+with_feeds-some line lines =
+    let whole = ap length (with_feeds-cons line lines []) in
+    omega (arith, whole, ap length (append-nil (with_feeds (line ∷ lines))), length-append line (line_feed ∷ (with_feeds lines ++ [])))
+
 with_feeds-push : (lines : List (List ℕ)) (line rest : List ℕ) → with_feeds (lines ++ line ∷ []) ++ rest ≡ with_feeds lines ++ (line ++ line_feed ∷ rest)
 with_feeds-push lines line rest =
     ap (λ (xs : List ℕ). xs ++ rest) (flat_map-append (λ (l : List ℕ). l ++ line_feed ∷ []) lines (line ∷ []))
     ∙ append_assoc (with_feeds lines) (with_feeds (line ∷ [])) rest
     ∙ ap (λ (xs : List ℕ). with_feeds lines ++ xs) (with_feeds-cons line [] rest)
+
+-- lines that all end with a line feed
+pub is_unended-with_feeds : (lines : List (List ℕ)) → is_unended (with_feeds lines) ≡ false
+unfolding is_unended
+is_unended-with_feeds [] = refl
+is_unended-with_feeds (line ∷ []) = ap is_unended (append-nil (line ++ line_feed ∷ [])) ∙ is_unended-feed line
+is_unended-with_feeds (line ∷ next ∷ lines) =
+    is_unended-behind (line ++ line_feed ∷ []) (with_feeds (next ∷ lines)) (with_feeds-some next lines) ∙ is_unended-with_feeds (next ∷ lines)
 
 all-push : (P : List ℕ → Type 0) (lines : List (List ℕ)) (line : List ℕ) → AllByRecursion P lines → P line → AllByRecursion P (lines ++ line ∷ [])
 all-push P [] line all one = (one, tt)
@@ -149,8 +162,8 @@ module _ {H : Type 0} (replying : Replying H) (most : ℕ) where
 
   -- the reader was at its end behind a line feed, or before anything
   pub ends_run : (from to held holds : Option (List ℕ)) (old new : H) (n : ℕ) (window : List ℕ) (count : RunCount) → StandsHere replying most from to held holds old new n window count.refused
-      → n ≡ count.lines + 1 → count.lines ≤ max_input_lines → window ≡ [] → IsAtEnd to → RunEnds replying (run_of most from to held holds old new) count
-  ends_run from to held holds old new n window count so number few none ended =
+      → n ≡ count.lines + 1 → count.lines ≤ max_input_lines → count.unended ≡ false → window ≡ [] → IsAtEnd to → RunEnds replying (run_of most from to held holds old new) count
+  ends_run from to held holds old new n window count so number few whole none ended =
       let at = so.at in
       let input : at.input ≡ with_feeds at.lines ++ [] = at.begins.bytes ∙ ap (λ (xs : List ℕ). with_feeds at.lines ++ xs) (so.here ∙ none) in
       let lines : lines_of at.input ≡ at.lines = ap lines_of input ∙ lines_of-with_feeds at.lines [] at.begins.free ∙ append-nil at.lines in
@@ -162,6 +175,7 @@ module _ {H : Type 0} (replying : Replying H) (most : ℕ) where
         replies = subst (λ (ls : List (List ℕ)). ServesLines replying 1 old ls at.output count.refused new) (sym lines)
             (subst (λ (k : ℕ). ServesLines replying 1 old at.lines at.output k new) so.counted at.replies);
         lines = omega (arith, number, at.number, ap length lines);
+        unended = whole ∙ sym (ap is_unended (input ∙ append-nil (with_feeds at.lines)) ∙ is_unended-with_feeds at.lines);
         few = few;
         short = subst (AllByRecursion (IsWithin most)) (sym lines) at.short;
         written = at.written;
@@ -171,8 +185,8 @@ module _ {H : Type 0} (replying : Replying H) (most : ℕ) where
   pub ends_line : (from to then held holds holding : Option (List ℕ)) (old mid new : H) (n : ℕ) (window taken line left text : List ℕ) (refused : ℕ) (flag : Bool) (count : RunCount)
       → StandsHere replying most from to held holds old mid n window refused → Consumes to then taken → CutsLine window taken line left Input → IsWithin most line
       → ServesLine replying n mid line text flag new → Appends holds holding text → IsAtEnd then
-      → count.lines ≡ n → n ≤ max_input_lines → count.refused ≡ refused + refusal_count flag → RunEnds replying (run_of most from then held holding old new) count
-  ends_line from to then held holds holding old mid new n window taken line left text refused flag count so consumed cut within reply wrote ended number few counted =
+      → count.lines ≡ n → n ≤ max_input_lines → count.refused ≡ refused + refusal_count flag → count.unended ≡ true → RunEnds replying (run_of most from then held holding old new) count
+  ends_line from to then held holds holding old mid new n window taken line left text refused flag count so consumed cut within reply wrote ended number few counted unended =
       let more = reads_more from to then held holds old mid n window taken (window ++ taken) refused so refl consumed in
       let at = more.at in
       let input : at.input ≡ with_feeds at.lines ++ line = at.begins.bytes ∙ ap (λ (xs : List ℕ). with_feeds at.lines ++ xs) (more.here ∙ cut.0) in
@@ -186,6 +200,7 @@ module _ {H : Type 0} (replying : Replying H) (most : ℕ) where
             (subst (λ (k : ℕ). ServesLines replying 1 old (at.lines ++ line ∷ []) (at.output ++ text) k new) (sym counted)
             (replied from then held holds old mid new n (window ++ taken) line text refused flag more reply));
         lines = omega (arith, number, at.number, ap length lines, length-append at.lines (line ∷ []));
+        unended = unended ∙ sym (ap is_unended input ∙ is_unended-behind (with_feeds at.lines) line cut.3 ∙ is_unended-last line cut.2 cut.3);
         few = omega (arith, number, few);
         short = subst (AllByRecursion (IsWithin most)) (sym lines) (all-push (IsWithin most) at.lines line at.short within);
         written = Appends-trans held holds holding at.output text at.written wrote;

@@ -1,5 +1,5 @@
 -- How an input is cut into lines.
-use Rattle.std.specs.Prelude.{◌≡◌, ◌≤◌, ℕ, ◌==◌, ◌||◌, Bool, false, List, [], ◌∷◌, ◌++◌, length, if◌then◌else◌}
+use Rattle.std.specs.Prelude.{◌≡◌, ◌≤◌, ℕ, ◌-◌, ◌==◌, nat_lt, ◌&&◌, ◌||◌, not, Bool, false, List, [], ◌∷◌, ◌++◌, length, slice_index, if◌then◌else◌}
 use Rattle.std.specs.List.{list_all, list_any, flat_map, AllByRecursion}
 
 abbrev pub line_feed : ℕ
@@ -42,6 +42,10 @@ begin_with c (line ∷ lines) = (c ∷ line) ∷ lines
 abbrev pub lines_of : List ℕ → List (List ℕ)
 lines_of [] = []
 lines_of (c ∷ bytes) = if c == line_feed then [] ∷ lines_of bytes else begin_with c (lines_of bytes)
+
+-- whether the last line of an input has no line feed: the input has a byte, and the last one is no line feed
+unfoldable pub is_unended : List ℕ → Bool
+is_unended input = nat_lt 0 (length input) && not (slice_index input (length input - 1) == line_feed)
 
 -- the bytes before the first line feed, or all of them
 abbrev pub first_line : List ℕ → List ℕ

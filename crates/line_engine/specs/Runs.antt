@@ -2,7 +2,7 @@
 use Rattle.std.specs.Prelude.{◌≡◌, ℕ, ◌+◌, ◌<◌, ◌≤◌, Bool, true, false, ◌⊎◌, List, [], ◌∷◌, ◌++◌, length, Option, Result, IfOk, IfErr, OnOk}
 use Rattle.std.specs.Io.KnownBytes.{Consumes, Appends, Keeps, IsAtEnd}
 use Rattle.std.specs.List.{AllByRecursion}
-use Rattle.line_engine.specs.Lines.{lines_of, first_line, has_feed, max_input_lines, BeginsWith, IsWithin}
+use Rattle.line_engine.specs.Lines.{lines_of, first_line, has_feed, is_unended, max_input_lines, BeginsWith, IsWithin}
 use Rattle.line_engine.specs.Replies.{Answering, RunningOut, Replying, Numbered, ServesLine, ServesLines}
 use Rattle.line_engine.specs.declared.device.Sink as sink
 use Rattle.line_engine.specs.declared.device.Source as source
@@ -33,7 +33,7 @@ pub record Failures : Type 0 where
   pub writer : Bool
 
 -- The reader came to its end. What was read are the lines, at most 1,000,000 of them and each within the run's limit, and
--- what was written are their replies and nothing else.
+-- what was written are their replies and nothing else. `unended` says whether the last of them has no line feed.
 pub record RunEnds {H : Type 0} (replying : Replying H) (run : Run H) (count : RunCount) : Type 0 where
   pub input : List ℕ
   pub output : List ℕ
@@ -41,6 +41,7 @@ pub record RunEnds {H : Type 0} (replying : Replying H) (run : Run H) (count : R
   pub ended : IsAtEnd run.to
   pub replies : ServesLines replying 1 run.old (lines_of input) output count.refused run.new
   pub lines : count.lines ≡ length (lines_of input)
+  pub unended : count.unended ≡ is_unended input
   pub few : count.lines ≤ max_input_lines
   pub short : AllByRecursion (IsWithin run.most) (lines_of input)
   pub written : Appends run.held run.holds output

@@ -23,12 +23,21 @@ pub const MAX_FILES: usize = 16;
 // No clause names it, since who feeds a book tests the number of files by it.
 const _: () = prove!(MAX_FILES == 16);
 
-/// How many lines a run has read, blank ones too, and how many of its replies are refusals.
+/// How many lines a run has read, blank ones too, how many of its replies are refusals, and whether the last line has no
+/// line feed.
 #[derive(Clone, Copy, PartialEq, Eq)]
 pub struct RunCount {
     pub lines: u64,
     pub refused: u64,
+    pub unended: bool,
 }
+
+/// The count before the first line.
+const NO_LINES: RunCount = RunCount {
+    lines: 0,
+    refused: 0,
+    unended: false,
+};
 
 /// Why a run stopped before the end of its input, with the number of the line, counted from 1.
 #[derive(Clone, Copy, Debug, PartialEq, Eq, Error)]
@@ -166,10 +175,7 @@ pub fn run_replies<R: Source, W: Sink, H: Responder>(
     let mut window = Window::new(alloc)?;
     let mut line = LineBuffer::new(alloc, limit)?;
     let mut reply = ReplyText::new(alloc)?;
-    let mut count = RunCount {
-        lines: 0,
-        refused: 0,
-    };
+    let mut count = NO_LINES;
     'lines: loop {
         let number = count.lines + 1;
         match window.fill(reader) {
@@ -197,7 +203,10 @@ pub fn run_replies<R: Source, W: Sink, H: Responder>(
         count.refused += u64::from(refused);
         match end {
             LineEnd::Feed => {}
-            LineEnd::Input => return Ok(count),
+            LineEnd::Input => {
+                count.unended = true;
+                return Ok(count);
+            }
         }
     }
 }

@@ -18,7 +18,7 @@ mod reviewing;
 
 pub use command_lines::{CommandLines, run};
 pub use heard::{Heard, HeardMessage};
-pub use journal_end::{EndingSource, end_note};
+pub use journal_end::end_note;
 pub use line_engine::{
     DeviceFailed, MAX_INPUT_LINES, MAX_LINE_BYTES, RunCount, RunFault, Sink, Source,
 };

@@ -21,23 +21,22 @@ use Rattle.wagons_program.specs.Status.{status_of_count}
 use Rattle.wagons_program.specs.Streams.{PrintsNothing, Streams}
 
 -- 1 where there is a note, of a line or at the end, else 0
-abbrev pub status_of_notes : RunCount → (ending : List ℕ) → ℕ
-status_of_notes count ending = if length ending == 0 then status_of_count count else 1
+abbrev pub status_of_notes : RunCount → ℕ
+status_of_notes count = if length (end_note count) == 0 then status_of_count count else 1
 
 -- The input came to its end. What was printed is the notes of each line, and behind them the note that the last line has no line
--- feed, where `last`, the byte that was kept as the last one, says so.
-pub record NotesEnd (lines : Lines ReviewValue) (count : RunCount) (last : Option ℕ) : Type 0 where
+-- feed, where that is so of the input.
+pub record NotesEnd (lines : Lines ReviewValue) (count : RunCount) : Type 0 where
   pub left : Option (List ℕ)
   pub between : Option (List ℕ)
   pub ends : RunEnds Reviews (run_of (printed_to lines between) left) count
-  pub ending : Appends between lines.given.holds (end_note count.lines last)
+  pub ending : Appends between lines.given.holds (end_note count)
 
 -- The same, and this is the status.
 pub record AreReviewed (lines : Lines ReviewValue) (status : ℕ) : Type 0 where
   pub count : RunCount
-  pub last : Option ℕ
-  pub notes : NotesEnd lines count last
-  pub status_is : status ≡ status_of_notes count (end_note count.lines last)
+  pub notes : NotesEnd lines count
+  pub status_is : status ≡ status_of_notes count
 
 -- the first review for these options, with these names of places
 abbrev pub IsFirstReviewFor : BytesAt → OfficeOptions → (named : List NamedPlace) → ReviewValue → Type 0

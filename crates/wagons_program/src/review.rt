@@ -13,7 +13,7 @@ use crate::printing::write_whole;
 use crate::status::{REFUSED, status_of_run};
 use command_line::{OfficeOptions, ReviewOptions};
 use line_engine::{LineLimit, StdDevice};
-use office::{EndingSource, Review, RunCount, end_note, review_journal};
+use office::{Review, RunCount, end_note, review_journal};
 use office_files::{
     FileSystem, OfficeFiles, Stop, Stopped, read_files, read_places, told_of_lines,
 };
@@ -66,26 +66,21 @@ fn review_lines<I: Read + Drop, O: Write>(
     ensures ok { IfOk result (AreReviewed (lines_over max_line_bytes (streams (I.remaining input) (O.contents output.old.device) (O.contents output.new.device)) review.old review.new)) }
     ensures err { IfErr result (IsReviewStopped (lines_over max_line_bytes (streams (I.remaining input) (O.contents output.old.device) (O.contents output.new.device)) review.old review.new)) }
 {
-    let mut reader = EndingSource::new(StdDevice::new(input));
+    let mut reader = StdDevice::new(input);
     match review_journal(alloc, &mut reader, output, review) {
-        Ok(count) => end_review(alloc, count, reader.last, &mut output.device),
+        Ok(count) => end_review(alloc, count, &mut output.device),
         Err(fault) => Err(Stop::Run(fault)),
     }
 }
 
-/// Writes the note at the end of a journal, where there is one: by how many lines were noted, and by the last byte that was
-/// read. The status is 0, or 1 where there is a note, of a line or at the end.
-fn end_review<O: Write>(
-    alloc: Global,
-    count: RunCount,
-    last: Option<u8>,
-    output: &mut O,
-) -> Result<u8, Stop>
-    ensures written { OnOk result (Appends (O.contents output.old) (O.contents output.new) (end_note count.lines last)) }
-    ensures status { IfOk result (λ status. status ≡ status_of_notes count (end_note count.lines last)) }
+/// Writes the note at the end of a journal, where there is one. The status is 0, or 1 where there is a note, of a line or at
+/// the end.
+fn end_review<O: Write>(alloc: Global, count: RunCount, output: &mut O) -> Result<u8, Stop>
+    ensures written { OnOk result (Appends (O.contents output.old) (O.contents output.new) (end_note count)) }
+    ensures status { IfOk result (λ status. status ≡ status_of_notes count) }
     ensures err { IfErr result (λ why. ((why ≡ stop.OutOfMemory) × Keeps (O.contents output.old) (O.contents output.new)) ⊎ (why ≡ stop.WriteFailed)) }
 {
-    let note = end_note(alloc, count.lines, last)?;
+    let note = end_note(alloc, count)?;
     write_whole(output, note.as_bytes())?;
     if note.is_empty() {
         status_of_run(Ok(count))

@@ -11,6 +11,7 @@ lines-init g c = record {
   lines = omega arith;
   most = c.in_ok-line.ensures.1;
   refusals = omega arith;
+  unended = refl;
   reader = c.requires.reader;
   writer = c.requires.writer;
 }
@@ -20,7 +21,7 @@ returns-in-Ok-false g c =
     let taken = c.in-Ok-false.ensures.taken in
     let ended = c.in-Ok-false.ensures.end (ap Ok c.in-Ok-false.field-0-test) in
     let more = reads_more g.H.Responder.replies _ _ _ _ _ _ _ _ _ _ _ _ _ c.lines.invariant.here taken.1 taken.2 in
-    has_ended g.H.Responder.replies _ _ _ (ends_run g.H.Responder.replies _ _ _ _ _ _ _ _ c.fill.new.self c.lines.count more refl c.lines.invariant.lines ended.0 ended.1)
+    has_ended g.H.Responder.replies _ _ _ (ends_run g.H.Responder.replies _ _ _ _ _ _ _ _ c.fill.new.self c.lines.count more refl c.lines.invariant.lines c.lines.invariant.unended ended.0 ended.1)
     (c.in-Ok-false.ensures.failure ∙ c.lines.invariant.reader) c.lines.invariant.writer
 
 pub returns-in-Err : goal.returns-in-Err
@@ -67,7 +68,7 @@ returns-in-Input g c =
     let served = c.in-Ok-served.ensures.ok in
     let reply = subst (λ (line : List ℕ). ServesLine g.H.Responder.replies (c.lines.count.lines + 1) c.lines.state line served.0 c.in-Ok-served.refused c.serve-served.new.state) c.as_slice-text.ensures.value served.1 in
     let last = subst (CutsLine c.fill.new.self cut.0 c.read_line.new.line.bytes c.read_line.new.self) c.in-Input.is cut.2.0 in
-    has_ended g.H.Responder.replies _ _ _ (ends_line g.H.Responder.replies _ _ _ _ _ _ _ _ _ _ _ _ _ _ _ _ _ _ _ more cut.1 last within reply served.2 (cut.2.1 c.in-Input.is) refl (omega arith) (ap (λ (n : ℕ). c.lines.count.refused + n) (c.from.ensures ∙ bool_byte_count c.in-Ok-served.refused)))
+    has_ended g.H.Responder.replies _ _ _ (ends_line g.H.Responder.replies _ _ _ _ _ _ _ _ _ _ _ _ _ _ _ _ _ _ _ more cut.1 last within reply served.2 (cut.2.1 c.in-Input.is) refl (omega arith) (ap (λ (n : ℕ). c.lines.count.refused + n) (c.from.ensures ∙ bool_byte_count c.in-Ok-served.refused)) refl)
     (c.in-Ok.ensures.failure (c.in-Ok-true.ensures.failure ∙ c.lines.invariant.reader) refl) (c.in-Ok-served.ensures.failure ∙ c.lines.invariant.writer)
 
 pub lines-preserved : goal.lines-preserved
@@ -86,6 +87,7 @@ lines-preserved g c =
       lines = omega arith;
       most = c.in-Ok.ensures.most ∙ c.lines.invariant.most;
       refusals = omega (arith, counted, at_most_one c.in-Ok-served.refused, c.lines.invariant.refusals);
+      unended = c.lines.invariant.unended;
       reader = c.in-Ok.ensures.failure (c.in-Ok-true.ensures.failure ∙ c.lines.invariant.reader) refl;
       writer = c.in-Ok-served.ensures.failure ∙ c.lines.invariant.writer;
     }

@@ -11,6 +11,7 @@ invariant-lines g l = record {
   lines : l.count.lines ≤ max_input_lines;
   most : l.line.most ≡ l.fn.limit;
   refusals : l.count.refused ≤ l.count.lines;
+  unended : l.count.unended ≡ false;
   reader : g.R.Source.has_failed l.reader ≡ false;
   writer : g.W.Sink.has_failed l.writer ≡ false;
 }

@@ -1,7 +1,7 @@
 //! Whole runs: pieces of any size, a million lines, and stops.
 
 use crate::tests::End;
-use line_engine::{LineLimit, RunCount, RunFault};
+use line_engine::{LineLimit, RunFault};
 use std::alloc::Global;
 use std::test::Fail;
 use table_lines::check_run;
@@ -17,7 +17,8 @@ fn is_answered(alloc: Global, step: usize) -> Result<bool, Fail> {
     let mut reader = MemorySource::new(INPUT, step);
     let mut writer = MemorySink::new(alloc, step);
     let count = check_run(alloc, LineLimit::standard(), &mut reader, &mut writer)?;
-    Ok((count.lines, count.refused) == (3, 2) && writer.bytes() == OUTPUT)
+    let is_counted = (count.lines, count.refused, count.unended) == (3, 2, true);
+    Ok(is_counted && writer.bytes() == OUTPUT)
 }
 
 #[test]
@@ -48,7 +49,7 @@ fn end_of(alloc: Global, input: &[u8]) -> End {
     let mut reader = MemorySource::new(input, usize::MAX);
     let mut writer = MemorySink::new(alloc, usize::MAX);
     match check_run(alloc, LineLimit::standard(), &mut reader, &mut writer) {
-        Ok(RunCount { lines, refused }) => Ok((lines, refused)),
+        Ok(count) => Ok((count.lines, count.refused)),
         Err(fault) => Err((fault.number(), fault.line())),
     }
 }

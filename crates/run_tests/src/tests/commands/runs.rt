@@ -1,7 +1,7 @@
 //! Runs in memory.
 
 use crate::tests::End;
-use office::{RunCount, RunFault, run};
+use office::{RunFault, run};
 use std::alloc::Global;
 use std::test::Fail;
 use test_samples::{MemorySink, MemorySource, SAMPLE, Start, book_of};
@@ -32,7 +32,7 @@ pub(crate) fn end_of(alloc: Global, start: Start<'_>, input: &[u8]) -> Result<(E
     let mut reader = MemorySource::new(input, usize::MAX);
     let mut writer = MemorySink::new(alloc, usize::MAX);
     let end = match run(alloc, &mut reader, &mut writer, &mut book) {
-        Ok(RunCount { lines, refused }) => Ok((lines, refused)),
+        Ok(count) => Ok((count.lines, count.refused)),
         Err(fault) => Err((fault.number(), fault.line())),
     };
     Ok((end, book.len()))

@@ -1,4 +1,4 @@
-use Rattle.std.proofs.Common.{◌∙◌, ap, inl}
+use Rattle.std.proofs.Common.{ap, inl}
 use Rattle.office.specs.Reviews.{Reviews}
 use Rattle.wagons_program.proofs.Outcomes.{are_stopped}
 use Rattle.wagons_program.proofs.review.review_lines.Goals as goal
@@ -7,4 +7,4 @@ use Rattle.wagons_program.proofs.review.review_lines.Goals as goal
 pub returns-clause-err : goal.returns-clause-err
 returns-clause-err g c =
     inl
-    (are_stopped Reviews _ _ _ (ap (λ s. g.I.Read.remaining s.device) c.new-reader.ensures.source ∙ ap g.I.Read.remaining c.new.ensures.device) _ _ c.in-Err.ensures.err)
+    (are_stopped Reviews _ _ _ (ap g.I.Read.remaining c.new-reader.ensures.device) _ _ c.in-Err.ensures.err)
