@@ -13,3 +13,9 @@ pub mod Unplanned
 pub mod RowsHeld
 pub mod ProblemStated
 pub mod KeptLimit
+pub mod Clean
+pub mod CleanCodes
+pub mod OneLine
+pub mod Said
+pub mod RefusalLines
+pub mod ObjectLines

@@ -10,4 +10,6 @@ pub mod SolvedText
 pub mod Solving
 pub mod UnplannedText
 pub mod ProblemText
+pub mod JsonLines
+pub mod Laws
 pub mod inner

@@ -7,6 +7,7 @@ mod details;
 mod found_lists;
 mod json_replies;
 mod lacks;
+mod laws;
 mod line_solver;
 mod problem_text;
 mod solved_tokens;
@@ -23,6 +24,7 @@ mod tokens;
 mod unplanned_tokens;
 mod written_lists;
 
+pub use laws::solved_lines_are_json;
 pub use line_solver::solve_line;
 pub use problem_text::problem_line;
 pub use stating::stated_table;
