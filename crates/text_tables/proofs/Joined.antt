@@ -1,11 +1,10 @@
 -- Texts that are joined one after the other, and the text of a string alone.
 use Rattle.std.proofs.Common.{◌≡◌, ◌∙◌, ℕ, zero, suc, ◌+◌, ◌<◌, List, ◌∷◌, [], ◌++◌, map, take, get_or, length, ap, refl, sym, append-nil, append_assoc, arith}
-use Rattle.std.specs.Prelude.{◌==◌, if◌then◌else◌}
 use Rattle.std.specs.List.{join_with_byte, range_with_len}
 use Rattle.std.proofs.lemmas.Bool.{ne_eqb}
 use Rattle.std.proofs.lemmas.List.{length-take-le, take_more}
 use Rattle.std.proofs.lemmas.List.FromFn.{length-map-range_with_len, map-range_with_len_more}
-use Rattle.json.specs.Print.{ends, print, print_from, separator, token_text}
+use Rattle.json.specs.Print.{print, print_from}
 use Rattle.json.specs.Token.{string}
 use Rattle.text_tables.specs.JsonRows.{json_text}
 use Rattle.text_tables.specs.inner.Joined.{next_part}

@@ -1,3 +1,10 @@
 pub mod Columns
 pub mod Joined
 pub mod RowsBelow
+pub mod Controls
+pub mod WholeNumbers
+pub mod JsonLines
+pub mod RowLines
+pub mod RowsKept
+pub mod Utf8Lines
+pub mod JsonFields

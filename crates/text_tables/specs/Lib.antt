@@ -4,6 +4,9 @@ pub mod Clock
 pub mod Aligned
 pub mod CsvRows
 pub mod JsonRows
+pub mod JsonLines
+pub mod RowMembers
 pub mod Form
 pub mod PlaceCells
+pub mod Laws
 pub mod inner

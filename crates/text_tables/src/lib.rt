@@ -9,6 +9,7 @@ mod clock;
 mod csv_rows;
 mod form;
 mod json_rows;
+mod laws;
 mod place_cells;
 mod row;
 
@@ -17,5 +18,6 @@ pub use clock::{Clock, shown};
 pub use csv_rows::csv_rows_text;
 pub use form::{Form, rows_text};
 pub use json_rows::{json_rows_text, json_text};
+pub use laws::rows_are_lines_of_json;
 pub use place_cells::{place_cell, push_place, push_place_in};
 pub use row::{Row, titles_row};
