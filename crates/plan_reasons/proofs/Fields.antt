@@ -3,7 +3,7 @@ use Rattle.std.proofs.Common.{◌≡◌, ℕ, List, ◌++◌, refl, ap, ◌∙�
 use Rattle.rail_codes.specs.Moment.{IsMomentText}
 use Rattle.reply_texts.specs.Lines.{Adds}
 use Rattle.plan_reasons.specs.declared.style.Style.{Style}
-use Rattle.plan_reasons.specs.Fields.{field, naming, quote, quoted}
+use Rattle.plan_reasons.specs.Fields.{field, naming, quoted}
 use Rattle.plan_reasons.specs.inner.Added.{IsMomentField, IsMomentValue}
 
 pub three_parts : (old x y z a b c : List ℕ) → a ≡ old ++ x → b ≡ a ++ y → c ≡ b ++ z → c ≡ old ++ (x ++ y ++ z)
@@ -13,12 +13,12 @@ three_parts old x y z a b c first second third =
     joined : ((old ++ x) ++ y) ++ z ≡ old ++ (x ++ y ++ z)
     joined = simp append_assoc refl
 
--- a moment's text between what stands around it
-pub moment_value : (style : Style) (seconds : ℕ) (old a b c text : List ℕ) → IsMomentText seconds text → a ≡ old ++ quote style → b ≡ a ++ text → c ≡ b ++ quote style → Adds (IsMomentValue style seconds) old c
-moment_value style seconds old a b c text moment first second third = record {
+-- a moment's text
+pub moment_value : (style : Style) (seconds : ℕ) (old new text : List ℕ) → IsMomentText seconds text → new ≡ old ++ quoted style text → Adds (IsMomentValue style seconds) old new
+moment_value style seconds old new text moment is = record {
   added = quoted style text;
   is = record { text = text; moment = moment; whole = refl };
-  whole = three_parts old (quote style) text (quote style) a b c first second third;
+  whole = is;
 }
 
 -- a moment as a field, from its value behind the field's name

@@ -14,3 +14,5 @@ pub mod PairFields
 pub mod NamedThere
 pub mod CellCounts
 pub mod Tested
+pub mod JsonValues
+pub mod JsonTexts

@@ -1,9 +1,10 @@
 -- Lines from their parts.
 use Rattle.std.proofs.Common.{◌≡◌, ◌<◌, ℕ, zero, suc, Option, Some, List, [], ◌∷◌, ◌++◌, length, refl, ap, ◌∙◌, subst, arith}
-use Rattle.std.specs.Prelude.{codes, slice_get}
+use Rattle.std.specs.Prelude.{codes, slice_get, slice_index}
 use Rattle.plan_bounds.specs.PricedPlan.{PricedPlan}
 use Rattle.line_network.specs.Network.{NetworkValue}
 use Rattle.wagons_and_orders.specs.Wanted.{WantedOrder}
+use Rattle.cost_table.specs.Plan.{pair_cost}
 use Rattle.cost_table.specs.Problem.{ProblemValue}
 use Rattle.plan_reasons.specs.declared.reasons.Counts.{Counts}
 use Rattle.plan_reasons.specs.Reasons.{AreCounts}
@@ -13,6 +14,7 @@ use Rattle.plan_reasons.specs.declared.numbers.Numbers.TheVariants.{Bounds}
 use Rattle.plan_reasons.specs.declared.style.Style.{Style}
 use Rattle.plan_reasons.specs.Fields.{ending, field, quoted}
 use Rattle.plan_reasons.specs.Numbers.{AreChanges, IsWithout}
+use Rattle.plan_reasons.specs.PrintedNumbers.{AreChangeNumbers, AreCountNumbers, AreOrderNumbers, IsPrinted}
 use Rattle.plan_reasons.specs.Journeys.{IsJourney}
 use Rattle.plan_reasons.specs.declared.journey.Journey.{Journey}
 use Rattle.plan_reasons.specs.WhyText.{AreExactFields, AreLastFields, IsOrderLine, IsWagonLine, change_fields, count_fields, further_value, price_fields, order_fields, order_line, wagon_fields, wagon_line, without_fields}
@@ -21,20 +23,20 @@ use Rattle.plan_reasons.proofs.Fields.{three_parts}
 
 module _ (style : Style) (numbers : Numbers) (net : NetworkValue) (problem : ProblemValue) (p : PricedPlan) where
   pub line_of_order : (j : ℕ) (wanted : WantedOrder) (counts : Counts) (old a b c : List ℕ) → slice_get problem.orders j ≡ Some wanted → AreCounts net problem.at problem.wagons wanted.order counts
-      → a ≡ old ++ order_fields style problem p j → b ≡ a ++ count_fields style counts → Adds (AreLastFields style numbers p j) b c → Adds (IsOrderLine style numbers net problem p j) old c
-  line_of_order j wanted counts old a b c order counted first second third = record {
+      → AreOrderNumbers p j → AreCountNumbers counts → a ≡ old ++ order_fields style problem p j → b ≡ a ++ count_fields style counts → Adds (AreLastFields style numbers p j) b c → Adds (IsOrderLine style numbers net problem p j) old c
+  line_of_order j wanted counts old a b c order counted numbers_of counts_of first second third = record {
     added = order_line style problem p j counts third.added;
-    is = record { wanted = wanted; order = order; counts = counts; counted = counted; last = third.added; last_fields = third.is; text = refl };
+    is = record { wanted = wanted; order = order; counts = counts; counted = counted; order_numbers = numbers_of; count_numbers = counts_of; last = third.added; last_fields = third.is; text = refl };
     whole = three_parts old (order_fields style problem p j) (count_fields style counts) third.added a b c first second third.whole;
   }
 
   pub line_of_wagon : (pair : ℕ × ℕ) (journey : Journey) (without : ℕ) (old a b c : List ℕ) → IsJourney net problem pair journey → IsWithout numbers p pair.0 without
-      → a ≡ old ++ wagon_fields style problem p pair → Adds (IsMomentField style (codes "arrival") journey.arrival) a b → c ≡ b ++ without_fields style without → Adds (IsWagonLine style numbers net problem p pair) old c
-  line_of_wagon pair journey without old a b c goes is first second third =
+      → IsPrinted (pair_cost p.table pair) → IsPrinted without → a ≡ old ++ wagon_fields style problem p pair → Adds (IsMomentField style (codes "arrival") journey.arrival) a b → c ≡ b ++ without_fields style without → Adds (IsWagonLine style numbers net problem p pair) old c
+  line_of_wagon pair journey without old a b c goes is km few first second third =
       let moment = second.is in
       record {
         added = wagon_line style problem p pair moment.text without;
-        is = record { journey = journey; goes = goes; moment = moment.text; printed = moment.moment; without = without; is_without = is; text = refl };
+        is = record { journey = journey; goes = goes; moment = moment.text; printed = moment.moment; without = without; is_without = is; km_printed = km; without_printed = few; text = refl };
         whole = three_parts old (wagon_fields style problem p pair) (field style (codes "arrival") (quoted style moment.text)) (without_fields style without) a b c first (second.whole ∙ ap (λ (xs : List ℕ). a ++ xs) moment.whole) third;
       }
 
@@ -42,15 +44,15 @@ module _ (style : Style) (numbers : Numbers) (net : NetworkValue) (problem : Pro
 
 module _ (style : Style) (p : PricedPlan) (j : ℕ) where
   -- those of the numbers that are asked for
-  pub bound_fields : (numbers : Numbers) (old new : List ℕ) → Bounds ≡ numbers → new ≡ old ++ price_fields style p j → Adds (AreLastFields style numbers p j) old new
-  bound_fields numbers old new asked is =
-      record { added = price_fields style p j; is = subst (λ (n : Numbers). AreLastFields style n p j (price_fields style p j)) asked refl; whole = is }
+  pub bound_fields : (numbers : Numbers) (old new : List ℕ) → Bounds ≡ numbers → IsPrinted (slice_index p.v j) → new ≡ old ++ price_fields style p j → Adds (AreLastFields style numbers p j) old new
+  bound_fields numbers old new asked price is =
+      record { added = price_fields style p j; is = subst (λ (n : Numbers). AreLastFields style n p j (price_fields style p j)) asked (record { price_printed = price; text = refl }); whole = is }
 
   pub exact_fields : (more : Option ℕ) (less : ℕ) (old a b c : List ℕ) → AreChanges p j more less
-      → a ≡ old ++ change_fields style more less → b ≡ a ++ field style (codes "further") (further_value style p j) → c ≡ b ++ ending style → Adds (AreExactFields style p j) old c
-  exact_fields more less old a b c changes first second third = record {
+      → AreChangeNumbers more less → a ≡ old ++ change_fields style more less → b ≡ a ++ field style (codes "further") (further_value style p j) → c ≡ b ++ ending style → Adds (AreExactFields style p j) old c
+  exact_fields more less old a b c changes few first second third = record {
     added = change_fields style more less ++ field style (codes "further") (further_value style p j) ++ ending style;
-    is = record { more = more; less = less; changes = changes; text = refl };
+    is = record { more = more; less = less; changes = changes; change_numbers = few; text = refl };
     whole = three_parts old (change_fields style more less) (field style (codes "further") (further_value style p j)) (ending style) a b c first second third;
   }
 

@@ -14,6 +14,7 @@ use Rattle.line_network.specs.Network.{NetworkValue}
 use Rattle.place_names.specs.declared.named_place.NamedPlace.{NamedPlace}
 use Rattle.line_network.specs.Distance.{IsDistance}
 use Rattle.problem_table.specs.Allowed.{Reaches}
+use Rattle.cost_table.specs.Plan.{pair_cost}
 use Rattle.cost_table.specs.Problem.{ProblemValue}
 use Rattle.plan_bounds.specs.PricedPlan.{PricedPlan}
 use Rattle.reply_texts.specs.Lines.{Adds}
@@ -23,9 +24,10 @@ use Rattle.plan_reasons.specs.declared.style.Style.{Style}
 use Rattle.plan_reasons.specs.Fields.{ending, field, nothing, quoted}
 use Rattle.plan_reasons.specs.Numbers.{IsMoreOf}
 use Rattle.plan_reasons.specs.declared.reasons.Test.{Test}
-use Rattle.plan_reasons.specs.declared.reasons.Test.TheVariants.{Cheaper, InTime}
+use Rattle.plan_reasons.specs.declared.reasons.Test.TheVariants.{Cheaper, InTime, Load}
+use Rattle.plan_reasons.specs.PrintedNumbers.{IsPrinted}
 use Rattle.plan_reasons.specs.Reasons.{FailsFirst, IsCheaper, IsInTime}
-use Rattle.plan_reasons.specs.Pairs.{IsArrivalValue, IsCostlyLine, IsFailedLine, IsFitsLine, IsLateLine, IsTestLine, cost_fields, costly_line, fits_line, late_line, pair_fields}
+use Rattle.plan_reasons.specs.Pairs.{IsArrivalValue, IsCostlyLine, IsFailedLine, IsFitsLine, IsLateLine, IsTestLine, cost_fields, costly_line, fits_line, late_line, load_line, pair_fields}
 use Rattle.plan_reasons.specs.inner.Added.{IsMomentField}
 use Rattle.plan_reasons.specs.inner.AddedPairs.{IsArrivalField, comma}
 use Rattle.plan_reasons.proofs.Fields.{three_parts}
@@ -124,24 +126,28 @@ late_line_of style names net at wagon order test old new is adds = record { adde
 pub costly_line_of : (style : Style) (names : Option (List NamedPlace)) (net : NetworkValue) (at : ℕ) (wagon : FreeWagon) (order : Order) (test : Test) (old new : List ℕ) → Cheaper ≡ test → Adds (IsCostlyLine style net at wagon order) old new → Adds (IsTestLine style names net at wagon order test) old new
 costly_line_of style names net at wagon order test old new is adds = record { added = adds.added; is = subst (λ (t : Test). IsTestLine style names net at wagon order t adds.added) is adds.is; whole = adds.whole }
 
+pub load_line_of : (style : Style) (names : Option (List NamedPlace)) (net : NetworkValue) (at : ℕ) (wagon : FreeWagon) (order : Order) (test : Test) (old new : List ℕ) → Load ≡ test → IsPrinted wagon.load_limit → IsPrinted order.load → new ≡ old ++ load_line style wagon order → Adds (IsTestLine style names net at wagon order test) old new
+load_line_of style names net at wagon order test old new is limit load whole =
+    record { added = load_line style wagon order; is = subst (λ (t : Test). IsTestLine style names net at wagon order t (load_line style wagon order)) is (record { limit_printed = limit; load_printed = load; text = refl }); whole = whole }
+
 pub costly_added : (style : Style) (net : NetworkValue) (at : ℕ) (wagon : FreeWagon) (order : Order) (way : ℕ × ℕ) (km : ℕ) (old new : List ℕ) → IsDistance net wagon.place order.place way → IsInTime net at wagon order → km ≡ way.0
-    → new ≡ old ++ costly_line style wagon order km → Adds (IsCostlyLine style net at wagon order) old new
-costly_added style net at wagon order way km old new distance in_time same is =
+    → IsPrinted km → IsPrinted order.penalty → new ≡ old ++ costly_line style wagon order km → Adds (IsCostlyLine style net at wagon order) old new
+costly_added style net at wagon order way km old new distance in_time same few penalty is =
     let reaches = in_time.1 in
     let way_km = same_km net wagon.place order.place (in_time.0, reaches.minutes) way reaches.distance distance in
     record {
       added = costly_line style wagon order km;
-      is = record { km = km; reaches = subst (λ (n : ℕ). Reaches net at wagon order n) (way_km ∙ sym same) reaches; text = refl };
+      is = record { km = km; reaches = subst (λ (n : ℕ). Reaches net at wagon order n) (way_km ∙ sym same) reaches; km_printed = few; penalty_printed = penalty; text = refl };
       whole = is;
     }
 
 module _ (style : Style) (numbers : Numbers) (net : NetworkValue) (problem : ProblemValue) (p : PricedPlan) (fit : Fit) (wagon : FreeWagon) (wanted : WantedOrder) where
   pub fits_added : (order : Order) (old a b c : List ℕ) → slice_get problem.wagons fit.pair.0 ≡ Some wagon → slice_get problem.orders fit.pair.1 ≡ Some wanted → order ≡ wanted.order → IsCheaper net problem.at wagon wanted.order
       → IsMoreOf numbers p fit.pair fit.more
-      → a ≡ old ++ pair_fields style (codes "fits") wagon order → b ≡ a ++ cost_fields style numbers p fit → c ≡ b ++ ending style → Adds (IsFitsLine style numbers net problem p fit) old c
-  fits_added order old a b c free stands same passes more first second third = record {
+      → IsPrinted (pair_cost p.table fit.pair) → IsPrinted fit.more → a ≡ old ++ pair_fields style (codes "fits") wagon order → b ≡ a ++ cost_fields style numbers p fit → c ≡ b ++ ending style → Adds (IsFitsLine style numbers net problem p fit) old c
+  fits_added order old a b c free stands same passes more km few first second third = record {
     added = fits_line style numbers wagon wanted.order p fit;
-    is = record { wagon = wagon; free = free; wanted = wanted; order = stands; passes = passes; is_more = more; text = refl };
+    is = record { wagon = wagon; free = free; wanted = wanted; order = stands; passes = passes; is_more = more; km_printed = km; more_printed = few; text = refl };
     whole = three_parts old (pair_fields style (codes "fits") wagon wanted.order) (cost_fields style numbers p fit) (ending style) a b c (first ∙ ap (λ (o : Order). old ++ pair_fields style (codes "fits") wagon o) same) second third;
   }
 

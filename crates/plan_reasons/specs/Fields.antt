@@ -1,6 +1,7 @@
 -- How a line is written: as words parted by one space, or as a JSON object without spaces. Either way it is what it says first,
 -- then fields, each a name and a value, and a line feed.
 use Rattle.std.specs.Prelude.{ℕ, List, [], ◌∷◌, ◌++◌, codes}
+use Rattle.text_tables.specs.JsonRows.{json_text}
 use Rattle.plan_reasons.specs.declared.style.Style.{Style}
 use Rattle.plan_reasons.specs.declared.style.Style.TheVariants.{Text, Json}
 
@@ -19,13 +20,10 @@ abbrev pub ending : Style → List ℕ
 ending Text = 10 ∷ []
 ending Json = 125 ∷ 10 ∷ []
 
--- what stands around a name or a moment, which has no quotation mark and no backslash in it
-abbrev pub quote : Style → List ℕ
-quote Text = []
-quote Json = 34 ∷ []
-
+-- a name or a moment: as it is, or as JSON has a text
 abbrev pub quoted : Style → (word : List ℕ) → List ℕ
-quoted style word = quote style ++ word ++ quote style
+quoted Text word = word
+quoted Json word = json_text word
 
 -- the value where there is none
 abbrev pub nothing : Style → List ℕ

@@ -1,5 +1,5 @@
 -- Laws of the text: what its counts count, and what its numbers bound.
-use Rattle.std.specs.Prelude.{◌≡◌, ◌+◌, ◌-◌, ◌<◌, ◌≤◌, ◌↔◌, ℕ, IsTrue, List, length, None, Some, IfNone, IfSome, is_some, slice_get, slice_index, slice_index_or}
+use Rattle.std.specs.Prelude.{◌≡◌, ◌+◌, ◌-◌, ◌<◌, ◌≤◌, ◌↔◌, ℕ, IsTrue, List, length, None, Option, Some, IfNone, IfSome, is_some, slice_get, slice_index, slice_index_or}
 use Rattle.std.specs.List.{count_by}
 use Rattle.move_messages.specs.Order.{Order}
 use Rattle.wagons_and_orders.specs.declared.free_wagon.FreeWagon.{FreeWagon}
@@ -12,10 +12,15 @@ use Rattle.plan_bounds.specs.PricedPlan.{IsCertified, PricedPlan}
 use Rattle.plan_bounds.specs.Changes.{with_lack, without_wagon}
 use Rattle.plan_bounds.specs.LeastSlack.{least_new_slack}
 use Rattle.plan_bounds.specs.Bounds.{AllCostMore, CostsMore, HasPair, IsIdle, NoneSavesMore, NoneServesMore, ServesMore}
+use Rattle.place_names.specs.declared.named_place.NamedPlace.{NamedPlace}
+use Rattle.text_tables.specs.JsonLines.{AreObjects}
+use Rattle.plan_reasons.specs.declared.numbers.Numbers.{Numbers}
+use Rattle.plan_reasons.specs.declared.style.Style.TheVariants.{Json}
 use Rattle.plan_reasons.specs.declared.reasons.Counts.{Counts}
 use Rattle.plan_reasons.specs.Reasons.{AreCounts, IsCheaper, IsCount, IsInTime}
 use Rattle.plan_reasons.specs.Numbers.{more_of}
-use Rattle.plan_reasons.specs.PairLists.{passes_all}
+use Rattle.plan_reasons.specs.PairLists.{IsOrderText, IsWagonText, passes_all}
+use Rattle.plan_reasons.specs.WhyText.{IsWhyText}
 
 -- how many wagons of a table may serve order j
 abbrev pub cells_of_order : Table → (j : ℕ) → ℕ
@@ -79,3 +84,20 @@ NumbersOfWagonsBound = (p : PricedPlan) → IsCertified p → (i : ℕ) → i < 
 
 abbrev pub NumbersOfPairsBound : Type 0
 NumbersOfPairsBound = (p : PricedPlan) → IsCertified p → (i j : ℕ) → PairBounds p i j
+
+-- ---- texts as JSON: each of their lines is an object, and no control character stands in it, so no other line feed
+
+abbrev pub WhyTextsAreJson : Type 0
+WhyTextsAreJson =
+    (numbers : Numbers) (version : ℕ) (net : NetworkValue) (problem : ProblemValue) (p : PricedPlan) (text : List ℕ)
+    → IsWhyText Json numbers version net problem p text → AreObjects text
+
+abbrev pub OrderTextsAreJson : Type 0
+OrderTextsAreJson =
+    (numbers : Numbers) (names : Option (List NamedPlace)) (net : NetworkValue) (problem : ProblemValue) (p : PricedPlan) (j : ℕ) (text : List ℕ)
+    → IsOrderText Json numbers names net problem p j text → AreObjects text
+
+abbrev pub WagonTextsAreJson : Type 0
+WagonTextsAreJson =
+    (numbers : Numbers) (names : Option (List NamedPlace)) (net : NetworkValue) (problem : ProblemValue) (p : PricedPlan) (i : ℕ) (text : List ℕ)
+    → IsWagonText Json numbers names net problem p i text → AreObjects text

@@ -3,6 +3,7 @@ pub mod OrderCounts
 pub mod Fields
 pub mod Numbers
 pub mod PlaceFields
+pub mod PrintedNumbers
 pub mod CertifiedPlan
 pub mod Journeys
 pub mod WhyText

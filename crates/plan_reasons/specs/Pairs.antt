@@ -24,6 +24,7 @@ use Rattle.plan_reasons.specs.declared.reasons.Test.TheVariants.{Class, Load, Wa
 use Rattle.plan_reasons.specs.Fields.{ending, field, first_field, nothing, quoted}
 use Rattle.plan_reasons.specs.Numbers.{IsMoreOf}
 use Rattle.plan_reasons.specs.PlaceFields.{place_field}
+use Rattle.plan_reasons.specs.PrintedNumbers.{IsPrinted}
 use Rattle.plan_reasons.specs.Reasons.{FailsFirst, IsCheaper}
 
 -- ---- fields
@@ -67,6 +68,12 @@ abbrev pub load_line : Style → FreeWagon → Order → List ℕ
 load_line style wagon order =
     compared_line style (codes "load") wagon order (codes "has", decimal wagon.load_limit) (codes "wants", decimal order.load)
 
+-- the line of a wagon that doesn't carry the order's load
+pub record IsLoadLine (style : Style) (wagon : FreeWagon) (order : Order) (line : List ℕ) : Type 0 where
+  pub limit_printed : IsPrinted wagon.load_limit
+  pub load_printed : IsPrinted order.load
+  pub text : line ≡ load_line style wagon order
+
 -- the places between which no way leads, each with its name where names are asked for
 abbrev pub way_line : Style → (names : Option (List NamedPlace)) → FreeWagon → Order → List ℕ
 way_line style names wagon order =
@@ -96,12 +103,14 @@ pub record IsLateLine (style : Style) (net : NetworkValue) (at : ℕ) (wagon : F
 pub record IsCostlyLine (style : Style) (net : NetworkValue) (at : ℕ) (wagon : FreeWagon) (order : Order) (line : List ℕ) : Type 0 where
   pub km : ℕ
   pub reaches : Reaches net at wagon order km
+  pub km_printed : IsPrinted km
+  pub penalty_printed : IsPrinted order.penalty
   pub text : line ≡ costly_line style wagon order km
 
 -- the line of a wagon by the test that it fails
 abbrev pub IsTestLine : Style → (names : Option (List NamedPlace)) → NetworkValue → (at : ℕ) → FreeWagon → Order → Test → (line : List ℕ) → Type 0
 IsTestLine style names net at wagon order Class line = line ≡ class_line style wagon order
-IsTestLine style names net at wagon order Load line = line ≡ load_line style wagon order
+IsTestLine style names net at wagon order Load line = IsLoadLine style wagon order line
 IsTestLine style names net at wagon order Way line = line ≡ way_line style names wagon order
 IsTestLine style names net at wagon order InTime line = IsLateLine style net at wagon order line
 IsTestLine style names net at wagon order Cheaper line = IsCostlyLine style net at wagon order line
@@ -150,4 +159,6 @@ pub record IsFitsLine (style : Style) (numbers : Numbers) (net : NetworkValue) (
   pub order : slice_get problem.orders fit.pair.1 ≡ Some wanted
   pub passes : IsCheaper net problem.at wagon wanted.order
   pub is_more : IsMoreOf numbers p fit.pair fit.more
+  pub km_printed : IsPrinted (pair_cost p.table fit.pair)
+  pub more_printed : IsPrinted fit.more
   pub text : line ≡ fits_line style numbers wagon wanted.order p fit

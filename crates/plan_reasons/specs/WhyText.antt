@@ -21,6 +21,7 @@ use Rattle.plan_reasons.specs.declared.reasons.Counts.{Counts}
 use Rattle.plan_reasons.specs.Journeys.{IsJourney}
 use Rattle.plan_reasons.specs.Fields.{ending, field, first_field, nothing, quoted}
 use Rattle.plan_reasons.specs.Numbers.{AreChanges, IsWithout}
+use Rattle.plan_reasons.specs.PrintedNumbers.{AreChangeNumbers, AreCountNumbers, AreOrderNumbers, ArePlanNumbers, IsPrinted}
 use Rattle.plan_reasons.specs.Reasons.{AreCounts}
 
 -- ---- the whole
@@ -84,17 +85,23 @@ pub record AreExactFields (style : Style) (p : PricedPlan) (j : ℕ) (fields : L
   pub more : Option ℕ
   pub less : ℕ
   pub changes : AreChanges p j more less
+  pub change_numbers : AreChangeNumbers more less
   pub text : fields ≡ change_fields style more less ++ field style (codes "further") (further_value style p j) ++ ending style
 
--- the order's price and that bound
+-- the order's price and that bound, as text
 abbrev pub price_fields : Style → PricedPlan → (j : ℕ) → List ℕ
 price_fields style p j =
     field style (codes "price") (decimal (slice_index p.v j)) ++ field style (codes "further") (further_value style p j) ++ ending style
 
+-- the order's price and that bound
+pub record ArePriceFields (style : Style) (p : PricedPlan) (j : ℕ) (fields : List ℕ) : Type 0 where
+  pub price_printed : IsPrinted (slice_index p.v j)
+  pub text : fields ≡ price_fields style p j
+
 -- the last fields of order j
 abbrev pub AreLastFields : Style → Numbers → PricedPlan → (j : ℕ) → (fields : List ℕ) → Type 0
 AreLastFields style Exact p j fields = AreExactFields style p j fields
-AreLastFields style Bounds p j fields = fields ≡ price_fields style p j
+AreLastFields style Bounds p j fields = ArePriceFields style p j fields
 
 abbrev pub order_line : Style → ProblemValue → PricedPlan → (j : ℕ) → Counts → (last : List ℕ) → List ℕ
 order_line style problem p j counts last = order_fields style problem p j ++ count_fields style counts ++ last
@@ -105,6 +112,8 @@ pub record IsOrderLine (style : Style) (numbers : Numbers) (net : NetworkValue) 
   pub order : slice_get problem.orders j ≡ Some wanted
   pub counts : Counts
   pub counted : AreCounts net problem.at problem.wagons wanted.order counts
+  pub order_numbers : AreOrderNumbers p j
+  pub count_numbers : AreCountNumbers counts
   pub last : List ℕ
   pub last_fields : AreLastFields style numbers p j last
   pub text : line ≡ order_line style problem p j counts last
@@ -134,6 +143,8 @@ pub record IsWagonLine (style : Style) (numbers : Numbers) (net : NetworkValue) 
   pub printed : IsMomentText journey.arrival moment
   pub without : ℕ
   pub is_without : IsWithout numbers p pair.0 without
+  pub km_printed : IsPrinted (pair_cost p.table pair)
+  pub without_printed : IsPrinted without
   pub text : line ≡ wagon_line style problem p pair moment without
 
 -- ---- the text
@@ -141,6 +152,8 @@ pub record IsWagonLine (style : Style) (numbers : Numbers) (net : NetworkValue) 
 pub record IsWhyText (style : Style) (numbers : Numbers) (version : ℕ) (net : NetworkValue) (problem : ProblemValue) (p : PricedPlan) (text : List ℕ) : Type 0 where
   pub orders : List ℕ
   pub wagons : List ℕ
+  pub version_printed : IsPrinted version
+  pub plan_numbers : ArePlanNumbers problem p (missed_in_all p)
   pub order_lines : AreLines (IsOrderLine style numbers net problem p) (range_with_len 0 (length problem.orders)) orders
   pub wagon_lines : AreLines (IsWagonLine style numbers net problem p) p.pairs wagons
   pub whole : text ≡ why_line style version problem p ++ orders ++ wagons

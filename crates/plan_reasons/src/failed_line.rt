@@ -17,6 +17,7 @@ ghost use Rattle.plan_reasons.specs.Pairs.{
   way_line,
 };
 ghost use Rattle.plan_reasons.specs.PlaceFields.{names_of};
+ghost use Rattle.plan_reasons.specs.PrintedNumbers.{IsPrinted};
 ghost use Rattle.plan_reasons.specs.Reasons.{FailsFirst, HasWay, IsInTime};
 ghost use Rattle.plan_reasons.specs.inner.AddedPairs.{AddsTestLine, IsArrivalField, comma};
 
@@ -146,11 +147,15 @@ fn push_load(
     wagon: &FreeWagon,
     order: &OrderText,
 ) -> Result<(), AllocError>
-    ensures { OnOk result (string_bytes text.new ≡ string_bytes text.old ++ load_line style wagon.now order.now) }
+    ensures text { OnOk result (string_bytes text.new ≡ string_bytes text.old ++ load_line style wagon.now order.now) }
+    ensures limit { IsPrinted wagon.now.load_limit }
+    ensures load { IsPrinted order.now.load }
 {
+    let limit = u64::from(wagon.load_limit);
+    let load = u64::from(order.load());
     push_pair(text, style, "load", wagon, order)?;
-    number_field(text, style, "has", u64::from(wagon.load_limit))?;
-    number_field(text, style, "wants", u64::from(order.load()))?;
+    number_field(text, style, "has", limit)?;
+    number_field(text, style, "wants", load)?;
     end_line(text, style)
 }
 
@@ -223,10 +228,13 @@ fn push_kilometres(
     order: &OrderText,
     km: u64,
 ) -> Result<(), AllocError>
-    ensures { OnOk result (string_bytes text.new ≡ string_bytes text.old ++ costly_line style wagon.now order.now km) }
+    ensures text { OnOk result (string_bytes text.new ≡ string_bytes text.old ++ costly_line style wagon.now order.now km) }
+    ensures km { IsPrinted km }
+    ensures penalty { IsPrinted order.now.penalty }
 {
+    let penalty = order.penalty();
     push_pair(text, style, "costly", wagon, order)?;
     number_field(text, style, "km", km)?;
-    number_field(text, style, "penalty", order.penalty())?;
+    number_field(text, style, "penalty", penalty)?;
     end_line(text, style)
 }

@@ -6,7 +6,10 @@ ghost use Rattle.plan_reasons.specs.Laws.{
   NumbersOfOrdersBound,
   NumbersOfPairsBound,
   NumbersOfWagonsBound,
+  OrderTextsAreJson,
   TestsNarrow,
+  WagonTextsAreJson,
+  WhyTextsAreJson,
 };
 
 /// How many wagons pass the tests for an order is settled, and each test is passed by no more than the one before it.
@@ -30,4 +33,11 @@ pub fn numbers_are_bounds()
     ensures orders { NumbersOfOrdersBound }
     ensures wagons { NumbersOfWagonsBound }
     ensures pairs { NumbersOfPairsBound }
+{}
+
+/// Each line of a text as JSON is an object of JSON, and no line feed stands inside it.
+pub fn texts_are_lines_of_json()
+    ensures whole { WhyTextsAreJson }
+    ensures orders { OrderTextsAreJson }
+    ensures wagons { WagonTextsAreJson }
 {}

@@ -1,6 +1,6 @@
 //! Why a plan is as it is: for each order how many free wagons pass the tests for it, one after the other, and for each order
 //! and wagon what other plans cost more: exactly, each by a plan of its own, or at least, by the prices of the plan's certificate.
-//! Of one order or one wagon also why each pair is in the plan or not: what plans that have it cost more, or the first test that
+//! What it costs to give an order further wagons is always a bound. Of one order or one wagon also why each pair is in the plan or not: what plans that have it cost more, or the first test that
 //! the wagon fails.
 //!
 //! `Err` only when out of memory.
@@ -33,7 +33,10 @@ pub use counts_by_order::order_counts;
 pub use finders::{find_order, find_wagon};
 pub use fit::Fit;
 pub use journey::{Journey, journey_of};
-pub use laws::{fits_are_cheaper, in_time_are_allowed, numbers_are_bounds, tests_narrow};
+pub use laws::{
+    fits_are_cheaper, in_time_are_allowed, numbers_are_bounds, tests_narrow,
+    texts_are_lines_of_json,
+};
 pub use line_form::LineForm;
 pub use numbers::Numbers;
 pub use one_text::{order_text, wagon_text};

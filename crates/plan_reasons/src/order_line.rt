@@ -1,11 +1,12 @@
 //! The lines of orders.
-ghost use Rattle.std.specs.Prelude.{◌≡◌, ◌+◌, ◌++◌, ◌<◌, ◌≤◌, codes, length, slice_index, OnOk, string_bytes};
+ghost use Rattle.std.specs.Prelude.{◌≡◌, ◌+◌, ◌++◌, ◌<◌, ◌≤◌, codes, length, slice_index, IfSome, OnOk, string_bytes};
 ghost use Rattle.cost_table.specs.Table.{lack_at, order_count};
 ghost use Rattle.plan_bounds.specs.Bounds.{AllCostMore};
 ghost use Rattle.plan_bounds.specs.Changes.{with_lack};
 ghost use Rattle.plan_bounds.specs.Slack.{missed};
 ghost use Rattle.reply_texts.specs.Lines.{Adds};
 ghost use Rattle.plan_reasons.specs.Fields.{field, quoted};
+ghost use Rattle.plan_reasons.specs.PrintedNumbers.{AreChangeNumbers, AreCountNumbers, AreOrderNumbers, IsPrinted};
 ghost use Rattle.plan_reasons.specs.WhyText.{AreExactFields, AreLastFields, change_fields, count_fields, further_value, number_value, order_fields, price_fields};
 ghost use Rattle.plan_reasons.specs.inner.Added.{AddsOrderLine};
 ghost use Rattle.plan_reasons.specs.inner.Tallied.{AreTallies};
@@ -49,22 +50,22 @@ fn push_order_fields(
 ) -> Result<(), AllocError>
     requires tallies { AreTallies planned.now tallies.now }
     requires order { j < length planned.now.problem.orders }
-    ensures { OnOk result (string_bytes text.new ≡ string_bytes text.old ++ order_fields style planned.now.problem planned.now.priced j) }
+    ensures text { OnOk result (string_bytes text.new ≡ string_bytes text.old ++ order_fields style planned.now.problem planned.now.priced j) }
+    ensures numbers { AreOrderNumbers planned.now.priced j }
 {
-    first_code(
-        text,
-        style,
-        "order",
-        order_name(planned.problem(), j).as_bytes(),
-    )?;
-    number_field(text, style, "lacks", u64::from(planned.cells().lack(j)))?;
-    number_field(text, style, "gets", tallies.given(planned, j))?;
+    let name = order_name(planned.problem(), j);
+    let lacks = u64::from(planned.cells().lack(j));
+    let gets = tallies.given(planned, j);
+    first_code(text, style, "order", name.as_bytes())?;
+    number_field(text, style, "lacks", lacks)?;
+    number_field(text, style, "gets", gets)?;
     number_field(text, style, "misses", missed(planned, tallies, j))
 }
 
 /// Adds how many wagons pass each test.
 fn push_counts(text: &mut String, style: Style, counts: Counts) -> Result<(), AllocError>
-    ensures { OnOk result (string_bytes text.new ≡ string_bytes text.old ++ count_fields style counts) }
+    ensures text { OnOk result (string_bytes text.new ≡ string_bytes text.old ++ count_fields style counts) }
+    ensures numbers { AreCountNumbers counts }
 {
     number_field(text, style, "class", counts.class)?;
     number_field(text, style, "load", counts.load)?;
@@ -122,7 +123,8 @@ fn push_changes(
     more: Option<u64>,
     less: u64,
 ) -> Result<(), AllocError>
-    ensures { OnOk result (string_bytes text.new ≡ string_bytes text.old ++ change_fields style more less) }
+    ensures text { OnOk result (string_bytes text.new ≡ string_bytes text.old ++ change_fields style more less) }
+    ensures numbers { AreChangeNumbers more less }
 {
     push_more(text, style, more)?;
     number_field(text, style, "less", less)
@@ -130,7 +132,8 @@ fn push_changes(
 
 /// Adds what one wagon more costs, if there may be one.
 fn push_more(text: &mut String, style: Style, more: Option<u64>) -> Result<(), AllocError>
-    ensures { OnOk result (string_bytes text.new ≡ string_bytes text.old ++ field style (codes "more") (number_value style more)) }
+    ensures text { OnOk result (string_bytes text.new ≡ string_bytes text.old ++ field style (codes "more") (number_value style more)) }
+    ensures number { IfSome more IsPrinted }
 {
     match more {
         Some(km) => number_field(text, style, "more", km),
@@ -148,7 +151,8 @@ fn push_prices(
 ) -> Result<(), AllocError>
     requires tallies { AreTallies planned.now tallies.now }
     requires order { j < length planned.now.problem.orders }
-    ensures { OnOk result (string_bytes text.new ≡ string_bytes text.old ++ price_fields style planned.now.priced j) }
+    ensures text { OnOk result (string_bytes text.new ≡ string_bytes text.old ++ price_fields style planned.now.priced j) }
+    ensures price { IsPrinted (slice_index planned.now.priced.v j) }
 {
     let bounds = planned.bounds();
     number_field(text, style, "price", price(&bounds, j))?;

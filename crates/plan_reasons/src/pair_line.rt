@@ -1,8 +1,10 @@
 //! The line of a free wagon with a waiting order.
 ghost use Rattle.std.specs.Prelude.{◌≡◌, ◌++◌, OnOk, false, string_bytes};
+ghost use Rattle.cost_table.specs.Plan.{pair_cost};
 ghost use Rattle.plan_reasons.specs.declared.style.Style.TheVariants.{Text};
 ghost use Rattle.plan_reasons.specs.Pairs.{as_good, cost_fields, planned_field, truth};
 ghost use Rattle.plan_reasons.specs.PairLists.{passes_all};
+ghost use Rattle.plan_reasons.specs.PrintedNumbers.{IsPrinted};
 ghost use Rattle.plan_reasons.specs.inner.AddedPairs.{AddsFailedLine, AddsFitsLine, IsFoundFit, IsPairOf};
 
 use crate::certified_plan::CertifiedPlan;
@@ -62,10 +64,13 @@ fn push_costs(
     planned: &CertifiedPlan,
     fit: Fit,
 ) -> Result<(), AllocError>
-    ensures { OnOk result (string_bytes text.new ≡ string_bytes text.old ++ cost_fields style numbers planned.now.priced fit) }
+    ensures text { OnOk result (string_bytes text.new ≡ string_bytes text.old ++ cost_fields style numbers planned.now.priced fit) }
+    ensures km { IsPrinted (pair_cost planned.now.priced.table fit.pair) }
+    ensures more { IsPrinted fit.more }
 {
     let (i, j) = fit.pair;
-    number_field(text, style, "km", planned.cells().cell(i, j).unwrap_or(0))?;
+    let km = planned.cells().cell(i, j).unwrap_or(0);
+    number_field(text, style, "km", km)?;
     number_field(text, style, "more", fit.more)?;
     let is_planned = has_pair(planned.plan().pairs(), i, j);
     push_planned(text, style, numbers, fit.more, is_planned)

@@ -6,10 +6,9 @@ ghost use Rattle.plan_reasons.specs.PlaceFields.{name_field, names_of, place_fie
 ghost use Rattle.text_tables.specs.JsonRows.{json_text};
 
 use crate::line_form::LineForm;
-use crate::style::{Style, code_field, push_field};
+use crate::style::{Style, code_field, push_json, push_name};
 use rail_codes::Place;
 use std::alloc::AllocError;
-use text_tables::json_text;
 
 /// Adds a place, and its name behind it where names are asked for.
 pub(crate) fn place_field(
@@ -44,6 +43,6 @@ fn push_place_name(
 fn push_text(text: &mut String, style: Style, name: &str, value: &str) -> Result<(), AllocError>
     ensures { OnOk result (string_bytes text.new ≡ string_bytes text.old ++ field style name.now (json_text value.now)) }
 {
-    let quoted = json_text(*text.allocator(), value)?;
-    push_field(text, style, name, quoted.as_str())
+    push_name(text, style, name)?;
+    push_json(text, value)
 }

@@ -3,12 +3,14 @@
 ghost use Rattle.std.specs.Prelude.{◌≡◌, ◌++◌, codes, decimal, OnOk, string_bytes};
 ghost use Rattle.std.specs.Str.{IsAscii};
 ghost use Rattle.reply_texts.specs.Lines.{Adds};
-ghost use Rattle.plan_reasons.specs.Fields.{ending, field, first_field, naming, nothing, opening, quote, quoted};
+ghost use Rattle.text_tables.specs.JsonRows.{json_text};
+ghost use Rattle.plan_reasons.specs.Fields.{ending, field, first_field, naming, nothing, opening, quoted};
 ghost use Rattle.plan_reasons.specs.inner.Added.{IsMomentField, IsMomentValue};
 
 use itoa::Buffer;
 use rail_codes::{Moment, push_ascii};
 use std::alloc::AllocError;
+use text_tables::json_text;
 
 /// How a line is written.
 #[derive(Clone, Copy)]
@@ -60,16 +62,6 @@ pub(crate) fn end_line(text: &mut String, style: Style) -> Result<(), AllocError
     }
 }
 
-/// Adds what stands around a name.
-fn push_quote(text: &mut String, style: Style) -> Result<(), AllocError>
-    ensures { OnOk result (string_bytes text.new ≡ string_bytes text.old ++ quote style) }
-{
-    match style {
-        Style::Text => Ok(()),
-        Style::Json => text.push_str("\""),
-    }
-}
-
 /// The value where there is none.
 pub(crate) fn nothing(style: Style) -> &'static str
     ensures { result.now ≡ nothing style }
@@ -78,6 +70,24 @@ pub(crate) fn nothing(style: Style) -> &'static str
         Style::Text => "-",
         Style::Json => "null",
     }
+}
+
+/// Adds a text: as it is, or as JSON has it.
+fn push_shown(text: &mut String, style: Style, value: &str) -> Result<(), AllocError>
+    ensures { OnOk result (string_bytes text.new ≡ string_bytes text.old ++ quoted style value.now) }
+{
+    match style {
+        Style::Text => text.push_str(value),
+        Style::Json => push_json(text, value),
+    }
+}
+
+/// Adds a text as JSON has it.
+pub(crate) fn push_json(text: &mut String, value: &str) -> Result<(), AllocError>
+    ensures { OnOk result (string_bytes text.new ≡ string_bytes text.old ++ json_text value.now) }
+{
+    let quoted = json_text(*text.allocator(), value)?;
+    text.push_str(quoted.as_str())
 }
 
 /// Adds a code's characters.
@@ -89,9 +99,20 @@ pub(crate) fn push_quoted(
     requires { IsAscii characters.now }
     ensures { OnOk result (string_bytes text.new ≡ string_bytes text.old ++ quoted style characters.now) }
 {
-    push_quote(text, style)?;
-    push_ascii(text, characters)?;
-    push_quote(text, style)
+    match style {
+        Style::Text => push_ascii(text, characters),
+        Style::Json => push_json_code(text, characters),
+    }
+}
+
+/// Adds a code's characters as JSON has a text.
+fn push_json_code(text: &mut String, characters: &[u8]) -> Result<(), AllocError>
+    requires { IsAscii characters.now }
+    ensures { OnOk result (string_bytes text.new ≡ string_bytes text.old ++ json_text characters.now) }
+{
+    let mut code = String::new(*text.allocator());
+    push_ascii(&mut code, characters)?;
+    push_json(text, code.as_str())
 }
 
 /// Begins a line with a number.
@@ -179,7 +200,6 @@ pub(crate) fn moment_field(
 fn push_moment(text: &mut String, style: Style, moment: Moment) -> Result<(), AllocError>
     ensures { OnOk result (Adds (IsMomentValue style moment) (string_bytes text.old) (string_bytes text.new)) }
 {
-    push_quote(text, style)?;
-    moment.push_text(text)?;
-    push_quote(text, style)
+    let shown = moment.text(*text.allocator())?;
+    push_shown(text, style, shown.as_str())
 }

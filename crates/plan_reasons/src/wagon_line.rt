@@ -1,6 +1,7 @@
 //! The lines of wagons that go.
 ghost use Rattle.std.specs.Prelude.{◌≡◌, ◌++◌, OnOk, string_bytes};
-ghost use Rattle.cost_table.specs.Plan.{IsAllowed};
+ghost use Rattle.cost_table.specs.Plan.{IsAllowed, pair_cost};
+ghost use Rattle.plan_reasons.specs.PrintedNumbers.{IsPrinted};
 ghost use Rattle.plan_reasons.specs.WhyText.{wagon_fields, without_fields};
 ghost use Rattle.plan_reasons.specs.inner.Added.{AddsWagonLine};
 
@@ -38,9 +39,11 @@ fn push_wagon_fields(
     pair: (usize, usize),
 ) -> Result<(), AllocError>
     requires { IsAllowed planned.now.priced.table pair }
-    ensures { OnOk result (string_bytes text.new ≡ string_bytes text.old ++ wagon_fields style planned.now.problem planned.now.priced pair) }
+    ensures text { OnOk result (string_bytes text.new ≡ string_bytes text.old ++ wagon_fields style planned.now.problem planned.now.priced pair) }
+    ensures km { IsPrinted (pair_cost planned.now.priced.table pair) }
 {
     let (i, j) = pair;
+    let km = planned.cells().cell(i, j).unwrap_or(0);
     first_code(
         text,
         style,
@@ -53,7 +56,7 @@ fn push_wagon_fields(
         "order",
         order_name(planned.problem(), j).as_bytes(),
     )?;
-    number_field(text, style, "km", planned.cells().cell(i, j).unwrap_or(0))
+    number_field(text, style, "km", km)
 }
 
 /// Adds what plans cost more in which a wagon stays.

@@ -1,6 +1,8 @@
 //! The text that says why a plan is as it is.
 ghost use Rattle.std.specs.Prelude.{◌≡◌, ◌-◌, ◌++◌, ◌≤◌, ◌*◌, IfOk, OnOk, length, string_bytes};
 ghost use Rattle.cost_table.specs.Table.{order_count};
+ghost use Rattle.plan_bounds.specs.PricedPlan.{certified_cost};
+ghost use Rattle.plan_reasons.specs.PrintedNumbers.{ArePlanNumbers, IsPrinted};
 ghost use Rattle.plan_reasons.specs.WhyText.{IsWhyText, missed_in_all, plan_fields, problem_fields, why_line};
 ghost use Rattle.plan_reasons.specs.inner.Added.{AddsOrderLines, AddsWagonLines};
 ghost use Rattle.plan_reasons.specs.inner.Tallied.{AreTallies};
@@ -56,7 +58,8 @@ fn push_why_line(
     tallies: &Tallies,
 ) -> Result<(), AllocError>
     requires { AreTallies planned.now tallies.now }
-    ensures { OnOk result (string_bytes text.new ≡ string_bytes text.old ++ why_line style version planned.now.problem planned.now.priced) }
+    ensures text { OnOk result (string_bytes text.new ≡ string_bytes text.old ++ why_line style version planned.now.problem planned.now.priced) }
+    ensures numbers { OnOk result (ArePlanNumbers planned.now.problem planned.now.priced (missed_in_all planned.now.priced)) }
 {
     push_problem(text, style, version, planned)?;
     push_plan(text, style, planned, tallies)?;
@@ -70,16 +73,15 @@ fn push_problem(
     version: u64,
     planned: &CertifiedPlan,
 ) -> Result<(), AllocError>
-    ensures { OnOk result (string_bytes text.new ≡ string_bytes text.old ++ problem_fields style version planned.now.problem) }
+    ensures text { OnOk result (string_bytes text.new ≡ string_bytes text.old ++ problem_fields style version planned.now.problem) }
+    ensures free { IsPrinted (length planned.now.problem.wagons) }
+    ensures orders { IsPrinted (length planned.now.problem.orders) }
 {
+    let free = planned.problem().wagons().len() as u64;
+    let orders = planned.problem().orders().len() as u64;
     first_number(text, style, "why", version)?;
-    number_field(text, style, "free", planned.problem().wagons().len() as u64)?;
-    number_field(
-        text,
-        style,
-        "orders",
-        planned.problem().orders().len() as u64,
-    )
+    number_field(text, style, "free", free)?;
+    number_field(text, style, "orders", orders)
 }
 
 /// Adds what the plan costs, how many wagons go and stay, and how many the orders miss.
@@ -90,19 +92,20 @@ fn push_plan(
     tallies: &Tallies,
 ) -> Result<(), AllocError>
     requires { AreTallies planned.now tallies.now }
-    ensures { OnOk result (string_bytes text.new ≡ string_bytes text.old ++ plan_fields style planned.now.problem planned.now.priced) }
+    ensures text { OnOk result (string_bytes text.new ≡ string_bytes text.old ++ plan_fields style planned.now.problem planned.now.priced) }
+    ensures cost { IsPrinted (certified_cost planned.now.priced) }
+    ensures go { IsPrinted (length planned.now.priced.pairs) }
+    ensures miss { IsPrinted (missed_in_all planned.now.priced) }
 {
     let pairs = planned.plan().pairs();
+    let cost = cost(planned.cells(), pairs);
+    let go = pairs.len() as u64;
+    let miss = missed_in_all(planned, tallies);
     let mut digits = Buffer::new();
-    push_field(
-        text,
-        style,
-        "cost",
-        digits.format(cost(planned.cells(), pairs)),
-    )?;
-    number_field(text, style, "go", pairs.len() as u64)?;
+    push_field(text, style, "cost", digits.format(cost))?;
+    number_field(text, style, "go", go)?;
     number_field(text, style, "stay", staying(planned) as u64)?;
-    number_field(text, style, "miss", missed_in_all(planned, tallies))
+    number_field(text, style, "miss", miss)
 }
 
 /// How many free wagons stay.

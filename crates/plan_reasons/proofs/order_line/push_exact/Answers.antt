@@ -30,4 +30,4 @@ returns c =
       saves = c.in_ok-less.ensures;
     } in
     let changes = subst (λ (p : PricedPlan). AreChanges p j c.in_ok-more.more c.in_ok-less.less) c.exact_costs-costs.ensures.value found in
-    on_ok_weaker c.end_line.result (λ last. exact_fields c.args.style c.args.planned.now.priced j c.in_ok-more.more c.in_ok-less.less _ _ _ _ changes c.in_ok-push_changes.ensures c.in_ok-push_further.ensures last) c.end_line.ensures
+    on_ok_weaker c.end_line.result (λ last. exact_fields c.args.style c.args.planned.now.priced j c.in_ok-more.more c.in_ok-less.less _ _ _ _ changes c.in_ok-push_changes.ensures.numbers c.in_ok-push_changes.ensures.text c.in_ok-push_further.ensures last) c.end_line.ensures

@@ -7,4 +7,4 @@ returns c =
     let net = c.args.planned.now.network in
     let problem = c.args.planned.now.problem in
     let wanted = some_there problem.orders c.args.j c.requires.order in
-    on_ok_weaker c.push_last.result (λ last. line_of_order c.args.style c.args.numbers net problem c.args.planned.now.priced c.args.j wanted.0 c.in_ok-counts.counts _ _ _ _ wanted.1 (c.in_ok-counts.ensures wanted.0 wanted.1) c.in_ok-push_order_fields.ensures c.in_ok-push_counts.ensures last) c.push_last.ensures
+    on_ok_weaker c.push_last.result (λ last. line_of_order c.args.style c.args.numbers net problem c.args.planned.now.priced c.args.j wanted.0 c.in_ok-counts.counts _ _ _ _ wanted.1 (c.in_ok-counts.ensures wanted.0 wanted.1) c.in_ok-push_order_fields.ensures.numbers c.in_ok-push_counts.ensures.numbers c.in_ok-push_order_fields.ensures.text c.in_ok-push_counts.ensures.text last) c.push_last.ensures
