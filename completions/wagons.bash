@@ -20,7 +20,7 @@ _wagons() {
     esac
     case $word in
         run) ;;
-        review) office+=' --places' ;;
+        review) office+=' --places --json' ;;
         moves) office+=' --at --places --zone --csv --json --late --order --wagon --company --silent' ;;
         fleet | orders) office+=' --places --zone --csv --json' ;;
         trace) office+=' --places --zone --csv --json --order --wagon' ;;

@@ -38,6 +38,7 @@ complete -c wagons -n '__fish_seen_subcommand_from trace' -l order -x -d 'What h
 complete -c wagons -n '__fish_seen_subcommand_from trace' -l wagon -x -d 'What happened to this wagon'
 complete -c wagons -n '__fish_seen_subcommand_from why' -l quick -d 'Bounds, without a plan for each number'
 complete -c wagons -n '__fish_seen_subcommand_from moves fleet orders trace why' -l json -d 'Print JSON lines'
+complete -c wagons -n '__fish_seen_subcommand_from review' -l json -d 'Print notes as JSON lines'
 complete -c wagons -n '__fish_seen_subcommand_from moves' -l late -d 'Only what is late, short or past its latest moment'
 complete -c wagons -n '__fish_seen_subcommand_from moves' -l silent -x -d 'Also wagons not heard from for N hours, 1 to 100000'
 complete -c wagons -n '__fish_seen_subcommand_from check solve' -l line-bytes -x -d 'Most bytes of a line, 1 to 67108864'

@@ -143,10 +143,11 @@ pub record AreMapOptions (given : Given) (options : MapOptions) : Type 0 where
   pub order : IsReadAs order_id_of (value_of (codes "order") given) options.order
   pub class : IsReadAs class_code_of (value_of (codes "class") given) options.class
 
--- the names of places for notes
+-- the names of places for notes, or whether the notes are JSON lines
 pub record AreReviewOptions (given : Given) (options : ReviewOptions) : Type 0 where
   pub office : AreOfficeOptions given options.office
   pub places : lent options.places ≡ value_of (codes "places") given
+  pub json : IsFlagOf (codes "json") given options.json
 
 -- what is saved: how many lines are read, the roster that is added, and the wagons that leave, in the order given
 pub record AreSaveOptions (given : Given) (options : SaveOptions) : Type 0 where

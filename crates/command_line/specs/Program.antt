@@ -66,7 +66,7 @@ words =
     ∷ word (codes "table") (of_an_office ++ a_moment ∷ [])
     ∷ word (codes "why")
     (of_an_office ++ a_moment ∷ some_places ∷ valued (codes "order") ∷ valued (codes "wagon") ∷ flag (codes "json") ∷ flag (codes "quick") ∷ [])
-    ∷ word (codes "review") (of_an_office ++ some_places ∷ [])
+    ∷ word (codes "review") (of_an_office ++ some_places ∷ flag (codes "json") ∷ [])
     ∷ word (codes "save")
     (of_an_office ++ number max_input_lines (codes "upto") ∷ valued (codes "with") ∷ repeated (codes "without") ∷ [])
     ∷ word (codes "explain") (unnamed (codes "code") ∷ [])

@@ -263,8 +263,8 @@ pub(crate) const REVIEW: WordHelp = WordHelp {
      with 0, with 1 where there is a note, with 2 where it could not run or stopped.",
     example: "Example:\n  \
      wagons review --roster roster.csv --network network.csv < day.jsonl",
-    arguments: &[OFFICE, &[PLACES]],
-    groups: &[START],
+    arguments: &[OFFICE, &[PLACES, NOTES]],
+    groups: &[START, NAMED],
 };
 
 /// The help of `save`.
@@ -499,6 +499,14 @@ const WAGON: Argument = Argument {
     ),
 };
 
+/// Whether notes are JSON lines, which tell of more.
+const NOTES: Argument = Argument {
+    name: "json",
+    takes: Takes::Nothing,
+    help: "Notes as JSON lines, with promises, deliveries and refusals too",
+    long_help: None,
+};
+
 /// Whether JSON lines are printed.
 const JSON: Argument = Argument {
     name: "json",
@@ -560,7 +568,8 @@ const QUICK: Argument = Argument {
     help: "Bounds, without a plan for each number",
     long_help: Some(
         "Prints what other plans cost more, at least, by the plan's own\n\
-     prices; without it each number is exact, by a plan of its own",
+     prices; without it each number but `FURTHER` is exact, by a plan of\n\
+     its own",
     ),
 };
 
@@ -620,6 +629,13 @@ const START: Group = Group {
     name: "start",
     options: ["roster", "from"],
     required: true,
+};
+
+/// Places have names, or notes are JSON lines, or neither.
+const NAMED: Group = Group {
+    name: "named",
+    options: ["places", "json"],
+    required: false,
 };
 
 /// CSV is printed, or JSON lines, or neither.

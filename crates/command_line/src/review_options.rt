@@ -4,7 +4,7 @@ ghost use Rattle.command_line.specs.Options.{AreReviewOptions};
 ghost use Rattle.command_line.specs.Values.{given_in};
 
 use crate::office_options::OfficeOptions;
-use crate::values::value_of;
+use crate::values::{is_given, value_of};
 use clap::ArgMatches;
 use std::alloc::{AllocError, Global};
 
@@ -15,6 +15,8 @@ pub struct ReviewOptions<'a> {
     pub office: OfficeOptions<'a>,
     /// The file of the places' names.
     pub places: Option<&'a str>,
+    /// Whether the notes are JSON lines. `clap` has refused both before.
+    pub json: bool,
 }
 
 impl<'a> ReviewOptions<'a> {
@@ -29,6 +31,7 @@ impl<'a> ReviewOptions<'a> {
         Ok(ReviewOptions {
             office,
             places: value_of(matches, "places"),
+            json: is_given(matches, "json"),
         })
     }
 }

@@ -4,6 +4,7 @@ pub mod Status
 pub mod Brought
 pub mod Laws
 pub mod Reviewed
+pub mod Noted
 pub mod FirstLines
 pub mod OfLast
 pub mod Fed

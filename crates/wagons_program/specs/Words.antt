@@ -14,7 +14,7 @@ use Rattle.wagons_program.specs.Brought.{IsInputAnswered, IsInputBrought, IsInpu
 use Rattle.wagons_program.specs.Explanation.{IsExplained}
 use Rattle.wagons_program.specs.Fed.{IsFedPrinted}
 use Rattle.wagons_program.specs.OfLast.{AreMovesPrinted, AreOrdersPrinted, AreReasonsPrinted, IsFleetPrinted, IsMapPrinted, IsPlanPrinted, IsSavedPrinted, IsTablePrinted}
-use Rattle.wagons_program.specs.Reviewed.{IsInputNotReviewed, IsInputReviewed}
+use Rattle.wagons_program.specs.Noted.{IsReviewDone, IsReviewUndone}
 use Rattle.wagons_program.specs.Streams.{IsUnprinted, PrintsNothing, Streams}
 use Rattle.wagons_program.specs.Traced.{IsTracePrinted}
 
@@ -33,7 +33,7 @@ IsDone bytes_at remaining has_failed (word.Map options) given status = IsMapPrin
 IsDone bytes_at remaining has_failed (word.Plan options) given status = IsPlanPrinted bytes_at options given status
 IsDone bytes_at remaining has_failed (word.Table options) given status = IsTablePrinted bytes_at options given status
 IsDone bytes_at remaining has_failed (word.Why options) given status = AreReasonsPrinted bytes_at options given status
-IsDone bytes_at remaining has_failed (word.Review options) given status = IsInputReviewed bytes_at options given status
+IsDone bytes_at remaining has_failed (word.Review options) given status = IsReviewDone bytes_at options given status
 IsDone bytes_at remaining has_failed (word.Save options) given status = IsSavedPrinted bytes_at options given status
 IsDone bytes_at remaining has_failed (word.Explain explained) given status = IsExplained explained given status
 
@@ -51,7 +51,7 @@ IsUndone bytes_at (word.Map options) given why = IsUnprinted given why
 IsUndone bytes_at (word.Plan options) given why = IsUnprinted given why
 IsUndone bytes_at (word.Table options) given why = IsUnprinted given why
 IsUndone bytes_at (word.Why options) given why = IsUnprinted given why
-IsUndone bytes_at (word.Review options) given why = IsInputNotReviewed bytes_at options given why
+IsUndone bytes_at (word.Review options) given why = IsReviewUndone bytes_at options given why
 IsUndone bytes_at (word.Save options) given why = IsUnprinted given why
 IsUndone bytes_at (word.Explain explained) given why = IsUnprinted given why
 

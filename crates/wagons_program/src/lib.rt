@@ -9,6 +9,7 @@ mod first_lines;
 mod laws;
 mod map;
 mod moves;
+mod noting;
 mod opening;
 mod plan;
 mod printing;

@@ -10,8 +10,8 @@ use crate::explain::explain;
 use crate::feed::feed;
 use crate::map::map;
 use crate::moves::moves;
+use crate::noting::review_in_form;
 use crate::plan::plan;
-use crate::review::review;
 use crate::run::run;
 use crate::save::save;
 use crate::solve::solve;
@@ -94,7 +94,7 @@ fn do_word<R: FileSystem + Threads + Wait + AllocGlobal + Sync, I: Read + Drop, 
         Word::Plan(options) => plan(rt, options, input, &mut output.device),
         Word::Table(options) => table(rt, options, input, &mut output.device),
         Word::Why(options) => why(rt, options, input, &mut output.device),
-        Word::Review(options) => review(rt, options, input, output),
+        Word::Review(options) => review_in_form(rt, options, input, output),
         Word::Save(options) => save(rt, options, input, &mut output.device),
         Word::Explain(explained) => explain(rt.alloc(), explained, &mut output.device),
     }

@@ -1,0 +1,10 @@
+use Rattle.std.proofs.Common.{codes, string_bytes}
+use Rattle.std.proofs.lemmas.Result.{IfOk-weaker}
+use Rattle.serde_json.specs.Data.{string}
+use Rattle.journal_notes.proofs.Printed.{one_member}
+use Rattle.journal_notes.proofs.line_text.named_line.Goals as goal
+
+pub returns : goal.returns
+returns c =
+    IfOk-weaker c.end_note.result _ _
+    (λ text is. one_member c.args.line c.args.word.now (codes "order") (string c.args.named.now.order) _ _ (string_bytes text) c.in_ok-out.ensures.tokens (c.in_ok-write_code.ensures {u = tt}).tokens is) c.end_note.ensures

@@ -1,0 +1,13 @@
+pub mod StatusNames
+pub mod NoteLine
+pub mod NoteLists
+pub mod OrderNotes
+pub mod Heard
+pub mod Streaks
+pub mod MessageNotes
+pub mod OfficeNotes
+pub mod NoteLines
+pub mod EventNotes
+pub mod NotedJournal
+pub mod Laws
+pub mod inner

@@ -1,0 +1,3 @@
+-- What only the proofs and the private functions of this crate need.
+pub mod Front
+pub mod Accepted
