@@ -26,7 +26,7 @@ from program import EACH, HERE, PROCESSES, SECONDS, Table
 
 ROOT = os.path.dirname(HERE)
 NAME = "hostile_calls"
-LIBRARIES = """last_texts traces fault_texts checkpoint command_line csv_records faults office office_map plan_table text_tables plan_reasons
+LIBRARIES = """last_texts traces journal_notes fault_texts checkpoint command_line csv_records faults office office_map plan_table text_tables plan_reasons
 problem_table sessions assignment dispatch_sheet table_lines commit_book operating_db price_checker cost_table line_network
 line_engine fleet_rows wagons_and_orders place_names line_fields move_messages rail_codes test_samples""".split()
 # The request that is refused, and more requests than come before it. MANY stands in calls/trying.rs too.
@@ -70,11 +70,12 @@ PARTS = {
     "reviews": Part("the review of a journal", ["review_journal (the memory for its lines)", "review_journal (a line)"]),
     "traces": Part("the trace of a wagon or an order", ["Trace::new", "trace_journal (the memory for its lines)", "trace_journal (a line)",
         "trace_text"]),
+    "notes": Part("the notes of a journal", ["note_journal (the memory for its lines)", "note_journal (a line)"]),
     "feeds": Part("`feed` of one reader, and its report", ["feed", "feed (the memory for its lines)", "feed (a line)",
         "report_text"]),
 }
 # Where these are refused, what comes of the call isn't printed: the program compares it with another run's.
-UNPRINTED = re.compile(r"run \(one of its calls\)|(run|check_run|solve_run|review_journal|feed) \(a line\)"
+UNPRINTED = re.compile(r"run \(one of its calls\)|(run|check_run|solve_run|review_journal|note_journal|feed) \(a line\)"
                        r"|feed \(the memory for its lines\)|.*, and closed then")
 # A case: a part, and how many requests come before its calls.
 Case = tuple[str, int]

@@ -41,6 +41,7 @@ mod books;
 mod checkpoints;
 mod feeds;
 mod lines;
+mod notes;
 mod plans;
 mod readings;
 mod reviews;
@@ -102,6 +103,7 @@ fn part_done<T: Threads + Wait + Sync>(
         "runs" => runs::all(rt, alloc, requests),
         "reviews" => reviews::all(rt, alloc, requests),
         "traces" => traces::all(rt, alloc, requests),
+        "notes" => notes::all(rt, alloc, requests),
         "feeds" => feeds::all(rt, threads, alloc, requests),
         _ => unreachable!(),
     }
