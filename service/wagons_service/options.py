@@ -23,7 +23,7 @@ COMMANDS = {
 }
 PAGE = "docs/SERVICE.md, and `man wagons-service`"
 # The words that take these options.
-WITH_PLACES = frozenset(["fleet", "map", "moves", "orders", "plan", "review", "why"])
+WITH_PLACES = frozenset(["fleet", "map", "moves", "orders", "plan", "why"])
 WITH_ZONE = frozenset(["plan"])
 
 

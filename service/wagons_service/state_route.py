@@ -3,6 +3,7 @@
 A railway sees of it the wagons that it moved last, and of orders what stands in their movements.
 """
 
+import json
 import re
 from collections.abc import Sequence
 from datetime import UTC, datetime
@@ -12,6 +13,7 @@ from typing import Any
 from aiohttp import web
 
 from .answers import Refusal, moment_in
+from .journal import MOST_LINES
 from .known_wagons import Stuck
 from .railway_views import given
 from .senders import Role, Sender
@@ -19,6 +21,8 @@ from .server import Server
 from .standings import Standing
 
 DOCUMENT = Path(__file__).parent / "openapi.json"
+NOTES_AN_ANSWER = 1_000
+MOST_NOTES_AN_ANSWER = 10_000
 # The lists of a step of an order's trace.
 TRACED = ("was_promised", "was_filled", "promised", "filled")
 # How a wagon's number and an order's name are written in a path, and what may stand in a query.
@@ -41,6 +45,7 @@ class StateRoute:
         router.add_get(f"/v1/orders/{{name:{NAME}}}/trace", self.get_order_trace)
         router.add_get("/v1/movements", self.get_movements)
         router.add_get("/v1/stuck", self.get_stuck)
+        router.add_get("/v1/notes", self.get_notes)
 
     async def _printed(self, request: web.Request, word: str, *options: str) -> tuple[int, list[dict[str, Any]]]:
         """What a word prints for the sender after the line of the journal that comes with it."""
@@ -119,6 +124,28 @@ class StateRoute:
         known = await self._service.known_wagons.stuck(sheet.journal)
         rows = [stuck_row(standing, stuck, sender) for wagon, stuck in known.items() if (standing := sheet.wagons.get(wagon))]
         return web.json_response({"line": sheet.line, "wagons": sorted(rows, key=lambda row: (row["since"] or "", row["wagon"]))})
+
+
+    async def get_notes(self, request: web.Request) -> web.StreamResponse:
+        """What a person should hear of in the lines of the present journal, each note as the program printed it."""
+        sender: Sender = request["sender"]
+        if not sender.may_look:
+            raise Refusal(403, "A railway's token doesn't see notes; what changes for its wagons is told at /events.")
+        since = count_in(request.query.get("since"), "since", 0, MOST_LINES, otherwise=0)
+        limit = count_in(request.query.get("limit"), "limit", 1, MOST_NOTES_AN_ANSWER, otherwise=NOTES_AN_ANSWER)
+        journal = self._service.office.journal.number
+        line, more, notes = await self._service.viewer.notes.page(since, limit)
+        head = json.dumps({"journal": journal, "line": line, "more": more})
+        return web.Response(body=b'%b, "notes": [%b]}' % (head[:-1].encode(), b", ".join(notes)), content_type="application/json")
+
+
+def count_in(text: str | None, name: str, least: int, most: int, otherwise: int) -> int:
+    """A number in a query."""
+    if text is None:
+        return otherwise
+    if not (text.isascii() and text.isdigit() and len(text) <= 9 and least <= int(text) <= most):
+        raise Refusal(400, f"`{name}` must be a number from {least} to {most:,}.")
+    return int(text)
 
 
 def stuck_row(standing: Standing, stuck: Stuck, sender: Sender) -> dict[str, Any]:

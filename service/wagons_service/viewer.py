@@ -1,6 +1,6 @@
 """What the page shows of the office, without a line in the journal.
 
-A second program follows the journal when someone looks, and is asked for sheets. The map and reasons are printed by
+A second program follows the journal when someone looks, and is asked for sheets; a third one prints notes. The map and reasons are printed by
 `wagons map` and `wagons why`, which read the journal from its beginning.
 """
 
@@ -17,6 +17,7 @@ from .follower import Follower
 from .journal import CHUNK
 from .layouts import Layout, Layouts
 from .network_map import NetworkMap, read_map
+from .note_follower import NoteFollower
 from .office import Office
 from .options import Options
 from .processes import refusal_of, run, start
@@ -45,6 +46,7 @@ class Viewer:
         self._layouts = layouts
         begins_with = office.journal.checkpoint or options.start
         self._follower = Follower(self._lines, self._words("run"), begins_with, options.limits.answer_within)
+        self.notes = NoteFollower(self._lines, [*self._words("review"), "--json"], options.limits.answer_within)
         # One sheet at a time, and one command over the journal, so that whoever looks doesn't take the machine from those who
         # send. A sheet waits for no command.
         self._sheet_turn = asyncio.Lock()
@@ -178,6 +180,7 @@ class Viewer:
 
     def end(self) -> None:
         self._follower.end()
+        self.notes.end()
 
 
 ENTRY = re.compile(r"## [0-9]+ (?P<name>\w+)\n\n(?P<meaning>.*?)(?:\n\n- Where: .*?)?(?:\n- Remedy: (?P<remedy>.*))?\Z", re.S)
