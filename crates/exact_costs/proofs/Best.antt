@@ -37,14 +37,14 @@ rest_is p table IsSo n le least =
     subst (IsLeastOver table IsSo) whole least
 
 -- a plan of the table that is so costs no less than the certified one
-no_less : (p : PricedPlan) → IsCertified p → (IsSo : List (ℕ × ℕ) → Type 0) (n : ℕ) → IsLeastOver p.table IsSo n → certified_cost p ≤ n
+pub no_less : (p : PricedPlan) → IsCertified p → (IsSo : List (ℕ × ℕ) → Type 0) (n : ℕ) → IsLeastOver p.table IsSo n → certified_cost p ≤ n
 no_less p c IsSo n least =
     let best = (certificates_optimal p.table p.pairs p.u p.v c).1 least.plan least.of_table in
     let costs = least.costs in
     omega (arith, best, costs)
 
 -- the same where a call answers the certified cost
-rest_of : (p : PricedPlan) (table : Table) (IsSo : List (ℕ × ℕ) → Type 0) (n cost : ℕ) → cost ≡ certified_cost p → certified_cost p ≤ n → IsLeastOver table IsSo n
+pub rest_of : (p : PricedPlan) (table : Table) (IsSo : List (ℕ × ℕ) → Type 0) (n cost : ℕ) → cost ≡ certified_cost p → certified_cost p ≤ n → IsLeastOver table IsSo n
     → IsLeastOver table IsSo (certified_cost p + (n - cost))
 rest_of p table IsSo n cost e le least = subst (λ (cost : ℕ). IsLeastOver table IsSo (certified_cost p + (n - cost))) (sym e) (rest_is p table IsSo n le least)
 

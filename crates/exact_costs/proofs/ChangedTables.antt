@@ -14,7 +14,7 @@ use Rattle.cost_table.specs.TableLimits.{IsRow, IsTable, max_cost, max_table_lac
 use Rattle.cost_table.specs.TableRows.{all_rows, cost_in, costs_of, table_with}
 use Rattle.cost_table.proofs.TableRowLemmas.{costs_even, costs_within, length-all_rows, rows_are, table_with-all_rows}
 use Rattle.plan_bounds.specs.Changes.{with_lack}
-use Rattle.exact_costs.specs.inner.Changed.{with_costs, without_penalty}
+use Rattle.exact_costs.specs.inner.Changed.{with_costs, with_wanted, without_penalty}
 
 -- rows that make a table
 pub record Makes (held : TableRows) (penalties lacks : List ℕ) (t : Table) : Type 0 where
@@ -105,6 +105,16 @@ with_lack_made held t j lack penalties lacks legal placed are same_penalties sam
     (subst (λ (penalties : List ℕ). Makes held penalties (slice_set t.lacks j lack) (with_lack t j lack)) (sym same_penalties)
     (same_rows_made held t t.penalties (slice_set t.lacks j lack) legal placed are (length-set t.lacks j lack) legal.penalty_count legal.penalties
     (All-set IsLack t.lacks j lack is legal.lacks) (omega (arith, few, in_all))))
+
+pub with_wanted_made : (held : TableRows) (t : Table) (j lack : ℕ) (penalties lacks : List ℕ) → IsTable t → HasPlaces held → rows_in held ≡ all_rows t
+    → penalties ≡ slice_set t.penalties j max_cost → lacks ≡ slice_set t.lacks j lack → j < order_count t → IsLack lack → sum t.lacks + lack ≤ max_table_lack + lack_at t j
+    → Makes held penalties lacks (with_wanted t j lack)
+with_wanted_made held t j lack penalties lacks legal placed are same_penalties same_lacks l is in_all =
+    let few = sum_by-set (λ (x : ℕ). x) t.lacks j lack 0 l in
+    subst (λ (lacks : List ℕ). Makes held penalties lacks (with_wanted t j lack)) (sym same_lacks)
+    (subst (λ (penalties : List ℕ). Makes held penalties (slice_set t.lacks j lack) (with_wanted t j lack)) (sym same_penalties)
+    (same_rows_made held t (slice_set t.penalties j max_cost) (slice_set t.lacks j lack) legal placed are (length-set t.lacks j lack) (length-set t.penalties j max_cost ∙ legal.penalty_count)
+    (All-set (λ (penalty : ℕ). penalty ≤ max_cost) t.penalties j max_cost (omega arith) legal.penalties) (All-set IsLack t.lacks j lack is legal.lacks) (omega (arith, few, in_all))))
 
 pub without_penalty_made : (held : TableRows) (t : Table) (j : ℕ) (penalties lacks : List ℕ) → IsTable t → HasPlaces held → rows_in held ≡ all_rows t
     → penalties ≡ slice_set t.penalties j 0 → lacks ≡ t.lacks → Makes held penalties lacks (without_penalty t j)

@@ -49,7 +49,7 @@ less_is_no_more t j n l lacks c other plan =
 
 -- ---- an order that lacks one wagon less lacks none: the same as if a wagon that it misses cost nothing
 
-allowed_moves : (t s : Table) → wagon_count s ≡ wagon_count t → order_count s ≡ order_count t → ((k j : ℕ) → cost_at s k j ≡ cost_at t k j)
+pub allowed_moves : (t s : Table) → wagon_count s ≡ wagon_count t → order_count s ≡ order_count t → ((k j : ℕ) → cost_at s k j ≡ cost_at t k j)
     → (ps : List (ℕ × ℕ)) → AllAllowed t ps → AllAllowed s ps
 allowed_moves t s wagons orders costs [] h = tt
 allowed_moves t s wagons orders costs (q ∷ ps) h =

@@ -6,3 +6,7 @@ pub mod Pairs
 pub mod Lacks
 pub mod Best
 pub mod ChangedTables
+pub mod Wanted
+pub mod MoreWagons
+pub mod FurtherPlans
+pub mod Twins

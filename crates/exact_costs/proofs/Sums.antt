@@ -59,7 +59,7 @@ sum_below-times (suc n) k f =
     let split = distributes (sum_below n f) (f n) k in
     omega (arith, rest, split)
 
-less_times : (l v m : ℕ) → v ≤ m → l * v ≤ l * m
+pub less_times : (l v m : ℕ) → v ≤ m → l * v ≤ l * m
 less_times l v m h = grind (arith, h)
 
 pub cost_within : (t : Table) (pairs : List (ℕ × ℕ)) (u v : List ℕ) → IsTable t → IsCertificate t pairs u v → cost_of t pairs ≤ max_plan_cost

@@ -1,2 +1,3 @@
 pub mod LeastCosts
+pub mod FurtherCosts
 pub mod inner

@@ -6,9 +6,9 @@ ghost use Rattle.cost_table.specs.Table.{lack_at, order_count, wagon_count};
 ghost use Rattle.cost_table.specs.TableLimits.{IsRow, max_table_lack};
 ghost use Rattle.cost_table.specs.TableRows.{all_rows, costs_of};
 ghost use Rattle.plan_bounds.specs.Changes.{with_lack};
-ghost use Rattle.exact_costs.specs.inner.Changed.{with_costs, without_penalty};
+ghost use Rattle.exact_costs.specs.inner.Changed.{with_costs, with_wanted, without_penalty};
 
-use cost_table::{Cells, TableRows};
+use cost_table::{Cells, MAX_COST, TableRows};
 use std::alloc::{AllocError, Global};
 
 /// The same table with another row for wagon `i`.
@@ -42,6 +42,26 @@ pub(crate) fn with_lack(
 {
     let rows = same_rows(alloc, cells.rows())?;
     let penalties = penalties(alloc, cells)?;
+    let mut lacks = lacks(alloc, cells)?;
+    lacks[j] = lack;
+    Ok(Cells::of_rows(rows, penalties, lacks))
+}
+
+/// The same table where order `j` lacks so many wagons, and each that it misses costs the most that a table may have.
+pub(crate) fn with_wanted(
+    alloc: Global,
+    cells: &Cells,
+    j: usize,
+    lack: u32,
+) -> Result<Cells, AllocError>
+    requires order { j < order_count cells.now }
+    requires lack { IsLack lack }
+    requires in_all { sum cells.now.lacks + lack ≤ max_table_lack + lack_at cells.now j }
+    ensures { IfOk result (λ changed. changed ≡ with_wanted cells.now j lack) }
+{
+    let rows = same_rows(alloc, cells.rows())?;
+    let mut penalties = penalties(alloc, cells)?;
+    penalties[j] = MAX_COST;
     let mut lacks = lacks(alloc, cells)?;
     lacks[j] = lack;
     Ok(Cells::of_rows(rows, penalties, lacks))

@@ -1,19 +1,23 @@
 //! What the best plans cost exactly.
-ghost use Rattle.std.specs.Prelude.{◌≡◌, ◌+◌, ◌-◌, ◌<◌, ◌≤◌, ◌↔◌, Some, IfOk, IfSome, IsSome, is_some, sum};
-ghost use Rattle.cost_table.specs.Plan.{IsAllowed};
+ghost use Rattle.std.specs.Prelude.{◌≡◌, ◌+◌, ◌-◌, ◌<◌, ◌≤◌, ◌↔◌, Some, false, IfOk, IfSome, IsSome, IsTrue, is_some, sum};
+ghost use Rattle.cost_table.specs.Plan.{IsAllowed, serves};
 ghost use Rattle.cost_table.specs.TableLimits.{max_cost};
 ghost use Rattle.cost_table.specs.Table.{cost_at, lack_at, order_count, wagon_count};
 ghost use Rattle.price_checker.specs.Certificate.{IsCertificate};
 ghost use Rattle.plan_bounds.specs.PricedPlan.{IsCertified, certified_cost};
 ghost use Rattle.plan_bounds.specs.Changes.{with_lack, without_wagon};
-ghost use Rattle.plan_bounds.specs.Bounds.{HasPair, IsIdle};
+ghost use Rattle.plan_bounds.specs.Bounds.{HasPair, IsIdle, NoneServesMore};
 ghost use Rattle.exact_costs.specs.LeastCosts.{BestCostsMore, BestOfCostsLess, BestOfCostsMore, IsAny, IsLeastOver, may_lack_more};
+ghost use Rattle.exact_costs.specs.FurtherCosts.{IsFurther};
 ghost use Rattle.exact_costs.specs.inner.Certified.{IsNoMore, max_plan_cost};
+ghost use Rattle.exact_costs.specs.inner.Further.{HasNewPair};
 
-use crate::changed_table::{with_lack, with_row, without_penalty};
-use crate::least::least_cost;
-use cost_table::{Cells, MAX_TABLE_LACK, Plan};
+use crate::changed_table::{with_lack, with_row, with_wanted, without_penalty};
+use crate::further::Further;
+use crate::least::{given, least_cost, least_plan};
+use cost_table::{Cells, MAX_COST, MAX_TABLE_LACK, Plan};
 use move_messages::MAX_ORDER_WAGONS;
+use plan_bounds::Bounds;
 use price_checker::{Prices, certified_cost};
 use std::alloc::{AllocError, Global};
 use std::marker::Model;
@@ -110,6 +114,55 @@ impl<'a> ExactCosts<'a> {
     {
         let cost = self.cost();
         Ok(cost - cost_with_less(alloc, self.cells, j)?)
+    }
+
+    /// What the best plan costs more that gives order `j` more wagons than this one does. The order misses a wagon.
+    ///
+    /// It is found by a table where the order lacks one wagon more than it gets, and each that it misses costs 1,000,000,000 km. Where
+    /// the best plan of that table refuses it a wagon, only a bound is known.
+    pub fn further(&self, alloc: Global, j: usize) -> Result<Further, AllocError>
+        requires order { j < order_count self.now.table }
+        requires misses { serves j self.now.pairs < lack_at self.now.table j }
+        ensures { IfOk result (IsFurther self.now j) }
+    {
+        if !self.has_new_pair(j) {
+            return Ok(Further::Never);
+        }
+        self.with_one_further(alloc, j)
+    }
+
+    /// Whether a pair of order `j` is allowed that the plan doesn't have.
+    fn has_new_pair(&self, j: usize) -> bool
+        requires { j < order_count self.now.table }
+        ensures some { IsTrue result → HasNewPair self.now j }
+        ensures none { result ≡ false → NoneServesMore self.now j }
+    {
+        let bounds = Bounds::new(self.cells, self.plan, self.prices);
+        match bounds.service_bound(j) {
+            Some(_) => true,
+            None => false,
+        }
+    }
+
+    /// The same as `further`, where a plan may give the order one wagon more.
+    fn with_one_further(&self, alloc: Global, j: usize) -> Result<Further, AllocError>
+        requires order { j < order_count self.now.table }
+        requires misses { serves j self.now.pairs < lack_at self.now.table j }
+        requires new { HasNewPair self.now j }
+        ensures { IfOk result (IsFurther self.now j) }
+    {
+        // The orders of a table lack few wagons.
+        self.cells.for_the_prover();
+        let cost = self.cost();
+        let lack = self.cells.lack(j);
+        let penalty = self.cells.penalty(j);
+        let wanted = given(self.plan.pairs(), j) as u32 + 1;
+        let changed = with_wanted(alloc, self.cells, j, wanted)?;
+        let least = least_plan(alloc, &changed, j)?;
+        if least.gives < wanted as usize {
+            return Ok(Further::Over(MAX_COST - penalty));
+        }
+        Ok(Further::Exactly(least.cost + penalty * u64::from(lack - wanted) - cost))
     }
 
     /// The cost of the certified plan.

@@ -1,7 +1,7 @@
 -- The lines of texts as JSON.
-use Rattle.std.proofs.Common.{◌≡◌, ℕ, ◌-◌, Option, Some, None, List, [], ◌∷◌, ◌++◌, length, decimal, refl, sym, subst, arith, append_assoc}
+use Rattle.std.proofs.Common.{◌≡◌, ◌∙◌, ℕ, ◌-◌, Bool, true, false, if◌then◌else◌, ◌==◌, Option, Some, None, List, [], ◌∷◌, ◌++◌, length, decimal, ap, refl, sym, subst, arith, append_assoc, append-nil}
 use Rattle.std.specs.Prelude.{codes, slice_index}
-use Rattle.std.specs.List.{range_with_len}
+use Rattle.std.specs.List.{filter, range_with_len}
 use Rattle.json.specs.Print.{escape, escape_byte}
 use Rattle.move_messages.specs.Order.{Order}
 use Rattle.wagons_and_orders.specs.declared.free_wagon.FreeWagon.{FreeWagon}
@@ -12,6 +12,7 @@ use Rattle.cost_table.specs.Table.{lack_at}
 use Rattle.cost_table.specs.Plan.{pair_cost, serves}
 use Rattle.price_checker.specs.NamedFaults.{name_at}
 use Rattle.plan_bounds.specs.PricedPlan.{PricedPlan, certified_cost}
+use Rattle.exact_costs.specs.declared.further.Further.{Further}
 use Rattle.plan_bounds.specs.LeastSlack.{has_pair}
 use Rattle.plan_bounds.specs.Slack.{missed}
 use Rattle.reply_texts.specs.Lines.{AreLines}
@@ -26,12 +27,14 @@ use Rattle.plan_reasons.specs.declared.reasons.Test.TheVariants.{Class, Load, Wa
 use Rattle.plan_reasons.specs.declared.style.Style.TheVariants.{Json}
 use Rattle.plan_reasons.specs.Fields.{field, first_field, quoted}
 use Rattle.plan_reasons.specs.Laws.{OrderTextsAreJson, WagonTextsAreJson, WhyTextsAreJson}
-use Rattle.plan_reasons.specs.Pairs.{IsFailedLine, IsFitsLine, IsTestLine, compared_line, cost_fields, list_value, pair_fields, truth, way_line}
-use Rattle.plan_reasons.specs.PairLists.{ArePairLines, IsOwnLine, stays_line}
+use Rattle.plan_reasons.specs.declared.failed.Failed.{Failed}
+use Rattle.plan_reasons.specs.Headings.{counted_columns, fits_columns, heading, heading_over, order_columns, test_columns, wagon_columns}
+use Rattle.plan_reasons.specs.Pairs.{IsFailedLine, IsFitsLine, IsTestLine, compared_line, cost_fields, counted_line, list_value, pair_fields, truth, way_line}
+use Rattle.plan_reasons.specs.PairLists.{AreFailedOfOrder, AreFailedOfWagon, AreFitsLines, AreLaterLines, AreTestLines, IsOwnLine, UnlessNear, counted, fails, stays_line}
 use Rattle.plan_reasons.specs.PlaceFields.{place_field}
 use Rattle.plan_reasons.specs.PrintedNumbers.{AreChangeNumbers, AreCountNumbers, AreOrderNumbers, ArePlanNumbers, IsPrinted}
-use Rattle.plan_reasons.specs.WhyText.{AreLastFields, IsOrderLine, IsWagonLine, change_fields, count_fields, further_value, missed_in_all, number_value, order_fields, plan_fields, problem_fields, why_line}
-use Rattle.plan_reasons.proofs.JsonValues.{arrival_value, decimal_field, further_shown, names_value, optional_value, place_fields, printed_value, text_field, truth_value, value_field}
+use Rattle.plan_reasons.specs.WhyText.{AreLastFields, IsOrderLine, IsWagonLine, change_fields, count_fields, exact_value, further_value, missed_in_all, number_value, order_fields, plan_fields, problem_fields, why_line}
+use Rattle.plan_reasons.proofs.JsonValues.{arrival_value, decimal_field, exact_shown, further_shown, names_value, optional_value, place_fields, printed_value, text_field, truth_value, value_field}
 
 -- fields behind others
 two : (a b : List ℕ) → AreFields a → AreFields b → AreFields (a ++ b)
@@ -97,10 +100,11 @@ further_field : (p : PricedPlan) (j : ℕ) → AreFields (field Json (codes "fur
 unfolding escape_byte
 further_field p j = value_field (codes "further") (further_value Json p j) refl (further_shown p j)
 
-change_are_fields : (more : Option ℕ) (less : ℕ) → AreChangeNumbers more less → AreFields (change_fields Json more less)
+change_are_fields : (more : Option ℕ) (less : ℕ) (further : Option Further) → AreChangeNumbers more less further → AreFields (change_fields Json more less further)
 unfolding escape_byte
-change_are_fields more less are =
-    two (field Json (codes "more") (number_value Json more)) (field Json (codes "less") (decimal less)) (value_field (codes "more") _ refl (optional_value more are.costs)) (decimal_field (codes "less") less refl are.saves)
+change_are_fields more less further are =
+    three (field Json (codes "more") (number_value Json more)) (field Json (codes "less") (decimal less)) (field Json (codes "further") (exact_value Json further))
+    (value_field (codes "more") _ refl (optional_value more are.costs)) (decimal_field (codes "less") less refl are.saves) (value_field (codes "further") _ refl (exact_shown further are.gives_more))
 
 price_field : (price : ℕ) → IsPrinted price → AreFields (field Json (codes "price") (decimal price))
 unfolding escape_byte
@@ -109,10 +113,8 @@ price_field price small = decimal_field (codes "price") price refl small
 -- the last fields, and the end of the line
 with_last : (numbers : Numbers) (p : PricedPlan) (j : ℕ) (before last : List ℕ) → IsOpen before → AreLastFields Json numbers p j last → IsAnObject (before ++ last)
 with_last Exact p j before last is are =
-    let further = field Json (codes "further") (further_value Json p j) in
-    let fields = change_fields Json are.more are.less ++ further in
     subst (λ text. IsAnObject (before ++ text)) (sym are.text)
-    (closed_behind before fields is (two (change_fields Json are.more are.less) further (change_are_fields are.more are.less are.change_numbers) (further_field p j)))
+    (closed_behind before (change_fields Json are.more are.less are.further) is (change_are_fields are.more are.less are.further are.change_numbers))
 with_last Bounds p j before last is are =
     let price = field Json (codes "price") (decimal (slice_index p.v j)) in
     let further = field Json (codes "further") (further_value Json p j) in
@@ -206,26 +208,85 @@ fits_object numbers net problem p fit line is =
 lines_are : {A : Type 0} (IsLine : A → List ℕ → Type 0) (things : List A) (text : List ℕ) → ((x : A) (line : List ℕ) → IsLine x line → IsAnObject line) → AreLines IsLine things text → AreObjects text
 lines_are IsLine things text each are = lines_of IsLine things are.lines text each are.each are.whole
 
+-- a heading of JSON has no byte
+no_heading : (columns : List ℕ) (lines : ℕ) → heading_over Json columns lines ≡ []
+no_heading columns lines = go (lines == 0)
+  where
+    go : (none : Bool) → (if none then [] else heading Json columns) ≡ []
+    go true = refl
+    go false = refl
+
+behind_heading : (columns : List ℕ) (lines : ℕ) (text whole : List ℕ) → whole ≡ heading_over Json columns lines ++ text → AreObjects text → AreObjects whole
+behind_heading columns lines text whole is are = subst AreObjects (sym (is ∙ ap (λ (t : List ℕ). t ++ text) (no_heading columns lines))) are
+
 pub why_texts_are_json : WhyTextsAreJson
 why_texts_are_json numbers version net problem p text is =
     let whole = why_line Json version problem p in
     let orders = lines_are (IsOrderLine Json numbers net problem p) (range_with_len 0 (length problem.orders)) is.orders (order_object numbers net problem p) is.order_lines in
     let wagons = lines_are (IsWagonLine Json numbers net problem p) p.pairs is.wagons (wagon_object numbers net problem p) is.wagon_lines in
-    subst AreObjects (sym is.whole)
+    let order_heading = no_heading (order_columns numbers) (length problem.orders) in
+    let wagon_heading = no_heading wagon_columns (length p.pairs) in
+    let bare : text ≡ whole ++ is.orders ++ is.wagons =
+    is.whole ∙ (ap (λ (t : List ℕ). whole ++ t ++ is.orders ++ heading_over Json wagon_columns (length p.pairs) ++ is.wagons) order_heading
+    ∙ (ap (λ (t : List ℕ). whole ++ [] ++ is.orders ++ t ++ is.wagons) wagon_heading
+    ∙ (ap (λ (t : List ℕ). t ++ is.orders ++ [] ++ is.wagons) (append-nil whole) ∙ ap (λ (t : List ℕ). t ++ is.wagons) (append-nil (whole ++ is.orders))))) in
+    subst AreObjects (sym bare)
     (both_texts (whole ++ is.orders) is.wagons (both_texts whole is.orders (one_line whole (why_object version problem p is.version_printed is.plan_numbers)) orders) wagons)
 
-pairs_are : (numbers : Numbers) (names : Option (List NamedPlace)) (net : NetworkValue) (problem : ProblemValue) (p : PricedPlan) (pairs : List (ℕ × ℕ)) (text : List ℕ) → ArePairLines Json numbers names net problem p pairs text → AreObjects text
-pairs_are numbers names net problem p pairs text is =
-    let fitting = lines_are (IsFitsLine Json numbers net problem p) is.fits is.fitting (fits_object numbers net problem p) is.fits_lines in
-    let failing = lines_are (IsFailedLine Json names net problem) _ is.failing (λ pair line failed. test_object names net problem.at failed.wagon failed.wanted.order failed.test line failed.text) is.failed_lines in
-    subst AreObjects (sym is.whole) (both_texts is.fitting is.failing fitting failing)
+fits_are : (numbers : Numbers) (net : NetworkValue) (problem : ProblemValue) (p : PricedPlan) (near : Option ℕ) (pairs : List (ℕ × ℕ)) (text : List ℕ) → AreFitsLines Json numbers net problem p near pairs text → AreObjects text
+fits_are numbers net problem p near pairs text is =
+    behind_heading fits_columns (length is.shown) is.lines text is.whole (lines_are (IsFitsLine Json numbers net problem p) is.shown is.lines (fits_object numbers net problem p) is.fits_lines)
+
+tests_are : (names : Option (List NamedPlace)) (net : NetworkValue) (problem : ProblemValue) (failed : List Failed) (test : Test) (text : List ℕ) → AreTestLines Json names net problem failed test text → AreObjects text
+tests_are names net problem failed test text is =
+    behind_heading (test_columns names test) (length (filter (fails test) failed)) is.lines text is.whole
+    (lines_are (IsFailedLine Json names net problem) (filter (fails test) failed) is.lines (λ failed line h. test_object names net problem.at h.is_failed.wagon h.is_failed.wanted.order failed.test line h.text) is.test_lines)
+
+later_are : (names : Option (List NamedPlace)) (net : NetworkValue) (problem : ProblemValue) (failed : List Failed) (text : List ℕ) → AreLaterLines Json names net problem failed text → AreObjects text
+later_are names net problem failed text is =
+    let load = tests_are names net problem failed Load is.load is.load_lines in
+    let way = tests_are names net problem failed Way is.way is.way_lines in
+    let late = tests_are names net problem failed InTime is.late is.late_lines in
+    let costly = tests_are names net problem failed Cheaper is.costly is.costly_lines in
+    subst AreObjects (sym is.whole)
+    (both_texts (is.load ++ is.way ++ is.late) is.costly (both_texts (is.load ++ is.way) is.late (both_texts is.load is.way load way) late) costly)
+
+counted_object : (count : ℕ) (order : Order) → IsPrinted count → IsAnObject (counted_line Json count order)
+unfolding escape_byte
+counted_object count order few =
+    let first = first_field Json (codes "class") (decimal count) in
+    let name = field Json (codes "order") (quoted Json order.id) in
+    let wants = field Json (codes "wants") (list_value Json order.classes) in
+    let open_first = opened (codes "class") (decimal count) refl (printed_value count few) in
+    let open_name = with_fields first name open_first (text_field (codes "order") order.id refl) in
+    closed (first ++ name ++ wants) (with_fields (first ++ name) wants open_name (value_field (codes "wants") (list_value Json order.classes) refl (names_value order.classes)))
+
+counted_are : (count : ℕ) (order : Order) (rest : List ℕ) → IsPrinted count → AreObjects rest → AreObjects (counted Json count order ++ rest)
+counted_are count order rest few are = go (count == 0)
+  where
+    go : (none : Bool) → AreObjects ((if none then [] else heading Json counted_columns ++ counted_line Json count order) ++ rest)
+    go true = are
+    go false = both_texts (counted_line Json count order) rest (one_line (counted_line Json count order) (counted_object count order few)) are
+
+-- what is said of the pairs that fail a test, unless only the nearest are asked for
+unless_near : (near : Option ℕ) (AreTheirs : List ℕ → Type 0) (before text : List ℕ) → ((text : List ℕ) → AreTheirs text → AreObjects text) → AreObjects before → UnlessNear near AreTheirs text → AreObjects (before ++ text)
+unless_near None AreTheirs before text each first is = both_texts before text first (each text is)
+unless_near (Some count) AreTheirs before text each first is = subst AreObjects (sym (ap (λ (t : List ℕ). before ++ t) is ∙ append-nil before)) first
 
 pub order_texts_are_json : OrderTextsAreJson
-order_texts_are_json numbers names net problem p j text is =
+order_texts_are_json numbers names near net problem p j text is =
+    let own = one_line is.own (order_object numbers net problem p j is.own is.line) in
+    let fits = fits_are numbers net problem p near _ is.fitting is.fits_lines in
     subst AreObjects (sym is.whole)
-    (both_texts is.own is.rest (one_line is.own (order_object numbers net problem p j is.own is.line)) (pairs_are numbers names net problem p _ is.rest is.pairs))
+    (unless_near near (AreFailedOfOrder Json names net problem p.table j) (is.own ++ is.fitting) is.failing
+    (λ text are. subst AreObjects (sym are.whole) (counted_are (length (filter (fails Class) are.failed)) are.wanted.order are.later are.count_printed (later_are names net problem are.failed are.later are.later_lines)))
+    (both_texts is.own is.fitting own fits) is.failed_lines)
 
 pub wagon_texts_are_json : WagonTextsAreJson
-wagon_texts_are_json numbers names net problem p i text is =
+wagon_texts_are_json numbers names near net problem p i text is =
+    let own = one_line is.own (own_object numbers net problem p i _ is.own is.line) in
+    let fits = fits_are numbers net problem p near _ is.fitting is.fits_lines in
     subst AreObjects (sym is.whole)
-    (both_texts is.own is.rest (one_line is.own (own_object numbers net problem p i _ is.own is.line)) (pairs_are numbers names net problem p _ is.rest is.pairs))
+    (unless_near near (AreFailedOfWagon Json names net problem p.table i) (is.own ++ is.fitting) is.failing
+    (λ text are. subst AreObjects (sym are.whole) (both_texts are.class are.later (tests_are names net problem are.failed Class are.class are.class_lines) (later_are names net problem are.failed are.later are.later_lines)))
+    (both_texts is.own is.fitting own fits) is.failed_lines)

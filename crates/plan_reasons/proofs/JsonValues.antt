@@ -7,6 +7,8 @@ use Rattle.cost_table.specs.Table.{cost_at, wagon_count}
 use Rattle.place_names.specs.Names.{name_of}
 use Rattle.place_names.specs.declared.named_place.NamedPlace.{NamedPlace}
 use Rattle.plan_bounds.specs.PricedPlan.{PricedPlan}
+use Rattle.exact_costs.specs.declared.further.Further.{Further}
+use Rattle.exact_costs.specs.declared.further.Further.TheVariants.{Exactly, Over, Never}
 use Rattle.plan_bounds.specs.LeastSlack.{has_pair, least_new_slack, lesser, new_slack}
 use Rattle.plan_bounds.specs.Slack.{in_64_bits, missed, slack}
 use Rattle.rail_codes.specs.Moment.{last_second}
@@ -16,8 +18,8 @@ use Rattle.plan_reasons.specs.Fields.{field, nothing, quoted}
 use Rattle.plan_reasons.specs.Pairs as pairs
 use Rattle.plan_reasons.specs.Pairs.{IsArrivalValue, truth}
 use Rattle.plan_reasons.specs.PlaceFields.{name_field, place_field}
-use Rattle.plan_reasons.specs.PrintedNumbers.{IsPrinted}
-use Rattle.plan_reasons.specs.WhyText.{bound_value, further_value}
+use Rattle.plan_reasons.specs.PrintedNumbers.{IsFurtherPrinted, IsPrinted}
+use Rattle.plan_reasons.specs.WhyText.{bound_value, exact_value, further_value}
 use Rattle.plan_reasons.specs.WhyText as why
 
 -- ---- values
@@ -65,6 +67,12 @@ small_least p j (suc n) =
 bound_shown : (km : Option ℕ) → IfSome km (λ n. n < 2 ^ 64) → IsValue (bound_value Json km)
 bound_shown None h = text_value (codes "none")
 bound_shown (Some km) h = number_value km (omega arith)
+
+pub exact_shown : (further : Option Further) → IfSome further IsFurtherPrinted → IsValue (exact_value Json further)
+exact_shown None h = null_value
+exact_shown (Some (Exactly km)) h = printed_value km h
+exact_shown (Some (Over km)) h = text_value (codes "over")
+exact_shown (Some Never) h = text_value (codes "none")
 
 pub further_shown : (p : PricedPlan) (j : ℕ) → IsValue (further_value Json p j)
 further_shown p j = go (missed p p.pairs j == 0)

@@ -1,6 +1,7 @@
 pub mod Passed
 pub mod Counted
 pub mod Arrivals
+pub mod TwinNumbers
 pub mod PlannedPair
 pub mod Fields
 pub mod Lines

@@ -1,7 +1,8 @@
 -- Lines from their parts.
-use Rattle.std.proofs.Common.{◌≡◌, ◌<◌, ℕ, zero, suc, Option, Some, List, [], ◌∷◌, ◌++◌, length, refl, ap, ◌∙◌, subst, arith}
+use Rattle.std.proofs.Common.{◌≡◌, ◌<◌, ℕ, zero, suc, Option, Some, List, [], ◌∷◌, ◌++◌, length, refl, ap, ◌∙◌, subst, append_assoc, arith}
 use Rattle.std.specs.Prelude.{codes, slice_get, slice_index}
 use Rattle.plan_bounds.specs.PricedPlan.{PricedPlan}
+use Rattle.exact_costs.specs.declared.further.Further.{Further}
 use Rattle.line_network.specs.Network.{NetworkValue}
 use Rattle.wagons_and_orders.specs.Wanted.{WantedOrder}
 use Rattle.cost_table.specs.Plan.{pair_cost}
@@ -17,7 +18,7 @@ use Rattle.plan_reasons.specs.Numbers.{AreChanges, IsWithout}
 use Rattle.plan_reasons.specs.PrintedNumbers.{AreChangeNumbers, AreCountNumbers, AreOrderNumbers, IsPrinted}
 use Rattle.plan_reasons.specs.Journeys.{IsJourney}
 use Rattle.plan_reasons.specs.declared.journey.Journey.{Journey}
-use Rattle.plan_reasons.specs.WhyText.{AreExactFields, AreLastFields, IsOrderLine, IsWagonLine, change_fields, count_fields, further_value, price_fields, order_fields, order_line, wagon_fields, wagon_line, without_fields}
+use Rattle.plan_reasons.specs.WhyText.{AreExactFields, AreLastFields, IsOrderLine, IsWagonLine, change_fields, count_fields, price_fields, order_fields, order_line, wagon_fields, wagon_line, without_fields}
 use Rattle.plan_reasons.specs.inner.Added.{IsMomentField}
 use Rattle.plan_reasons.proofs.Fields.{three_parts}
 
@@ -48,12 +49,12 @@ module _ (style : Style) (p : PricedPlan) (j : ℕ) where
   bound_fields numbers old new asked price is =
       record { added = price_fields style p j; is = subst (λ (n : Numbers). AreLastFields style n p j (price_fields style p j)) asked (record { price_printed = price; text = refl }); whole = is }
 
-  pub exact_fields : (more : Option ℕ) (less : ℕ) (old a b c : List ℕ) → AreChanges p j more less
-      → AreChangeNumbers more less → a ≡ old ++ change_fields style more less → b ≡ a ++ field style (codes "further") (further_value style p j) → c ≡ b ++ ending style → Adds (AreExactFields style p j) old c
-  exact_fields more less old a b c changes few first second third = record {
-    added = change_fields style more less ++ field style (codes "further") (further_value style p j) ++ ending style;
-    is = record { more = more; less = less; changes = changes; change_numbers = few; text = refl };
-    whole = three_parts old (change_fields style more less) (field style (codes "further") (further_value style p j)) (ending style) a b c first second third;
+  pub exact_fields : (more : Option ℕ) (less : ℕ) (further : Option Further) (old a b : List ℕ) → AreChanges p j more less further
+      → AreChangeNumbers more less further → a ≡ old ++ change_fields style more less further → b ≡ a ++ ending style → Adds (AreExactFields style p j) old b
+  exact_fields more less further old a b changes few first second = record {
+    added = change_fields style more less further ++ ending style;
+    is = record { more = more; less = less; further = further; changes = changes; change_numbers = few; text = refl };
+    whole = second ∙ ap (λ (t : List ℕ). t ++ ending style) first ∙ append_assoc old (change_fields style more less further) (ending style);
   }
 
 -- something stands at each place of a list

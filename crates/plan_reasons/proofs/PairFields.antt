@@ -18,6 +18,7 @@ use Rattle.cost_table.specs.Plan.{pair_cost}
 use Rattle.cost_table.specs.Problem.{ProblemValue}
 use Rattle.plan_bounds.specs.PricedPlan.{PricedPlan}
 use Rattle.reply_texts.specs.Lines.{Adds}
+use Rattle.plan_reasons.specs.declared.failed.Failed.{Failed}
 use Rattle.plan_reasons.specs.declared.fit.Fit.{Fit}
 use Rattle.plan_reasons.specs.declared.numbers.Numbers.{Numbers}
 use Rattle.plan_reasons.specs.declared.style.Style.{Style}
@@ -27,11 +28,14 @@ use Rattle.plan_reasons.specs.declared.reasons.Test.{Test}
 use Rattle.plan_reasons.specs.declared.reasons.Test.TheVariants.{Cheaper, InTime, Load}
 use Rattle.plan_reasons.specs.PrintedNumbers.{IsPrinted}
 use Rattle.plan_reasons.specs.Reasons.{FailsFirst, IsCheaper, IsInTime}
-use Rattle.plan_reasons.specs.Pairs.{IsArrivalValue, IsCostlyLine, IsFailedLine, IsFitsLine, IsLateLine, IsTestLine, cost_fields, costly_line, fits_line, late_line, load_line, pair_fields}
+use Rattle.plan_reasons.specs.Pairs.{IsArrivalValue, IsCostlyLine, IsFailed, IsFailedLine, IsFitsLine, IsLateLine, IsTestLine, cost_fields, costly_line, fits_line, late_line, load_line, pair_fields}
 use Rattle.plan_reasons.specs.inner.Added.{IsMomentField}
 use Rattle.plan_reasons.specs.inner.AddedPairs.{IsArrivalField, comma}
 use Rattle.plan_reasons.proofs.Fields.{three_parts}
 use Rattle.plan_reasons.proofs.Passed.{same_km}
+
+some_same : {A : Type 0} (x y : A) → Some x ≡ Some y → x ≡ y
+some_same x y e = cc
 
 -- ---- a list
 
@@ -95,7 +99,7 @@ arrival_past style seconds fault value old new refused from none is =
 
 -- ---- lines
 
-four_parts : (old x y z w a b c d : List ℕ) → a ≡ old ++ x → b ≡ a ++ y → c ≡ b ++ z → d ≡ c ++ w → d ≡ old ++ (x ++ y ++ z ++ w)
+pub four_parts : (old x y z w a b c d : List ℕ) → a ≡ old ++ x → b ≡ a ++ y → c ≡ b ++ z → d ≡ c ++ w → d ≡ old ++ (x ++ y ++ z ++ w)
 four_parts old x y z w a b c d first second third fourth =
     fourth ∙ ap (λ (t : List ℕ). t ++ w) (three_parts old x y z a b c first second third) ∙ append_assoc old (x ++ y ++ z) w
 
@@ -151,22 +155,36 @@ module _ (style : Style) (numbers : Numbers) (net : NetworkValue) (problem : Pro
     whole = three_parts old (pair_fields style (codes "fits") wagon wanted.order) (cost_fields style numbers p fit) (ending style) a b c (first ∙ ap (λ (o : Order). old ++ pair_fields style (codes "fits") wagon o) same) second third;
   }
 
-module _ (style : Style) (net : NetworkValue) (problem : ProblemValue) (p : PricedPlan) (pair : ℕ × ℕ) (wagon : FreeWagon) (wanted : WantedOrder) where
-  pub failed_added : (names : Option (List NamedPlace)) (at : ℕ) (order : Order) (test : Test) (old new : List ℕ) → slice_get problem.wagons pair.0 ≡ Some wagon → slice_get problem.orders pair.1 ≡ Some wanted → at ≡ problem.at → order ≡ wanted.order → FailsFirst net at wagon order test
-      → Adds (IsTestLine style names net at wagon order test) old new → Adds (IsFailedLine style names net problem pair) old new
-  failed_added names at order test old new free stands now same first line =
-      let here = subst (λ (a : ℕ). FailsFirst net a wagon order test) now first in
-      let text = subst (λ (a : ℕ). IsTestLine style names net a wagon order test line.added) now line.is in
+module _ (net : NetworkValue) (problem : ProblemValue) (failed : Failed) (wagon : FreeWagon) (wanted : WantedOrder) (free : slice_get problem.wagons failed.pair.0 ≡ Some wagon) (stands : slice_get problem.orders failed.pair.1 ≡ Some wanted) where
+  -- by the network, the moment and the order that were read
+  pub failed_found : (tables : NetworkValue) (at : ℕ) (order : Order) → tables ≡ net → at ≡ problem.at → order ≡ wanted.order → FailsFirst tables at wagon order failed.test → IsFailed net problem failed
+  failed_found tables at order led now same first =
+      let there = subst (λ (n : NetworkValue). FailsFirst n at wagon order failed.test) led first in
+      let here = subst (λ (a : ℕ). FailsFirst net a wagon order failed.test) now there in
+      record { wagon = wagon; free = free; wanted = wanted; order = stands; first = subst (λ (o : Order). FailsFirst net problem.at wagon o failed.test) same here }
+
+  pub failed_first : (tables : NetworkValue) (at : ℕ) (order : Order) → tables ≡ net → at ≡ problem.at → order ≡ wanted.order → IsFailed net problem failed → FailsFirst tables at wagon order failed.test
+  failed_first tables at order led now same is =
+      let own_wagon : is.wagon ≡ wagon = some_same is.wagon wagon (sym is.free ∙ free) in
+      let own_order : is.wanted ≡ wanted = some_same is.wanted wanted (sym is.order ∙ stands) in
+      let by_wagon = subst (λ (w : FreeWagon). FailsFirst net problem.at w is.wanted.order failed.test) own_wagon is.first in
+      let by_order = subst (λ (o : WantedOrder). FailsFirst net problem.at wagon o.order failed.test) own_order by_wagon in
+      let read = subst (λ (o : Order). FailsFirst net problem.at wagon o failed.test) (sym same) by_order in
+      let here = subst (λ (a : ℕ). FailsFirst net a wagon order failed.test) (sym now) read in
+      subst (λ (n : NetworkValue). FailsFirst n at wagon order failed.test) (sym led) here
+
+  pub failed_added : (style : Style) (names : Option (List NamedPlace)) (tables : NetworkValue) (at : ℕ) (order : Order) (old new : List ℕ) → tables ≡ net → at ≡ problem.at → order ≡ wanted.order → FailsFirst tables at wagon order failed.test
+      → Adds (IsTestLine style names tables at wagon order failed.test) old new → Adds (IsFailedLine style names net problem failed) old new
+  failed_added style names tables at order old new led now same first line =
+      let there = subst (λ (n : NetworkValue). FailsFirst n at wagon order failed.test) led first in
+      let here = subst (λ (a : ℕ). FailsFirst net a wagon order failed.test) now there in
+      let over = subst (λ (n : NetworkValue). IsTestLine style names n at wagon order failed.test line.added) led line.is in
+      let text = subst (λ (a : ℕ). IsTestLine style names net a wagon order failed.test line.added) now over in
       record {
         added = line.added;
         is = record {
-          wagon = wagon;
-          free = free;
-          wanted = wanted;
-          order = stands;
-          test = test;
-          first = subst (λ (o : Order). FailsFirst net problem.at wagon o test) same here;
-          text = subst (λ (o : Order). IsTestLine style names net problem.at wagon o test line.added) same text;
+          is_failed = record { wagon = wagon; free = free; wanted = wanted; order = stands; first = subst (λ (o : Order). FailsFirst net problem.at wagon o failed.test) same here };
+          text = subst (λ (o : Order). IsTestLine style names net problem.at wagon o failed.test line.added) same text;
         };
         whole = line.whole;
       }

@@ -94,10 +94,10 @@ WhyTextsAreJson =
 
 abbrev pub OrderTextsAreJson : Type 0
 OrderTextsAreJson =
-    (numbers : Numbers) (names : Option (List NamedPlace)) (net : NetworkValue) (problem : ProblemValue) (p : PricedPlan) (j : ℕ) (text : List ℕ)
-    → IsOrderText Json numbers names net problem p j text → AreObjects text
+    (numbers : Numbers) (names : Option (List NamedPlace)) (near : Option ℕ) (net : NetworkValue) (problem : ProblemValue) (p : PricedPlan) (j : ℕ) (text : List ℕ)
+    → IsOrderText Json numbers names near net problem p j text → AreObjects text
 
 abbrev pub WagonTextsAreJson : Type 0
 WagonTextsAreJson =
-    (numbers : Numbers) (names : Option (List NamedPlace)) (net : NetworkValue) (problem : ProblemValue) (p : PricedPlan) (i : ℕ) (text : List ℕ)
-    → IsWagonText Json numbers names net problem p i text → AreObjects text
+    (numbers : Numbers) (names : Option (List NamedPlace)) (near : Option ℕ) (net : NetworkValue) (problem : ProblemValue) (p : PricedPlan) (i : ℕ) (text : List ℕ)
+    → IsWagonText Json numbers names near net problem p i text → AreObjects text

@@ -6,6 +6,7 @@ pub mod PlaceFields
 pub mod PrintedNumbers
 pub mod CertifiedPlan
 pub mod Journeys
+pub mod Headings
 pub mod WhyText
 pub mod Pairs
 pub mod PairLists

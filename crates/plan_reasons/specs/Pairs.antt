@@ -14,6 +14,7 @@ use Rattle.cost_table.specs.Plan.{pair_cost}
 use Rattle.cost_table.specs.Problem.{ProblemValue}
 use Rattle.plan_bounds.specs.PricedPlan.{PricedPlan}
 use Rattle.plan_bounds.specs.LeastSlack.{has_pair}
+use Rattle.plan_reasons.specs.declared.failed.Failed.{Failed}
 use Rattle.plan_reasons.specs.declared.fit.Fit.{Fit}
 use Rattle.plan_reasons.specs.declared.numbers.Numbers.{Numbers}
 use Rattle.plan_reasons.specs.declared.numbers.Numbers.TheVariants.{Exact, Bounds}
@@ -115,15 +116,24 @@ IsTestLine style names net at wagon order Way line = line ≡ way_line style nam
 IsTestLine style names net at wagon order InTime line = IsLateLine style net at wagon order line
 IsTestLine style names net at wagon order Cheaper line = IsCostlyLine style net at wagon order line
 
--- the line of a pair by the first test that it fails
-pub record IsFailedLine (style : Style) (names : Option (List NamedPlace)) (net : NetworkValue) (problem : ProblemValue) (pair : ℕ × ℕ) (line : List ℕ) : Type 0 where
+-- the first test that the wagon of a pair fails for its order
+pub record IsFailed (net : NetworkValue) (problem : ProblemValue) (failed : Failed) : Type 0 where
   pub wagon : FreeWagon
-  pub free : slice_get problem.wagons pair.0 ≡ Some wagon
+  pub free : slice_get problem.wagons failed.pair.0 ≡ Some wagon
   pub wanted : WantedOrder
-  pub order : slice_get problem.orders pair.1 ≡ Some wanted
-  pub test : Test
-  pub first : FailsFirst net problem.at wagon wanted.order test
-  pub text : IsTestLine style names net problem.at wagon wanted.order test line
+  pub order : slice_get problem.orders failed.pair.1 ≡ Some wanted
+  pub first : FailsFirst net problem.at wagon wanted.order failed.test
+
+-- the line of a pair by the first test that it fails
+pub record IsFailedLine (style : Style) (names : Option (List NamedPlace)) (net : NetworkValue) (problem : ProblemValue) (failed : Failed) (line : List ℕ) : Type 0 where
+  pub is_failed : IsFailed net problem failed
+  pub text : IsTestLine style names net problem.at is_failed.wagon is_failed.wanted.order failed.test line
+
+-- how many wagons are of classes that an order doesn't list, and those that it lists
+abbrev pub counted_line : Style → (count : ℕ) → Order → List ℕ
+counted_line style count order =
+    first_field style (codes "class") (decimal count) ++ field style (codes "order") (quoted style order.id)
+    ++ field style (codes "wants") (list_value style order.classes) ++ ending style
 
 -- ---- a wagon that passes each test
 

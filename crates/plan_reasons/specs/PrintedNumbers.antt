@@ -4,6 +4,8 @@ use Rattle.cost_table.specs.Problem.{ProblemValue}
 use Rattle.cost_table.specs.Table.{lack_at}
 use Rattle.cost_table.specs.Plan.{serves}
 use Rattle.plan_bounds.specs.PricedPlan.{PricedPlan, certified_cost}
+use Rattle.exact_costs.specs.declared.further.Further.{Further}
+use Rattle.exact_costs.specs.declared.further.Further.TheVariants.{Exactly, Over, Never}
 use Rattle.plan_reasons.specs.declared.reasons.Counts.{Counts}
 
 -- a number of at most 128 bits
@@ -31,7 +33,14 @@ pub record AreCountNumbers (counts : Counts) : Type 0 where
   pub in_time : IsPrinted counts.in_time
   pub cheaper : IsPrinted counts.cheaper
 
--- what one wagon more costs, if there may be one, and what one less saves
-pub record AreChangeNumbers (more : Option ℕ) (less : ℕ) : Type 0 where
+-- what plans cost more that give an order more, where a number is printed
+abbrev pub IsFurtherPrinted : Further → Type 0
+IsFurtherPrinted (Exactly km) = IsPrinted km
+IsFurtherPrinted (Over km) = Unit {0}
+IsFurtherPrinted Never = Unit {0}
+
+-- what one wagon more costs, if there may be one, what one less saves, and what it costs to give the order more, if it misses one
+pub record AreChangeNumbers (more : Option ℕ) (less : ℕ) (further : Option Further) : Type 0 where
   pub costs : IfSome more IsPrinted
   pub saves : IsPrinted less
+  pub gives_more : IfSome further IsFurtherPrinted

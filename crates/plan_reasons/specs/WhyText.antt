@@ -1,5 +1,5 @@
 -- The text that says why a plan is as it is: a line for the whole, one for each order as placed, and one for each wagon that
--- goes, in the plan's order.
+-- goes, in the plan's order. A heading stands before the first line of each kind.
 use Rattle.std.specs.Prelude.{◌≡◌, ◌-◌, ℕ, List, ◌++◌, length, Option, Some, None, slice_get, slice_index, codes, decimal, if◌then◌else◌, ◌==◌}
 use Rattle.std.specs.List.{range_with_len}
 use Rattle.rail_codes.specs.Moment.{IsMomentText}
@@ -12,6 +12,8 @@ use Rattle.price_checker.specs.NamedFaults.{name_at}
 use Rattle.plan_bounds.specs.PricedPlan.{PricedPlan, certified_cost}
 use Rattle.plan_bounds.specs.Slack.{missed}
 use Rattle.plan_bounds.specs.LeastSlack.{least_new_slack}
+use Rattle.exact_costs.specs.declared.further.Further.{Further}
+use Rattle.exact_costs.specs.declared.further.Further.TheVariants.{Exactly, Over, Never}
 use Rattle.reply_texts.specs.Lines.{AreLines}
 use Rattle.plan_reasons.specs.declared.journey.Journey.{Journey}
 use Rattle.plan_reasons.specs.declared.numbers.Numbers.{Numbers}
@@ -20,6 +22,7 @@ use Rattle.plan_reasons.specs.declared.style.Style.{Style}
 use Rattle.plan_reasons.specs.declared.reasons.Counts.{Counts}
 use Rattle.plan_reasons.specs.Journeys.{IsJourney}
 use Rattle.plan_reasons.specs.Fields.{ending, field, first_field, nothing, quoted}
+use Rattle.plan_reasons.specs.Headings.{heading, heading_over, order_columns, wagon_columns, why_columns}
 use Rattle.plan_reasons.specs.Numbers.{AreChanges, IsWithout}
 use Rattle.plan_reasons.specs.PrintedNumbers.{AreChangeNumbers, AreCountNumbers, AreOrderNumbers, ArePlanNumbers, IsPrinted}
 use Rattle.plan_reasons.specs.Reasons.{AreCounts}
@@ -76,19 +79,30 @@ abbrev pub number_value : Style → Option ℕ → List ℕ
 number_value style None = nothing style
 number_value style (Some km) = decimal km
 
--- what the best plan costs more where the order lacks one wagon more, and less where it lacks one less
-abbrev pub change_fields : Style → (more : Option ℕ) → (less : ℕ) → List ℕ
-change_fields style more less = field style (codes "more") (number_value style more) ++ field style (codes "less") (decimal less)
+-- what the best plan costs more that gives the order more wagons; a word where only a bound is known, or where no plan is so; nothing
+-- where the order misses none
+abbrev pub exact_value : Style → Option Further → List ℕ
+exact_value style None = nothing style
+exact_value style (Some (Exactly km)) = decimal km
+exact_value style (Some (Over km)) = quoted style (codes "over")
+exact_value style (Some Never) = quoted style (codes "none")
 
--- both, and that bound
+-- what the best plan costs more where the order lacks one wagon more, less where it lacks one less, and more where it gets more
+abbrev pub change_fields : Style → (more : Option ℕ) → (less : ℕ) → (further : Option Further) → List ℕ
+change_fields style more less further =
+    field style (codes "more") (number_value style more) ++ field style (codes "less") (decimal less)
+    ++ field style (codes "further") (exact_value style further)
+
+-- the three of them
 pub record AreExactFields (style : Style) (p : PricedPlan) (j : ℕ) (fields : List ℕ) : Type 0 where
   pub more : Option ℕ
   pub less : ℕ
-  pub changes : AreChanges p j more less
-  pub change_numbers : AreChangeNumbers more less
-  pub text : fields ≡ change_fields style more less ++ field style (codes "further") (further_value style p j) ++ ending style
+  pub further : Option Further
+  pub changes : AreChanges p j more less further
+  pub change_numbers : AreChangeNumbers more less further
+  pub text : fields ≡ change_fields style more less further ++ ending style
 
--- the order's price and that bound, as text
+-- the order's price and the bound of what it costs to give it more, as text
 abbrev pub price_fields : Style → PricedPlan → (j : ℕ) → List ℕ
 price_fields style p j =
     field style (codes "price") (decimal (slice_index p.v j)) ++ field style (codes "further") (further_value style p j) ++ ending style
@@ -156,4 +170,6 @@ pub record IsWhyText (style : Style) (numbers : Numbers) (version : ℕ) (net : 
   pub plan_numbers : ArePlanNumbers problem p (missed_in_all p)
   pub order_lines : AreLines (IsOrderLine style numbers net problem p) (range_with_len 0 (length problem.orders)) orders
   pub wagon_lines : AreLines (IsWagonLine style numbers net problem p) p.pairs wagons
-  pub whole : text ≡ why_line style version problem p ++ orders ++ wagons
+  pub whole : text ≡ heading style why_columns ++ why_line style version problem p
+      ++ heading_over style (order_columns numbers) (length problem.orders) ++ orders
+      ++ heading_over style wagon_columns (length p.pairs) ++ wagons

@@ -3,3 +3,4 @@ pub mod Passed
 pub mod Added
 pub mod AddedPairs
 pub mod Tallied
+pub mod Twins

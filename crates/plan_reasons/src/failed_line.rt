@@ -9,6 +9,7 @@ ghost use Rattle.plan_reasons.specs.Pairs.{
   IsLateLine,
   class_line,
   costly_line,
+  counted_line,
   list_end,
   list_start,
   list_value,
@@ -25,8 +26,8 @@ use crate::line_form::LineForm;
 use crate::place_fields::place_field;
 use crate::reasons::{Test, arrival, way_of};
 use crate::style::{
-    Style, code_field, end_line, first_code, moment_field, nothing, number_field, push_field,
-    push_name, push_quoted,
+    Style, code_field, end_line, first_code, first_number, moment_field, nothing, number_field,
+    push_field, push_name, push_quoted,
 };
 use line_network::Tables;
 use move_messages::OrderText;
@@ -81,6 +82,21 @@ fn push_class(
 {
     push_pair(text, style, "class", wagon, order)?;
     code_field(text, style, "has", wagon.class.as_bytes())?;
+    push_wanted(text, style, order.classes().as_slice())?;
+    end_line(text, style)
+}
+
+/// Adds the line that counts the wagons of classes that an order doesn't list.
+pub(crate) fn push_counted_line(
+    text: &mut String,
+    style: Style,
+    count: u64,
+    order: &OrderText,
+) -> Result<(), AllocError>
+    ensures { OnOk result (string_bytes text.new ≡ string_bytes text.old ++ counted_line style count order.now) }
+{
+    first_number(text, style, "class", count)?;
+    code_field(text, style, "order", order.id().as_bytes())?;
     push_wanted(text, style, order.classes().as_slice())?;
     end_line(text, style)
 }

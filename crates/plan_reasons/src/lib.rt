@@ -1,6 +1,6 @@
 //! Why a plan is as it is: for each order how many free wagons pass the tests for it, one after the other, and for each order
 //! and wagon what other plans cost more: exactly, each by a plan of its own, or at least, by the prices of the plan's certificate.
-//! What it costs to give an order further wagons is always a bound. Of one order or one wagon also why each pair is in the plan or not: what plans that have it cost more, or the first test that
+//! Of one order or one wagon also why each pair is in the plan or not: what plans that have it cost more, or the first test that
 //! the wagon fails.
 //!
 //! `Err` only when out of memory.
@@ -9,9 +9,11 @@
 mod cell_counts;
 mod certified_plan;
 mod counts_by_order;
+mod failed;
 mod failed_line;
 mod finders;
 mod fit;
+mod headings;
 mod journey;
 mod laws;
 mod line_form;
@@ -25,6 +27,7 @@ mod reasons;
 mod style;
 mod tallies;
 mod tested_wagons;
+mod twins;
 mod wagon_line;
 mod why_lines;
 

@@ -3,7 +3,7 @@ ghost use Rattle.std.specs.Prelude.{◌≡◌, ◌<◌, IfOk, slice_index};
 ghost use Rattle.cost_table.specs.Table.{wagon_count};
 ghost use Rattle.plan_bounds.specs.Bounds.{CostsMore, HasPair, IsIdle};
 ghost use Rattle.exact_costs.specs.LeastCosts.{BestCostsMore};
-ghost use Rattle.plan_reasons.specs.Numbers.{IsMoreOf, IsWithout, more_of};
+ghost use Rattle.plan_reasons.specs.Numbers.{IsWithout, more_of};
 ghost use Rattle.plan_reasons.specs.inner.AddedPairs.{IsFitting};
 
 use crate::certified_plan::CertifiedPlan;
@@ -43,24 +43,8 @@ fn without_bound(planned: &CertifiedPlan, i: usize) -> u64
     planned.bounds().idle_bound(i)
 }
 
-/// What plans cost more that have a pair which fails no test.
-pub(crate) fn more_of(
-    alloc: Global,
-    numbers: Numbers,
-    planned: &CertifiedPlan,
-    pair: (usize, usize),
-) -> Result<u64, AllocError>
-    requires { IsFitting planned.now pair }
-    ensures { IfOk result (IsMoreOf numbers planned.now.priced pair) }
-{
-    match numbers {
-        Numbers::Exact => more_exactly(alloc, planned, pair),
-        Numbers::Bounds => Ok(more_bound(planned, pair)),
-    }
-}
-
 /// What the best plan costs more that has a pair which fails no test.
-fn more_exactly(
+pub(crate) fn more_exactly(
     alloc: Global,
     planned: &CertifiedPlan,
     pair: (usize, usize),
@@ -74,7 +58,7 @@ fn more_exactly(
 }
 
 /// What every plan costs more, at least, that has a pair.
-fn more_bound(planned: &CertifiedPlan, pair: (usize, usize)) -> u64
+pub(crate) fn more_bound(planned: &CertifiedPlan, pair: (usize, usize)) -> u64
     ensures { result ≡ more_of planned.now.priced pair }
 {
     planned.bounds().pair_bound(pair.0, pair.1).unwrap_or(0)

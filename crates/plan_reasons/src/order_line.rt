@@ -1,13 +1,14 @@
 //! The lines of orders.
-ghost use Rattle.std.specs.Prelude.{◌≡◌, ◌+◌, ◌++◌, ◌<◌, ◌≤◌, codes, length, slice_index, IfSome, OnOk, string_bytes};
+ghost use Rattle.std.specs.Prelude.{◌≡◌, ◌+◌, ◌++◌, ◌<◌, ◌≤◌, codes, is_some, length, nat_lt, slice_index, IfOk, IfSome, OnOk, string_bytes};
 ghost use Rattle.cost_table.specs.Table.{lack_at, order_count};
 ghost use Rattle.plan_bounds.specs.Bounds.{AllCostMore};
 ghost use Rattle.plan_bounds.specs.Changes.{with_lack};
 ghost use Rattle.plan_bounds.specs.Slack.{missed};
+ghost use Rattle.exact_costs.specs.FurtherCosts.{IsFurther};
 ghost use Rattle.reply_texts.specs.Lines.{Adds};
 ghost use Rattle.plan_reasons.specs.Fields.{field, quoted};
-ghost use Rattle.plan_reasons.specs.PrintedNumbers.{AreChangeNumbers, AreCountNumbers, AreOrderNumbers, IsPrinted};
-ghost use Rattle.plan_reasons.specs.WhyText.{AreExactFields, AreLastFields, change_fields, count_fields, further_value, number_value, order_fields, price_fields};
+ghost use Rattle.plan_reasons.specs.PrintedNumbers.{AreChangeNumbers, AreCountNumbers, AreOrderNumbers, IsFurtherPrinted, IsPrinted};
+ghost use Rattle.plan_reasons.specs.WhyText.{AreExactFields, AreLastFields, change_fields, count_fields, exact_value, further_value, number_value, order_fields, price_fields};
 ghost use Rattle.plan_reasons.specs.inner.Added.{AddsOrderLine};
 ghost use Rattle.plan_reasons.specs.inner.Tallied.{AreTallies};
 
@@ -16,6 +17,7 @@ use crate::numbers::Numbers;
 use crate::reasons::Counts;
 use crate::style::{Style, code_field, end_line, first_code, nothing, number_field, push_field};
 use crate::tallies::Tallies;
+use exact_costs::Further;
 use plan_bounds::Bounds;
 use price_checker::order_name;
 use std::alloc::{AllocError, Global};
@@ -95,7 +97,7 @@ fn push_last(
 }
 
 /// Adds what the best plan costs more where order `j` lacks one wagon more, what it costs less where it lacks one less, and
-/// what every plan that gives it more wagons costs more, at least.
+/// what the best plan that gives it more wagons costs more.
 fn push_exact(
     alloc: Global,
     text: &mut String,
@@ -111,23 +113,67 @@ fn push_exact(
     let costs = planned.exact_costs();
     let more = costs.one_more(alloc, j)?;
     let less = costs.one_less(alloc, j)?;
-    push_changes(text, style, more, less)?;
-    push_further(text, style, planned, tallies, &planned.bounds(), j)?;
+    let further = further_of(alloc, planned, tallies, j)?;
+    push_changes(text, style, more, less, further)?;
     end_line(text, style)
 }
 
-/// Adds what one wagon more costs, and what one less saves.
+/// What the best plan costs more that gives order `j` more wagons, where it misses one.
+fn further_of(
+    alloc: Global,
+    planned: &CertifiedPlan,
+    tallies: &Tallies,
+    j: usize,
+) -> Result<Option<Further>, AllocError>
+    requires tallies { AreTallies planned.now tallies.now }
+    requires order { j < order_count planned.now.priced.table }
+    ensures misses { IfOk result (λ further. is_some further ≡ nat_lt 0 (missed planned.now.priced planned.now.priced.pairs j)) }
+    ensures further { IfOk result (λ further. IfSome further (IsFurther planned.now.priced j)) }
+{
+    let misses = missed(planned, tallies, j);
+    if misses == 0 {
+        return Ok(None);
+    }
+    Ok(Some(planned.exact_costs().further(alloc, j)?))
+}
+
+/// Adds what one wagon more costs, what one less saves, and what it costs to give the order more.
 fn push_changes(
     text: &mut String,
     style: Style,
     more: Option<u64>,
     less: u64,
+    further: Option<Further>,
 ) -> Result<(), AllocError>
-    ensures text { OnOk result (string_bytes text.new ≡ string_bytes text.old ++ change_fields style more less) }
-    ensures numbers { AreChangeNumbers more less }
+    ensures text { OnOk result (string_bytes text.new ≡ string_bytes text.old ++ change_fields style more less further) }
+    ensures numbers { AreChangeNumbers more less further }
 {
     push_more(text, style, more)?;
-    number_field(text, style, "less", less)
+    number_field(text, style, "less", less)?;
+    push_exactly(text, style, further)
+}
+
+/// Adds what it costs to give an order more wagons.
+fn push_exactly(text: &mut String, style: Style, further: Option<Further>) -> Result<(), AllocError>
+    ensures text { OnOk result (string_bytes text.new ≡ string_bytes text.old ++ field style (codes "further") (exact_value style further)) }
+    ensures number { IfSome further IsFurtherPrinted }
+{
+    match further {
+        Some(Further::Exactly(km)) => number_field(text, style, "further", km),
+        Some(Further::Over(_)) => push_field(text, style, "further", only_a_bound(style)),
+        Some(Further::Never) => push_field(text, style, "further", no_bound(style)),
+        None => push_field(text, style, "further", nothing(style)),
+    }
+}
+
+/// The word where only a bound is known.
+fn only_a_bound(style: Style) -> &'static str
+    ensures { result.now ≡ quoted style (codes "over") }
+{
+    match style {
+        Style::Text => "over",
+        Style::Json => "\"over\"",
+    }
 }
 
 /// Adds what one wagon more costs, if there may be one.
@@ -183,7 +229,7 @@ fn push_further(
     }
 }
 
-/// The word where there is no bound.
+/// The word where no plan gives an order more.
 fn no_bound(style: Style) -> &'static str
     ensures { result.now ≡ quoted style (codes "none") }
 {

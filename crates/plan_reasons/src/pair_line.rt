@@ -1,18 +1,18 @@
 //! The line of a free wagon with a waiting order.
-ghost use Rattle.std.specs.Prelude.{◌≡◌, ◌++◌, OnOk, false, string_bytes};
+ghost use Rattle.std.specs.Prelude.{◌≡◌, ◌++◌, OnOk, string_bytes};
 ghost use Rattle.cost_table.specs.Plan.{pair_cost};
 ghost use Rattle.plan_reasons.specs.declared.style.Style.TheVariants.{Text};
-ghost use Rattle.plan_reasons.specs.Pairs.{as_good, cost_fields, planned_field, truth};
-ghost use Rattle.plan_reasons.specs.PairLists.{passes_all};
+ghost use Rattle.plan_reasons.specs.Pairs.{IsFailed, as_good, cost_fields, planned_field, truth};
 ghost use Rattle.plan_reasons.specs.PrintedNumbers.{IsPrinted};
-ghost use Rattle.plan_reasons.specs.inner.AddedPairs.{AddsFailedLine, AddsFitsLine, IsFoundFit, IsPairOf};
+ghost use Rattle.plan_reasons.specs.inner.AddedPairs.{AddsFailedLine, AddsFitsLine, IsFailing, IsFoundFailed, IsFoundFit};
 
 use crate::certified_plan::CertifiedPlan;
+use crate::failed::Failed;
 use crate::failed_line::{push_pair, push_test_line};
 use crate::fit::Fit;
 use crate::line_form::LineForm;
 use crate::numbers::Numbers;
-use crate::reasons::first_failed;
+use crate::reasons::{Test, first_failed};
 use crate::style::{Style, end_line, number_field, push_field};
 use plan_bounds::has_pair;
 use std::alloc::AllocError;
@@ -36,24 +36,35 @@ pub(crate) fn push_fits_line(
     end_line(text, style)
 }
 
-/// Adds the line of a pair by the first test that it fails.
-pub(crate) fn push_failed_line(
-    text: &mut String,
-    form: &LineForm<'_>,
-    planned: &CertifiedPlan,
-    pair: (usize, usize),
-) -> Result<(), AllocError>
-    requires pair { IsPairOf planned.now.problem pair }
-    requires fails { passes_all planned.now.priced.table pair ≡ false }
-    ensures { OnOk result (AddsFailedLine form.now planned.now pair (string_bytes text.old) (string_bytes text.new)) }
+/// The first test that a pair fails.
+pub(crate) fn failed_test(planned: &CertifiedPlan, pair: (usize, usize)) -> Test
+    requires { IsFailing planned.now pair }
+    ensures { IsFailed planned.now.network planned.now.problem (record { pair = pair; test = result }) }
 {
     let problem = planned.problem();
     let at = problem.at();
     let wagon = &problem.wagons()[pair.0];
     let order = problem.orders()[pair.1].order();
     let tables = planned.tables();
-    let test = first_failed(tables, at, wagon, order);
-    push_test_line(text, form, tables, at, wagon, order, test)
+    first_failed(tables, at, wagon, order)
+}
+
+/// Adds the line of a pair by the first test that it fails.
+pub(crate) fn push_failed_line(
+    text: &mut String,
+    form: &LineForm<'_>,
+    planned: &CertifiedPlan,
+    failed: Failed,
+) -> Result<(), AllocError>
+    requires { IsFoundFailed planned.now failed }
+    ensures { OnOk result (AddsFailedLine form.now planned.now failed (string_bytes text.old) (string_bytes text.new)) }
+{
+    let problem = planned.problem();
+    let at = problem.at();
+    let wagon = &problem.wagons()[failed.pair.0];
+    let order = problem.orders()[failed.pair.1].order();
+    let tables = planned.tables();
+    push_test_line(text, form, tables, at, wagon, order, failed.test)
 }
 
 /// Adds the kilometres of a pair, what plans with it cost more, and whether the plan has it.

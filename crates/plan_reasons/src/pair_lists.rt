@@ -1,42 +1,166 @@
 //! The lines of pairs.
-ghost use Rattle.std.specs.Prelude.{◌≡◌, All, IfOk, OnOk, map, not, string_bytes};
+ghost use Rattle.std.specs.Prelude.{◌≡◌, ◌==◌, All, IfOk, OnOk, map, not, string_bytes};
 ghost use Rattle.std.specs.List.{filter};
-ghost use Rattle.plan_reasons.specs.PairLists.{AreByMore, passes_all};
+ghost use Rattle.plan_reasons.specs.Pairs.{IsFailed};
+ghost use Rattle.plan_reasons.specs.PairLists.{
+  AreByMore,
+  AreFailed,
+  AreNearest,
+  fails,
+  nearest,
+  passes_all,
+  place_of,
+};
 ghost use Rattle.plan_reasons.specs.inner.AddedPairs.{
   AddsFailedLines,
+  AddsFitLines,
   AddsFitsLines,
-  AddsPairLines,
+  AddsLaterLines,
+  AddsTestLines,
   IsFailing,
   IsFitting,
+  IsFoundFailed,
   IsFoundFit,
   IsPairOf,
 };
 
 use crate::certified_plan::CertifiedPlan;
+use crate::failed::Failed;
 use crate::fit::Fit;
+use crate::headings::{fits_columns, push_heading_over, test_columns};
 use crate::line_form::LineForm;
-use crate::numbers::{Numbers, more_of};
-use crate::pair_line::{push_failed_line, push_fits_line};
+use crate::numbers::Numbers;
+use crate::pair_line::{failed_test, push_failed_line, push_fits_line};
+use crate::reasons::Test;
 use crate::style::Style;
+use crate::twins::more_beside;
 use cost_table::Cells;
 use std::alloc::{AllocError, Global};
 
-/// Adds the lines of pairs: first those that fail no test, by what plans with them cost more; then the others.
-pub(crate) fn push_pairs(
+/// Adds the lines of the pairs that fail no test, by what plans with them cost more: all of them, or the first ones alone.
+pub(crate) fn push_fits(
     alloc: Global,
     text: &mut String,
-    form: &LineForm<'_>,
+    style: Style,
     numbers: Numbers,
     planned: &CertifiedPlan,
+    near: Option<u32>,
     pairs: &[(usize, usize)],
 ) -> Result<(), AllocError>
     requires { All (IsPairOf planned.now.problem) pairs.now }
-    ensures { OnOk result (AddsPairLines form.now numbers planned.now pairs.now (string_bytes text.old) (string_bytes text.new)) }
+    ensures { OnOk result (AddsFitsLines style numbers planned.now near pairs.now (string_bytes text.old) (string_bytes text.new)) }
 {
-    let fits = fits_by_more(alloc, numbers, planned, pairs)?;
+    let fits = nearest_fits(alloc, numbers, planned, near, pairs)?;
+    push_heading_over(text, style, fits_columns(), fits.len())?;
+    push_fit_lines(text, style, numbers, planned, &fits)
+}
+
+/// Adds the lines of the pairs that fail one test first.
+pub(crate) fn push_test(
+    alloc: Global,
+    text: &mut String,
+    form: &LineForm<'_>,
+    planned: &CertifiedPlan,
+    failed: &[Failed],
+    test: Test,
+) -> Result<(), AllocError>
+    requires { All (IsFoundFailed planned.now) failed.now }
+    ensures { OnOk result (AddsTestLines form.now planned.now failed.now test (string_bytes text.old) (string_bytes text.new)) }
+{
+    let listed = of_test(alloc, failed, test)?;
+    push_heading_over(text, form.style, test_columns(form, test), listed.len())?;
+    push_failed_lines(text, form, planned, &listed)
+}
+
+/// Adds the lines of the pairs that fail a test behind that of the class, test by test.
+pub(crate) fn push_later_tests(
+    alloc: Global,
+    text: &mut String,
+    form: &LineForm<'_>,
+    planned: &CertifiedPlan,
+    failed: &[Failed],
+) -> Result<(), AllocError>
+    requires { All (IsFoundFailed planned.now) failed.now }
+    ensures { OnOk result (AddsLaterLines form.now planned.now failed.now (string_bytes text.old) (string_bytes text.new)) }
+{
+    push_test(alloc, text, form, planned, failed, Test::Load)?;
+    push_test(alloc, text, form, planned, failed, Test::Way)?;
+    push_test(alloc, text, form, planned, failed, Test::InTime)?;
+    push_test(alloc, text, form, planned, failed, Test::Cheaper)
+}
+
+/// Those of the pairs that fail a test, each with the first that it fails.
+pub(crate) fn failed_pairs(
+    alloc: Global,
+    planned: &CertifiedPlan,
+    pairs: &[(usize, usize)],
+) -> Result<Vec<Failed>, AllocError>
+    requires { All (IsPairOf planned.now.problem) pairs.now }
+    ensures failed { IfOk result (λ failed. AreFailed planned.now.network planned.now.problem planned.now.priced.table pairs.now failed.items) }
+    ensures each { IfOk result (λ failed. All (IsFoundFailed planned.now) failed.items) }
+{
     let failing = failing(alloc, planned.cells(), pairs)?;
-    push_fits(text, form.style, numbers, planned, &fits)?;
-    push_failing(text, form, planned, &failing)
+    let failed = tested(alloc, planned, &failing)?;
+    Ok(failed)
+}
+
+/// Those of the pairs that fail this test first.
+pub(crate) fn of_test(
+    alloc: Global,
+    failed: &[Failed],
+    test: Test,
+) -> Result<Vec<Failed>, AllocError>
+    ensures { IfOk result (λ listed. listed.items ≡ filter (fails test) failed.now) }
+{
+    let mut listed = Vec::from_slice(alloc, failed)?;
+    listed.retain(|failed| fails(test, *failed));
+    Ok(listed)
+}
+
+/// Whether a pair fails this test first.
+fn fails(test: Test, failed: Failed) -> bool
+    ensures { result ≡ fails test failed }
+{
+    place_of(failed.test) == place_of(test)
+}
+
+/// Where a test stands among the tests.
+fn place_of(test: Test) -> u8
+    ensures { result ≡ place_of test }
+{
+    match test {
+        Test::Class => 0,
+        Test::Load => 1,
+        Test::Way => 2,
+        Test::InTime => 3,
+        Test::Cheaper => 4,
+    }
+}
+
+/// Those of the pairs that fail no test, by what plans with them cost more: all of them, or the first ones alone.
+fn nearest_fits(
+    alloc: Global,
+    numbers: Numbers,
+    planned: &CertifiedPlan,
+    near: Option<u32>,
+    pairs: &[(usize, usize)],
+) -> Result<Vec<Fit>, AllocError>
+    requires { All (IsPairOf planned.now.problem) pairs.now }
+    ensures nearest { IfOk result (λ shown. AreNearest numbers planned.now.priced near pairs.now shown.items) }
+    ensures fitting { IfOk result (λ shown. All (IsFoundFit numbers planned.now) shown.items) }
+{
+    let mut fits = fits_by_more(alloc, numbers, planned, pairs)?;
+    keep_nearest(&mut fits, near);
+    Ok(fits)
+}
+
+/// Keeps the first pairs alone, where so many are asked for.
+fn keep_nearest(fits: &mut Vec<Fit>, near: Option<u32>)
+    ensures { fits.new.items ≡ nearest near fits.old.items }
+{
+    if let Some(count) = near {
+        fits.truncate(count as usize);
+    }
 }
 
 /// Those of the pairs that fail no test, by what plans with them cost more.
@@ -70,7 +194,7 @@ fn found(
     let mut found = Vec::with_capacity(alloc, fitting.len())?;
     for pair in fitting {
         let pair = *pair;
-        let more = more_of(alloc, numbers, planned, pair)?;
+        let more = more_beside(alloc, numbers, planned, &found, pair)?;
         found.push(Fit { pair, more })?;
     }
     Ok(found)
@@ -113,8 +237,27 @@ fn passes_all(cells: &Cells, pair: (usize, usize)) -> bool
     }
 }
 
+/// Pairs that fail a test, each with the first that it fails.
+fn tested(
+    alloc: Global,
+    planned: &CertifiedPlan,
+    failing: &[(usize, usize)],
+) -> Result<Vec<Failed>, AllocError>
+    requires { All (IsFailing planned.now) failing.now }
+    ensures pairs { IfOk result (λ tested. map (λ failed. failed.pair) tested.items ≡ failing.now) }
+    ensures each { IfOk result (λ tested. All (IsFoundFailed planned.now) tested.items) }
+{
+    let mut tested = Vec::with_capacity(alloc, failing.len())?;
+    for pair in failing {
+        let pair = *pair;
+        let test = failed_test(planned, pair);
+        tested.push(Failed { pair, test })?;
+    }
+    Ok(tested)
+}
+
 /// Adds the lines of pairs that fail no test.
-fn push_fits(
+fn push_fit_lines(
     text: &mut String,
     style: Style,
     numbers: Numbers,
@@ -122,7 +265,7 @@ fn push_fits(
     fits: &[Fit],
 ) -> Result<(), AllocError>
     requires { All (IsFoundFit numbers planned.now) fits.now }
-    ensures { OnOk result (AddsFitsLines style numbers planned.now fits.now (string_bytes text.old) (string_bytes text.new)) }
+    ensures { OnOk result (AddsFitLines style numbers planned.now fits.now (string_bytes text.old) (string_bytes text.new)) }
 {
     for fit in fits {
         push_fits_line(text, style, numbers, planned, *fit)?;
@@ -131,16 +274,16 @@ fn push_fits(
 }
 
 /// Adds the lines of pairs that fail a test.
-fn push_failing(
+fn push_failed_lines(
     text: &mut String,
     form: &LineForm<'_>,
     planned: &CertifiedPlan,
-    failing: &[(usize, usize)],
+    failed: &[Failed],
 ) -> Result<(), AllocError>
-    requires { All (IsFailing planned.now) failing.now }
-    ensures { OnOk result (AddsFailedLines form.now planned.now failing.now (string_bytes text.old) (string_bytes text.new)) }
+    requires { All (IsFoundFailed planned.now) failed.now }
+    ensures { OnOk result (AddsFailedLines form.now planned.now failed.now (string_bytes text.old) (string_bytes text.new)) }
 {
-    for pair in failing {
+    for pair in failed {
         push_failed_line(text, form, planned, *pair)?;
     }
     Ok(())

@@ -8,6 +8,7 @@ ghost use Rattle.plan_reasons.specs.inner.Added.{AddsOrderLines, AddsWagonLines}
 ghost use Rattle.plan_reasons.specs.inner.Tallied.{AreTallies};
 
 use crate::certified_plan::CertifiedPlan;
+use crate::headings::{order_columns, push_heading, push_heading_over, wagon_columns, why_columns};
 use crate::numbers::Numbers;
 use crate::order_line::{missed, push_order_line};
 use crate::style::{Style, end_line, first_number, number_field, push_field};
@@ -21,17 +22,19 @@ use std::alloc::{AllocError, Global};
 /// MISSES CLASS LOAD WAY TIME CHEAPER MORE LESS FURTHER` for each order as placed, then `wagon NUMBER ORDER KM ARRIVAL WITHOUT`
 /// for each wagon that goes, in the plan's order. As JSON each line is an object with the members `why`, `free`, `orders`, `cost`,
 /// `go`, `stay`, `miss`; `order`, `lacks`, `gets`, `misses`, `class`, `load`, `way`, `time`, `cheaper`, `more`, `less`, `further`;
-/// or `wagon`, `order`, `km`, `arrival`, `without`.
+/// or `wagon`, `order`, `km`, `arrival`, `without`. In a text of words a line that begins with `#` stands before the first line of
+/// each kind, and names its words.
 ///
 /// `CLASS` to `CHEAPER` are how many free wagons pass each test for the order, one after the other. `MORE` is what the best plan
 /// costs more where the order lacks one wagon more: `-` (in JSON null) where a table may not have one more. `LESS` is what the
-/// best plan costs less where it lacks one less. `FURTHER` is what every plan costs more, at least, that gives the order more
-/// wagons: `-` where it misses none, and `none` where no plan does. `WITHOUT` is what the best plan costs more in which the wagon
-/// stays.
+/// best plan costs less where it lacks one less. `FURTHER` is what the best plan costs more that gives the order more wagons:
+/// `-` where it misses none, and `none` where no plan does. It is `over` where that is only known to be no less than
+/// 1,000,000,000 km less the order's penalty. `WITHOUT` is what the best plan costs more in which the wagon stays.
 ///
 /// Where bounds are asked for, `PRICE`, as JSON `price`, stands in place of `MORE LESS`: what every plan costs more, at least,
-/// where the order lacks one wagon more, and what any plan saves, at most, where it lacks one less. `WITHOUT` is what every plan
-/// costs more, at least, in which the wagon stays.
+/// where the order lacks one wagon more, and what any plan saves, at most, where it lacks one less. `FURTHER` is what every plan
+/// costs more, at least, that gives the order more wagons. `WITHOUT` is what every plan costs more, at least, in which the wagon
+/// stays.
 pub fn why_text(
     alloc: Global,
     style: Style,
@@ -43,8 +46,13 @@ pub fn why_text(
 {
     let mut text = String::new(alloc);
     let tallies = Tallies::new(alloc, planned)?;
+    let orders = planned.problem().orders().len();
+    let wagons = planned.plan().pairs().len();
+    push_heading(&mut text, style, why_columns())?;
     push_why_line(&mut text, style, version, planned, &tallies)?;
+    push_heading_over(&mut text, style, order_columns(numbers), orders)?;
     push_orders(alloc, &mut text, style, numbers, planned, &tallies)?;
+    push_heading_over(&mut text, style, wagon_columns(), wagons)?;
     push_wagons(alloc, &mut text, style, numbers, planned)?;
     Ok(text)
 }

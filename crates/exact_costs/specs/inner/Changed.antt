@@ -1,6 +1,7 @@
--- Tables that differ from another in one wagon's row, or in one order's penalty.
+-- Tables that differ from another in one wagon's row, or in one order's penalty and lack.
 use Rattle.std.specs.Prelude.{ℕ, List, [], ◌∷◌, Option, slice_set}
 use Rattle.cost_table.specs.Table.{Table, order_count}
+use Rattle.cost_table.specs.TableLimits.{max_cost}
 use Rattle.cost_table.specs.TableRows.{costs_of}
 
 -- the same but for the costs of wagon i
@@ -14,3 +15,7 @@ with_free_pair t i j = with_costs t i (costs_of (order_count t) ((j, 0) ∷ []))
 -- the wagons that order j misses cost nothing
 abbrev pub without_penalty : Table → (j : ℕ) → Table
 without_penalty t j = record t { penalties = slice_set t.penalties j 0 }
+
+-- order j lacks n wagons, and each that it misses costs the most that a table may have
+abbrev pub with_wanted : Table → (j n : ℕ) → Table
+with_wanted t j n = record t { penalties = slice_set t.penalties j max_cost; lacks = slice_set t.lacks j n }

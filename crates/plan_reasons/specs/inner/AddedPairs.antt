@@ -1,11 +1,12 @@
 -- Lines of pairs, and their fields, that were added to a text.
-use Rattle.std.specs.Prelude.{◌≡◌, ◌<◌, ◌==◌, if◌then◌else◌, ℕ, IsTrue, false, List, [], ◌∷◌, length, codes}
+use Rattle.std.specs.Prelude.{◌≡◌, ◌<◌, ◌==◌, if◌then◌else◌, ℕ, IsTrue, false, List, [], ◌∷◌, length, codes, Option}
 use Rattle.std.specs.List.{find}
 use Rattle.cost_table.specs.Problem.{ProblemValue}
 use Rattle.line_network.specs.Network.{NetworkValue}
 use Rattle.move_messages.specs.Order.{Order}
 use Rattle.reply_texts.specs.Lines.{Adds, AreLines}
 use Rattle.wagons_and_orders.specs.declared.free_wagon.FreeWagon.{FreeWagon}
+use Rattle.plan_reasons.specs.declared.failed.Failed.{Failed}
 use Rattle.plan_reasons.specs.declared.fit.Fit.{Fit}
 use Rattle.plan_reasons.specs.declared.line_form.LineForm.{LineForm}
 use Rattle.plan_reasons.specs.declared.reasons.Test.{Test}
@@ -15,8 +16,8 @@ use Rattle.plan_reasons.specs.CertifiedPlan.{CertifiedPlanValue}
 use Rattle.plan_reasons.specs.Fields.{field}
 use Rattle.plan_reasons.specs.Numbers.{IsMoreOf}
 use Rattle.plan_reasons.specs.PlaceFields.{names_of}
-use Rattle.plan_reasons.specs.Pairs.{IsArrivalValue, IsFailedLine, IsFitsLine, IsTestLine}
-use Rattle.plan_reasons.specs.PairLists.{ArePairLines, IsOwnLine, passes_all}
+use Rattle.plan_reasons.specs.Pairs.{IsArrivalValue, IsFailed, IsFailedLine, IsFitsLine, IsTestLine}
+use Rattle.plan_reasons.specs.PairLists.{AreFailedOfOrder, AreFailedOfWagon, AreFitsLines, AreLaterLines, AreTestLines, IsOwnLine, passes_all}
 
 -- the pair is of a wagon and an order of the problem
 abbrev pub IsPairOf : ProblemValue → ℕ × ℕ → Type 0
@@ -32,6 +33,10 @@ IsFoundFit numbers planned fit = IsFitting planned fit.pair × IsMoreOf numbers 
 
 abbrev pub IsFailing : CertifiedPlanValue → ℕ × ℕ → Type 0
 IsFailing planned pair = IsPairOf planned.problem pair × (passes_all planned.priced.table pair ≡ false)
+
+-- one that fails a test, with the first that it fails
+abbrev pub IsFoundFailed : CertifiedPlanValue → Failed → Type 0
+IsFoundFailed planned failed = IsPairOf planned.problem failed.pair × IsFailed planned.network planned.problem failed
 
 -- what stands before the item at k of a list
 abbrev pub comma : (k : ℕ) → List ℕ
@@ -51,18 +56,32 @@ AddsTestLine form net at wagon order test = Adds (IsTestLine form.style (names_o
 abbrev pub AddsFitsLine : Style → Numbers → CertifiedPlanValue → Fit → (old new : List ℕ) → Type 0
 AddsFitsLine style numbers planned fit = Adds (IsFitsLine style numbers planned.network planned.problem planned.priced fit)
 
-abbrev pub AddsFailedLine : LineForm → CertifiedPlanValue → (pair : ℕ × ℕ) → (old new : List ℕ) → Type 0
-AddsFailedLine form planned pair = Adds (IsFailedLine form.style (names_of form) planned.network planned.problem pair)
+abbrev pub AddsFailedLine : LineForm → CertifiedPlanValue → Failed → (old new : List ℕ) → Type 0
+AddsFailedLine form planned failed = Adds (IsFailedLine form.style (names_of form) planned.network planned.problem failed)
 
 -- the lines of pairs
-abbrev pub AddsFitsLines : Style → Numbers → CertifiedPlanValue → (fits : List Fit) → (old new : List ℕ) → Type 0
-AddsFitsLines style numbers planned fits = Adds (AreLines (IsFitsLine style numbers planned.network planned.problem planned.priced) fits)
+abbrev pub AddsFitLines : Style → Numbers → CertifiedPlanValue → (fits : List Fit) → (old new : List ℕ) → Type 0
+AddsFitLines style numbers planned fits = Adds (AreLines (IsFitsLine style numbers planned.network planned.problem planned.priced) fits)
 
-abbrev pub AddsFailedLines : LineForm → CertifiedPlanValue → (pairs : List (ℕ × ℕ)) → (old new : List ℕ) → Type 0
-AddsFailedLines form planned pairs = Adds (AreLines (IsFailedLine form.style (names_of form) planned.network planned.problem) pairs)
+abbrev pub AddsFailedLines : LineForm → CertifiedPlanValue → (failed : List Failed) → (old new : List ℕ) → Type 0
+AddsFailedLines form planned failed = Adds (AreLines (IsFailedLine form.style (names_of form) planned.network planned.problem) failed)
 
-abbrev pub AddsPairLines : LineForm → Numbers → CertifiedPlanValue → (pairs : List (ℕ × ℕ)) → (old new : List ℕ) → Type 0
-AddsPairLines form numbers planned pairs = Adds (ArePairLines form.style numbers (names_of form) planned.network planned.problem planned.priced pairs)
+-- with their headings
+abbrev pub AddsFitsLines : Style → Numbers → CertifiedPlanValue → (near : Option ℕ) → (pairs : List (ℕ × ℕ)) → (old new : List ℕ) → Type 0
+AddsFitsLines style numbers planned near pairs = Adds (AreFitsLines style numbers planned.network planned.problem planned.priced near pairs)
+
+abbrev pub AddsTestLines : LineForm → CertifiedPlanValue → (failed : List Failed) → Test → (old new : List ℕ) → Type 0
+AddsTestLines form planned failed test = Adds (AreTestLines form.style (names_of form) planned.network planned.problem failed test)
+
+abbrev pub AddsLaterLines : LineForm → CertifiedPlanValue → (failed : List Failed) → (old new : List ℕ) → Type 0
+AddsLaterLines form planned failed = Adds (AreLaterLines form.style (names_of form) planned.network planned.problem failed)
+
+-- what is said of the pairs of an order, or of a wagon, that fail a test
+abbrev pub AddsFailedOfOrder : LineForm → CertifiedPlanValue → (j : ℕ) → (old new : List ℕ) → Type 0
+AddsFailedOfOrder form planned j = Adds (AreFailedOfOrder form.style (names_of form) planned.network planned.problem planned.priced.table j)
+
+abbrev pub AddsFailedOfWagon : LineForm → CertifiedPlanValue → (i : ℕ) → (old new : List ℕ) → Type 0
+AddsFailedOfWagon form planned i = Adds (AreFailedOfWagon form.style (names_of form) planned.network planned.problem planned.priced.table i)
 
 -- the line of a wagon
 abbrev pub AddsOwnLine : Style → Numbers → CertifiedPlanValue → (i : ℕ) → (old new : List ℕ) → Type 0

@@ -6,11 +6,15 @@ use Rattle.plan_reasons.specs.inner.AddedPairs.{IsPairOf}
 use Rattle.plan_reasons.proofs.PairTexts.{all_of_range, text_of_wagon}
 use Rattle.plan_reasons.proofs.one_text.wagon_text.Goals as goal
 
-pub push_pairs-requires : goal.push_pairs-requires
-push_pairs-requires c =
+pub push_fits-requires : goal.push_fits-requires
+push_fits-requires c =
     let problem = c.args.planned.now.problem in
     rw (c.deref.ensures.value, c.in_ok-pairs.ensures, c.problem.ensures.value) (all_of_range (IsPairOf problem) (λ (j : ℕ). (c.args.i, j)) (length problem.orders) (λ k lt. (c.requires, lt)))
 
+pub push_failed_of_wagon-requires-clause-pairs : goal.push_failed_of_wagon-requires-clause-pairs
+push_failed_of_wagon-requires-clause-pairs c = c.deref-2.ensures.value ∙ c.in_ok-pairs.ensures ∙ ap (λ (p : ProblemValue). pairs_of_wagon p c.args.i) c.problem.ensures.value
+
 pub returns : goal.returns
 returns c =
-    text_of_wagon c.args.form.now.style c.args.numbers (names_of c.args.form.now) c.args.planned.now.network c.args.planned.now.problem c.args.planned.now.priced _ _ _ _ c.new-text.ensures.bytes (c.in_ok-push_pairs.ensures {u = tt}) c.args.i (c.deref.ensures.value ∙ c.in_ok-pairs.ensures ∙ ap (λ (p : ProblemValue). pairs_of_wagon p c.args.i) c.problem.ensures.value) (c.in_ok-push_own_line.ensures {u = tt})
+    let planned = c.args.planned.now in
+    text_of_wagon c.args.form.now.style c.args.numbers (names_of c.args.form.now) c.args.near planned.network planned.problem planned.priced _ _ _ _ _ _ _ c.new-text.ensures.bytes (c.in_ok-push_heading.ensures {u = tt}) (c.in_ok-push_fits.ensures {u = tt}) c.args.i (c.deref.ensures.value ∙ c.in_ok-pairs.ensures ∙ ap (λ (p : ProblemValue). pairs_of_wagon p c.args.i) c.problem.ensures.value) c.own_columns.ensures (c.in_ok-push_own_line.ensures {u = tt}) (c.in_ok-push_failed_of_wagon.ensures {u = tt})

@@ -5,8 +5,11 @@ use Rattle.plan_reasons.specs.declared.fit.Fit.{Fit}
 use Rattle.plan_reasons.specs.inner.AddedPairs.{IsFoundFit}
 use Rattle.plan_reasons.proofs.pair_lists.found.Goals as goal
 
-pub more_of-requires : goal.more_of-requires
-more_of-requires c = c.requires c.loop-pair.pair-index (0, 0) c.loop-pair-test.true
+pub more_beside-requires-clause-fitting : goal.more_beside-requires-clause-fitting
+more_beside-requires-clause-fitting c = c.requires c.loop-pair.pair-index (0, 0) c.loop-pair-test.true
+
+pub more_beside-requires-clause-found : goal.more_beside-requires-clause-found
+more_beside-requires-clause-found c = rw c.deref.ensures.value c.loop-pair.invariant.fitting
 
 pub loop-pair-preserved : goal.loop-pair-preserved
 loop-pair-preserved c =
