@@ -1,0 +1,3 @@
+pub mod KeptKeys
+pub mod Remembering
+pub mod LastLines

@@ -1,0 +1,4 @@
+pub mod Plans
+pub mod PlanLines
+pub mod Laws
+pub mod inner

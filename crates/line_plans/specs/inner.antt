@@ -1,0 +1,2 @@
+-- What only the proofs and the private functions of this crate need.
+pub mod Remembered
