@@ -5,7 +5,6 @@ use Rattle.rail_codes.specs.declared.code_fault.CodeFault.{CodeFault}
 use Rattle.text_tables.specs.Clock.{IsShown}
 use Rattle.text_tables.specs.Row.{Row}
 use Rattle.text_tables.specs.declared.clock.Clock.{Clock}
-use Rattle.movements.specs.Words.{order_state}
 use Rattle.movements.specs.declared.movement.Way.{Way}
 use Rattle.movements.specs.declared.need.OrderNeed.{OrderNeed}
 
@@ -32,7 +31,6 @@ IsArrival clock None cell = cell ≡ []
 IsArrival clock (Some way) cell = IsSecondsCell clock way.arrival cell
 
 -- how many wagons an order wants, how many were delivered, are promised and are missing, the penalty of each, and its state
-abbrev pub need_cells : OrderNeed → Row
-need_cells need =
-    decimal need.wanted ∷ decimal need.filled ∷ decimal need.promised ∷ decimal need.missing ∷ decimal need.penalty
-    ∷ order_state need ∷ []
+abbrev pub need_cells : OrderNeed → (state : List ℕ) → Row
+need_cells need state =
+    decimal need.wanted ∷ decimal need.filled ∷ decimal need.promised ∷ decimal need.missing ∷ decimal need.penalty ∷ state ∷ []

@@ -1,5 +1,5 @@
 -- The records of a file of CSV: the fields that a kind lacks are empty.
-use Rattle.std.specs.Prelude.{◌≡◌, ℕ, List, [], ◌∷◌, ◌++◌, codes, decimal, replicate}
+use Rattle.std.specs.Prelude.{◌≡◌, ℕ, nat_lt, if◌then◌else◌, List, [], ◌∷◌, ◌++◌, codes, decimal, replicate}
 use Rattle.place_names.specs.declared.named_place.NamedPlace.{NamedPlace}
 use Rattle.text_tables.specs.Clock.{IsShown}
 use Rattle.text_tables.specs.PlaceCells.{place_cells}
@@ -10,7 +10,7 @@ use Rattle.wagons_and_orders.specs.StatusWords.{status_word}
 use Rattle.wagons_and_orders.specs.declared.status.Status.{Status}
 use Rattle.movements.specs.Cells.{IsArrival, km_cell, minutes_cell, need_cells}
 use Rattle.movements.specs.Lateness.{outlook_by}
-use Rattle.movements.specs.Words.{outlook_word}
+use Rattle.movements.specs.Words.{order_state, outlook_word}
 use Rattle.movements.specs.declared.movement.Movement.{Movement}
 use Rattle.movements.specs.declared.need.OrderNeed.{OrderNeed}
 use Rattle.movements.specs.declared.outlook.Outlook.{Outlook}
@@ -55,10 +55,14 @@ pub record AreMovementFields (places : List NamedPlace) (clock : Clock) (movemen
 
 -- ---- orders, whose place stands where wagons go to
 
+-- by how many minutes the order was filled late, if it was
+abbrev pub late_field : (minutes : ℕ) → List ℕ
+late_field minutes = if nat_lt 0 minutes then decimal minutes else []
+
 abbrev pub order_fields : List NamedPlace → OrderNeed → (latest : List ℕ) → Row
 order_fields places need latest =
-    codes "order" ∷ replicate 6 [] ++ need.order ∷ place_cells places need.place ++ [] ∷ [] ∷ [] ∷ latest ∷ [] ∷ []
-    ∷ need_cells need
+    codes "order" ∷ replicate 6 [] ++ need.order ∷ place_cells places need.place ++ [] ∷ [] ∷ [] ∷ latest ∷ [] ∷ late_field need.late
+    ∷ need_cells need (order_state need)
 
 pub record AreOrderFields (places : List NamedPlace) (clock : Clock) (need : OrderNeed) (row : Row) : Type 0 where
   pub latest : List ℕ

@@ -10,7 +10,7 @@ use Rattle.wagons_and_orders.specs.StatusWords.{status_word}
 use Rattle.wagons_and_orders.specs.declared.status.Status.{Status}
 use Rattle.movements.specs.Cells.{IsArrival, km_cell, minutes_cell, need_cells}
 use Rattle.movements.specs.Lateness.{outlook_by}
-use Rattle.movements.specs.Words.{outlook_words}
+use Rattle.movements.specs.Words.{order_words, outlook_words}
 use Rattle.movements.specs.declared.movement.Movement.{Movement}
 use Rattle.movements.specs.declared.need.OrderNeed.{OrderNeed}
 use Rattle.movements.specs.declared.silence.SilentWagon.{SilentWagon}
@@ -50,7 +50,7 @@ order_titles =
     ∷ codes "penalty" ∷ codes "state" ∷ []
 
 abbrev pub order_row : List NamedPlace → OrderNeed → (latest : List ℕ) → Row
-order_row places need latest = need.order ∷ place_cell places need.place ∷ latest ∷ need_cells need
+order_row places need latest = need.order ∷ place_cell places need.place ∷ latest ∷ need_cells need (order_words need)
 
 pub record IsOrderRow (places : List NamedPlace) (clock : Clock) (need : OrderNeed) (row : Row) : Type 0 where
   pub latest : List ℕ

@@ -1,5 +1,5 @@
 -- What is said of a movement and of an order.
-use Rattle.std.specs.Prelude.{ℕ, ◌==◌, nat_lt, if◌then◌else◌, List, ◌++◌, codes, decimal}
+use Rattle.std.specs.Prelude.{ℕ, ◌==◌, nat_lt, if◌then◌else◌, List, [], ◌++◌, codes, decimal}
 use Rattle.movements.specs.declared.need.OrderNeed.{OrderNeed}
 use Rattle.movements.specs.declared.outlook.Outlook.{Outlook}
 use Rattle.movements.specs.declared.outlook.Outlook.TheVariants.{NoWay, Late, InTime}
@@ -23,10 +23,19 @@ outlook_word (Late minutes) = codes "late"
 outlook_word (InTime minutes) = codes "in time"
 
 -- An order is short where wagons are missing, and past where it is open past its latest moment. Another is filled where all its
--- wagons have been delivered; else those that haven't are promised.
+-- wagons have been delivered, in time or late; else those that haven't are promised.
 abbrev pub order_state : OrderNeed → List ℕ
 order_state need =
     if need.is_past then (if nat_lt 0 need.missing then codes "short and past" else codes "past")
     else if nat_lt 0 need.missing then codes "short"
+    else if nat_lt 0 need.late then codes "filled late"
     else if need.filled == need.wanted then codes "filled"
     else codes "promised"
+
+-- behind the state, by how many minutes the order was filled late
+abbrev pub late_behind : OrderNeed → List ℕ
+late_behind need = if nat_lt 0 need.late then codes " by " ++ decimal need.late ++ codes " min" else []
+
+-- the state, for people
+abbrev pub order_words : OrderNeed → List ℕ
+order_words need = order_state need ++ late_behind need

@@ -4,7 +4,6 @@ ghost use Rattle.movements.specs.Cells.{IsArrival, IsSecondsCell, km_cell, minut
 
 use crate::movement::Way;
 use crate::need::OrderNeed;
-use crate::words::order_state;
 use rail_codes::Moment;
 use std::alloc::{AllocError, Global};
 use text_tables::{Clock, Row, shown};
@@ -62,13 +61,13 @@ fn seconds_cell(alloc: Global, clock: &Clock<'_>, seconds: u64) -> Result<String
 }
 
 /// Adds how many wagons an order wants, how many it has and how many are missing, the penalty of each, and its state.
-pub(crate) fn push_need(row: &mut Row, need: &OrderNeed) -> Result<(), AllocError>
-    ensures { OnOk result (row.new ≡ row.old ++ need_cells need.now) }
+pub(crate) fn push_need(row: &mut Row, need: &OrderNeed, state: &str) -> Result<(), AllocError>
+    ensures { OnOk result (row.new ≡ row.old ++ need_cells need.now state.now) }
 {
     row.push_number(need.wanted)?;
     row.push_number(need.filled)?;
     row.push_number(need.promised)?;
     row.push_number(need.missing)?;
     row.push_number(need.penalty)?;
-    row.push(order_state(need))
+    row.push(state)
 }

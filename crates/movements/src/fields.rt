@@ -1,13 +1,13 @@
 //! The records of a file of CSV.
-ghost use Rattle.std.specs.Prelude.{◌≡◌, ◌++◌, IfOk, OnOk};
-ghost use Rattle.movements.specs.Fields.{AreMovementFields, AreOrderFields, AreSilentFields, margin_fields, wagon_fields};
+ghost use Rattle.std.specs.Prelude.{◌≡◌, ◌++◌, ◌∷◌, [], IfOk, OnOk};
+ghost use Rattle.movements.specs.Fields.{AreMovementFields, AreOrderFields, AreSilentFields, late_field, margin_fields, wagon_fields};
 
 use crate::cells::{arrival_cell, push_need, push_nothing, push_way};
 use crate::movement::Movement;
 use crate::need::OrderNeed;
 use crate::outlook::{Outlook, outlook_by};
 use crate::silence::SilentWagon;
-use crate::words::outlook_word;
+use crate::words::{order_state, outlook_word};
 use place_names::Places;
 use rail_codes::{ClassCode, WagonNumber};
 use std::alloc::{AllocError, Global};
@@ -124,9 +124,21 @@ pub(crate) fn order_fields(
     push_place(&mut row, places, need.place)?;
     push_nothing(&mut row, 3)?;
     row.push_cell(latest)?;
-    push_nothing(&mut row, 2)?;
-    push_need(&mut row, need)?;
+    push_nothing(&mut row, 1)?;
+    push_late(&mut row, need.late)?;
+    push_need(&mut row, need, order_state(need))?;
     Ok(row)
+}
+
+/// Adds by how many minutes an order was filled late, if it was.
+fn push_late(row: &mut Row, minutes: u64) -> Result<(), AllocError>
+    ensures { OnOk result (row.new ≡ row.old ++ late_field minutes ∷ []) }
+{
+    if minutes == 0 {
+        row.push("")
+    } else {
+        row.push_number(minutes)
+    }
 }
 
 /// The fields of a wagon that hasn't been heard from.

@@ -1,5 +1,7 @@
 //! The list of an office's movements.
 ghost use Rattle.std.specs.Prelude.{◌≡◌, ◌++◌, ◌∷◌, [], IfOk, OnOk, Some, filter};
+ghost use Rattle.std.specs.BTreeMap.{get};
+ghost use Rattle.fleet_rows.specs.Kept.{compare_numbers};
 ghost use Rattle.fleet_rows.specs.Rows.{wagon_in};
 ghost use Rattle.movements.specs.Choices.{keeps_movement, keeps_silent};
 ghost use Rattle.movements.specs.ListOf.{IsListOf, listed_orders, listed_silent};
@@ -18,6 +20,7 @@ use line_network::Tables;
 use operating_db::OfficeState;
 use rail_codes::{Moment, OrderId};
 use std::alloc::{AllocError, Global};
+use std::collections::BTreeMap;
 use wagons_and_orders::{OrderRow, OrderState, WagonRow};
 
 /// The promised movements of an office at a moment, over the network of these tables. There is one for each promised wagon,
@@ -28,18 +31,21 @@ use wagons_and_orders::{OrderRow, OrderState, WagonRow};
 /// An empty wagon leaves when it is ready, and one on its way left at its last message. Any other stands where that message
 /// says. None that stands leaves before the moment, and none on its way is there before it. One that has arrived at its order's
 /// place has been there since its last message. The way is the walk of fewest kilometres; a longer one may be quicker.
+///
+/// `late_fills` says by how many minutes orders were filled late; an order that it doesn't name is listed as one in time.
 pub fn list_of_movements(
     alloc: Global,
     version: u64,
     state: &OfficeState,
     tables: &Tables,
     at: Moment,
+    late_fills: &BTreeMap<OrderId, u64>,
     choice: &Choice<'_>,
 ) -> Result<MovementList, AllocError>
-    ensures { IfOk result (IsListOf version state.now.office tables.now at choice.now) }
+    ensures { IfOk result (IsListOf version state.now.office tables.now at (get compare_numbers late_fills.now) choice.now) }
 {
     let movements = kept_movements(alloc, state, tables, at, choice)?;
-    let orders = kept_orders(alloc, state.order_rows(), at, choice)?;
+    let orders = kept_orders(alloc, state.order_rows(), at, late_fills, choice)?;
     let silent = kept_silent(alloc, state.wagon_rows(), at, choice)?;
     Ok(MovementList {
         version,
@@ -153,13 +159,14 @@ fn kept_orders(
     alloc: Global,
     rows: &[OrderRow],
     at: Moment,
+    late_fills: &BTreeMap<OrderId, u64>,
     choice: &Choice<'_>,
 ) -> Result<Vec<OrderNeed>, AllocError>
-    ensures { IfOk result (λ kept. kept.items ≡ listed_orders at choice.now rows.now) }
+    ensures { IfOk result (λ kept. kept.items ≡ listed_orders at (get compare_numbers late_fills.now) choice.now rows.now) }
 {
     rows.iter()
         .filter(|row| stands(row))
-        .map(|row| need_of(at, row))
+        .map(|row| need_of(at, late_fills, row))
         .filter(|need| choice.keeps_order(need))
         .collect(alloc)
 }

@@ -1,8 +1,11 @@
 //! What an order needs.
 ghost use Rattle.std.specs.Prelude.{◌≡◌};
-ghost use Rattle.movements.specs.Needs.{is_past, need_of, needs_person};
+ghost use Rattle.std.specs.BTreeMap.{get};
+ghost use Rattle.fleet_rows.specs.Kept.{compare_numbers};
+ghost use Rattle.movements.specs.Needs.{is_past, minutes_of, need_of, needs_person};
 
 use rail_codes::{Moment, OrderId, Place};
+use std::collections::BTreeMap;
 use wagons_and_orders::OrderRow;
 
 /// An order that isn't withdrawn, with its wagons counted.
@@ -26,6 +29,8 @@ pub struct OrderNeed {
     pub missing: u64,
     /// Whether it is open and its latest moment is past.
     pub is_past: bool,
+    /// By how many minutes it was filled late, rounded up; 0 if it wasn't, or nothing is known of it.
+    pub late: u64,
 }
 
 impl OrderNeed {
@@ -37,9 +42,9 @@ impl OrderNeed {
     }
 }
 
-/// What an order needs at a moment.
-pub(crate) fn need_of(at: Moment, row: &OrderRow) -> OrderNeed
-    ensures { result ≡ need_of at row.now }
+/// What an order needs at a moment, where orders were filled late by so many minutes.
+pub(crate) fn need_of(at: Moment, late_fills: &BTreeMap<OrderId, u64>, row: &OrderRow) -> OrderNeed
+    ensures { result ≡ need_of at (get compare_numbers late_fills.now) row.now }
 {
     let text = row.text();
     OrderNeed {
@@ -52,6 +57,17 @@ pub(crate) fn need_of(at: Moment, row: &OrderRow) -> OrderNeed
         promised: row.promised().len() as u64,
         missing: u64::from(row.lack()),
         is_past: is_past(at, row),
+        late: minutes_of(late_fills, text.id()),
+    }
+}
+
+/// By how many minutes an order was filled late; 0 if it is unknown.
+fn minutes_of(late_fills: &BTreeMap<OrderId, u64>, order: OrderId) -> u64
+    ensures { result ≡ minutes_of (get compare_numbers late_fills.now order) }
+{
+    match late_fills.get(&order) {
+        Some(minutes) => *minutes,
+        None => 0,
     }
 }
 

@@ -7,7 +7,7 @@ use crate::movement::Movement;
 use crate::need::OrderNeed;
 use crate::outlook::outlook_by;
 use crate::silence::SilentWagon;
-use crate::words::outlook_words;
+use crate::words::{order_words, outlook_words};
 use place_names::Places;
 use rail_codes::{ClassCode, WagonNumber};
 use std::alloc::{AllocError, Global};
@@ -89,11 +89,12 @@ pub(crate) fn order_row(
 {
     let place = place_cell(alloc, places, need.place)?;
     let latest = shown(alloc, clock, need.latest)?;
+    let state = order_words(alloc, need)?;
     let mut row = Row::new(alloc);
     row.push_code(need.order.as_bytes())?;
     row.push_cell(place)?;
     row.push_cell(latest)?;
-    push_need(&mut row, need)?;
+    push_need(&mut row, need, state.as_str())?;
     Ok(row)
 }
 

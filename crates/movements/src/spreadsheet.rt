@@ -17,8 +17,9 @@ use text_tables::{Clock, Row, csv_rows_text, titles_row};
 /// `kind,wagon,class,status,place,place_name,since,order,to,to_name,km,minutes,arrival,latest,spare,late,wanted,filled,`
 /// `promised,missing,penalty,state`. The kind is `movement`, `order` or `silent`; fields that a kind lacks are empty.
 ///
-/// `spare` and `late` are minutes. A movement has one of the two, and none where no way leads to the order's place. Its state is
-/// `in time`, `late` or `no way`; that of an order is as `table_text` has it, that of a silent wagon `silent`. An order's place
+/// `spare` and `late` are minutes. A movement has one of the two, and none where no way leads to the order's place; an order that was
+/// filled late has `late`. A movement's state is `in time`, `late` or `no way`; that of an order is as `table_text` has it, without the
+/// minutes, that of a silent wagon `silent`. An order's place
 /// stands in `to` and `to_name`, and the penalty of each missing wagon, in km, in `penalty`. An arrival past 2099 is empty.
 pub fn csv_text(
     alloc: Global,

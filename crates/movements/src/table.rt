@@ -58,7 +58,7 @@ const SILENT_SIDES: [Side; 5] = [Side::Left, Side::Left, Side::Left, Side::Left,
 /// If there are orders, a table of them stands behind another empty line. Its titles are `order`, `place`, `latest`, `wanted`,
 /// `filled`, `promised`, `missing`, `penalty` and `state`. The penalty is that of each missing wagon, in km. The state is
 /// `short` where wagons are missing, `past` where the order is open past its latest moment, or `short and past`; else it is
-/// `filled` or `promised`.
+/// `filled`, `filled late by N min`, or `promised`.
 ///
 /// If wagons haven't been heard from, a third table has them, under `silent`, `class`, `status`, `place` and `since`. A name of
 /// `places` stands behind its place.

@@ -1,6 +1,6 @@
 //! What is said of a movement and of an order.
-ghost use Rattle.std.specs.Prelude.{◌≡◌, IfOk, string_bytes};
-ghost use Rattle.movements.specs.Words.{late_words, order_state, outlook_words, outlook_word, spare_words};
+ghost use Rattle.std.specs.Prelude.{◌≡◌, ◌++◌, IfOk, OnOk, string_bytes};
+ghost use Rattle.movements.specs.Words.{late_behind, late_words, order_state, order_words, outlook_words, outlook_word, spare_words};
 
 use crate::need::OrderNeed;
 use crate::outlook::Outlook;
@@ -62,9 +62,33 @@ pub(crate) fn order_state(need: &OrderNeed) -> &'static str
         }
     } else if need.missing > 0 {
         "short"
+    } else if need.late > 0 {
+        "filled late"
     } else if need.filled == need.wanted {
         "filled"
     } else {
         "promised"
     }
+}
+
+/// The same for people: behind it stands by how many minutes the order was filled late.
+pub(crate) fn order_words(alloc: Global, need: &OrderNeed) -> Result<String, AllocError>
+    ensures { IfOk result (λ text. string_bytes text ≡ order_words need.now) }
+{
+    let mut text = String::from_str(alloc, order_state(need))?;
+    push_late(&mut text, need)?;
+    Ok(text)
+}
+
+/// Adds by how many minutes an order was filled late, if it was.
+fn push_late(text: &mut String, need: &OrderNeed) -> Result<(), AllocError>
+    ensures { OnOk result (string_bytes text.new ≡ string_bytes text.old ++ late_behind need.now) }
+{
+    if need.late == 0 {
+        return Ok(());
+    }
+    let mut digits = Buffer::new();
+    text.push_str(" by ")?;
+    text.push_str(digits.format(need.late))?;
+    text.push_str(" min")
 }
