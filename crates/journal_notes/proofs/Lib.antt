@@ -1,5 +1,10 @@
 pub mod Printed
 pub mod WithStreak
 pub mod Waiting
+pub mod WatchRows
+pub mod Watched
+pub mod Overdue
+pub mod Noted
+pub mod Answered
 pub mod TakenEvents
 pub mod Told

@@ -1,12 +1,12 @@
 -- A note tells of each promise that changes.
-use Rattle.std.proofs.Common.{◌≡◌, ◌≢◌, ◌∙◌, ◌⊎◌, ℕ, ◌+◌, Bool, true, false, cond, ◌&&◌, ◌||◌, List, [], ◌∷◌, ◌++◌, length, map, Option, Some, None, Result, Ok, Err, refl, sym, ap, subst, inl, inr, true≢false}
-use Rattle.std.specs.Prelude.{if◌then◌else◌, is_some, nat_lt, option_map, ◌==◌}
+use Rattle.std.proofs.Common.{◌≡◌, ◌≢◌, ◌∙◌, ◌⊎◌, ℕ, Bool, true, false, cond, ◌&&◌, ◌||◌, List, [], ◌∷◌, ◌++◌, length, map, Option, Some, None, Result, Ok, Err, refl, sym, ap, subst, inl, inr, true≢false}
+use Rattle.std.specs.Prelude.{option_map}
 use Rattle.std.specs.List.{flat_map, list_any}
 use Rattle.std.specs.Option.{option_or}
 use Rattle.std.specs.Result.{result_unwrap_or}
 use Rattle.std.proofs.lemmas.List.Folds.{list_any-append}
 use Rattle.std.proofs.lemmas.List.Sums.{fold-append}
-use Rattle.commit_book.specs.BookStep.{BookState, IsStep, entered}
+use Rattle.commit_book.specs.BookStep.{BookState, entered}
 use Rattle.commit_book.specs.Books.{BookValue}
 use Rattle.commit_book.specs.History.{after, replay}
 use Rattle.commit_book.specs.Setting.{Setting}
@@ -37,10 +37,11 @@ use Rattle.wagons_and_orders.specs.declared.change.Change.{Change}
 use Rattle.wagons_and_orders.specs.declared.change.Effect.{Effect}
 use Rattle.wagons_and_orders.specs.declared.change.Effect.TheVariants as effect
 use Rattle.wagons_and_orders.specs.declared.wagon_row.WagonRow.{WagonRow}
-use Rattle.journal_notes.specs.EventNotes.{IsNotedEvent, event_notes, office_of}
+use Rattle.journal_notes.specs.EventNotes.{event_notes, office_of}
 use Rattle.journal_notes.specs.Laws.{IsTold, PromisesAreNoted, promise_in, tells_of}
-use Rattle.journal_notes.specs.MessageNotes.{accepted_notes, cause_of, end_notes, filled_notes, filled_of, known_in, known_of, promise_notes}
+use Rattle.journal_notes.specs.MessageNotes.{accepted_notes, cause_of, filled_notes, filled_of, known_in, known_of, promise_notes}
 use Rattle.journal_notes.specs.OfficeNotes.{commit_notes, complete_notes, promised_note, waiting_names, withdrawn_note}
+use Rattle.journal_notes.specs.OverdueNotes.{overdue_notes}
 use Rattle.journal_notes.specs.Streaks.{StreaksValue}
 use Rattle.journal_notes.specs.declared.note.Note.{Note}
 use Rattle.journal_notes.specs.declared.note.Note.TheVariants.{Delivered, Ended}
@@ -58,6 +59,18 @@ ToldIfChanged number before now notes = before ≢ now → IsTold number (option
 
 unchanged : (number : List ℕ) (before now : Option (List ℕ)) (notes : List Note) → now ≡ before → ToldIfChanged number before now notes
 unchanged number before now notes is differs = absurd (differs (sym is))
+
+-- notes behind those that tell of it
+or_left : (a b : Bool) → a ≡ true → (a || b) ≡ true
+or_left true b is = refl
+or_left false b is = absurd (true≢false (sym is))
+
+is_told_more : (number : List ℕ) (promise : Option (List ℕ)) (notes more : List Note) → IsTold number promise notes → IsTold number promise (notes ++ more)
+is_told_more number None notes more told = told
+is_told_more number (Some order) notes more told = list_any-append (tells_of number order) notes more ∙ or_left _ _ told
+
+told_more : (number : List ℕ) (before now : Option (List ℕ)) (notes more : List Note) → ToldIfChanged number before now notes → ToldIfChanged number before now (notes ++ more)
+told_more number before now notes more told differs = is_told_more number (option_or now before) notes more (told differs)
 
 -- ---- messages
 
@@ -177,10 +190,6 @@ pairs_tell office [] q = inl refl
 pairs_tell office (pair ∷ pairs) q =
     first_then pair pairs q (promise_in office q) (promise_in (promise_pair office pair) q) (promise_in (promise_all (promise_pair office pair) pairs) q) (pair_tells office pair pairs q) (pairs_tell (promise_pair office pair) pairs q)
 
-or_left : (a b : Bool) → a ≡ true → (a || b) ≡ true
-or_left true b is = refl
-or_left false b is = absurd (true≢false (sym is))
-
 commit_told : (office : Office) (pairs : List Pair) (more : List Note) (q : List ℕ) → ToldIfChanged q (promise_in office q) (promise_in (promise_all office pairs) q) (map promised_note pairs ++ more)
 commit_told office pairs more q differs =
     let before = promise_in office q in
@@ -212,8 +221,9 @@ message_moved : (networks : List NetworkValue) (office : Office) (message : move
     → ((change : Change) → r ≡ Ok change → KeepsRow row change) → moved office message.wagon row.promise r ≡ Ok now → EventTold networks office (event.Message message) now streaks n
 message_moved networks office message row (Err fault) now streaks n found keeps h = cc
 message_moved networks office message row (Ok change) now streaks n found keeps h = λ q.
-    subst (λ (new : Office). ToldIfChanged q (promise_in office q) (promise_in new q) (accepted_notes message (known_in office message.wagon) new)) (same_ok (after_change office message.wagon row.promise change) now h)
-    (message_at office message row change found (keeps change refl) q (same message.wagon q) refl)
+    told_more q (promise_in office q) (promise_in now q) (accepted_notes message (known_in office message.wagon) now) (overdue_notes office now)
+    (subst (λ (new : Office). ToldIfChanged q (promise_in office q) (promise_in new q) (accepted_notes message (known_in office message.wagon) new)) (same_ok (after_change office message.wagon row.promise change) now h)
+    (message_at office message row change found (keeps change refl) q (same message.wagon q) refl))
 
 message_told : (networks : List NetworkValue) (office : Office) (message : movement.Message) (row : Option WagonRow) (now : Office) (streaks : StreaksValue) (n : ℕ) → wagon_in office.wagons message.wagon ≡ row
     → message_to office message row ≡ Ok now → EventTold networks office (event.Message message) now streaks n

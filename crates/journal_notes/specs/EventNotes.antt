@@ -1,5 +1,5 @@
 -- What is noted of an event, by the office before it, its answer, and the office after it.
-use Rattle.std.specs.Prelude.{◌≡◌, Bool, true, false, if◌then◌else◌, List, [], Option, Some, None}
+use Rattle.std.specs.Prelude.{◌≡◌, Bool, true, false, if◌then◌else◌, List, [], ◌++◌, Option, Some, None}
 use Rattle.commit_book.specs.BookStep.{IsCall, IsStep}
 use Rattle.commit_book.specs.Books.{BookValue, present_office}
 use Rattle.commit_book.specs.declared.answer.Answer.{Answer}
@@ -18,6 +18,7 @@ use Rattle.operating_db.specs.Office.{Office}
 use Rattle.journal_notes.specs.MessageNotes.{accepted_notes, known_in, refused_notes}
 use Rattle.journal_notes.specs.OfficeNotes.{commit_notes, withdrawal_notes}
 use Rattle.journal_notes.specs.OrderNotes.{order_notes}
+use Rattle.journal_notes.specs.OverdueNotes.{overdue_notes}
 use Rattle.journal_notes.specs.Streaks.{IsWithStreak, StreaksValue, one_more, streak_of}
 use Rattle.journal_notes.specs.declared.known_wagon.KnownWagon.{KnownWagon}
 use Rattle.journal_notes.specs.declared.note.Note.{Note}
@@ -58,9 +59,10 @@ StreaksOfMessage message (Refused refusal) old new = StreaksRefused message refu
 
 -- ---- events
 
--- the notes of an event, where these are the networks
+-- the notes of an event, where these are the networks; orders that an accepted message makes overdue stand behind the message's own
 abbrev pub event_notes : List NetworkValue → (before : Office) → Event → Answer → (after : Office) → StreaksValue → List Note
-event_notes networks before (event.Message message) answer after streaks = message_notes message answer (known_in before message.wagon) after (streak_of streaks message.wagon)
+event_notes networks before (event.Message message) answer after streaks =
+    message_notes message answer (known_in before message.wagon) after (streak_of streaks message.wagon) ++ (if is_accepted answer then overdue_notes before after else [])
 event_notes networks before (event.Place order) answer after streaks = if is_accepted answer then order_notes networks before.wagons order else []
 event_notes networks before (event.Withdraw id) answer after streaks = if is_accepted answer then withdrawal_notes before id else []
 event_notes networks before (event.Commit commit) answer after streaks = if is_accepted answer then commit_notes before after commit.pairs else []

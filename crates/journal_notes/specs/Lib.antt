@@ -7,7 +7,11 @@ pub mod Streaks
 pub mod MessageNotes
 pub mod OfficeNotes
 pub mod NoteLines
+pub mod OverdueNotes
 pub mod EventNotes
+pub mod Watches
+pub mod EventBefore
+pub mod NotesOf
 pub mod NotedJournal
 pub mod Laws
 pub mod inner

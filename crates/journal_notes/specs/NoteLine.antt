@@ -1,5 +1,5 @@
--- A note as a line of JSON: an object with the number of its line, the word that says its kind, and its members, in this order.
-use Rattle.std.specs.Prelude.{◌≡◌, ℕ, List, codes}
+-- A note as a line of JSON: an object with the number of its file, where there is more than one, the number of its line, the word that says its kind, and its members, in this order.
+use Rattle.std.specs.Prelude.{◌≡◌, ℕ, List, Option, Some, None, codes}
 use Rattle.serde_json.specs.Data.{Data, string, object, Members, no_members, member}
 use Rattle.serde_json.specs.Written.{compact_text}
 use Rattle.line_fields.specs.Written.{number_data}
@@ -10,7 +10,8 @@ use Rattle.journal_notes.specs.declared.note.EndCause.TheVariants.{Held, Elsewhe
 use Rattle.journal_notes.specs.declared.note.EndedPromise.{EndedPromise}
 use Rattle.journal_notes.specs.declared.note.LatestOfOrder.{LatestOfOrder}
 use Rattle.journal_notes.specs.declared.note.Note.{Note}
-use Rattle.journal_notes.specs.declared.note.Note.TheVariants.{Promised, Complete, Delivered, Filled, Ended, Short, Refused, UnknownPlace, NoClass, NoCarrier, Past, Ahead}
+use Rattle.journal_notes.specs.declared.note.Note.TheVariants.{Promised, Complete, Delivered, Filled, Ended, Short, Refused, UnknownPlace, NoClass, NoCarrier, Past, Overdue, Ahead}
+use Rattle.journal_notes.specs.declared.note.OverdueOrder.{OverdueOrder}
 use Rattle.journal_notes.specs.declared.note.RefusedMessage.{RefusedMessage}
 use Rattle.journal_notes.specs.declared.note.WagonForOrder.{WagonForOrder}
 use Rattle.journal_notes.specs.StatusNames.{name_word}
@@ -28,6 +29,7 @@ note_word (UnknownPlace order) = codes "place"
 note_word (NoClass named) = codes "class"
 note_word (NoCarrier order) = codes "load"
 note_word (Past order) = codes "past"
+note_word (Overdue order) = codes "overdue"
 note_word (Ahead message) = codes "ahead"
 
 -- why a promise ended
@@ -85,6 +87,19 @@ pub record AreLatestMembers (order : LatestOfOrder) (members : Members) : Type 0
   pub moment : IsMomentText order.latest latest
   pub whole : members ≡ text_members order.order (codes "latest") latest
 
+-- an order that is overdue, with the text of its latest moment
+abbrev pub overdue_members : OverdueOrder → (latest : List ℕ) → Members
+overdue_members order latest =
+    member (codes "order") (string order.order)
+    (member (codes "latest") (string latest)
+    (member (codes "missing") (number_data order.missing)
+    (member (codes "promised") (number_data order.promised) no_members)))
+
+pub record AreOverdueMembers (order : OverdueOrder) (members : Members) : Type 0 where
+  pub latest : List ℕ
+  pub moment : IsMomentText order.latest latest
+  pub whole : members ≡ overdue_members order latest
+
 -- a message that is ahead, with the text of its moment
 abbrev pub ahead_members : HeardMessage → (moment : List ℕ) → Members
 ahead_members message moment =
@@ -110,19 +125,25 @@ AreMembers (UnknownPlace order) members = members ≡ text_members order.order (
 AreMembers (NoClass named) members = members ≡ order_members named.order
 AreMembers (NoCarrier order) members = members ≡ number_members order.order (codes "load") order.load
 AreMembers (Past order) members = AreLatestMembers order members
+AreMembers (Overdue order) members = AreOverdueMembers order members
 AreMembers (Ahead message) members = AreAheadMembers message members
 
 -- ---- lines
 
-abbrev pub note_data : (line : ℕ) → (word : List ℕ) → Members → Data
-note_data line word members = object (member (codes "line") (number_data line) (member (codes "note") (string word) members))
+-- the number of a file before the other members, where there is one
+abbrev pub with_file : (file : Option ℕ) → Members → Members
+with_file None members = members
+with_file (Some number) members = member (codes "file") (number_data number) members
+
+abbrev pub note_data : (file : Option ℕ) → (line : ℕ) → (word : List ℕ) → Members → Data
+note_data file line word members = object (with_file file (member (codes "line") (number_data line) (member (codes "note") (string word) members)))
 
 -- an object of JSON with no space in it, without its line feed
-abbrev pub object_text : (line : ℕ) → (word : List ℕ) → Members → List ℕ
-object_text line word members = compact_text (note_data line word members)
+abbrev pub object_text : (file : Option ℕ) → (line : ℕ) → (word : List ℕ) → Members → List ℕ
+object_text file line word members = compact_text (note_data file line word members)
 
--- the text of a note at the line of this number, without its line feed
-pub record IsNoteText (line : ℕ) (note : Note) (text : List ℕ) : Type 0 where
+-- the text of a note at the line of this number, of this file where there is more than one, without its line feed
+pub record IsNoteText (file : Option ℕ) (line : ℕ) (note : Note) (text : List ℕ) : Type 0 where
   pub members : Members
   pub of_note : AreMembers note members
-  pub whole : text ≡ object_text line (note_word note) members
+  pub whole : text ≡ object_text file line (note_word note) members

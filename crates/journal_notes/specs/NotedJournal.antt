@@ -1,5 +1,5 @@
 -- What the notes of a journal have come to, and what a line adds to them.
-use Rattle.std.specs.Prelude.{◌≡◌, ◌⊎◌, ℕ, Bool, true, nat_lt, List, [], ◌++◌, length, Result, Ok, Err}
+use Rattle.std.specs.Prelude.{◌≡◌, ◌⊎◌, ℕ, Bool, true, nat_lt, List, [], ◌++◌, length, None, Result, Ok, Err}
 use Rattle.commit_book.specs.BookStep.{IsStep}
 use Rattle.commit_book.specs.Books.{BookValue}
 use Rattle.commit_book.specs.declared.answer.Answer.TheVariants.{Begun}
@@ -92,10 +92,10 @@ IsBroughtInPart old bytes new = (new ≡ old) ⊎ ReadCalls old (command_of byte
 pub record IsNoted (line : ℕ) (old : JournalValue) (bytes : List ℕ) (text : List ℕ) (new : JournalValue) : Type 0 where
   pub notes : List Note
   pub noted : NotesLine line old bytes notes new
-  pub lines : AreLines (IsNoteLine line) notes text
+  pub lines : AreLines (IsNoteLine None line) notes text
 
 -- What is written of a line that isn't blank. Such a line counts where it has a note.
 abbrev pub WritesNotes : (line : ℕ) → JournalValue → (bytes text : List ℕ) → (counts : Bool) → JournalValue → Type 0
 WritesNotes line old bytes text counts new =
     (IsNoted line old bytes text new × (counts ≡ nat_lt 0 (length text)))
-    ⊎ (IsBroughtInPart old.book bytes new.book × (text ≡ memory_line line) × (counts ≡ true))
+    ⊎ (IsBroughtInPart old.book bytes new.book × (text ≡ memory_line None line) × (counts ≡ true))

@@ -19,7 +19,7 @@ pub struct Heard {
 
 impl Heard {
     /// Before the first message.
-    pub(crate) fn nothing() -> Heard
+    pub fn nothing() -> Heard
         ensures { result ≡ nothing_heard }
     {
         Heard {
@@ -29,7 +29,7 @@ impl Heard {
     }
 
     /// The last two messages behind a line with this event.
-    pub(crate) fn by_event(self, line: u64, event: &Event) -> Heard
+    pub fn by_event(self, line: u64, event: &Event) -> Heard
         ensures { result ≡ heard_by_event line self event.now }
     {
         match event {
@@ -42,11 +42,7 @@ impl Heard {
     }
 
     /// Adds, at a message of this moment, the note that the message before it is ahead. `Err` only when out of memory.
-    pub(crate) fn push_ahead_note(
-        &self,
-        notes: &mut Vec<Note>,
-        after: Moment,
-    ) -> Result<(), AllocError>
+    pub fn push_ahead_note(&self, notes: &mut Vec<Note>, after: Moment) -> Result<(), AllocError>
         ensures { OnOk result (notes.new.items ≡ notes.old.items ++ ahead_notes self.now after) }
     {
         let Some(before) = self.before_last else {
@@ -75,7 +71,7 @@ fn heard_at(line: u64, message: &Message) -> HeardMessage
 }
 
 /// Whether a moment is a day or more ahead of the one before it and of the one after it.
-fn is_ahead(before: Moment, this: Moment, after: Moment) -> bool
+pub fn is_ahead(before: Moment, this: Moment, after: Moment) -> bool
     ensures { result ≡ is_ahead before this after }
 {
     before.seconds() + DAY <= this.seconds() && after.seconds() + DAY <= this.seconds()

@@ -28,6 +28,8 @@ pub enum Note {
     NoCarrier(LoadOfOrder),
     /// The latest moment of an order was past when it was placed.
     Past(LatestOfOrder),
+    /// An open order became overdue: its latest moment lies before that of some wagon's last message.
+    Overdue(OverdueOrder),
     /// A message is a day or more ahead of those around it.
     Ahead(HeardMessage),
 }
@@ -111,6 +113,15 @@ pub struct LoadOfOrder {
 pub struct LatestOfOrder {
     pub order: OrderId,
     pub latest: Moment,
+}
+
+/// An order that is overdue: its latest moment, how many wagons it is missing, and how many are promised to it.
+#[derive(Clone, Copy)]
+pub struct OverdueOrder {
+    pub order: OrderId,
+    pub latest: Moment,
+    pub missing: u32,
+    pub promised: usize,
 }
 
 /// A message by its line, with its wagon and its moment.

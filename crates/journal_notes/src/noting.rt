@@ -10,7 +10,7 @@ use crate::events::bring_event;
 use crate::heard::Heard;
 use crate::note::Note;
 use crate::note_lines::{outcome_of, write_memory_line, write_notes};
-use crate::streaks::Streaks;
+use crate::watch::Watch;
 use commit_book::Book;
 use line_engine::{
     LineLimit, Outcome, ReplyText, Responder, RunCount, RunFault, Sink, Source, run_replies,
@@ -26,25 +26,27 @@ use std::marker::Model;
 #[derive(Clone, Copy)]
 pub struct NotesOfLines;
 
-/// What the notes of a journal have come to: the book, the messages of each wagon that were refused in a row, and the last two
-/// messages.
+/// What the notes of a journal have come to: the book, what its notes remember of it, and the last two messages. A contract sees of
+/// the watch the messages of each wagon that were refused in a row.
 #[derive(Drop)]
 pub struct NotedJournal {
     book: Book,
     networks: Vec<Network>,
-    streaks: Streaks,
+    watch: Watch,
     heard: Heard,
 }
 
 impl Model for NotedJournal {
     ghost use Rattle.std.specs.Prelude.{◌≡◌};
+    ghost use Rattle.journal_notes.specs.EventNotes.{office_of};
     ghost use Rattle.journal_notes.specs.NotedJournal.{JournalValue};
+    ghost use Rattle.journal_notes.specs.Watches.{IsWatchOf};
 
     ghost Value = { JournalValue };
 
-    ghost view = { λ journal. record { book = journal.book; streaks = journal.streaks; heard = journal.heard } };
+    ghost view = { λ journal. record { book = journal.book; streaks = journal.watch.streaks; heard = journal.heard } };
 
-    ghost invariant = { λ journal. journal.networks.items ≡ journal.book.setting.networks };
+    ghost invariant = { λ journal. (journal.networks.items ≡ journal.book.setting.networks) × IsWatchOf (office_of journal.book) journal.watch };
 }
 
 impl NotedJournal {
@@ -53,12 +55,20 @@ impl NotedJournal {
         requires { networks.items ≡ book.setting.networks }
         ensures { result ≡ first_journal book }
     {
+        let watch = Watch::of(alloc, book.state());
         NotedJournal {
             book,
             networks,
-            streaks: Streaks::none(alloc),
+            watch,
             heard: Heard::nothing(),
         }
+    }
+
+    /// The book, lent.
+    pub fn book(&self) -> &Book
+        ensures { result.now ≡ self.now.book }
+    {
+        &self.book
     }
 
     /// The book, as the lines left it.
@@ -69,7 +79,12 @@ impl NotedJournal {
     }
 
     /// Brings a line to the book: its notes. `Err` only when out of memory; the line may have been brought then.
-    fn take_line(&mut self, alloc: Global, line: u64, bytes: &[u8]) -> Result<Vec<Note>, AllocError>
+    pub fn take_line(
+        &mut self,
+        alloc: Global,
+        line: u64,
+        bytes: &[u8],
+    ) -> Result<Vec<Note>, AllocError>
         ensures notes { IfOk result (λ notes. NotesLine line self.old bytes.now notes.items self.new) }
         ensures book { IsBroughtInPart self.old.book bytes.now self.new.book }
     {
@@ -122,7 +137,7 @@ impl NotedJournal {
             alloc,
             &mut self.book,
             &self.networks,
-            &mut self.streaks,
+            &mut self.watch,
             event,
         );
         self.heard = before.by_event(line, event);
@@ -130,8 +145,8 @@ impl NotedJournal {
     }
 }
 
-/// The notes of an event, and behind them the one of the message before it.
-fn with_ahead_note(
+/// The notes of an event, and behind them the one of the message before it. `Err` only when out of memory.
+pub fn with_ahead_note(
     heard: &Heard,
     event: &Event,
     said: Result<Vec<Note>, AllocError>,
@@ -170,10 +185,10 @@ impl Responder for NotesOfLines {
     ) -> Outcome {
         reply.clear();
         let notes = journal.take_line(alloc, number, line);
-        match write_notes(alloc, reply, number, notes) {
+        match write_notes(alloc, reply, None, number, notes) {
             Ok(()) => outcome_of(reply),
             Err(_) => {
-                write_memory_line(reply, number);
+                write_memory_line(reply, None, number);
                 Outcome::Refused
             }
         }

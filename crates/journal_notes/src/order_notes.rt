@@ -1,5 +1,5 @@
 //! The notes of an order that a line places. `Err` only when out of memory; some notes may be there then.
-ghost use Rattle.std.specs.Prelude.{◌≡◌, ◌++◌, OnOk};
+ghost use Rattle.std.specs.Prelude.{◌≡◌, ◌++◌, IfOk, OnOk};
 ghost use Rattle.std.specs.List.{list_any};
 ghost use Rattle.journal_notes.specs.OrderNotes.{carries_load, has_place, is_before_last, is_of_listed_class, is_past, lacks_class, lacks_load, lacks_place, class_notes, load_notes, order_notes, past_notes, place_notes};
 
@@ -8,11 +8,25 @@ use crate::note_lists::push_if;
 use line_network::Network;
 use move_messages::OrderText;
 use rail_codes::Place;
-use std::alloc::AllocError;
+use std::alloc::{AllocError, Global};
 use wagons_and_orders::{WagonRow, accepts};
 
+/// The notes of an order, by the networks and by the wagons of the office before it is placed.
+pub(crate) fn order_notes(
+    alloc: Global,
+    networks: &[Network],
+    wagons: &[WagonRow],
+    order: &OrderText,
+) -> Result<Vec<Note>, AllocError>
+    ensures { IfOk result (λ notes. notes.items ≡ order_notes networks.now wagons.now order.now) }
+{
+    let mut notes = Vec::new(alloc);
+    push_order_notes(&mut notes, networks, wagons, order)?;
+    Ok(notes)
+}
+
 /// Adds the notes of an order, by the networks and by the wagons of the office before it is placed.
-pub(crate) fn push_order_notes(
+fn push_order_notes(
     notes: &mut Vec<Note>,
     networks: &[Network],
     wagons: &[WagonRow],

@@ -11,5 +11,5 @@ returns c =
     (λ text is. record {
       members = ahead_members message moment;
       of_note = record { text = moment; moment = c.in_ok-moment.ensures.printed; whole = refl };
-      whole = is ∙ ap (λ t. object_text c.args.line (codes "ahead") (ahead_members message t)) c.deref.ensures;
+      whole = is ∙ ap (λ t. object_text c.args.file c.args.line (codes "ahead") (ahead_members message t)) c.deref.ensures;
     }) c.ahead_text.ensures

@@ -7,4 +7,4 @@ use Rattle.journal_notes.proofs.line_text.named_line.Goals as goal
 pub returns : goal.returns
 returns c =
     IfOk-weaker c.end_note.result _ _
-    (λ text is. one_member c.args.line c.args.word.now (codes "order") (string c.args.named.now.order) _ _ (string_bytes text) c.in_ok-out.ensures.tokens (c.in_ok-write_code.ensures {u = tt}).tokens is) c.end_note.ensures
+    (λ text is. one_member c.args.file c.args.line c.args.word.now (codes "order") (string c.args.named.now.order) _ _ (string_bytes text) c.in_ok-out.ensures.tokens (c.in_ok-write_code.ensures {u = tt}).tokens is) c.end_note.ensures

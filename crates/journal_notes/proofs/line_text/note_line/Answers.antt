@@ -48,7 +48,7 @@ returns-in-Short c =
     rw c.in-Short.is (IfOk-weaker c.number_line-in-Short.result _ _ (λ text is. record {
       members = number_members c.in-Short.short.order (codes "missing") c.in-Short.short.missing;
       of_note = refl;
-      whole = is ∙ ap (λ n. object_text c.args.line (codes "short") (number_members c.in-Short.short.order (codes "missing") n)) c.from-missing.ensures;
+      whole = is ∙ ap (λ n. object_text c.args.file c.args.line (codes "short") (number_members c.in-Short.short.order (codes "missing") n)) c.from-missing.ensures;
     }) c.number_line-in-Short.ensures)
 
 pub returns-in-UnknownPlace : goal.returns-in-UnknownPlace
@@ -56,7 +56,7 @@ returns-in-UnknownPlace c =
     rw c.in-UnknownPlace.is (IfOk-weaker c.text_line.result _ _ (λ text is. record {
       members = text_members c.in-UnknownPlace.order.order (codes "place") c.in-UnknownPlace.order.place;
       of_note = refl;
-      whole = is ∙ ap (λ t. object_text c.args.line (codes "place") (text_members c.in-UnknownPlace.order.order (codes "place") t)) c.code_str.ensures.value;
+      whole = is ∙ ap (λ t. object_text c.args.file c.args.line (codes "place") (text_members c.in-UnknownPlace.order.order (codes "place") t)) c.code_str.ensures.value;
     }) c.text_line.ensures)
 
 pub returns-in-NoClass : goal.returns-in-NoClass
@@ -72,5 +72,5 @@ returns-in-NoCarrier c =
     rw c.in-NoCarrier.is (IfOk-weaker c.number_line-in-NoCarrier.result _ _ (λ text is. record {
       members = number_members c.in-NoCarrier.order.order (codes "load") c.in-NoCarrier.order.load;
       of_note = refl;
-      whole = is ∙ ap (λ n. object_text c.args.line (codes "load") (number_members c.in-NoCarrier.order.order (codes "load") n)) c.from-load.ensures;
+      whole = is ∙ ap (λ n. object_text c.args.file c.args.line (codes "load") (number_members c.in-NoCarrier.order.order (codes "load") n)) c.from-load.ensures;
     }) c.number_line-in-NoCarrier.ensures)

@@ -7,5 +7,5 @@ use Rattle.journal_notes.proofs.line_text.pair_line.Goals as goal
 pub returns : goal.returns
 returns c =
     IfOk-weaker c.end_note.result _ _
-    (λ text is. two_members c.args.line c.args.word.now (codes "wagon") (string c.args.pair.now.wagon) (codes "order") (string c.args.pair.now.order) _ _ _ (string_bytes text)
+    (λ text is. two_members c.args.file c.args.line c.args.word.now (codes "wagon") (string c.args.pair.now.wagon) (codes "order") (string c.args.pair.now.order) _ _ _ (string_bytes text)
     c.in_ok-out.ensures.tokens (c.in_ok-write_code.ensures {u = tt}).tokens (c.in_ok-write_code-2.ensures {u = tt}).tokens is) c.end_note.ensures

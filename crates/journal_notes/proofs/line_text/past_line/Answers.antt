@@ -11,5 +11,5 @@ returns c =
     (λ text is. record {
       members = text_members order.order (codes "latest") latest;
       of_note = record { latest = latest; moment = c.in_ok-latest.ensures.printed; whole = refl };
-      whole = is ∙ ap (λ t. object_text c.args.line (codes "past") (text_members order.order (codes "latest") t)) c.deref.ensures;
+      whole = is ∙ ap (λ t. object_text c.args.file c.args.line (codes "past") (text_members order.order (codes "latest") t)) c.deref.ensures;
     }) c.text_line.ensures

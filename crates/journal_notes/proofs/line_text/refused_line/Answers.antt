@@ -12,5 +12,5 @@ returns c =
     (λ text is. record {
       members = refused_members message last since;
       of_note = record { last = last; since = since; last_moment = c.in_ok-last.ensures.printed; since_moment = c.in_ok-since.ensures.printed; whole = refl };
-      whole = is ∙ ap₂ (λ l s. object_text c.args.line (codes "refused") (refused_members message l s)) c.deref.ensures c.deref-2.ensures;
+      whole = is ∙ ap₂ (λ l s. object_text c.args.file c.args.line (codes "refused") (refused_members message l s)) c.deref.ensures c.deref-2.ensures;
     }) c.refused_text.ensures

@@ -5,7 +5,7 @@ use Rattle.journal_notes.proofs.note_lines.push_lines.Goals as goal
 
 pub loop-note-preserved : goal.loop-note-preserved
 loop-note-preserved c =
-    let is_line = IsNoteLine c.args.line in
+    let is_line = IsNoteLine c.args.file c.args.line in
     let notes = c.args.notes.now in
     let i = c.loop-note.note-index in
     let note = c.note-item.result in
