@@ -1,21 +1,12 @@
 -- Notes that are added to a text part by part.
-use Rattle.std.proofs.Common.{◌≡◌, ℕ, Bool, true, false, List, [], ◌∷◌, ◌++◌, Option, Some, Result, Ok, Err, codes, decimal, refl, sym, ap, ◌∙◌, subst, append_assoc, append-nil}
-use Rattle.std.specs.List.{flat_map}
-use Rattle.move_messages.specs.Order.{Order}
-use Rattle.line_fields.specs.declared.command.Command.{Command}
-use Rattle.serde_json.specs.Data.{Data}
-use Rattle.line_fields.specs.declared.fault.LineFault.{LineFault}
-use Rattle.wagons_and_orders.specs.declared.wagon_row.WagonRow.{WagonRow}
-use Rattle.line_network.specs.Network.{NetworkValue}
+use Rattle.std.proofs.Common.{◌≡◌, ℕ, Bool, true, List, [], ◌∷◌, ◌++◌, Option, Some, codes, decimal, refl, sym, ap, ◌∙◌, subst, append_assoc}
 use Rattle.reply_texts.specs.Lines.{Adds}
 use Rattle.reply_texts.specs.Words.{IsMomentWord, next_word}
+use Rattle.journal_notes.specs.Heard.{is_ahead}
 use Rattle.office.specs.NoteText.{NotedIf, note, note_head}
-use Rattle.office.specs.OrderNotes.{AreOrderNotes, IsPastNote, class_note, is_past, load_note, place_note}
-use Rattle.office.specs.MemberNotes.{fields_of, member_notes}
-use Rattle.office.specs.AheadNotes.{AheadBetween, AheadNotes, IsAheadNote, is_ahead}
-use Rattle.office.specs.CommandNotes.{AheadNotesOf, AreCommandNotes, OrderNotesOf}
-use Rattle.office.specs.declared.heard.Heard.{Heard}
-use Rattle.office.specs.declared.heard.HeardMessage.{HeardMessage}
+use Rattle.office.specs.AheadNotes.{AheadBetween, AheadNotes, IsAheadNote}
+use Rattle.journal_notes.specs.declared.heard.Heard.{Heard}
+use Rattle.journal_notes.specs.declared.note.HeardMessage.{HeardMessage}
 
 -- ---- a note that may be none
 

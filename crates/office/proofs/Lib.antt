@@ -3,3 +3,4 @@ pub mod Plans
 mod Adding
 mod ReadNotes
 mod Reviewed
+mod TakenLines

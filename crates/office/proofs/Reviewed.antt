@@ -14,7 +14,7 @@ use Rattle.office.specs.CommandReplies.{LineRunsOutOfMemory, RepliesToLine}
 use Rattle.office.specs.CommandNotes.{AreLineNotes}
 use Rattle.office.specs.Fullness.{entries_note, lines_note}
 use Rattle.office.specs.Reviews.{IsReviewed, IsReviewedInPart, ReviewValue, heard_by, known_before}
-use Rattle.office.specs.declared.heard.Heard.{Heard}
+use Rattle.journal_notes.specs.declared.heard.Heard.{Heard}
 use Rattle.office.proofs.ReadNotes.{read_is}
 
 heard_either : (line : ℕ) (old new : Heard) (read known : Result Command LineFault) → Gives (λ (command : Command). command) read known → new ≡ heard_by line old read

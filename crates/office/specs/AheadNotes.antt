@@ -1,27 +1,10 @@
--- What is noted of a message that is ahead of those around it. The messages of a journal are the lines that are read as one,
--- whatever they are answered.
-use Rattle.std.specs.Prelude.{◌≡◌, ℕ, ◌+◌, Bool, ◌&&◌, nat_le, List, [], ◌++◌, codes, decimal, Option, Some, None}
-use Rattle.move_messages.specs.declared.message.Message as movement
+-- What is noted of a message that is ahead of those around it, as text.
+use Rattle.std.specs.Prelude.{◌≡◌, ℕ, List, [], ◌++◌, codes, decimal, Option, Some, None}
 use Rattle.reply_texts.specs.Words.{IsMomentWord, next_word}
+use Rattle.journal_notes.specs.Heard.{is_ahead}
+use Rattle.journal_notes.specs.declared.heard.Heard.{Heard}
+use Rattle.journal_notes.specs.declared.note.HeardMessage.{HeardMessage}
 use Rattle.office.specs.NoteText.{NotedIf, note}
-use Rattle.office.specs.declared.heard.HeardMessage.{HeardMessage}
-use Rattle.office.specs.declared.heard.Heard.{Heard}
-
--- a day in seconds
-abbrev pub day : ℕ
-day = 86_400
-
--- a moment that is a day or more ahead of both the one before it and the one after it
-abbrev pub is_ahead : (before this after : ℕ) → Bool
-is_ahead before this after = nat_le (before + day) this && nat_le (after + day) this
-
--- the message of a line
-abbrev pub heard_at : (line : ℕ) → movement.Message → HeardMessage
-heard_at line message = record { line = line; wagon = message.wagon; moment = message.moment }
-
--- the last two messages, with this one the last
-abbrev pub heard_after : Heard → HeardMessage → Heard
-heard_after heard message = record { last = Some message; before_last = heard.last }
 
 pub record IsAheadNote (line : ℕ) (ahead : HeardMessage) (text : List ℕ) : Type 0 where
   pub moment : List ℕ

@@ -15,7 +15,7 @@ use Rattle.office.specs.OrderNotes.{AreOrderNotes}
 use Rattle.office.specs.MemberNotes.{fields_of, member_notes}
 use Rattle.office.specs.AheadNotes.{AheadNotes}
 use Rattle.office.specs.LineNotes.{mark_note, open_note}
-use Rattle.office.specs.declared.heard.Heard.{Heard}
+use Rattle.journal_notes.specs.declared.heard.Heard.{Heard}
 
 -- What is known before a line: the networks, the names of places, the wagons of the office, and the last two messages.
 pub record KnownBefore : Type 0 where

@@ -8,4 +8,6 @@ pub mod CommandNotes
 pub mod Fullness
 pub mod Reviews
 pub mod JournalEnd
+pub mod NoteSinks
+pub mod NotedRuns
 pub mod inner

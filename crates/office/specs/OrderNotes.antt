@@ -1,50 +1,14 @@
--- What is noted of an order that a line places. The wagons are those of the office before the line.
-use Rattle.std.specs.Prelude.{◌≡◌, ℕ, Bool, ◌&&◌, not, nat_lt, nat_le, is_some, List, [], ◌++◌, codes, decimal}
-use Rattle.std.specs.List.{flat_map, list_any}
+-- What is noted of an order that a line places, as text. The wagons are those of the office before the line.
+use Rattle.std.specs.Prelude.{◌≡◌, ℕ, List, ◌++◌, codes, decimal}
+use Rattle.std.specs.List.{flat_map}
 use Rattle.move_messages.specs.Order.{Order}
 use Rattle.wagons_and_orders.specs.declared.wagon_row.WagonRow.{WagonRow}
-use Rattle.wagons_and_orders.specs.Listed.{is_listed}
-use Rattle.line_network.specs.Network.{NetworkValue, place_index}
+use Rattle.line_network.specs.Network.{NetworkValue}
 use Rattle.place_names.specs.Names.{name_of, name_word}
 use Rattle.place_names.specs.declared.named_place.NamedPlace.{NamedPlace}
 use Rattle.reply_texts.specs.Words.{IsMomentWord, next_word}
+use Rattle.journal_notes.specs.OrderNotes.{is_past, lacks_class, lacks_load, lacks_place}
 use Rattle.office.specs.NoteText.{NotedIf, note, noted}
-
--- ---- the conditions
-
--- whether a network has the place
-abbrev pub has_place : List NetworkValue → (place : List ℕ) → Bool
-has_place networks place = list_any (λ network. is_some (place_index network.places place)) networks
-
--- whether the order lists the wagon's class
-abbrev pub is_of_listed_class : Order → WagonRow → Bool
-is_of_listed_class order wagon = is_listed order.classes wagon.class
-
--- whether the wagon is of a listed class and carries the load
-abbrev pub carries_load : Order → WagonRow → Bool
-carries_load order wagon = is_listed order.classes wagon.class && nat_le order.load wagon.load_limit
-
--- whether the order's latest moment lies before that of the wagon's last message
-abbrev pub is_before_last : Order → WagonRow → Bool
-is_before_last order wagon = nat_lt order.latest wagon.last
-
--- no network has the place
-abbrev pub lacks_place : List NetworkValue → Order → Bool
-lacks_place networks order = not (has_place networks order.place)
-
--- no wagon is of a listed class
-abbrev pub lacks_class : List WagonRow → Order → Bool
-lacks_class wagons order = not (list_any (is_of_listed_class order) wagons)
-
--- a wagon is of a listed class, and none of these carries the load
-abbrev pub lacks_load : List WagonRow → Order → Bool
-lacks_load wagons order = list_any (is_of_listed_class order) wagons && not (list_any (carries_load order) wagons)
-
--- the latest moment lies before that of some wagon's last message
-abbrev pub is_past : List WagonRow → Order → Bool
-is_past wagons order = list_any (is_before_last order) wagons
-
--- ---- the notes
 
 -- a place, and its name behind it where it has one
 abbrev pub place_words : List NamedPlace → (place : List ℕ) → List ℕ

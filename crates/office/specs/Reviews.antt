@@ -1,22 +1,20 @@
 -- What a review writes of a line, and what the line does to the office.
-use Rattle.std.specs.Prelude.{◌≡◌, ◌⊎◌, ℕ, Bool, true, nat_lt, List, [], ◌++◌, length, codes, None, Result, Ok, Err}
+use Rattle.std.specs.Prelude.{◌≡◌, ◌⊎◌, ℕ, Bool, true, nat_lt, List, [], ◌++◌, length, codes, Result, Ok, Err}
 use Rattle.line_fields.specs.Commands.{command_of}
 use Rattle.line_fields.specs.declared.fault.LineFault.{LineFault}
 use Rattle.line_fields.specs.declared.command.Command.{Command}
 use Rattle.line_fields.specs.declared.command.Command.TheVariants as command
-use Rattle.move_messages.specs.declared.event.Event.{Event}
-use Rattle.move_messages.specs.declared.event.Event.TheVariants as event
 use Rattle.wagons_and_orders.specs.declared.wagon_row.WagonRow.{WagonRow}
 use Rattle.commit_book.specs.Books.{BookValue}
 use Rattle.commit_book.specs.History.{replay}
 use Rattle.place_names.specs.declared.named_place.NamedPlace.{NamedPlace}
 use Rattle.line_engine.specs.Replies.{Responds}
+use Rattle.journal_notes.specs.Heard.{heard_by_event, nothing_heard}
+use Rattle.journal_notes.specs.declared.heard.Heard.{Heard}
 use Rattle.office.specs.CommandReplies.{RepliesToLine, LineRunsOutOfMemory}
 use Rattle.office.specs.NoteText.{note}
-use Rattle.office.specs.AheadNotes.{heard_after, heard_at}
 use Rattle.office.specs.CommandNotes.{AreLineNotes, KnownBefore}
 use Rattle.office.specs.Fullness.{entries_note, lines_note}
-use Rattle.office.specs.declared.heard.Heard.{Heard}
 
 -- What a review has come to: the book; the names of places, which stay; the number of the last line that wasn't blank, 0 before
 -- the first; and the last two messages.
@@ -28,16 +26,9 @@ pub record ReviewValue : Type 0 where
 
 -- of a book, with these names of places, before the first line
 abbrev pub first_review : BookValue → List NamedPlace → ReviewValue
-first_review book named = record { book = book; named = named; line = 0; heard = record { last = None; before_last = None } }
+first_review book named = record { book = book; named = named; line = 0; heard = nothing_heard }
 
 -- ---- lines
-
-abbrev pub heard_by_event : (line : ℕ) → Heard → Event → Heard
-heard_by_event line heard (event.Message message) = heard_after heard (heard_at line message)
-heard_by_event line heard (event.Place order) = heard
-heard_by_event line heard (event.Withdraw id) = heard
-heard_by_event line heard (event.Commit commit) = heard
-heard_by_event line heard (event.Revise network) = heard
 
 -- the last two messages behind a line
 abbrev pub heard_by : (line : ℕ) → Heard → Result Command LineFault → Heard

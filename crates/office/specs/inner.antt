@@ -3,3 +3,4 @@ pub mod Counted
 pub mod KnownValues
 pub mod OutOfMemory
 pub mod Reviewing
+pub mod NotedReads

@@ -5,6 +5,7 @@ ghost use Rattle.commit_book.specs.Headline.{IsProved};
 ghost use Rattle.commit_book.specs.declared.answer.Answer.TheVariants.{Refused};
 ghost use Rattle.faults.specs.declared.faults.Refusal.TheVariants.{OutOfMemory};
 ghost use Rattle.line_engine.specs.Lines.{max_line_bytes};
+ghost use Rattle.line_fields.specs.declared.command.Command.TheVariants as command;
 ghost use Rattle.line_engine.specs.Outcome.{is_refusal};
 ghost use Rattle.line_engine.specs.Replies.{IsAnswered, max_head_bytes};
 ghost use Rattle.line_engine.specs.Runs.{RunsOver};
@@ -71,22 +72,61 @@ fn answer_command(
     ensures memory { OnErr result (MayAnswerOutOfMemory book.old command) }
 {
     match command {
-        Command::Event(event) => return push_answer(reply, book.submit(alloc, event)),
-        Command::Begin(at) => {
-            let snap = book.begin(alloc, at)?;
-            push_begun_reply(reply, &snap)?;
-        }
-        Command::Plan(at) => {
-            let begun = book.begin_with_table(alloc, at)?;
-            push_plan(alloc, reply, &begun)?;
-        }
-        Command::Sheet => reply.push_str(&sheet_text(alloc, book.len(), book.state())?)?,
+        Command::Event(event) => push_answer(reply, book.submit(alloc, event)),
+        Command::Begin(at) => answer_begin(alloc, book, at, reply),
+        Command::Plan(at) => answer_plan(alloc, book, at, reply),
+        Command::Sheet => answer_sheet(alloc, book, reply),
     }
+}
+
+/// Begins a problem, and adds the reply.
+pub(crate) fn answer_begin(
+    alloc: Global,
+    book: &mut Book,
+    at: Moment,
+    reply: &mut ReplyText,
+) -> Result<Outcome, AllocError>
+    requires short { length reply.old ≤ max_head_bytes }
+    ensures { IsAnswered RepliesToCommand LeavesOutOfMemory (command.Begin at) (reply.old, book.old) (reply.new, book.new) result }
+{
+    let snap = book.begin(alloc, at)?;
+    push_begun_reply(reply, &snap)?;
+    Ok(Outcome::Answered)
+}
+
+/// Begins a problem and plans it, and adds the reply.
+pub(crate) fn answer_plan(
+    alloc: Global,
+    book: &mut Book,
+    at: Moment,
+    reply: &mut ReplyText,
+) -> Result<Outcome, AllocError>
+    requires short { length reply.old ≤ max_head_bytes }
+    ensures { IsAnswered RepliesToCommand LeavesOutOfMemory (command.Plan at) (reply.old, book.old) (reply.new, book.new) result }
+{
+    let begun = book.begin_with_table(alloc, at)?;
+    push_plan(alloc, reply, &begun)?;
+    Ok(Outcome::Answered)
+}
+
+/// Adds the sheet of the present version.
+pub(crate) fn answer_sheet(
+    alloc: Global,
+    book: &Book,
+    reply: &mut ReplyText,
+) -> Result<Outcome, AllocError>
+    requires short { length reply.old ≤ max_head_bytes }
+    ensures { IsAnswered RepliesToCommand LeavesOutOfMemory command.Sheet (reply.old, book.now) (reply.new, book.now) result }
+{
+    reply.push_str(&sheet_text(alloc, book.len(), book.state())?)?;
     Ok(Outcome::Answered)
 }
 
 /// Adds the answer to an event. `Err` only where it is refused and memory is out.
-fn push_answer(reply: &mut ReplyText, answer: Result<Reply, Refusal>) -> Result<Outcome, AllocError>
+pub(crate) fn push_answer(
+    reply: &mut ReplyText,
+    answer: Result<Reply, Refusal>,
+) -> Result<Outcome, AllocError>
     requires short { length reply.old ≤ max_head_bytes }
     ensures text { OnOk result (reply.new ≡ reply.old ++ answer_text (answer_of answer)) }
     ensures mark { IfOk result (λ outcome. is_refusal outcome ≡ is_refused (answer_of answer)) }

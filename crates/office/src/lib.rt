@@ -12,14 +12,19 @@ mod heard;
 mod journal_end;
 mod line_notes;
 mod member_notes;
+mod note_sink;
 mod note_text;
+mod noted_runs;
 mod order_notes;
 mod reviewing;
+mod watched_book;
 
 pub use command_lines::{CommandLines, run};
-pub use heard::{Heard, HeardMessage};
 pub use journal_end::end_note;
 pub use line_engine::{
     DeviceFailed, MAX_INPUT_LINES, MAX_LINE_BYTES, RunCount, RunFault, Sink, Source,
 };
+pub use note_sink::NoteSink;
+pub use noted_runs::{NotedBook, NotedLines, run_noted};
 pub use reviewing::{JournalNotes, Review, review_journal};
+pub use watched_book::WatchedBook;

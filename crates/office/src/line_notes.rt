@@ -11,10 +11,11 @@ ghost use Rattle.office.specs.CommandNotes.{AheadNotesOf, AreCommandNotes, AreLi
 ghost use Rattle.office.specs.inner.KnownValues.{known_values};
 
 use crate::brackets::is_left_open;
-use crate::heard::{Heard, push_ahead_note};
+use crate::heard::push_ahead_note;
 use crate::member_notes::{fields_of, push_member_notes};
 use crate::note_text::push_note;
 use crate::order_notes::push_order_notes;
+use journal_notes::Heard;
 use line_fields::{Command, LineFault, object_of};
 use line_network::Network;
 use move_messages::Event;

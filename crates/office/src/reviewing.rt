@@ -12,16 +12,15 @@ ghost use Rattle.office.specs.inner.Reviewing.{IsBrought, with_fullness_notes};
 
 use crate::command_lines::CommandLines;
 use crate::fullness::push_fullness_note;
-use crate::heard::{Heard, HeardMessage};
 use crate::line_notes::{Known, line_notes};
 use commit_book::{Book, Limits};
+use journal_notes::Heard;
 use line_engine::{
     Handler, LineLimit, MAX_INPUT_LINES, Outcome, ReplyText, Responder, RunCount, RunFault, Sink,
     Source, run_replies,
 };
 use line_fields::{Command, LineFault, read_line};
 use line_network::Network;
-use move_messages::Event;
 use place_names::Places;
 use std::alloc::{AllocError, Global};
 use std::marker::Model;
@@ -74,10 +73,7 @@ impl Review {
             named,
             limits,
             line: 0,
-            heard: Heard {
-                last: None,
-                before_last: None,
-            },
+            heard: Heard::nothing(),
         }
     }
 
@@ -214,14 +210,7 @@ fn heard_by(line: u64, heard: Heard, read: &Result<Command, LineFault>) -> Heard
     ensures { result ≡ heard_by line heard read.now }
 {
     match read {
-        Ok(Command::Event(Event::Message(message))) => Heard {
-            last: Some(HeardMessage {
-                line,
-                wagon: message.wagon,
-                moment: message.moment,
-            }),
-            before_last: heard.last,
-        },
+        Ok(Command::Event(event)) => heard.by_event(line, event),
         _ => heard,
     }
 }

@@ -9,7 +9,7 @@ use Rattle.line_engine.specs.RunFault.{line_of}
 use Rattle.place_names.specs.declared.places_fault.PlacesFault.TheVariants as places
 use Rattle.office_files.specs.Stop.{stop_number}
 use Rattle.office_files.specs.declared.stop.Stop.{Stop}
-use Rattle.office_files.specs.declared.stop.Stop.TheVariants.{Roster, Checkpoint, Fleet, Network, Places, OrderNotInProblem, WagonNotInProblem, OrderNotOnMap, Run, Feed}
+use Rattle.office_files.specs.declared.stop.Stop.TheVariants.{Roster, Checkpoint, Fleet, Network, Places, OrderNotInProblem, WagonNotInProblem, OrderNotOnMap, LineWithoutPlan, NotesFailed, Run, Feed}
 
 -- the wagon or the order
 abbrev pub name_of : Stop → Option (List ℕ)
@@ -29,6 +29,8 @@ place_of (Places (places.BadRow n)) = Some n
 place_of (Places (places.DuplicatePlace n)) = Some n
 place_of (Checkpoint fault) = read_fault_line fault
 place_of (Run fault) = line_of fault
+place_of (LineWithoutPlan line) = Some line
+place_of (NotesFailed line) = line
 place_of stop = None
 
 -- the numbers of a seat and of an entry

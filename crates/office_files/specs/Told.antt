@@ -7,7 +7,7 @@ use Rattle.faults.specs.declared.faults.FeedFault.TheVariants as feed
 use Rattle.faults.specs.declared.faults.FleetFault.TheVariants as fleet
 use Rattle.office_files.specs.Stop.{stop_number}
 use Rattle.office_files.specs.declared.stop.Stop.{Stop}
-use Rattle.office_files.specs.declared.stop.Stop.TheVariants.{OutOfMemory, Networks, OpenFailed, Roster, Checkpoint, Fleet, Network, Places, Tables, OrderNotInProblem, WagonNotInProblem, OrderNotOnMap, WriteFailed, Run, Feed}
+use Rattle.office_files.specs.declared.stop.Stop.TheVariants.{OutOfMemory, Networks, OpenFailed, Roster, Checkpoint, Fleet, Network, Places, Tables, OrderNotInProblem, WagonNotInProblem, OrderNotOnMap, LineWithoutPlan, WriteFailed, NotesFailed, Run, Feed}
 
 -- where memory isn't out
 abbrev pub reason_of : Stop → List ℕ
@@ -26,7 +26,9 @@ reason_of (Tables fault) = codes "no thread could be started: too many run alrea
 reason_of (OrderNotInProblem id) = codes "no waiting order of the problem has this name"
 reason_of (WagonNotInProblem number) = codes "no free wagon of the problem has this number"
 reason_of (OrderNotOnMap id) = codes "no order that lacks wagons or has some promised has this name"
+reason_of (LineWithoutPlan line) = codes "this line is no plan line, no begin, and no accepted commit"
 reason_of WriteFailed = codes "standard output couldn't be written"
+reason_of (NotesFailed line) = codes "the notes couldn't be written"
 reason_of (Run fault) = codes "a line couldn't be read or replied to"
 reason_of (Feed feed.OutOfMemory) = codes "out of memory"
 reason_of (Feed feed.NoThread) = codes "no thread could be started: too many run already, or memory for one is short"

@@ -4,6 +4,7 @@
 
 mod file_system;
 mod first_office;
+mod notes;
 mod places;
 mod stop;
 mod stopped;
@@ -12,6 +13,7 @@ mod told_files;
 
 pub use file_system::FileSystem;
 pub use first_office::{OfficeFiles, read_files, read_roster};
+pub use notes::{notes_not_written, open_notes};
 pub use places::{read_names, read_places};
 pub use stop::Stop;
 pub use stopped::{Stopped, told_of_lines};

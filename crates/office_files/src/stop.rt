@@ -45,8 +45,12 @@ pub enum Stop {
     WagonNotInProblem(WagonNumber),
     /// No order that lacks wagons or has some promised has this name (84).
     OrderNotOnMap(OrderId),
+    /// This line is no plan line, no begin, and no commit that is accepted (84).
+    LineWithoutPlan(u64),
     /// Help or the version could not be written (94).
     WriteFailed,
+    /// The notes could not be written, from those of this line on, where they are of a line (94).
+    NotesFailed(Option<u64>),
     /// The run over the lines stopped (1, 91 to 94).
     Run(RunFault),
     /// The files could not be fed (1, 46 or 96).
@@ -68,8 +72,11 @@ impl Stop {
             Stop::Network(fault) => fault.number(),
             Stop::Places(fault) => fault.number(),
             Stop::Tables(fault) => fault.number(),
-            Stop::OrderNotInProblem(_) | Stop::WagonNotInProblem(_) | Stop::OrderNotOnMap(_) => 84,
-            Stop::WriteFailed => 94,
+            Stop::OrderNotInProblem(_)
+            | Stop::WagonNotInProblem(_)
+            | Stop::OrderNotOnMap(_)
+            | Stop::LineWithoutPlan(_) => 84,
+            Stop::WriteFailed | Stop::NotesFailed(_) => 94,
             Stop::Run(fault) => fault.number(),
             Stop::Feed(fault) => fault.number(),
         }
@@ -102,6 +109,8 @@ impl Stop {
             Stop::Places(PlacesFault::DuplicatePlace(record)) => Some(u64::from(record)),
             Stop::Checkpoint(fault) => fault.line(),
             Stop::Run(fault) => fault.line(),
+            Stop::LineWithoutPlan(line) => Some(line),
+            Stop::NotesFailed(line) => line,
             _ => None,
         }
     }

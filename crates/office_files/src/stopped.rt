@@ -127,7 +127,9 @@ fn reason_of(stop: &Stop) -> &'static str
         Stop::OrderNotInProblem(_) => "no waiting order of the problem has this name",
         Stop::WagonNotInProblem(_) => "no free wagon of the problem has this number",
         Stop::OrderNotOnMap(_) => "no order that lacks wagons or has some promised has this name",
+        Stop::LineWithoutPlan(_) => "this line is no plan line, no begin, and no accepted commit",
         Stop::WriteFailed => "standard output couldn't be written",
+        Stop::NotesFailed(_) => "the notes couldn't be written",
         Stop::Run(_) => "a line couldn't be read or replied to",
         Stop::Feed(fault) => reason_of_feed(fault),
     }

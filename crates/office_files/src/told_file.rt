@@ -66,8 +66,16 @@ pub fn open_plain<S: FileSystem + AllocGlobal>(rt: &S, path: &str) -> Result<S::
 {
     match rt.open_at(path) {
         Ok(file) => Ok(file),
-        Err(error) => Err(Stopped::told(Stop::OpenFailed, system_text(rt.alloc(), path, &error))),
+        Err(error) => Err(not_opened(rt.alloc(), path, &error)),
     }
+}
+
+/// That a file couldn't be opened: `OpenFailed` (93), with what the system says.
+pub(crate) fn not_opened(alloc: Global, path: &str, error: &io::Error) -> Stopped
+    ensures stop { result.stop ≡ OpenFailed }
+    ensures told { IsToldOfFile path.now result.told }
+{
+    Stopped::told(Stop::OpenFailed, system_text(alloc, path, error))
 }
 
 /// A file and what the system says of it, without the error's number.

@@ -1,8 +1,3 @@
-use Rattle.std.proofs.Common.{◌≡◌, ap, subst}
-use Rattle.cost_table.specs.Problem.{ProblemValue}
-use Rattle.cost_table.specs.Table.{Table}
-use Rattle.price_checker.specs.Snap.{SnapValue}
-use Rattle.dispatch_sheet.specs.PlanText.{FitsProblem}
 use Rattle.dispatch_sheet.proofs.InRange.{table_fits}
 use Rattle.office.proofs.command_lines.push_plan.Goals as goal
 

@@ -1,4 +1,3 @@
-use Rattle.std.proofs.Common.{string_bytes}
 use Rattle.office.specs.inner.KnownValues.{known_values}
 use Rattle.office.proofs.ReadNotes.{line_noted}
 use Rattle.office.proofs.line_notes.line_notes.Goals as goal
