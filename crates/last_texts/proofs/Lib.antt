@@ -1,2 +1,3 @@
 pub mod ZoneBytes
 pub mod MoverLemmas
+pub mod FillLemmas

@@ -7,4 +7,5 @@ pub mod SavedOfLast
 pub mod StateOfLast
 pub mod MovesOfLast
 pub mod Movers
+pub mod Fills
 pub mod TraceShown

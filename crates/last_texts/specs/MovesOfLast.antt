@@ -12,6 +12,7 @@ use Rattle.movements.specs.declared.choice.Choice.{Choice}
 use Rattle.movements.specs.declared.movement_list.MovementList.{MovementList}
 use Rattle.movements.specs.FormText.{IsFormText}
 use Rattle.movements.specs.ListOf.{IsListOf}
+use Rattle.movements.specs.Needs.{LateFills}
 use Rattle.operating_db.specs.Office.{Office}
 use Rattle.place_names.specs.declared.named_place.NamedPlace.{NamedPlace}
 use Rattle.text_tables.specs.declared.clock.Clock.{Clock}
@@ -28,13 +29,13 @@ abbrev pub AreMovedLast : List Event → Office → (company : Option (List ℕ)
 AreMovedLast history office company among =
     option_map (λ some. some.now) among ≡ option_map (λ company. wagons_moved_by history company office.wagons) company
 
--- the movements that are asked for, at the moment
-pub record AreMovesOf (setting : Setting) (history : List Event) (options : MovesOptions) (list : MovementList) : Type 0 where
+-- the movements that are asked for, at the moment, where it is known which orders were filled late
+pub record AreMovesOf (setting : Setting) (history : List Event) (late_fills : LateFills) (options : MovesOptions) (list : MovementList) : Type 0 where
   pub network : NetworkValue
   pub in_force : network_at setting.networks (replay setting history).network ≡ Some network
   pub among : Option (Bor (List (List ℕ)))
   pub moved : AreMovedLast history (replay setting history) options.company among
-  pub listed : IsListOf (length history) (replay setting history) network options.problem.at (choice_of options among) list
+  pub listed : IsListOf (length history) (replay setting history) network options.problem.at late_fills (choice_of options among) list
 
 -- a list of movements by the clock for the time zone that is asked for, whose file has these bytes
 pub record AreMovesIn (form : Form) (places : List NamedPlace) (zone : Option (List ℕ)) (bytes : List ℕ) (list : MovementList) (text : List ℕ) : Type 0 where
@@ -43,7 +44,7 @@ pub record AreMovesIn (form : Form) (places : List NamedPlace) (zone : Option (L
   pub printed : IsFormText places clock form list text
 
 -- the text of the movements, by the options of `moves`, the names of places and the bytes of the time zone's file
-pub record IsMovesTextOfLast (setting : Setting) (history : List Event) (options : MovesOptions) (places : List NamedPlace) (zone text : List ℕ) : Type 0 where
+pub record IsMovesTextOfLast (setting : Setting) (history : List Event) (late_fills : LateFills) (options : MovesOptions) (places : List NamedPlace) (zone text : List ℕ) : Type 0 where
   pub list : MovementList
-  pub of_last : AreMovesOf setting history options list
+  pub of_last : AreMovesOf setting history late_fills options list
   pub printed : AreMovesIn (form_of options.csv options.json) places (option_copied options.zone) zone list text

@@ -2,6 +2,7 @@
 //! its promised movements, its wagons and orders, and its checkpoint; and the trace of what happened to a wagon or an order.
 #![tactic(auto)]
 
+mod fills;
 mod map;
 mod movers;
 mod moves;
@@ -13,6 +14,7 @@ mod trace;
 mod why;
 mod zone;
 
+pub use fills::{FilledJournal, FillsOfLines, LateFills, fill_journal};
 pub use map::{choice_of, last_map};
 pub use moves::last_moves;
 pub use plan::last_plan_text;
@@ -20,5 +22,5 @@ pub use save::last_saved;
 pub use state::{last_fleet, last_orders};
 pub use table::last_table;
 pub use trace::shown_trace;
-pub use why::last_reasons;
+pub use why::{last_reasons, reasons_of_line};
 pub use zone::{ZoneFile, read_zone};

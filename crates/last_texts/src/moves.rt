@@ -1,6 +1,9 @@
 //! The promised movements of a book's last version.
 ghost use Rattle.std.specs.Prelude.{◌≡◌, IfErr, IfOk, Some, option_copied, option_map};
+ghost use Rattle.std.specs.BTreeMap.{get};
 ghost use Rattle.commit_book.specs.Books.{present_office};
+ghost use Rattle.fleet_rows.specs.Kept.{compare_numbers};
+ghost use Rattle.last_texts.specs.Fills.{fills_in};
 ghost use Rattle.last_texts.specs.MovesOfLast.{AreMovesIn, AreMovesOf, IsMovesTextOfLast, choice_of};
 ghost use Rattle.last_texts.specs.Movers.{wagons_moved_by};
 ghost use Rattle.last_texts.specs.ZoneClock.{HasZoneFor, IsNoClock, IsReadFor, name_of};
@@ -8,6 +11,7 @@ ghost use Rattle.line_network.specs.Networks.{network_at};
 ghost use Rattle.movements.specs.FormText.{IsFormText};
 ghost use Rattle.office_files.specs.declared.stop.Stop.TheVariants.{OutOfMemory};
 
+use crate::fills::{FilledJournal, LateFills};
 use crate::movers::wagons_moved_by;
 use crate::state::form_of;
 use crate::zone::{ZoneFile, clock_of};
@@ -21,22 +25,39 @@ use rail_codes::{Company, WagonNumber};
 use std::alloc::{AllocError, Global};
 use text_tables::{Clock, Form};
 
-/// The promised movements of a book's last version at a moment, over the network in force, then its orders, then the wagons that
+/// The promised movements of the last version of a journal's book at a moment, over the network in force, then its orders, then the wagons that
 /// were not heard from, as far as they are asked for: as tables, as CSV or as JSON lines; with moments as they are shown in the time
 /// zone that is asked for, which was read before. Refused only with `OutOfMemory` (1), or with `OpenFailed` (93) where that zone
 /// can't be looked up.
 pub fn last_moves(
     alloc: Global,
-    book: &Book,
+    journal: &FilledJournal,
     options: &MovesOptions<'_>,
     places: &Places,
     zone: &ZoneFile<'_>,
 ) -> Result<Vec<u8>, Stop>
     requires zone { IsReadFor (option_copied options.now.zone) zone.now }
-    ensures moves { IfOk result (λ text. IsMovesTextOfLast book.now.setting book.now.state.history options.now places.now zone.now.bytes.items text.items) }
+    ensures moves { IfOk result (λ text. IsMovesTextOfLast journal.now.journal.book.setting journal.now.journal.book.state.history (fills_in journal.now) options.now places.now zone.now.bytes.items text.items) }
     ensures refused { IfErr result IsNoClock }
 {
-    let list = last_list(alloc, book, options)?;
+    let book = journal.journal.book();
+    moves_of(alloc, book, &journal.late_fills, options, places, zone)
+}
+
+/// The same of a book, where it is handed in which orders were filled late.
+fn moves_of(
+    alloc: Global,
+    book: &Book,
+    late_fills: &LateFills,
+    options: &MovesOptions<'_>,
+    places: &Places,
+    zone: &ZoneFile<'_>,
+) -> Result<Vec<u8>, Stop>
+    requires zone { IsReadFor (option_copied options.now.zone) zone.now }
+    ensures moves { IfOk result (λ text. IsMovesTextOfLast book.now.setting book.now.state.history (get compare_numbers late_fills.now) options.now places.now zone.now.bytes.items text.items) }
+    ensures refused { IfErr result IsNoClock }
+{
+    let list = last_list(alloc, book, late_fills, options)?;
     let form = form_of(options.csv, options.json);
     moves_in(alloc, form, places, zone, &list)
 }
@@ -74,15 +95,20 @@ fn moves_by(
 }
 
 /// The movements that are asked for.
-fn last_list(alloc: Global, book: &Book, options: &MovesOptions<'_>) -> Result<MovementList, Stop>
-    ensures moves { IfOk result (AreMovesOf book.now.setting book.now.state.history options.now) }
+fn last_list(
+    alloc: Global,
+    book: &Book,
+    late_fills: &LateFills,
+    options: &MovesOptions<'_>,
+) -> Result<MovementList, Stop>
+    ensures moves { IfOk result (AreMovesOf book.now.setting book.now.state.history (get compare_numbers late_fills.now) options.now) }
     ensures refused { IfErr result (λ why. why ≡ OutOfMemory) }
 {
     let tables = tables_in_force(book);
     let (state, at) = (book.state(), options.problem.at);
     let moved = wagons_of(alloc, book, options.company)?;
     let choice = choice_of(options, lent(&moved));
-    Ok(list_of_movements(alloc, book.len(), state, tables, at, &choice)?)
+    Ok(list_of_movements(alloc, book.len(), state, tables, at, late_fills, &choice)?)
 }
 
 /// The distances of the network in force.

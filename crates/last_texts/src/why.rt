@@ -1,16 +1,18 @@
 //! Why the plan of a book's last version is as it is.
 ghost use Rattle.std.specs.Prelude.{◌≡◌, ◌⊎◌, IfErr, IfOk, option_copied, string_bytes};
-ghost use Rattle.last_texts.specs.ReasonsOfLast.{AreNoReasonsOfLast, AreReasonsOfLast, IsAnswerFor, IsLacking, numbers_of, style_of};
+ghost use Rattle.last_texts.specs.ReasonsOfLast.{AreNoReasonsOfLast, AreNoReasonsOfPlan, AreReasonsOfLast, AreReasonsOfPlan, IsAnswerFor, IsLacking, numbers_of, style_of};
 ghost use Rattle.office_files.specs.declared.stop.Stop.TheVariants.{OutOfMemory};
 
 use command_line::{Asked, WhyOptions};
 use commit_book::Book;
+use line_plans::LinePlan;
 use office_files::Stop;
 use place_names::Places;
 use plan_reasons::{
     CertifiedPlan, LineForm, Numbers, Style, find_order, find_wagon, order_text, wagon_text,
     why_text,
 };
+use rail_codes::Moment;
 use std::alloc::Global;
 
 /// What is asked about a plan of a book's last version at a moment, over the network in force, with the names of places where they
@@ -20,17 +22,34 @@ use std::alloc::Global;
 pub fn last_reasons(
     alloc: Global,
     book: &mut Book,
+    at: Moment,
     options: &WhyOptions<'_>,
     names: Option<&Places>,
 ) -> Result<String, Stop>
-    ensures reasons { IfOk result (λ text. AreReasonsOfLast book.old.setting book.old.state.history options.now (option_copied names.entry) (string_bytes text)) }
-    ensures none { IfErr result (AreNoReasonsOfLast book.old.setting book.old.state.history options.now) }
+    ensures reasons { IfOk result (λ text. AreReasonsOfLast book.old.setting book.old.state.history at options.now (option_copied names.entry) (string_bytes text)) }
+    ensures none { IfErr result (AreNoReasonsOfLast book.old.setting book.old.state.history at options.now) }
 {
-    let begun = book.begin_with_table(alloc, options.problem.at)?;
+    let begun = book.begin_with_table(alloc, at)?;
     let (plan, prices) = assignment::plan(alloc, begun.cells())?;
     let (problem, tables) = (begun.snap().problem(), begun.tables());
     let planned = CertifiedPlan::new(problem, tables, begun.cells(), &plan, &prices);
     answer(alloc, options, names, begun.snap().version(), &planned)
+}
+
+/// The same of the problem that a line of a journal is about. A commit's problem is planned anew: that plan costs the same.
+pub fn reasons_of_line(
+    alloc: Global,
+    line: &LinePlan,
+    options: &WhyOptions<'_>,
+    names: Option<&Places>,
+) -> Result<String, Stop>
+    ensures reasons { IfOk result (λ text. AreReasonsOfPlan line.now options.now (option_copied names.entry) (string_bytes text)) }
+    ensures none { IfErr result (AreNoReasonsOfPlan line.now options.now) }
+{
+    let cells = line.cells();
+    let (plan, prices) = assignment::plan(alloc, cells)?;
+    let planned = CertifiedPlan::new(line.problem(), line.tables(), cells, &plan, &prices);
+    answer(alloc, options, names, line.version(), &planned)
 }
 
 /// The text that answers what is asked about a plan.
@@ -50,11 +69,11 @@ fn answer(
     match &options.asked {
         Asked::Plan => Ok(why_text(alloc, style, numbers, version, planned)?),
         Asked::Order(id) => match find_order(planned.problem(), id) {
-            Some(j) => Ok(order_text(alloc, &form, numbers, planned, j)?),
+            Some(j) => Ok(order_text(alloc, &form, numbers, options.near, planned, j)?),
             None => Err(Stop::OrderNotInProblem(*id)),
         },
         Asked::Wagon(number) => match find_wagon(planned.problem(), number) {
-            Some(i) => Ok(wagon_text(alloc, &form, numbers, planned, i)?),
+            Some(i) => Ok(wagon_text(alloc, &form, numbers, options.near, planned, i)?),
             None => Err(Stop::WagonNotInProblem(*number)),
         },
     }
