@@ -1,15 +1,15 @@
 -- What the lines of a file do at its seat, by a run over them.
 use Rattle.std.proofs.Common.{◌≡◌, ◌+◌, ◌<◌, ◌≤◌, ◌^◌, ◌∷◌, ℕ, Bool, true, false, cond, List, [], ◌++◌, length, append_assoc, refl, sym, ap, ◌∙◌, subst, arith, inl, inr}
-use Rattle.std.specs.Prelude.{Option, Some, None, Result, Ok, Err, IfOk, IfErr, IfSome}
+use Rattle.std.specs.Prelude.{Option, Some, None, Result, Ok, Err, IfOk, IfErr, IfSome, if◌then◌else◌}
 use Rattle.std.specs.List.{count_by}
 use Rattle.std.specs.Io.KnownBytes.{Consumes, Keeps}
 use Rattle.std.proofs.lemmas.List.{length-append}
 use Rattle.std.proofs.lemmas.List.Sums.{sum_by-cons}
 use Rattle.line_fields.specs.declared.fault.LineFault.{LineFault}
 use Rattle.line_engine.specs.Lines.{first_line, has_feed, is_blank, lines_of, max_input_lines, max_line_bytes}
-use Rattle.line_engine.specs.Replies.{Answering, RunningOut, AnswersLine, Replies, Responds}
+use Rattle.line_engine.specs.Replies.{Replying, ServesLine, ServesLines}
 use Rattle.line_engine.specs.RunFault.{number_of}
-use Rattle.line_engine.specs.Runs.{Ends, Failures, IsLineOrNext, Run, StandsAt, Stops}
+use Rattle.line_engine.specs.Runs.{Failures, IsLineOrNext, Run, RunEnds, RunStandsAt, RunStops}
 use Rattle.line_engine.specs.declared.run.RunCount.{RunCount}
 use Rattle.line_engine.specs.declared.run.RunFault.{RunFault}
 use Rattle.line_engine.specs.declared.run.RunFault.TheVariants.{OutOfMemory, TooManyLines, LineTooLong, ReadFailed, WriteFailed}
@@ -23,12 +23,14 @@ use Rattle.commit_book.specs.declared.reply.Reply.TheVariants as reply
 use Rattle.faults.specs.declared.faults.Refusal.{Refusal}
 use Rattle.sessions.specs.declared.receipt.Receipt.{Receipt}
 use Rattle.sessions.specs.Seat.{IsAnswered, SeatValue, count_of, new_seat}
-use Rattle.sessions.specs.FedLines.{AreDone, AreTaken, IsLineTaken, IsReadIn, IsSeatFed, IsStoppedAt, IsSubmitted, IsTakenIn, IsTurnedAway, blank_line, counted_by, is_accepted, is_refused, is_repeated, no_line, one_line}
+use Rattle.sessions.specs.FedLines.{AreDone, AreTaken, IsLineTaken, IsReadIn, IsSeatFed, IsStoppedAt, IsSubmitted, IsTakenIn, IsTurnedAway, blank_line, counted_by, counted_of, is_accepted, is_refused, is_repeated, is_step, no_line, one_line, refused_as, wagon_of}
 use Rattle.sessions.specs.FeedCounts.{IsStopNumber, is_counted, is_command_counted}
 use Rattle.sessions.specs.inner.Fed.{stop_number}
 use Rattle.sessions.specs.inner.FeedLines.{Adds, AreEventsFed, IsFedBehind, IsLineBrought, IsReadFed, Waits}
 use Rattle.sessions.specs.declared.feed_lines.Counted.{Counted}
-use Rattle.sessions.specs.declared.feed_lines.Counted.TheVariants.{Refused, Nowhere}
+use Rattle.sessions.specs.declared.feed_lines.Counted.TheVariants.{OutOfStep, Refused, Nowhere}
+use Rattle.sessions.specs.inner.RefusedWagons.{AreNotedBy, RefusedWagonsValue, no_wagon}
+use Rattle.sessions.proofs.Noted.{noted_more, noted_none}
 use Rattle.sessions.specs.declared.feed_lines.FileLines.{FileLines}
 use Rattle.sessions.specs.declared.file_seat.FileSeat.{FileSeat}
 use Rattle.sessions.specs.declared.book_ledger.BookLedger.{Ghosts}
@@ -39,10 +41,19 @@ use Rattle.sessions.specs.declared.book_ledger.BookLedger.{Ghosts}
 abbrev Gains : (old new : SeatValue) → Counted → Type 0
 Gains old new counted = count_of new ≡ count_of old + cond (is_accepted counted) 1 0
 
-gains_by : (old new : SeatValue) (event : Event) (result : Result Reply Refusal) → IsAnswered old new event result → Gains old new (counted_by result)
+by_step : (wagon : List ℕ) (step : Bool) → let counted : Counted = if step then OutOfStep wagon else Refused in (is_accepted counted ≡ false) × (counted ≡ Nowhere → ⊥)
+by_step wagon true = (refl, λ nowhere. absurd cc)
+by_step wagon false = (refl, λ nowhere. absurd cc)
+
+-- what is refused isn't accepted, and counts somewhere
+refused_somewhere : (wagon : Option (List ℕ)) (why : Refusal) → (is_accepted (refused_as wagon why) ≡ false) × (refused_as wagon why ≡ Nowhere → ⊥)
+refused_somewhere None why = (refl, λ nowhere. absurd cc)
+refused_somewhere (Some wagon) why = by_step wagon (is_step why)
+
+gains_by : (old new : SeatValue) (event : Event) (result : Result Reply Refusal) → IsAnswered old new event result → Gains old new (counted_by event result)
 gains_by old new event (Ok (reply.Accepted n)) answered = omega (arith, ap count_of answered.0, length-append old.receipts (record { entry = n; event = event } ∷ []))
 gains_by old new event (Ok (reply.Repeated n)) answered = omega (arith, ap count_of answered)
-gains_by old new event (Err refusal) answered = omega (arith, ap count_of answered)
+gains_by old new event (Err why) answered = rw ((refused_somewhere (wagon_of event) why).0) (omega (arith, ap count_of answered))
 
 submitted_gains : (setting : Setting) (old new : SeatValue) (event : Event) (counted : Counted) → IsSubmitted setting old new event counted → Gains old new counted
 submitted_gains setting old new event counted submitted = rw submitted.counts (gains_by old new event submitted.result submitted.answered.seat)
@@ -81,13 +92,13 @@ turned_away setting seat (Err fault) = (refl, refl)
 
 -- ---- lines that must count
 
-answer_counts : (result : Result Reply Refusal) → counted_by result ≡ Nowhere → ⊥
-answer_counts (Ok (reply.Accepted n)) nowhere = cc
-answer_counts (Ok (reply.Repeated n)) nowhere = cc
-answer_counts (Err refusal) nowhere = cc
+answer_counts : (wagon : Option (List ℕ)) (result : Result Reply Refusal) → counted_of wagon result ≡ Nowhere → ⊥
+answer_counts wagon (Ok (reply.Accepted n)) nowhere = cc
+answer_counts wagon (Ok (reply.Repeated n)) nowhere = cc
+answer_counts wagon (Err why) nowhere = (refused_somewhere wagon why).1 nowhere
 
 submitted_counts : (setting : Setting) (old new : SeatValue) (event : Event) (counted : Counted) → IsSubmitted setting old new event counted → counted ≡ Nowhere → ⊥
-submitted_counts setting old new event counted submitted nowhere = answer_counts submitted.result (sym submitted.counts ∙ nowhere)
+submitted_counts setting old new event counted submitted nowhere = answer_counts (wagon_of event) submitted.result (sym submitted.counts ∙ nowhere)
 
 away_counts : (old new : SeatValue) (counted : Counted) → IsTurnedAway old new counted → counted ≡ Nowhere → ⊥
 away_counts old new counted away nowhere = let both : Refused ≡ Nowhere = sym away.1 ∙ nowhere in cc
@@ -127,6 +138,7 @@ record AreFedLines {L : Type 0} {g : Ghosts L} (old : FileSeat L g) (lines : Lis
   accepted : count_of new.seat ≡ count_of old.seat + count_by is_accepted counts
   repeated : old.repeated + length lines < 2 ^ 64 → new.repeated ≡ old.repeated + count_by is_repeated counts
   refused : old.refused + length lines < 2 ^ 64 → new.refused ≡ old.refused + count_by is_refused counts
+  out_of_step : AreNotedBy counts old.out_of_step new.out_of_step
 
 module _ {L : Type 0} {g : Ghosts L} where
   nothing_fed : (old new : FileSeat L g) → new ≡ old → AreFedLines old [] new
@@ -136,6 +148,7 @@ module _ {L : Type 0} {g : Ghosts L} where
     accepted = omega (arith, ap (λ (file : FileSeat L g). count_of file.seat) same);
     repeated = λ room. omega (arith, ap (λ (file : FileSeat L g). file.repeated) same);
     refused = λ room. omega (arith, ap (λ (file : FileSeat L g). file.refused) same);
+    out_of_step = noted_none old.out_of_step new.out_of_step (ap (λ (file : FileSeat L g). file.out_of_step) same);
   }
 
   blank_fed : (old new : FileSeat L g) (line : List ℕ) (lines : List (List ℕ)) → is_blank line ≡ true → AreFedLines old lines new → AreFedLines old (line ∷ lines) new
@@ -145,6 +158,7 @@ module _ {L : Type 0} {g : Ghosts L} where
     accepted = rest.accepted;
     repeated = λ room. rest.repeated (omega (arith, room));
     refused = λ room. rest.refused (omega (arith, room));
+    out_of_step = rest.out_of_step;
   }
 
   line_fed : (old mid new : FileSeat L g) (line : List ℕ) (lines : List (List ℕ)) → is_blank line ≡ false → IsReadFed old (command_of line) mid → AreFedLines mid lines new
@@ -166,6 +180,7 @@ module _ {L : Type 0} {g : Ghosts L} where
             let few = at_most_one (is_refused counted) old.refused mid.refused fed.refused in
             let others = rest.refused (omega (arith, room, few)) in
             omega (arith, one, others, sum_by-cons (λ (c : Counted). cond (is_refused c) 1 0) counted rest.counts);
+        out_of_step = noted_more counted rest.counts old.out_of_step mid.out_of_step new.out_of_step fed.out_of_step rest.out_of_step;
       }
 
 -- ---- lines that wait
@@ -189,15 +204,13 @@ event_held_last line event filled read (blank_held first held) = blank_held firs
 event_held_last line event filled read (event_held first its held) = event_held first its (event_held_last line event filled read held)
 
 module _ {L : Type 0} {g : Ghosts L} where
-  abbrev pub Answers : Answering (FileLines L g)
-  Answers old line body refused new = IsLineBrought old line new
+  abbrev pub Brings : Replying (FileLines L g)
+  Brings n old line text refused new = IsLineBrought old line new
 
-  abbrev pub NeverOut : RunningOut (FileLines L g)
-  NeverOut old line new = ⊥
-
-  brought_response : (old new : FileLines L g) (line body : List ℕ) (refused : Bool) → Responds Answers NeverOut old line body refused new → IsLineBrought old line new
-  brought_response old new line body refused (inl brought) = brought
-  brought_response old new line body refused (inr out) = absurd out.0
+  -- the number of the line before changes nothing
+  pub numbered : (old new : FileLines L g) (number : ℕ) (line : List ℕ) → IsLineBrought (record old { number = number }) line new → IsLineBrought old line new
+  numbered old new number line (inl waits) = inl (record { event = waits.event; is_event = waits.is_event; file = waits.file; pending = waits.pending })
+  numbered old new number line (inr behind) = inr (record { mid = behind.mid; before = behind.before; fed = behind.fed; pending = behind.pending })
 
   -- lines whose events waited and were submitted, and the lines behind them
   held_fed : {held : List (List ℕ)} {events : List Event} (lines : List (List ℕ)) (old mid new : FileSeat L g) → AreHeld held events → AreEventsFed events old mid
@@ -237,16 +250,15 @@ module _ {L : Type 0} {g : Ghosts L} where
   one_brought old mid line lines end filled (inr fed) rest = line_behind old mid line lines end filled fed rest
 
   one_fed : (n : ℕ) (old mid : FileLines L g) (line text : List ℕ) (refused : Bool) (lines : List (List ℕ)) (end : FileSeat L g) (blank : Bool) → is_blank line ≡ blank
-      → AnswersLine Answers NeverOut n old line text refused mid → AreAllFed mid lines end → AreAllFed old (line ∷ lines) end
+      → ServesLine Brings n old line text refused mid → AreAllFed mid lines end → AreAllFed old (line ∷ lines) end
   one_fed n old mid line text refused lines end true is answers rest =
       let same : mid ≡ old = (rw is at answers).2 in
       blank_brought old line lines end is (subst (λ (state : FileLines L g). AreAllFed state lines end) same rest)
   one_fed n old mid line text refused lines end false is answers rest =
-      let says = rw is at answers in
-      one_brought old mid line lines end is (brought_response old mid line says.0 refused says.2) rest
+      one_brought old mid line lines end is (rw is at answers) rest
 
   lines_brought : (n : ℕ) (old new : FileLines L g) (lines : List (List ℕ)) (output : List ℕ) (refusals : ℕ) (end : FileSeat L g)
-      → Replies Answers NeverOut n old lines output refusals new → AreEventsFed new.pending.items new.file end → AreAllFed old lines end
+      → ServesLines Brings n old lines output refusals new → AreEventsFed new.pending.items new.file end → AreAllFed old lines end
   lines_brought n old new [] output refusals end replies fed = λ held are.
       let last : AreEventsFed old.pending.items old.file end = subst (λ (state : FileLines L g). AreEventsFed state.pending.items state.file end) replies.2 fed in
       held_fed [] old.file end end are last (nothing_fed end end refl)
@@ -256,7 +268,7 @@ module _ {L : Type 0} {g : Ghosts L} where
 
   -- the same from a file none of whose lines waits
   lines_fed : (n : ℕ) (old new : FileLines L g) (lines : List (List ℕ)) (output : List ℕ) (refusals : ℕ) (end : FileSeat L g) → old.pending.items ≡ []
-      → Replies Answers NeverOut n old lines output refusals new → AreEventsFed new.pending.items new.file end → AreFedLines old.file lines end
+      → ServesLines Brings n old lines output refusals new → AreEventsFed new.pending.items new.file end → AreFedLines old.file lines end
   lines_fed n old new lines output refusals end none replies fed =
       lines_brought n old new lines output refusals end replies fed [] (subst (AreHeld []) (sym none) none_held)
 
@@ -277,34 +289,40 @@ consumes_none (Some xs) None keeps = absurd keeps
 consumes_none (Some xs) (Some ys) keeps = sym keeps
 
 module _ {L : Type 0} {g : Ghosts L} (run : Run (FileLines L g)) (failed : Failures) (end : FileSeat L g) (new : count_of run.old.file.seat ≡ 0) (no_repeated : run.old.file.repeated ≡ 0)
-    (no_refused : run.old.file.refused ≡ 0) (none_waits : run.old.pending.items ≡ []) (standard : run.most ≡ max_line_bytes) (last : AreEventsFed run.new.pending.items run.new.file end) where
-  abbrev Fed : Option ℕ → Type 0
-  Fed stop = IsSeatFed g.setting run.from run.to stop end.seat end.repeated end.refused
+    (no_refused : run.old.file.refused ≡ 0) (none_noted : run.old.file.out_of_step ≡ no_wagon) (none_waits : run.old.pending.items ≡ []) (standard : run.most ≡ max_line_bytes) (last : AreEventsFed run.new.pending.items run.new.file end) where
+  -- what the lines count as, what they did at the seat, and the wagons that were noted
+  pub record Fed (stop : Option ℕ) : Type 0 where
+    pub counts : List Counted
+    pub lines : IsSeatFed g.setting run.from run.to stop counts end.seat end.repeated end.refused
+    pub out_of_step : AreNotedBy counts no_wagon end.out_of_step
 
   fed_by : (stop : Option ℕ) (lines : List (List ℕ)) → AreDone run.from run.to stop lines → AreFedLines run.old.file lines end → Fed stop
   fed_by stop lines done fed = record {
-    lines = lines;
-    done = done;
-    number = run.old.file.seat.number;
     counts = fed.counts;
-    taken = subst (λ (seat : SeatValue). AreTaken g.setting seat end.seat lines fed.counts) (fresh_seat run.old.file.seat new) fed.taken;
-    counts_accepted = omega (arith, fed.accepted, new);
-    counts_repeated = let is = fed.repeated (omega (arith, no_repeated, done.few)) in omega (arith, is, no_repeated);
-    counts_refused = let is = fed.refused (omega (arith, no_refused, done.few)) in omega (arith, is, no_refused);
+    lines = record {
+      lines = lines;
+      done = done;
+      number = run.old.file.seat.number;
+      taken = subst (λ (seat : SeatValue). AreTaken g.setting seat end.seat lines fed.counts) (fresh_seat run.old.file.seat new) fed.taken;
+      counts_accepted = omega (arith, fed.accepted, new);
+      counts_repeated = let is = fed.repeated (omega (arith, no_repeated, done.few)) in omega (arith, is, no_repeated);
+      counts_refused = let is = fed.refused (omega (arith, no_refused, done.few)) in omega (arith, is, no_refused);
+    };
+    out_of_step = subst (λ (none : RefusedWagonsValue). AreNotedBy fed.counts none end.out_of_step) none_noted fed.out_of_step;
   }
 
-  fed_to_end : (count : RunCount) → Ends Answers NeverOut run count → Fed None
+  fed_to_end : (count : RunCount) → RunEnds Brings run count → Fed None
   fed_to_end count ends =
       fed_by None (lines_of ends.input) (record { read = ends.input; consumed = ends.consumed; which = (ends.ended, refl); few = omega (arith, ends.lines, ends.few) })
       (lines_fed 1 run.old run.new (lines_of ends.input) ends.output count.refused end none_waits ends.replies last)
 
-  fed_to_stop : (n code : ℕ) (at : StandsAt Answers NeverOut run n) → IsStoppedAt code at.input at.lines → n ≤ max_input_lines + 1 → Fed (Some code)
+  fed_to_stop : (n code : ℕ) (at : RunStandsAt Brings run n) → IsStoppedAt code at.input at.lines → n ≤ max_input_lines + 1 → Fed (Some code)
   fed_to_stop n code at stopped few =
       fed_by (Some code) at.lines (record { read = at.input; consumed = at.consumed; which = stopped; few = omega (arith, few, at.number) })
       (lines_fed 1 run.old run.new at.lines at.output at.refusals end none_waits at.replies last)
 
   -- a stop behind some lines, by what each number says of it
-  stopped_at : (n code : ℕ) (at : StandsAt Answers NeverOut run n) → 1 < code → (code ≡ 91 → (length at.lines ≡ max_input_lines) × (0 < length at.rest)) → (code ≡ 92 → max_line_bytes < length (first_line at.rest))
+  stopped_at : (n code : ℕ) (at : RunStandsAt Brings run n) → 1 < code → (code ≡ 91 → (length at.lines ≡ max_input_lines) × (0 < length at.rest)) → (code ≡ 92 → max_line_bytes < length (first_line at.rest))
       → (code ≡ 93 → has_feed at.rest ≡ false) → n ≤ max_input_lines + 1 → Fed (Some code)
   stopped_at n code at later many long unread few =
       fed_to_stop n code at (record { rest = at.rest; begins = at.begins; memory = λ e. absurd (omega (arith, later, e)); many = many; long = long; unread = unread }) few
@@ -313,7 +331,7 @@ module _ {L : Type 0} {g : Ghosts L} (run : Run (FileLines L g)) (failed : Failu
   few_by n rest (inl line) = omega (arith, line)
   few_by n rest (inr next) = omega (arith, next.0)
 
-  fed_until : (fault : RunFault) → failed.writer ≡ false → Stops Answers NeverOut run failed fault → Fed (Some (number_of fault))
+  fed_until : (fault : RunFault) → failed.writer ≡ false → RunStops Brings run failed fault → Fed (Some (number_of fault))
   fed_until OutOfMemory quiet stops =
       fed_by (Some 1) [] (record {
         read = [];
@@ -337,33 +355,33 @@ module _ {L : Type 0} {g : Ghosts L} (run : Run (FileLines L g)) (failed : Failu
       stopped_at n 93 stops.0 (omega arith) (λ e. absurd (omega arith)) (λ e. absurd (omega arith)) (λ e. stops.2) (few_by n stops.0.rest stops.1)
   fed_until (WriteFailed n) quiet stops = absurd (let wrote : failed.writer ≡ true = stops.5 in cc)
 
-  stop_is : (fault : RunFault) → failed.writer ≡ false → Stops Answers NeverOut run failed fault → IsStopNumber (number_of fault)
+  stop_is : (fault : RunFault) → failed.writer ≡ false → RunStops Brings run failed fault → IsStopNumber (number_of fault)
   stop_is OutOfMemory quiet stops = inl refl
   stop_is (TooManyLines n) quiet stops = inr (inl refl)
   stop_is (LineTooLong n) quiet stops = inr (inr (inl refl))
   stop_is (ReadFailed n) quiet stops = inr (inr (inr refl))
   stop_is (WriteFailed n) quiet stops = absurd (let wrote : failed.writer ≡ true = stops.5 in cc)
 
-  stop_number_is : (result : Result RunCount RunFault) → failed.writer ≡ false → IfErr result (λ fault. Stops Answers NeverOut run failed fault) → IfSome (stop_number result) IsStopNumber
+  stop_number_is : (result : Result RunCount RunFault) → failed.writer ≡ false → IfErr result (λ fault. RunStops Brings run failed fault) → IfSome (stop_number result) IsStopNumber
   stop_number_is (Ok count) quiet stops = tt
   stop_number_is (Err fault) quiet stops = stop_is fault quiet stops
 
-  unread_by : (fault : RunFault) → Stops Answers NeverOut run failed fault → number_of fault ≡ 93 → failed.reader ≡ true
+  unread_by : (fault : RunFault) → RunStops Brings run failed fault → number_of fault ≡ 93 → failed.reader ≡ true
   unread_by OutOfMemory stops is = absurd (omega arith)
   unread_by (TooManyLines n) stops is = absurd (omega arith)
   unread_by (LineTooLong n) stops is = absurd (omega arith)
   unread_by (ReadFailed n) stops is = stops.3
   unread_by (WriteFailed n) stops is = absurd (omega arith)
 
-  reader_failed : (result : Result RunCount RunFault) → IfErr result (λ fault. Stops Answers NeverOut run failed fault) → stop_number result ≡ Some 93 → failed.reader ≡ true
+  reader_failed : (result : Result RunCount RunFault) → IfErr result (λ fault. RunStops Brings run failed fault) → stop_number result ≡ Some 93 → failed.reader ≡ true
   reader_failed (Ok count) stops is = absurd cc
   reader_failed (Err fault) stops is = unread_by fault stops (let same : number_of fault ≡ 93 = cc in same)
 
-  lines_by : (result : Result RunCount RunFault) → failed.writer ≡ false → IfOk result (λ count. Ends Answers NeverOut run count) → IfErr result (λ fault. Stops Answers NeverOut run failed fault) → Fed (stop_number result)
+  lines_by : (result : Result RunCount RunFault) → failed.writer ≡ false → IfOk result (λ count. RunEnds Brings run count) → IfErr result (λ fault. RunStops Brings run failed fault) → Fed (stop_number result)
   lines_by (Ok count) quiet ends stops = fed_to_end count ends
   lines_by (Err fault) quiet ends stops = fed_until fault quiet stops
 
   -- what a file's lines did at its seat, however the run ended; the number of what stopped it; its reader has failed at 93
-  pub seat_fed : (result : Result RunCount RunFault) → failed.writer ≡ false → IfOk result (λ count. Ends Answers NeverOut run count) → IfErr result (λ fault. Stops Answers NeverOut run failed fault)
+  pub seat_fed : (result : Result RunCount RunFault) → failed.writer ≡ false → IfOk result (λ count. RunEnds Brings run count) → IfErr result (λ fault. RunStops Brings run failed fault)
       → Fed (stop_number result) × IfSome (stop_number result) IsStopNumber × (stop_number result ≡ Some 93 → failed.reader ≡ true)
   seat_fed result quiet ends stops = (lines_by result quiet ends stops, stop_number_is result quiet stops, reader_failed result stops)

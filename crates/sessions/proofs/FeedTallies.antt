@@ -13,7 +13,7 @@ use Rattle.sessions.specs.Seat.{SeatValue, count_of}
 use Rattle.sessions.specs.FedLines.{AreTaken, IsSeatFed, blank_line, is_accepted, is_refused, is_repeated, no_line, one_line}
 use Rattle.sessions.specs.FeedCounts.{IsFileRun, IsStopNumber, is_counted, may_count, must_count}
 use Rattle.sessions.specs.declared.feed_lines.Counted.{Counted}
-use Rattle.sessions.specs.declared.feed_lines.Counted.TheVariants.{Accepted, Repeated, Refused, Nowhere}
+use Rattle.sessions.specs.declared.feed_lines.Counted.TheVariants.{Accepted, Repeated, OutOfStep, Refused, Nowhere}
 use Rattle.sessions.proofs.FedSeats.{read_nowhere}
 
 -- ---- lines
@@ -44,10 +44,12 @@ tally_of counts = count_by is_accepted counts + count_by is_repeated counts + co
 once : (kind : Bool) (counted : Counted) → (counted ≡ Nowhere → kind ≡ false) → (one_if kind ≤ accepted_one counted + repeated_one counted + refused_one counted) × (accepted_one counted + repeated_one counted + refused_one counted ≤ 1)
 once false Accepted nowhere = (omega arith, omega arith)
 once false Repeated nowhere = (omega arith, omega arith)
+once false (OutOfStep wagon) nowhere = (omega arith, omega arith)
 once false Refused nowhere = (omega arith, omega arith)
 once false Nowhere nowhere = (omega arith, omega arith)
 once true Accepted nowhere = (omega arith, omega arith)
 once true Repeated nowhere = (omega arith, omega arith)
+once true (OutOfStep wagon) nowhere = (omega arith, omega arith)
 once true Refused nowhere = (omega arith, omega arith)
 once true Nowhere nowhere = absurd (let never : true ≡ false = nowhere refl in cc)
 
@@ -179,9 +181,9 @@ not_none : {P : Type 0} (code : ℕ) → let o : Option ℕ = Some code in o ≡
 not_none code h = absurd cc
 
 -- what lines did at a seat, by how the file ended, makes the file's run
-pub file_run : (setting : Setting) (told left : Option (List ℕ)) (failed : Option ℕ) (seat : SeatValue) (repeated refused : ℕ) (has_failed : Bool) → IsSeatFed setting told left failed seat repeated refused
+pub file_run : (setting : Setting) (told left : Option (List ℕ)) (failed : Option ℕ) (counts : List Counted) (seat : SeatValue) (repeated refused : ℕ) (has_failed : Bool) → IsSeatFed setting told left failed counts seat repeated refused
     → IfSome failed IsStopNumber → (failed ≡ Some 93 → has_failed ≡ true) → IsFileRun told left (count_of seat + repeated + refused) failed has_failed
-file_run setting told left None seat repeated refused has_failed fed number unread =
+file_run setting told left None counts seat repeated refused has_failed fed number unread =
     let t = tallied fed.taken in
     let ended = fed.done.which in
     let lines_are : (bytes : List ℕ) → told ≡ Some bytes → lines_of bytes ≡ fed.lines =
@@ -196,7 +198,7 @@ file_run setting told left None seat repeated refused has_failed fed number unre
       too_long = λ bytes is which. absurd cc;
       unread = unread;
     }
-file_run setting told left (Some code) seat repeated refused has_failed fed number unread =
+file_run setting told left (Some code) counts seat repeated refused has_failed fed number unread =
     let stop = fed.done.which in
     record {
       rest = (fed.done.read, fed.done.consumed);

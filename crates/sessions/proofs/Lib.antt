@@ -5,6 +5,10 @@ pub mod Receipts
 pub mod SameTables
 pub mod SameVec
 pub mod Unchanged
+pub mod Noted
+pub mod LeastWagons
+pub mod MovedWagons
+pub mod HeldCrossings
 pub mod FedFiles
 pub mod FedSeats
 pub mod FeedTallies
@@ -12,3 +16,4 @@ pub mod Handles
 pub mod NewSeats
 pub mod LostSeats
 pub mod SharedBooks
+pub mod KeptLines

@@ -2,7 +2,6 @@
 use Rattle.std.specs.Prelude.{◌≡◌, ◌≤◌, ◌<◌, ℕ, List, length, Vec, Result, Ok, Err}
 use Rattle.std.specs.List.{sum_by}
 use Rattle.std.specs.declared.alloc.Global.{Global}
-use Rattle.commit_book.specs.Books.{BookValue}
 use Rattle.commit_book.specs.Setting.{Setting}
 use Rattle.sessions.specs.Closing.{IsLost}
 use Rattle.sessions.specs.Seat.{SharedBookValue, SeatValue, count_of}
@@ -22,7 +21,7 @@ IsHandedBack setting shared seats (ReceiptLost number entry book its_seats) =
     (book.setting ≡ setting) × IsLost book.state.history seats.items number entry × (its_seats ≡ seats) × (length book.state.history ≡ sum_by count_of seats.items)
 
 -- fewer seats come than the shared book was opened with exactly where that is the answer
-abbrev pub IsMissing : {L : Type 0} → Result BookValue (CloseFault L) → SharedBookValue → List SeatValue → Type 0
-IsMissing (Ok book) shared seats = shared.seats ≤ length seats
+abbrev pub IsMissing : {B L : Type 0} → Result B (CloseFault L) → SharedBookValue → List SeatValue → Type 0
+IsMissing (Ok closed) shared seats = shared.seats ≤ length seats
 IsMissing (Err (SeatsMissing its_shared its_seats)) shared seats = length seats < shared.seats
 IsMissing (Err (ReceiptLost number entry book its_seats)) shared seats = shared.seats ≤ length seats

@@ -1,5 +1,5 @@
 -- What the lines of a file that is fed to a book do at the file's seat, and what each of them counts as.
-use Rattle.std.specs.Prelude.{◌≡◌, ◌⊎◌, ◌<◌, ◌≤◌, ℕ, Bool, true, false, List, [], ◌∷◌, Option, MatchOption, Result, Ok, Err, length, map}
+use Rattle.std.specs.Prelude.{◌≡◌, ◌⊎◌, ◌<◌, ◌≤◌, ℕ, Bool, true, false, List, [], ◌∷◌, Option, Some, None, MatchOption, if◌then◌else◌, Result, Ok, Err, length, map}
 use Rattle.std.specs.List.{count_by}
 use Rattle.std.specs.Io.KnownBytes.{Consumes, IsAtEnd}
 use Rattle.line_fields.specs.declared.fault.LineFault.{LineFault}
@@ -13,6 +13,7 @@ use Rattle.move_messages.specs.declared.event.Event.{Event}
 use Rattle.move_messages.specs.declared.event.Event.TheVariants as event
 use Rattle.price_checker.specs.Snap.{SnapValue, named_pair}
 use Rattle.faults.specs.declared.faults.Refusal.{Refusal}
+use Rattle.faults.specs.declared.faults.Refusal.TheVariants as refusal
 use Rattle.commit_book.specs.Setting.{Setting}
 use Rattle.commit_book.specs.declared.reply.Reply.{Reply}
 use Rattle.commit_book.specs.declared.reply.Reply.TheVariants as reply
@@ -21,31 +22,56 @@ use Rattle.sessions.specs.Planning.{IsPlanned}
 use Rattle.sessions.specs.Seat.{SeatValue, count_of, new_seat}
 use Rattle.sessions.specs.Submitted as session
 use Rattle.sessions.specs.declared.feed_lines.Counted.{Counted}
-use Rattle.sessions.specs.declared.feed_lines.Counted.TheVariants.{Accepted, Repeated, Refused, Nowhere}
+use Rattle.sessions.specs.declared.feed_lines.Counted.TheVariants.{Accepted, Repeated, OutOfStep, Refused, Nowhere}
 
 -- ---- what a line counts as
 
+-- the wagon of a message
+abbrev pub wagon_of : Event → Option (List ℕ)
+wagon_of (event.Message message) = Some message.wagon
+wagon_of (event.Place order) = None
+wagon_of (event.Withdraw id) = None
+wagon_of (event.Commit commit) = None
+wagon_of (event.Revise network) = None
+
+-- whether the status table refuses (31 to 33)
+abbrev pub is_step : Refusal → Bool
+is_step (refusal.Step fault) = true
+is_step why = false
+
+-- A message of a wagon is out of step where the status table refuses it. What else is refused is just that.
+abbrev pub refused_as : (wagon : Option (List ℕ)) → Refusal → Counted
+refused_as None why = Refused
+refused_as (Some wagon) why = if is_step why then OutOfStep wagon else Refused
+
+-- what an answer counts as, to a message of a wagon or to another event
+abbrev pub counted_of : (wagon : Option (List ℕ)) → Result Reply Refusal → Counted
+counted_of wagon (Ok (reply.Accepted n)) = Accepted
+counted_of wagon (Ok (reply.Repeated n)) = Repeated
+counted_of wagon (Err why) = refused_as wagon why
+
 -- what an answer to an event counts as
-abbrev pub counted_by : Result Reply Refusal → Counted
-counted_by (Ok (reply.Accepted n)) = Accepted
-counted_by (Ok (reply.Repeated n)) = Repeated
-counted_by (Err refusal) = Refused
+abbrev pub counted_by : Event → Result Reply Refusal → Counted
+counted_by event result = counted_of (wagon_of event) result
 
 abbrev pub is_accepted : Counted → Bool
 is_accepted Accepted = true
 is_accepted Repeated = false
+is_accepted (OutOfStep wagon) = false
 is_accepted Refused = false
 is_accepted Nowhere = false
 
 abbrev pub is_repeated : Counted → Bool
 is_repeated Accepted = false
 is_repeated Repeated = true
+is_repeated (OutOfStep wagon) = false
 is_repeated Refused = false
 is_repeated Nowhere = false
 
 abbrev pub is_refused : Counted → Bool
 is_refused Accepted = false
 is_refused Repeated = false
+is_refused (OutOfStep wagon) = true
 is_refused Refused = true
 is_refused Nowhere = false
 
@@ -56,7 +82,7 @@ is_refused Nowhere = false
 pub record IsSubmitted (setting : Setting) (old new : SeatValue) (event : Event) (counted : Counted) : Type 0 where
   pub result : Result Reply Refusal
   pub answered : session.IsSubmitted setting old new event result
-  pub counts : counted ≡ counted_by result
+  pub counts : counted ≡ counted_by event result
 
 -- the commit of a certificate of a snapshot's problem, over the network of its version
 pub record IsPlansCommit (networks : List NetworkValue) (snap : SnapValue) (commit : CommitText) : Type 0 where
@@ -134,12 +160,11 @@ pub record AreDone (told left : Option (List ℕ)) (failed : Option ℕ) (lines 
   pub few : length lines ≤ max_input_lines
 
 -- What a file's lines did at a seat: those that were done took it there from a new seat, which has a receipt for each that
--- counts as accepted, and so many count as repeated and as refused.
-pub record IsSeatFed (setting : Setting) (told left : Option (List ℕ)) (failed : Option ℕ) (seat : SeatValue) (repeated refused : ℕ) : Type 0 where
+-- counts as accepted, and so many count as repeated and as refused. These are what each line counts as.
+pub record IsSeatFed (setting : Setting) (told left : Option (List ℕ)) (failed : Option ℕ) (counts : List Counted) (seat : SeatValue) (repeated refused : ℕ) : Type 0 where
   pub lines : List (List ℕ)
   pub done : AreDone told left failed lines
   pub number : ℕ
-  pub counts : List Counted
   pub taken : AreTaken setting (new_seat number) seat lines counts
   pub counts_accepted : count_of seat ≡ count_by is_accepted counts
   pub counts_repeated : repeated ≡ count_by is_repeated counts

@@ -1,5 +1,5 @@
 -- What is counted of a file that was fed to a book.
-use Rattle.std.specs.Prelude.{◌≡◌, ◌+◌, ◌<◌, ◌≤◌, ◌&&◌, ◌⊎◌, not, ℕ, Bool, true, false, List, Any, Option, Some, None, Result, Ok, Err, IfSome, length}
+use Rattle.std.specs.Prelude.{◌≡◌, ◌+◌, ◌<◌, ◌≤◌, ◌&&◌, ◌⊎◌, not, ℕ, Bool, true, false, List, [], ◌∷◌, Any, Option, Some, None, Result, Ok, Err, IfSome, length}
 use Rattle.std.specs.List.{count_by}
 use Rattle.std.specs.Io.KnownBytes.{Consumes, IsAtEnd}
 use Rattle.line_fields.specs.declared.fault.LineFault.{LineFault}
@@ -12,6 +12,7 @@ use Rattle.commit_book.specs.Setting.{Setting}
 use Rattle.sessions.specs.Closing.{HasEntries}
 use Rattle.sessions.specs.Seat.{SeatValue, count_of}
 use Rattle.sessions.specs.FedLines.{IsSeatFed}
+use Rattle.sessions.specs.declared.feed_lines.Counted.{Counted}
 use Rattle.sessions.specs.declared.feed_report.FileCount.{FileCount}
 
 -- whether a command must be counted: an event and a plan, but no begin and no sheet
@@ -52,11 +53,21 @@ pub record IsFileRun (told left : Option (List ℕ)) (tally : ℕ) (failed : Opt
   pub too_long : (bytes : List ℕ) → told ≡ Some bytes → failed ≡ Some 92 → Any (λ line. max_line_bytes < length line) (lines_of bytes)
   pub unread : failed ≡ Some 93 → has_failed ≡ true
 
+-- a file's seat behind the file's last line, and what each line counts as that isn't blank
+pub record FileAnswers : Type 0 where
+  pub seat : SeatValue
+  pub counts : List Counted
+
 -- What became of a file over this reader, where readers tell their bytes and their failures so: its run, and what its lines
 -- did at a seat of a shared book of this setting whose every receipt is an entry of this history.
-pub record IsFed {R : Type 0} (setting : Setting) (history : List Event) (remaining : R → Option (List ℕ)) (has_failed : R → Bool) (reader : R) (file : FileCount R) : Type 0 where
+pub record IsFed {R : Type 0} (setting : Setting) (history : List Event) (remaining : R → Option (List ℕ)) (has_failed : R → Bool) (reader : R) (answers : FileAnswers) (file : FileCount R) : Type 0 where
   pub run : IsFileRun (remaining reader) (remaining file.reader) (file.accepted + file.repeated + file.refused) file.failed (has_failed file.reader)
-  pub seat : SeatValue
-  pub lines : IsSeatFed setting (remaining reader) (remaining file.reader) file.failed seat file.repeated file.refused
-  pub accepted : file.accepted ≡ count_of seat
-  pub entries : HasEntries history seat
+  pub lines : IsSeatFed setting (remaining reader) (remaining file.reader) file.failed answers.counts answers.seat file.repeated file.refused
+  pub accepted : file.accepted ≡ count_of answers.seat
+  pub entries : HasEntries history answers.seat
+
+-- so of each file, with the answers of each
+abbrev pub AreFed : {R : Type 0} → Setting → (history : List Event) → (remaining : R → Option (List ℕ)) → (has_failed : R → Bool) → List R → List FileAnswers → List (FileCount R) → Type 0
+AreFed setting history remaining has_failed [] [] [] = Unit {0}
+AreFed setting history remaining has_failed (reader ∷ readers) (its ∷ answers) (file ∷ files) = IsFed setting history remaining has_failed reader its file × AreFed setting history remaining has_failed readers answers files
+AreFed setting history remaining has_failed readers answers files = ⊥

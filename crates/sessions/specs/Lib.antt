@@ -8,6 +8,8 @@ pub mod Seat
 pub mod Submitted
 pub mod FedLines
 pub mod FeedCounts
+pub mod Crossings
 pub mod ReportText
+pub mod FeedNotes
 pub mod FeedReports
 pub mod inner

@@ -7,6 +7,7 @@ ghost use Rattle.sessions.specs.Seat.{count_of};
 ghost use Rattle.sessions.specs.inner.Others.{IsOther, IsTooFew};
 
 use crate::counted_book::CountedBook;
+use crate::noted_book::NotedBook;
 use crate::{BookLedger, CloseFault, Receipt, Seat, SharedBook};
 use commit_book::Book;
 use std::sync::ledger;
@@ -30,30 +31,34 @@ pub fn close<L: BookLedger>(
     ensures fault { IfErr result (IsHandedBack L.setting shared seats) }
     ensures missing { IsMissing result shared seats.items }
 {
-    let (book, seats) = audited(shared, seats)?;
+    let (noted, seats) = audited(shared, seats)?;
+    let NotedBook { book, notes: _ } = noted;
     match first_lost(&book, &seats) {
         Some((number, entry)) => Err(CloseFault::ReceiptLost(number, entry, book, seats)),
         None => Ok(book),
     }
 }
 
-/// The same, where the receipts of the seats are looked at side by side, by a thread for each seat. May wait for these
-/// threads.
+/// The same, with the book's notes, where the receipts of the seats are looked at side by side, by a thread for each seat. May
+/// wait for these threads.
 pub(crate) fn close_by_threads<L: BookLedger, T: Threads>(
     rt: &T,
     shared: SharedBook<L>,
     seats: Vec<Seat<L>>,
-) -> Result<Book, CloseFault<L>>
-    ensures setting { IfOk result (λ book. book.setting ≡ L.setting) }
-    ensures counts { IfOk result (λ book. length book.state.history ≡ sum_by count_of seats.items) }
-    ensures receipts { IfOk result (λ book. All (HasEntries book.state.history) seats.items) }
+) -> Result<NotedBook, CloseFault<L>>
+    ensures setting { IfOk result (λ noted. noted.book.setting ≡ L.setting) }
+    ensures counts { IfOk result (λ noted. length noted.book.state.history ≡ sum_by count_of seats.items) }
+    ensures receipts { IfOk result (λ noted. All (HasEntries noted.book.state.history) seats.items) }
     ensures fault { IfErr result (IsHandedBack L.setting shared seats) }
     ensures missing { IsMissing result shared seats.items }
 {
-    let (book, seats) = audited(shared, seats)?;
-    match first_lost_by_threads(rt, &book, &seats) {
-        Some((number, entry)) => Err(CloseFault::ReceiptLost(number, entry, book, seats)),
-        None => Ok(book),
+    let (noted, seats) = audited(shared, seats)?;
+    match first_lost_by_threads(rt, &noted.book, &seats) {
+        Some((number, entry)) => {
+            let NotedBook { book, notes: _ } = noted;
+            Err(CloseFault::ReceiptLost(number, entry, book, seats))
+        }
+        None => Ok(noted),
     }
 }
 
@@ -62,10 +67,10 @@ pub(crate) fn close_by_threads<L: BookLedger, T: Threads>(
 fn audited<L: BookLedger>(
     shared: SharedBook<L>,
     seats: Vec<Seat<L>>,
-) -> Result<(Book, Vec<Seat<L>>), CloseFault<L>>
+) -> Result<(NotedBook, Vec<Seat<L>>), CloseFault<L>>
     ensures seats { IfOk result (λ parts. parts.1 ≡ seats) }
-    ensures setting { IfOk result (λ parts. parts.0.setting ≡ L.setting) }
-    ensures counts { IfOk result (λ parts. length parts.0.state.history ≡ sum_by count_of seats.items) }
+    ensures setting { IfOk result (λ parts. parts.0.book.setting ≡ L.setting) }
+    ensures counts { IfOk result (λ parts. length parts.0.book.state.history ≡ sum_by count_of seats.items) }
     ensures all { IfOk result (λ parts. shared.seats ≤ length seats.items) }
     ensures missing { IfErr result (λ fault. IsTooFew shared seats fault) }
 {
@@ -78,13 +83,13 @@ fn audited<L: BookLedger>(
         wagons: _,
     } = shared;
     let CountedBook {
-        book,
+        noted,
         mut total,
         mut rest,
     } = book.into_inner();
     let mut seats = seats;
     audit_all(&mut total, &mut rest, &mut seats);
-    Ok((book, seats))
+    Ok((noted, seats))
 }
 
 /// The first receipt whose event is not the entry of its number, as `first_lost` finds it, where the receipts of each seat are

@@ -11,49 +11,52 @@ ghost use Rattle.sessions.specs.AnyBook.{IsBooksAnswer};
 ghost use Rattle.sessions.specs.inner.Counted.{IsEnteredBy, accepted_in};
 
 use crate::BookLedger;
-use commit_book::{Book, MadeProblem, Refusal, Reply, Snap};
+use crate::kept_notes::FileLine;
+use crate::noted_book::NotedBook;
+use commit_book::{MadeProblem, Refusal, Reply, Snap};
 use move_messages::{CommitText, Event, Message};
 use rail_codes::Moment;
 use std::alloc::{AllocError, Global};
 use std::sync::ledger::{Ledger, Share};
 use std::sync::{Arc, ledger};
 
-/// What stands behind the lock: a book, and the total of the ledger whose shares the seats have. The total is the number of
+/// What stands behind the lock: a book with its notes, and the total of the ledger whose shares the seats have. The total is the number of
 /// the book's entries, so the counts of all seats add up to it whenever the lock is taken.
 #[derive(Drop)]
 pub(crate) struct CountedBook<L: BookLedger> {
-    pub(crate) book: Book,
+    pub(crate) noted: NotedBook,
     pub(crate) total: ledger::Book<L>,
     /// A share that has no part, into which those of the seats are merged when the shared book closes.
     pub(crate) rest: Share<L>,
-    ghost counted: { length book.state.history ≡ total.total },
-    ghost own: { book.setting ≡ L.setting },
+    ghost counted: { length noted.book.state.history ≡ total.total },
+    ghost own: { noted.book.setting ≡ L.setting },
     ghost no_part: { rest.parts ≡ 0 },
 }
 
 impl<L: BookLedger> CountedBook<L> {
-    /// Lets an event of a seat be taken in by the book, and counts it on the seat's share if it was accepted. With a commit
+    /// Lets an event of a seat's line be taken in by the book, and counts it on the seat's share if it was accepted. With a commit
     /// may come what was made of a problem over the book's networks.
     pub(crate) fn enter(
         &mut self,
         alloc: Global,
         share: &mut Share<L>,
+        from: FileLine,
         event: Event,
         made: Option<Arc<MadeProblem>>,
     ) -> Result<Reply, Refusal>
         requires parts { 0 < share.old.parts }
         requires made { IfSome made (λ made. IsMadeAmong L.setting.networks made.value) }
-        ensures entered { IsEnteredBy L.setting self.old.book.state self.new.book.state share.old.amount share.new.amount event result }
+        ensures entered { IsEnteredBy L.setting self.old.noted.book.state self.new.noted.book.state share.old.amount share.new.amount event result }
         ensures parts { share.new.parts ≡ share.old.parts }
     {
         self.audit(share);
         let CountedBook {
-            book,
+            noted,
             total,
             rest: _,
         } = self;
-        let answer = book.submit_with(alloc, event, made);
-        book.for_the_prover();
+        let answer = noted.enter(alloc, from, event, made);
+        noted.book.for_the_prover();
         let reply = match answer {
             Ok(reply) => reply,
             Err(refusal) => return Err(refusal),
@@ -65,23 +68,25 @@ impl<L: BookLedger> CountedBook<L> {
     /// The same of a message. The row of its wagon is looked for at an index first, where one is given.
     pub(crate) fn enter_message(
         &mut self,
+        alloc: Global,
         share: &mut Share<L>,
+        from: FileLine,
         message: &Message,
         index: Option<usize>,
     ) -> Result<Reply, Refusal>
         requires { 0 < share.old.parts }
-        ensures entered { IsEnteredBy L.setting self.old.book.state self.new.book.state share.old.amount share.new.amount (event.Message message.now) result }
+        ensures entered { IsEnteredBy L.setting self.old.noted.book.state self.new.noted.book.state share.old.amount share.new.amount (event.Message message.now) result }
         ensures parts { share.new.parts ≡ share.old.parts }
     {
         self.audit(share);
         let CountedBook {
-            book,
+            noted,
             total,
             rest: _,
         } = self;
-        match book.message_near(message, index) {
+        match noted.enter_message(alloc, from, message, index) {
             Ok(reply) => {
-                book.for_the_prover();
+                noted.book.for_the_prover();
                 count(total, share, reply);
                 Ok(reply)
             }
@@ -101,7 +106,7 @@ impl<L: BookLedger> CountedBook<L> {
         ensures parts { share.new.parts ≡ share.old.parts }
     {
         self.audit(share);
-        self.book.answer_without_memory(event)
+        self.noted.book.answer_without_memory(event)
     }
 
     /// The same of a commit.
@@ -115,7 +120,7 @@ impl<L: BookLedger> CountedBook<L> {
         ensures parts { share.new.parts ≡ share.old.parts }
     {
         self.audit(share);
-        self.book.commit_without_memory(commit)
+        self.noted.book.commit_without_memory(commit)
     }
 
     /// The problem of the book's present version at a moment, which the book keeps. The seat's count is at most the
@@ -126,30 +131,30 @@ impl<L: BookLedger> CountedBook<L> {
         share: &mut Share<L>,
         at: Moment,
     ) -> Result<Snap, AllocError>
-        ensures call { IsCall L.setting self.old.book.state (call.Begin at) (begun_of result) self.new.book.state }
+        ensures call { IsCall L.setting self.old.noted.book.state (call.Begin at) (begun_of result) self.new.noted.book.state }
         ensures given { IsSetting L.setting }
-        ensures proved { IsProved L.setting self.old.book.state.history }
-        ensures within { share.old.amount ≤ length self.old.book.state.history }
-        ensures snap { IfOk result (λ snap. snap ≡ snap_of L.setting self.old.book.state.history at) }
+        ensures proved { IsProved L.setting self.old.noted.book.state.history }
+        ensures within { share.old.amount ≤ length self.old.noted.book.state.history }
+        ensures snap { IfOk result (λ snap. snap ≡ snap_of L.setting self.old.noted.book.state.history at) }
         ensures version { IfOk result (λ snap. share.old.amount ≤ snap.version) }
         ensures amount { share.new.amount ≡ share.old.amount }
         ensures parts { share.new.parts ≡ share.old.parts }
     {
         self.audit(share);
-        self.book.begin(alloc, at)
+        self.noted.begin(alloc, at)
     }
 
     /// Holds a seat's share against the total, which changes nothing: the book was given what a book can be given, and its
     /// history is as the headline says and has at least as many entries as the seat has receipts.
     fn audit(&mut self, share: &mut Share<L>)
         ensures given { IsSetting L.setting }
-        ensures proved { IsProved L.setting self.old.book.state.history }
-        ensures within { share.old.amount ≤ length self.old.book.state.history }
-        ensures book { self.new.book ≡ self.old.book }
+        ensures proved { IsProved L.setting self.old.noted.book.state.history }
+        ensures within { share.old.amount ≤ length self.old.noted.book.state.history }
+        ensures noted { self.new.noted ≡ self.old.noted }
         ensures amount { share.new.amount ≡ share.old.amount }
         ensures parts { share.new.parts ≡ share.old.parts }
     {
-        self.book.for_the_prover();
+        self.noted.book.for_the_prover();
         self.total.audit(share);
     }
 }

@@ -5,8 +5,9 @@ ghost use Rattle.sessions.specs.inner.Fed.{IsFedFile, stop_number};
 
 use crate::feed_lines::{FeedLines, FileLines};
 use crate::file_seat::FileSeat;
+use crate::refused_wagons::RefusedWagons;
 use crate::{BookLedger, Seat, SharedBook};
-use line_engine::{LineLimit, NoReplies, RunCount, RunFault, Source, run_lines};
+use line_engine::{LineLimit, NoReplies, RunCount, RunFault, Source, run_replies};
 use line_network::Networks;
 use std::alloc::Global;
 use std::collections::VecDeque;
@@ -20,6 +21,7 @@ pub(crate) struct FedFile<L: BookLedger, R> {
     pub(crate) seat: Seat<L>,
     pub(crate) repeated: u64,
     pub(crate) refused: u64,
+    pub(crate) out_of_step: RefusedWagons,
     pub(crate) failed: Option<u32>,
     pub(crate) reader: R,
 }
@@ -66,14 +68,16 @@ pub(crate) fn fed_file<'a, W: Wait, L: BookLedger, R: Source>(
         seat,
         repeated: 0,
         refused: 0,
+        out_of_step: RefusedWagons::none(alloc),
     };
     let mut lines = FileLines {
         file,
         pending: VecDeque::new(alloc),
+        number: 0,
     };
     let bring = FeedLines { rt, shared };
     let limit = LineLimit::standard();
-    let run = run_lines(
+    let run = run_replies(
         alloc,
         limit,
         &mut reader,
@@ -83,17 +87,23 @@ pub(crate) fn fed_file<'a, W: Wait, L: BookLedger, R: Source>(
     );
     let failed = stop_of(run);
     bring.submit_pending(alloc, &mut lines);
-    let FileLines { file, pending: _ } = lines;
+    let FileLines {
+        file,
+        pending: _,
+        number: _,
+    } = lines;
     let FileSeat {
         networks: _,
         seat,
         repeated,
         refused,
+        out_of_step,
     } = file;
     FedFile {
         seat,
         repeated,
         refused,
+        out_of_step,
         failed,
         reader,
     }

@@ -1,22 +1,23 @@
 //! What a file's lines do at the file's seat.
-ghost use Rattle.std.specs.Prelude.{◌≡◌, [], All, IfSome, Ok};
+ghost use Rattle.std.specs.Prelude.{◌≡◌, ◌∷◌, [], All, IfSome, Ok};
 ghost use Rattle.commit_book.specs.Made.{IsMadeAmong};
 ghost use Rattle.price_checker.specs.Snap.{IsInRange};
 ghost use Rattle.line_fields.specs.declared.command.Command.TheVariants as command;
 ghost use Rattle.move_messages.specs.declared.event.Event.TheVariants as event;
-ghost use Rattle.sessions.specs.FedLines.{IsPlannedIn, IsPlansCommit, IsSubmitted, IsTakenIn, counted_by, is_refused, is_repeated};
+ghost use Rattle.sessions.specs.FedLines.{IsPlannedIn, IsPlansCommit, IsSubmitted, IsTakenIn, counted_of, is_refused, is_repeated, is_step, refused_as, wagon_of};
 ghost use Rattle.sessions.specs.PlannersCommit.{IsCommitOf};
-ghost use Rattle.sessions.specs.inner.FeedLines.{Adds, AreEventsFed, IsEventFed, IsFedBehind, IsLineBrought, IsReadBrought, IsReadFed};
+ghost use Rattle.sessions.specs.inner.FeedLines.{Adds, AreEventsFed, IsEventFed, IsFedBehind, IsLineBrought, IsOneMore, IsReadBrought, IsReadFed};
+ghost use Rattle.sessions.specs.inner.RefusedWagons.{AreNotedBy, IsNotedBehind};
 
 use crate::file_seat::FileSeat;
 use crate::planning::{Worked, work_with_table};
 use crate::{BookLedger, Seat, SharedBook};
 use commit_book::{MadeProblem, Refusal, Reply, Snap};
-use line_engine::{Handler, Outcome, ReplyText};
+use line_engine::{Outcome, ReplyText, Responder};
 use line_fields::{Command, read_line};
 use line_network::Networks;
 use move_messages::{CommitText, Event, Message};
-use rail_codes::Moment;
+use rail_codes::{Moment, WagonNumber};
 use std::alloc::{AllocError, Global};
 use std::collections::VecDeque;
 use std::marker::Model;
@@ -29,6 +30,8 @@ const MAX_PENDING: usize = 64;
 /// A message that waits to be submitted. A contract sees the event that it is.
 #[derive(Drop)]
 pub(crate) struct Waiting {
+    /// The number of its line.
+    line: u64,
     message: Message,
     /// Where the row of its wagon stands.
     index: Option<usize>,
@@ -48,6 +51,8 @@ impl Model for Waiting {
 pub(crate) struct FileLines<'a, L: BookLedger> {
     pub(crate) file: FileSeat<'a, L>,
     pub(crate) pending: VecDeque<Waiting>,
+    /// The number of the last line.
+    pub(crate) number: u64,
 }
 
 /// What a line counts as.
@@ -55,6 +60,8 @@ pub(crate) struct FileLines<'a, L: BookLedger> {
 pub(crate) enum Counted {
     Accepted,
     Repeated,
+    /// As refused: the status table refused a message of this wagon.
+    OutOfStep(WagonNumber),
     Refused,
     Nowhere,
 }
@@ -64,24 +71,73 @@ impl<'a, L: BookLedger> FileSeat<'a, L> {
     fn count(&mut self, counted: Counted)
         ensures repeated { Adds (is_repeated counted) self.old.repeated self.new.repeated }
         ensures refused { Adds (is_refused counted) self.old.refused self.new.refused }
+        ensures out_of_step { AreNotedBy (counted ∷ []) self.old.out_of_step self.new.out_of_step }
         ensures seat { self.new.seat ≡ self.old.seat }
     {
         match counted {
             Counted::Repeated => self.repeated = self.repeated.saturating_add(1),
+            Counted::OutOfStep(wagon) => self.count_out_of_step(wagon),
             Counted::Refused => self.refused = self.refused.saturating_add(1),
             Counted::Accepted | Counted::Nowhere => {}
         }
     }
+
+    /// Counts a message of a wagon that the status table refused.
+    fn count_out_of_step(&mut self, wagon: WagonNumber)
+        ensures repeated { self.new.repeated ≡ self.old.repeated }
+        ensures refused { IsOneMore self.old.refused self.new.refused }
+        ensures out_of_step { IsNotedBehind wagon self.old.out_of_step self.new.out_of_step }
+        ensures seat { self.new.seat ≡ self.old.seat }
+    {
+        self.refused = self.refused.saturating_add(1);
+        self.out_of_step.note(wagon);
+    }
 }
 
-/// What an answer to an event counts as.
-fn counted_as(answer: Result<Reply, Refusal>) -> Counted
-    ensures { result ≡ counted_by answer }
+/// The wagon of a message.
+fn wagon_of(event: &Event) -> Option<WagonNumber>
+    ensures { result ≡ wagon_of event.now }
+{
+    match event {
+        Event::Message(message) => Some(message.wagon),
+        Event::Place(_) | Event::Withdraw(_) | Event::Commit(_) | Event::Revise(_) => None,
+    }
+}
+
+/// What an answer counts as, to a message of a wagon or to another event.
+fn counted_as(wagon: Option<WagonNumber>, answer: Result<Reply, Refusal>) -> Counted
+    ensures { result ≡ counted_of wagon answer }
 {
     match answer {
         Ok(Reply::Accepted(_)) => Counted::Accepted,
         Ok(Reply::Repeated(_)) => Counted::Repeated,
-        Err(_) => Counted::Refused,
+        Err(refusal) => refused_as(wagon, &refusal),
+    }
+}
+
+/// What a refusal counts as.
+fn refused_as(wagon: Option<WagonNumber>, refusal: &Refusal) -> Counted
+    ensures { result ≡ refused_as wagon refusal.now }
+{
+    match wagon {
+        None => Counted::Refused,
+        Some(wagon) => {
+            if is_step(refusal) {
+                Counted::OutOfStep(wagon)
+            } else {
+                Counted::Refused
+            }
+        }
+    }
+}
+
+/// Whether the status table refuses.
+fn is_step(refusal: &Refusal) -> bool
+    ensures { result ≡ is_step refusal.now }
+{
+    match refusal {
+        Refusal::Step(_) => true,
+        _ => false,
     }
 }
 
@@ -141,7 +197,11 @@ impl<'a, W: Wait, L: BookLedger> FeedLines<'a, W, L> {
         }
         // The row is looked for here and not when the message is submitted, since other files wait meanwhile.
         let index = self.shared.index_of(message.wagon);
-        let waiting = Waiting { message, index };
+        let waiting = Waiting {
+            line: lines.number,
+            message,
+            index,
+        };
         if let Err(refused) = lines.pending.push_back(waiting) {
             let message = refused.value.message;
             self.feed_behind(alloc, lines, Command::Event(Event::Message(message)));
@@ -153,7 +213,7 @@ impl<'a, W: Wait, L: BookLedger> FeedLines<'a, W, L> {
         ensures { IsFedBehind lines.old (Ok command) lines.new }
     {
         self.submit_pending(alloc, lines);
-        self.feed(alloc, &mut lines.file, command);
+        self.feed(alloc, &mut lines.file, lines.number, command);
     }
 
     /// Submits the messages that wait.
@@ -171,18 +231,22 @@ impl<'a, W: Wait, L: BookLedger> FeedLines<'a, W, L> {
     fn feed_waiting(&self, alloc: Global, file: &mut FileSeat<'a, L>, waiting: Waiting)
         ensures { IsEventFed file.old waiting file.new }
     {
-        let Waiting { message, index } = waiting;
+        let Waiting {
+            line,
+            message,
+            index,
+        } = waiting;
         let answer = self
             .shared
-            .send_near(self.rt, alloc, &mut file.seat, &message, index);
-        file.count(counted_as(answer));
+            .send_near(self.rt, alloc, &mut file.seat, line, &message, index);
+        file.count(counted_as(Some(message.wagon), answer));
     }
 
-    /// Does at a file's seat what a command asks for, and counts it.
-    fn feed(&self, alloc: Global, file: &mut FileSeat<'a, L>, command: Command)
+    /// Does at a file's seat what the command of a line asks for, and counts it.
+    fn feed(&self, alloc: Global, file: &mut FileSeat<'a, L>, line: u64, command: Command)
         ensures { IsReadFed file.old (Ok command) file.new }
     {
-        let counted = self.take_in(alloc, file.networks, &mut file.seat, command);
+        let counted = self.take_in(alloc, file.networks, &mut file.seat, line, command);
         file.count(counted);
     }
 
@@ -192,32 +256,44 @@ impl<'a, W: Wait, L: BookLedger> FeedLines<'a, W, L> {
         alloc: Global,
         networks: &Networks,
         seat: &mut Seat<L>,
+        line: u64,
         command: Command,
     ) -> Counted
         requires { networks.now ≡ L.setting.networks }
         ensures { IsTakenIn L.setting seat.old seat.new command result }
     {
         match command {
-            Command::Event(event) => self.submit(alloc, seat, event),
+            Command::Event(event) => self.submit(alloc, seat, line, event),
             Command::Begin(at) => match self.shared.begin(self.rt, alloc, seat, at) {
                 Ok(_) => Counted::Nowhere,
                 Err(_) => Counted::Refused,
             },
-            Command::Plan(at) => self.plan(alloc, networks, seat, at),
+            Command::Plan(at) => self.plan(alloc, networks, seat, line, at),
             Command::Sheet => Counted::Nowhere,
         }
     }
 
     /// Submits an event at a seat.
-    fn submit(&self, alloc: Global, seat: &mut Seat<L>, event: Event) -> Counted
+    fn submit(&self, alloc: Global, seat: &mut Seat<L>, line: u64, event: Event) -> Counted
         ensures { IsSubmitted L.setting seat.old seat.new event result }
     {
-        counted_as(self.shared.submit(self.rt, alloc, seat, event))
+        let wagon = wagon_of(&event);
+        counted_as(
+            wagon,
+            self.shared.submit_line(self.rt, alloc, seat, line, event),
+        )
     }
 
     /// Begins at a moment, plans with no lock held, and commits what was planned. It counts as the commit's answer, or as
     /// refused where the begin or the planning was.
-    fn plan(&self, alloc: Global, networks: &Networks, seat: &mut Seat<L>, at: Moment) -> Counted
+    fn plan(
+        &self,
+        alloc: Global,
+        networks: &Networks,
+        seat: &mut Seat<L>,
+        line: u64,
+        at: Moment,
+    ) -> Counted
         requires { networks.now ≡ L.setting.networks }
         ensures { IsPlannedIn L.setting seat.old seat.new at result }
     {
@@ -225,13 +301,13 @@ impl<'a, W: Wait, L: BookLedger> FeedLines<'a, W, L> {
             return Counted::Refused;
         };
         match planned_commit(alloc, &snap, networks) {
-            Some(planned) => self.commit(alloc, seat, planned),
+            Some(planned) => self.commit(alloc, seat, line, planned),
             None => Counted::Refused,
         }
     }
 
     /// Submits the commit of a plan at a seat. Its table comes along, so that none is made while the lock is held.
-    fn commit(&self, alloc: Global, seat: &mut Seat<L>, planned: Planned) -> Counted
+    fn commit(&self, alloc: Global, seat: &mut Seat<L>, line: u64, planned: Planned) -> Counted
         requires { IsMadeAmong L.setting.networks planned.made.value }
         ensures { IsSubmitted L.setting seat.old seat.new (event.Commit planned.commit) result }
     {
@@ -239,8 +315,8 @@ impl<'a, W: Wait, L: BookLedger> FeedLines<'a, W, L> {
         let event = Event::Commit(commit);
         let answer = self
             .shared
-            .submit_other(self.rt, alloc, seat, event, Some(made));
-        counted_as(answer)
+            .submit_other(self.rt, alloc, seat, line, event, Some(made));
+        counted_as(None, answer)
     }
 }
 
@@ -286,22 +362,22 @@ fn shared_with(alloc: Global, commit: CommitText, made: MadeProblem) -> Option<P
     }
 }
 
-impl<'a, W: Wait, L: BookLedger> Handler for FeedLines<'a, W, L> {
+impl<'a, W: Wait, L: BookLedger> Responder for FeedLines<'a, W, L> {
     type State = FileLines<'a, L>;
 
-    ghost answers = { λ old line _ _ new. IsLineBrought old line new };
+    ghost replies = { λ _ old line _ _ new. IsLineBrought old line new };
 
-    ghost runs_out = { λ _ _ _. ⊥ };
-
-    fn answer(
+    fn respond(
         &self,
         alloc: Global,
         lines: &mut FileLines<'a, L>,
+        number: u64,
         line: &[u8],
         more: bool,
         _reply: &mut ReplyText,
-    ) -> Result<Outcome, AllocError> {
+    ) -> Outcome {
+        lines.number = number;
         self.bring_line(alloc, lines, line, more);
-        Ok(Outcome::Answered)
+        Outcome::Answered
     }
 }

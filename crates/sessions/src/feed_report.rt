@@ -2,6 +2,7 @@
 ghost use Rattle.std.specs.Prelude.{◌≡◌, ◌+◌, ◌++◌, IfOk, OnOk, string_bytes};
 ghost use Rattle.sessions.specs.ReportText.{IsReportText, file_line};
 
+use crate::Crossing;
 use commit_book::Book;
 use dispatch_sheet::sheet_text;
 use std::alloc::{AllocError, Global};
@@ -19,11 +20,26 @@ pub struct FileCount<R> {
     pub reader: R,
 }
 
+/// The notes of the lines of all files: an object of JSON on a line of its own for each, with the numbers of its file and its line, in
+/// the order in which the book answered.
+#[derive(Drop)]
+pub struct FeedNotes {
+    pub text: String,
+    /// Whether memory was refused for a note. None is there from then on.
+    pub is_lost: bool,
+}
+
 /// What became of each file, in their order, and the book.
 #[derive(Drop)]
 pub struct FeedReport<R> {
     pub files: Vec<FileCount<R>>,
     pub book: Book,
+    /// The first wagon that two files move, by the refusing file's number and then by the wagon's.
+    pub crossing: Option<Crossing>,
+    /// Whether memory was refused for the wagon of a refused message, so that a crossing may be missing.
+    pub crossings_lost: bool,
+    /// The notes, where they were asked for.
+    pub notes: Option<FeedNotes>,
 }
 
 /// The text of a report: a line for each file, numbered from 1, `file K accepted A repeated R refused F` or, where it was

@@ -1,18 +1,25 @@
 //! Several files, fed to one book by a thread each.
-ghost use Rattle.std.specs.Prelude.{◌≡◌, ◌≤◌, [], All, IfErr, IfOk, false, length, map, vec_len, vec_capacity};
-ghost use Rattle.std.specs.List.{sum_by};
+ghost use Rattle.std.specs.Prelude.{◌≡◌, ◌≤◌, [], All, IfErr, IfOk, IfSome, false, length, map, vec_len, vec_capacity};
+ghost use Rattle.std.specs.List.{list_any, sum_by};
 ghost use Rattle.commit_book.specs.Headline.{IsProved};
+ghost use Rattle.line_engine.specs.Lines.{max_files};
 ghost use Rattle.sessions.specs.Closing.{HasEntries};
 ghost use Rattle.sessions.specs.Seat.{count_of};
-ghost use Rattle.sessions.specs.FeedReports.{IsFeedReport, MayBeFed};
-ghost use Rattle.sessions.specs.inner.Fed.{AreFed, AreToStart, HasRoom, IsFedFile, IsReceiptLost, handed_to};
+ghost use Rattle.sessions.specs.FeedReports.{AreNotesFor, IsFeedReport, MayBeFed};
+ghost use Rattle.sessions.specs.inner.Crossings.{IsFirstHeld};
+ghost use Rattle.sessions.specs.inner.Fed.{AreGathered, AreToStart, HasRoom, IsFedFile, IsReceiptLost, handed_to};
 
 use crate::closing::close_by_threads;
+use crate::crossing::first_crossing;
 use crate::fed_file::{FedFile, FileOf, fed_file};
-use crate::{BookLedger, CloseFault, FeedFault, FeedReport, FileCount, Seat, SharedBook, open};
+use crate::kept_notes::KeptNotes;
+use crate::noted_book::NotedBook;
+use crate::opening::open_noted;
+use crate::refused_wagons::{RefusedWagons, are_some_lost};
+use crate::{BookLedger, CloseFault, FeedFault, FeedReport, FileCount, Seat, SharedBook};
 use commit_book::Book;
 use line_engine::Source;
-use line_network::Networks;
+use line_network::{Network, Networks};
 use std::alloc::{AllocError, Global};
 use std::marker::Brand;
 use std::snapshot::Snapshot;
@@ -30,6 +37,7 @@ struct Room<L: BookLedger, R: Source> {
     running: Vec<Running<L, R>>,
     files: Vec<FileCount<R>>,
     seats: Vec<Seat<L>>,
+    refused: Vec<RefusedWagons>,
 }
 
 /// What a thread brings lines to, and with what.
@@ -40,11 +48,12 @@ struct Feeding<'e, L: BookLedger, T> {
     networks: &'e Networks,
 }
 
-/// What came of the files: their counts, and their seats.
+/// What came of the files: their counts, their seats, and the wagons of their messages that the status table refused.
 #[derive(Drop)]
 struct Fed<L: BookLedger, R> {
     files: Vec<FileCount<R>>,
     seats: Vec<Seat<L>>,
+    refused: Vec<RefusedWagons>,
 }
 
 /// Brings the command lines of 1 to 16 readers to a book without entries, by a thread and a seat for each, and answers what
@@ -60,6 +69,8 @@ struct Fed<L: BookLedger, R> {
 /// Lines count in the file's order, each by the answer that a book of the same setting gives to its own event. An accepted one
 /// gives the file's seat a receipt, and each receipt is an entry of the book that is handed back, whose setting stays.
 ///
+/// Where two files move one wagon, the report names the first such wagon and the two files.
+///
 /// Refused with `OutOfMemory` (1) before any thread is started; with `NoThread` (46) where no thread could be started for a
 /// file, after those that ran have ended; with `ReceiptLost` (96) as `close` says. May wait.
 pub fn feed<T: Threads + Wait + Sync, R: Source + Send + Drop>(
@@ -71,11 +82,45 @@ pub fn feed<T: Threads + Wait + Sync, R: Source + Send + Drop>(
     requires given { MayBeFed R.has_failed readers book }
     ensures report { IfOk result (IsFeedReport book.setting R.remaining R.has_failed readers.items) }
 {
-    let Ok(networks) = Arc::try_clone(book.networks()) else {
+    feed_book(rt, alloc, readers, NotedBook { book, notes: None })
+}
+
+/// The same with notes of the lines, where these are the book's networks. Each line's notes are made while the book answers it, so
+/// that they are those of the book just before and after it. Where memory is refused for a note, the report says that notes are
+/// missing, and the lines are answered as without notes.
+pub fn feed_noted<T: Threads + Wait + Sync, R: Source + Send + Drop>(
+    rt: &T,
+    alloc: Global,
+    readers: Vec<R>,
+    book: Book,
+    networks: Vec<Network>,
+) -> Result<FeedReport<R>, FeedFault>
+    requires given { MayBeFed R.has_failed readers book }
+    requires networks { networks.items ≡ book.setting.networks }
+    ensures report { IfOk result (IsFeedReport book.setting R.remaining R.has_failed readers.items) }
+{
+    let Ok(notes) = KeptNotes::new(alloc, &book, networks) else {
+        return Err(FeedFault::OutOfMemory);
+    };
+    let notes = Some(notes);
+    feed_book(rt, alloc, readers, NotedBook { book, notes })
+}
+
+/// The same, with notes where the book has some.
+fn feed_book<T: Threads + Wait + Sync, R: Source + Send + Drop>(
+    rt: &T,
+    alloc: Global,
+    readers: Vec<R>,
+    noted: NotedBook,
+) -> Result<FeedReport<R>, FeedFault>
+    requires given { MayBeFed R.has_failed readers noted.book }
+    ensures report { IfOk result (IsFeedReport noted.book.setting R.remaining R.has_failed readers.items) }
+{
+    let Ok(networks) = Arc::try_clone(noted.book.networks()) else {
         return Err(FeedFault::OutOfMemory);
     };
     let blank = Blank::new(readers.len() as u64);
-    feed_by::<Brand, T, R>(rt, alloc, blank, readers, book, &networks)
+    feed_by::<Brand, T, R>(rt, alloc, blank, readers, noted, &networks)
 }
 
 /// The same, over a ledger with a part for each file. The networks are the book's.
@@ -84,14 +129,14 @@ fn feed_by<L: BookLedger + Send + Sync, T: Threads + Wait + Sync, R: Source + Se
     alloc: Global,
     blank: Blank,
     readers: Vec<R>,
-    book: Book,
+    noted: NotedBook,
     networks: &Networks,
 ) -> Result<FeedReport<R>, FeedFault>
     requires ledger { blank.name ≡ L.name }
     requires parts { blank.parts ≡ L.parts }
     requires one_each { blank.parts ≡ vec_len readers }
-    requires given { MayBeFed R.has_failed readers book }
-    requires own { book.setting ≡ L.setting }
+    requires given { MayBeFed R.has_failed readers noted.book }
+    requires own { noted.book.setting ≡ L.setting }
     requires over { networks.now ≡ L.setting.networks }
     ensures report { IfOk result (IsFeedReport L.setting R.remaining R.has_failed readers.items) }
 {
@@ -99,7 +144,7 @@ fn feed_by<L: BookLedger + Send + Sync, T: Threads + Wait + Sync, R: Source + Se
     let Ok(room) = Room::new(alloc, count) else {
         return Err(FeedFault::OutOfMemory);
     };
-    let Ok((shared, seats)) = open::<L>(alloc, blank, book, count as u32) else {
+    let Ok((shared, seats)) = open_noted::<L>(alloc, blank, noted, count as u32) else {
         return Err(FeedFault::OutOfMemory);
     };
     let feeding = Feeding {
@@ -118,15 +163,17 @@ impl<L: BookLedger, R: Source + Drop> Room<L, R> {
     /// Memory for so many files.
     fn new(alloc: Global, count: usize) -> Result<Room<L, R>, AllocError>
         ensures running { IfOk result (λ room. (room.running.items ≡ []) × (count ≤ vec_capacity room.running)) }
-        ensures done { IfOk result (λ room. HasRoom count room.files room.seats) }
+        ensures done { IfOk result (λ room. HasRoom count room.files room.seats room.refused) }
     {
         let running = Vec::with_capacity(alloc, count)?;
         let files = Vec::with_capacity(alloc, count)?;
         let seats = Vec::with_capacity(alloc, count)?;
+        let refused = Vec::with_capacity(alloc, count)?;
         Ok(Room {
             running,
             files,
             seats,
+            refused,
         })
     }
 }
@@ -139,9 +186,9 @@ fn fed_in_threads<L: BookLedger + Send + Sync, T: Threads + Wait + Sync, R: Sour
     room: Room<L, R>,
 ) -> Result<Fed<L, R>, FeedFault>
     requires ready { AreToStart R.has_failed readers seats room.running }
-    requires room { HasRoom (vec_len readers) room.files room.seats }
+    requires room { HasRoom (vec_len readers) room.files room.seats room.refused }
     requires over { feeding.networks.now ≡ L.setting.networks }
-    ensures { IfOk result (λ fed. AreFed L.setting R.remaining R.has_failed readers.items fed.files.items fed.seats.items) }
+    ensures { IfOk result (λ fed. AreGathered L.setting R.remaining R.has_failed readers.items fed.files.items fed.seats.items fed.refused.items) }
 {
     let Feeding {
         rt,
@@ -154,14 +201,15 @@ fn fed_in_threads<L: BookLedger + Send + Sync, T: Threads + Wait + Sync, R: Sour
         rt,
         |scope| -> Result<Fed<L, R>, FeedFault>
             requires ready { AreToStart R.has_failed readers seats room.running }
-            requires room { HasRoom (vec_len readers) room.files room.seats }
+            requires room { HasRoom (vec_len readers) room.files room.seats room.refused }
             requires over { networks.now ≡ L.setting.networks }
-            ensures { IfOk result (λ fed. AreFed L.setting R.remaining R.has_failed readers.items fed.files.items fed.seats.items) }
+            ensures { IfOk result (λ fed. AreGathered L.setting R.remaining R.has_failed readers.items fed.files.items fed.seats.items fed.refused.items) }
         {
             let Room {
                 running,
                 files,
                 seats: done,
+                refused,
             } = room;
             let feeding = Feeding {
                 rt,
@@ -170,7 +218,7 @@ fn fed_in_threads<L: BookLedger + Send + Sync, T: Threads + Wait + Sync, R: Sour
                 networks,
             };
             match started(scope, feeding, readers, seats, running) {
-                Ok(running) => Ok(gathered(rt, running, files, done)),
+                Ok(running) => Ok(gathered(rt, running, files, done, refused)),
                 Err(running) => {
                     drop_all(rt, running);
                     Err(FeedFault::NoThread)
@@ -233,17 +281,20 @@ fn gathered<L: BookLedger, T: Threads, R: Source + Drop>(
     running: Vec<Running<L, R>>,
     files: Vec<FileCount<R>>,
     seats: Vec<Seat<L>>,
+    refused_wagons: Vec<RefusedWagons>,
 ) -> Fed<L, R>
-    requires { HasRoom (vec_len running) files seats }
-    ensures { AreFed L.setting R.remaining R.has_failed (map (λ handle. handed_to handle.promise) running.items) result.files.items result.seats.items }
+    requires { HasRoom (vec_len running) files seats refused_wagons }
+    ensures { AreGathered L.setting R.remaining R.has_failed (map (λ handle. handed_to handle.promise) running.items) result.files.items result.seats.items result.refused.items }
 {
     let mut files = files;
     let mut seats = seats;
+    let mut refused_wagons = refused_wagons;
     for handle in running {
         let FedFile {
             seat,
             repeated,
             refused,
+            out_of_step,
             failed,
             reader,
         } = handle.join(rt);
@@ -256,8 +307,13 @@ fn gathered<L: BookLedger, T: Threads, R: Source + Drop>(
             reader,
         });
         seats.push_reserved(seat);
+        refused_wagons.push_reserved(out_of_step);
     }
-    Fed { files, seats }
+    Fed {
+        files,
+        seats,
+        refused: refused_wagons,
+    }
 }
 
 /// Waits for threads whose files are no longer needed.
@@ -273,19 +329,37 @@ fn closed<L: BookLedger, T: Threads, R: Drop>(
     shared: SharedBook<L>,
     fed: Fed<L, R>,
 ) -> Result<FeedReport<R>, FeedFault>
-    requires { shared.seats ≤ vec_len fed.seats }
+    requires shared { shared.seats ≤ vec_len fed.seats }
+    requires seats { vec_len fed.seats ≤ max_files }
+    requires refused { vec_len fed.refused ≤ max_files }
     ensures files { IfOk result (λ report. report.files ≡ fed.files) }
     ensures receipts { IfOk result (λ report. All (HasEntries report.book.state.history) fed.seats.items) }
     ensures entries { IfOk result (λ report. length report.book.state.history ≡ sum_by count_of fed.seats.items) }
     ensures own { IfOk result (λ report. report.book.setting ≡ L.setting) }
     ensures proved { IfOk result (λ report. IsProved report.book.setting report.book.state.history) }
+    ensures crossing { IfOk result (λ report. IsFirstHeld fed.seats.items fed.refused.items report.crossing) }
+    ensures whole { IfOk result (λ report. report.crossings_lost ≡ list_any (λ wagons. wagons.is_lost) fed.refused.items) }
+    ensures notes { IfOk result (λ report. IfSome report.notes (AreNotesFor report.book)) }
     ensures lost { IfErr result (IsReceiptLost fed.seats.items) }
 {
-    let Fed { files, seats } = fed;
+    let Fed {
+        files,
+        seats,
+        refused,
+    } = fed;
+    let crossing = first_crossing(&seats, &refused);
+    let crossings_lost = are_some_lost(&refused);
     match close_by_threads(rt, shared, seats) {
-        Ok(book) => {
+        Ok(noted) => {
+            let (book, notes) = noted.into_parts();
             book.for_the_prover();
-            Ok(FeedReport { files, book })
+            Ok(FeedReport {
+                files,
+                book,
+                crossing,
+                crossings_lost,
+                notes,
+            })
         }
         Err(CloseFault::ReceiptLost(seat, entry, _, _)) => {
             Err(FeedFault::ReceiptLost(seat, entry))

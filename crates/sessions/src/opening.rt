@@ -3,6 +3,7 @@ ghost use Rattle.std.specs.Prelude.{◌≡◌, ◌≤◌, [], IfErr, IfOk, vec_c
 ghost use Rattle.sessions.specs.Seat.{IsSeatCount, new_seats};
 
 use crate::counted_book::CountedBook;
+use crate::noted_book::NotedBook;
 use crate::{BookLedger, OpenFault, Seat, SharedBook};
 use commit_book::Book;
 use rail_codes::WagonNumber;
@@ -36,15 +37,42 @@ pub fn open<L: BookLedger>(
     ensures seats { IfOk result (λ opened. opened.1.items ≡ new_seats count) }
     ensures handed_back { IfErr result (λ fault. (fault.blank ≡ blank) × (fault.book ≡ book)) }
 {
+    let noted = NotedBook { book, notes: None };
+    match open_noted(alloc, blank, noted, count) {
+        Ok(opened) => Ok(opened),
+        Err((blank, noted)) => {
+            let NotedBook { book, notes: _ } = noted;
+            Err(OpenFault { blank, book })
+        }
+    }
+}
+
+/// The same over a book whose notes may be asked for.
+pub(crate) fn open_noted<L: BookLedger>(
+    alloc: Global,
+    blank: Blank,
+    noted: NotedBook,
+    count: u32,
+) -> Result<(SharedBook<L>, Vec<Seat<L>>), (Blank, NotedBook)>
+    requires ledger { blank.name ≡ L.name }
+    requires parts { blank.parts ≡ L.parts }
+    requires one_each { blank.parts ≡ count }
+    requires count { IsSeatCount count }
+    requires no_entry { noted.book.state.history ≡ [] }
+    requires setting { noted.book.setting ≡ L.setting }
+    ensures shared { IfOk result (λ opened. opened.0.seats ≡ count) }
+    ensures seats { IfOk result (λ opened. opened.1.items ≡ new_seats count) }
+    ensures handed_back { IfErr result (λ fault. (fault.0 ≡ blank) × (fault.1 ≡ noted)) }
+{
     let Ok(mut seats) = Vec::with_capacity(alloc, count as usize) else {
-        return Err(OpenFault { blank, book });
+        return Err((blank, noted));
     };
-    let Ok(wagons) = numbers_of(alloc, book.state().wagon_rows()) else {
-        return Err(OpenFault { blank, book });
+    let Ok(wagons) = numbers_of(alloc, noted.book.state().wagon_rows()) else {
+        return Err((blank, noted));
     };
     let (total, mut rest) = blank.open::<L>();
     seat_all(alloc, &mut seats, &mut rest, count);
-    let book = Mutex::new(CountedBook { book, total, rest });
+    let book = Mutex::new(CountedBook { noted, total, rest });
     Ok((
         SharedBook {
             book,

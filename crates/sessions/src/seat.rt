@@ -2,6 +2,7 @@
 ghost use Rattle.std.specs.Prelude.{◌≡◌};
 
 use crate::Receipt;
+use crate::kept_notes::FileLine;
 use std::alloc::Global;
 use std::marker::Model;
 use std::sync::ledger::{Ledger, Share};
@@ -50,6 +51,14 @@ impl<L: Ledger> Seat<L> {
         ensures { result ≡ self.now.number }
     {
         self.number
+    }
+
+    /// A line of the seat's file, which has the seat's number.
+    pub(crate) fn line(&self, line: u64) -> FileLine {
+        FileLine {
+            file: self.number,
+            line,
+        }
     }
 
     /// How many of the seat's calls were accepted.

@@ -24,6 +24,9 @@ const TRIES: u32 = 2_000;
 /// The first tries, after each of which a call pauses and doesn't yield.
 const QUICK_TRIES: u32 = 64;
 
+/// The number of the line of a call that no line makes.
+const NO_LINE: u64 = 0;
+
 /// How many pauses of the processor stand between two quick tries.
 const PAUSES: u32 = 100;
 
@@ -65,15 +68,23 @@ impl<L: BookLedger> SharedBook<L> {
     ) -> Result<Reply, Refusal>
         ensures { IsSubmitted L.setting seat.old seat.new (event.Message message.now) result }
     {
-        self.send_near(rt, alloc, seat, message, self.index_of(message.wagon))
+        self.send_near(
+            rt,
+            alloc,
+            seat,
+            NO_LINE,
+            message,
+            self.index_of(message.wagon),
+        )
     }
 
-    /// The same. The row of the message's wagon is looked for at an index first, where one is given.
+    /// The same, of a line of this number. The row of the message's wagon is looked for at an index first, where one is given.
     pub(crate) fn send_near(
         &self,
         rt: &impl Wait,
         alloc: Global,
         seat: &mut Seat<L>,
+        line: u64,
         message: &Message,
         index: Option<usize>,
     ) -> Result<Reply, Refusal>
@@ -85,9 +96,10 @@ impl<L: BookLedger> SharedBook<L> {
             let mut book = self.locked(rt);
             return book.answer_without_memory(&mut seat.share, &Event::Message(*message));
         }
+        let from = seat.line(line);
         let reply = match self
             .locked(rt)
-            .enter_message(&mut seat.share, message, index)
+            .enter_message(alloc, &mut seat.share, from, message, index)
         {
             Ok(reply) => reply,
             Err(refusal) => return Err(refusal),
@@ -159,7 +171,7 @@ impl<L: BookLedger> SharedBook<L> {
             let mut book = self.locked(rt);
             return Err(book.commit_without_memory(&mut seat.share, commit));
         };
-        self.submit_other(rt, alloc, seat, Event::Commit(copy), None)
+        self.submit_other(rt, alloc, seat, NO_LINE, Event::Commit(copy), None)
     }
 
     /// The problem of the book's present version at a moment, which the book keeps so that a commit may name it. The
@@ -190,19 +202,43 @@ impl<L: BookLedger> SharedBook<L> {
     ) -> Result<Reply, Refusal>
         ensures { IsSubmitted L.setting seat.old seat.new event result }
     {
+        self.submit_line(rt, alloc, seat, NO_LINE, event)
+    }
+
+    /// The same, of a line of this number.
+    pub(crate) fn submit_line(
+        &self,
+        rt: &impl Wait,
+        alloc: Global,
+        seat: &mut Seat<L>,
+        line: u64,
+        event: Event,
+    ) -> Result<Reply, Refusal>
+        ensures { IsSubmitted L.setting seat.old seat.new event result }
+    {
         match event {
-            Event::Message(message) => self.send(rt, alloc, seat, &message),
-            other => self.submit_other(rt, alloc, seat, other, None),
+            Event::Message(message) => {
+                self.send_near(
+                    rt,
+                    alloc,
+                    seat,
+                    line,
+                    &message,
+                    self.index_of(message.wagon),
+                )
+            }
+            other => self.submit_other(rt, alloc, seat, line, other, None),
         }
     }
 
-    /// The same of an event that may want memory for its receipt. With a commit may come what was made of a problem over the
+    /// The same of a line's event that may want memory for its receipt. With a commit may come what was made of a problem over the
     /// book's networks: where the commit is of that problem, the table is not made while the lock is held.
     pub(crate) fn submit_other(
         &self,
         rt: &impl Wait,
         alloc: Global,
         seat: &mut Seat<L>,
+        line: u64,
         event: Event,
         made: Option<Arc<MadeProblem>>,
     ) -> Result<Reply, Refusal>
@@ -215,7 +251,11 @@ impl<L: BookLedger> SharedBook<L> {
             let mut book = self.locked(rt);
             return book.answer_without_memory(&mut seat.share, &event);
         };
-        let reply = match self.locked(rt).enter(alloc, &mut seat.share, event, made) {
+        let from = seat.line(line);
+        let reply = match self
+            .locked(rt)
+            .enter(alloc, &mut seat.share, from, event, made)
+        {
             Ok(reply) => reply,
             Err(refusal) => return Err(refusal),
         };

@@ -6,6 +6,7 @@ use Rattle.line_fields.specs.declared.command.Command.TheVariants as command
 use Rattle.line_fields.specs.declared.fault.LineFault.{LineFault}
 use Rattle.move_messages.specs.declared.event.Event.{Event}
 use Rattle.sessions.specs.FedLines.{IsReadIn, is_refused, is_repeated}
+use Rattle.sessions.specs.inner.RefusedWagons.{AreNotedBy}
 use Rattle.sessions.specs.declared.feed_lines.FileLines.{FileLines}
 use Rattle.sessions.specs.declared.feed_lines.Counted.{Counted}
 use Rattle.sessions.specs.declared.file_seat.FileSeat.{FileSeat}
@@ -28,6 +29,7 @@ pub record IsReadFed {L : Type 0} {g : Ghosts L} (old : FileSeat L g) (read : Re
   pub taken : IsReadIn g.setting old.seat new.seat read counted
   pub repeated : Adds (is_repeated counted) old.repeated new.repeated
   pub refused : Adds (is_refused counted) old.refused new.refused
+  pub out_of_step : AreNotedBy (counted ∷ []) old.out_of_step new.out_of_step
 
 -- so does an event
 abbrev pub IsEventFed : {L : Type 0} {g : Ghosts L} → (old : FileSeat L g) → Event → (new : FileSeat L g) → Type 0

@@ -7,7 +7,8 @@ use Rattle.sessions.proofs.feeding.gathered.Given as goal
 
 abbrev pub invariant-loop-handle : goal.invariant-loop-handle
 invariant-loop-handle g l = record {
-  fed : AreFedBefore g.L.BookLedger.setting g.R.Source.remaining g.R.Source.has_failed (map (λ handle. handed_to handle.promise) (into_iter_items l.handle-iterator)) (map (λ handle. handed_to handle.promise) l.fn.running.items) l.files.items l.seats.items;
+  fed : AreFedBefore g.L.BookLedger.setting g.R.Source.remaining g.R.Source.has_failed (map (λ handle. handed_to handle.promise) (into_iter_items l.handle-iterator)) (map (λ handle. handed_to handle.promise) l.fn.running.items) l.files.items l.seats.items l.refused_wagons.items;
   room : vec_len l.files + length (into_iter_items l.handle-iterator) ≤ vec_capacity l.files;
   seats : vec_len l.seats + length (into_iter_items l.handle-iterator) ≤ vec_capacity l.seats;
+  refused : vec_len l.refused_wagons + length (into_iter_items l.handle-iterator) ≤ vec_capacity l.refused_wagons;
 }

@@ -15,6 +15,7 @@ returns-in-Err g c =
         taken = rw counts.seat (turned_away _ _ (command_of c.args.line.now));
         repeated = counts.repeated;
         refused = counts.refused;
+        out_of_step = counts.out_of_step;
       };
       pending = c.submit_pending.ensures.none;
     })

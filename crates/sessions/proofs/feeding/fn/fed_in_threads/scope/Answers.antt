@@ -13,4 +13,6 @@ gathered-requires g c =
       file_room = omega (arith, same, running.ok.0, readers.ok.0, c.requires.room.file_room);
       no_seat = c.requires.room.no_seat;
       seat_room = omega (arith, same, running.ok.0, readers.ok.0, c.requires.room.seat_room);
+      none_refused = c.requires.room.none_refused;
+      refused_room = omega (arith, same, running.ok.0, readers.ok.0, c.requires.room.refused_room);
     }
