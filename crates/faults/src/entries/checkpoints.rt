@@ -16,7 +16,7 @@ pub(crate) const ONE_SIDED_PROMISE: &str = "## 86 OneSidedPromise
 
 A wagon is promised to an order that doesn't have it among its promised wagons,
 or the other way round. The number after it is the order's line, or the last
-one where no order has the wagon.
+one if no order has the wagon.
 
 - Where: on standard error, as `wagons: 86 17`: a file after `--from`.
 - Cause: a line that was changed or taken out by hand.

@@ -35,7 +35,7 @@ The fleet has no wagon of this number.
 
 pub(crate) const ORDER_KNOWN: &str = "## 74 OrderKnown
 
-An order of this name was placed before. It counts also where it is filled or
+An order of this name was placed before. It counts also if it is filled or
 withdrawn.
 
 - Where: `order` lines: `run`, `feed`.
@@ -91,7 +91,7 @@ There is no network of this number.
 
 - Where: `network` lines: `run`, `feed`. For a checkpoint on standard error with
   the number of its line, as `wagons: 79 1`. Also in the library call `work`,
-  where its networks aren't those of the book.
+  if its networks aren't those of the book.
 - Cause: fewer `--network` files were given than the lines or the checkpoint
   count with. They are numbered from 1, in the order in which they are given.
 - Remedy: start again with all networks. A new one goes after the others: save
@@ -148,8 +148,8 @@ A pair names a wagon or an order that the table or the problem doesn't have. The
 reply names both.
 
 - Where: table lines: `check`. `commit` lines: `run`, `feed`. On standard error,
-  as `wagons: 84 SALT-1`, where `why` is asked about one of them, or `map`
-  about an order that is on no map.
+  as `wagons: 84 SALT-1`, if `why` is asked about one of them or about a line
+  without a plan, or `map` about an order that is on no map.
 - Cause: a misspelled number or name, a wagon that wasn't free or an order that
   wasn't waiting in that version, or a wrong version.
 - Remedy: send the certificate as it was printed, with its own version and

@@ -7,8 +7,8 @@ The message is older than the last message accepted of its wagon.
 - Where: movement messages: `run`, `feed`.
 - Cause: messages of one wagon that came in another order than they happened, as
   from two railways, or a clock or an offset that is wrong.
-- Remedy: where the wagon has moved on, nothing. Where the moment is wrong, send
-  the message with the right one; its number is still free.
+- Remedy: if the wagon has moved on, nothing. If the moment is wrong, send the
+  message with the right one; its number is still free.
 ";
 
 pub(crate) const WRONG_STATUS: &str = "## 32 WrongStatus

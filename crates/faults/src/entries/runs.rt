@@ -8,8 +8,8 @@ line too many.
 - Where: on standard error, as `wagons: 91 1000001`: `check`, `solve`, `run`; in
   `feed` as `file K failed 91`, which names no line: it is line 1,000,001.
 - Cause: a journal of many days.
-- Remedy: save a checkpoint of the lines before (`wagons save`), and begin a new
-  journal with it. They were done.
+- Remedy: save a checkpoint of the lines before, which were done, with `wagons
+  save --upto 1000000`, and begin a new journal with it.
 ";
 
 pub(crate) const LINE_TOO_LONG: &str = "## 92 LineTooLong
