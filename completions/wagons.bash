@@ -15,11 +15,11 @@ _wagons() {
         return
     fi
     case $previous in
-        --roster | --from | --network | --with | --places) mapfile -t COMPREPLY < <(compgen -f -- "$current"); return ;;
-        --entries | --kept | --workers | --at | --upto | --without | --order | --wagon | --class | --zone | --company | --silent | --line-bytes) return ;;
+        --roster | --from | --network | --with | --places | --notes) mapfile -t COMPREPLY < <(compgen -f -- "$current"); return ;;
+        --entries | --kept | --workers | --at | --upto | --without | --order | --wagon | --class | --zone | --company | --silent | --line | --near | --line-bytes) return ;;
     esac
     case $word in
-        run) ;;
+        run) office+=' --notes' ;;
         review) office+=' --places --json' ;;
         moves) office+=' --at --places --zone --csv --json --late --order --wagon --company --silent' ;;
         fleet | orders) office+=' --places --zone --csv --json' ;;
@@ -27,9 +27,12 @@ _wagons() {
         map) office+=' --places --busy --order --class' ;;
         plan) office+=' --at --places --zone --csv' ;;
         table) office+=' --at' ;;
-        why) office+=' --at --places --order --wagon --json --quick' ;;
+        why) office+=' --at --line --places --order --wagon --near --json --quick' ;;
         save) office+=' --upto --with --without' ;;
-        feed) [[ $current == -* ]] || { mapfile -t COMPREPLY < <(compgen -f -- "$current"); return; } ;;
+        feed)
+            [[ $current == -* ]] || { mapfile -t COMPREPLY < <(compgen -f -- "$current"); return; }
+            office+=' --notes'
+            ;;
         check | solve) office='--line-bytes --help' ;;
         help) office=$words ;;
         *) office='--help' ;;

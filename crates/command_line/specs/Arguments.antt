@@ -31,7 +31,7 @@ needed_repeated name = record (repeated name) { required = true }
 abbrev pub number : (most : ℕ) (name : Text) → Rule
 number most name = record (valued name) { parser = Some (Unsigned 1 most) }
 
--- the same, which has a value where none is given
+-- the same, which has a value if none is given
 abbrev pub number_or : (most : ℕ) (standard name : Text) → Rule
 number_or most standard name = record (number most name) { defaults = standard ∷ [] }
 

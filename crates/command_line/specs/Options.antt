@@ -1,5 +1,5 @@
 -- What each word's options say, by what was given to them.
-use Rattle.std.specs.Prelude.{◌≡◌, ◌≢◌, ◌≤◌, ℕ, Bool, ◌||◌, ◌==◌, [], codes, Some, None, Ok, IfSome, IsTrue}
+use Rattle.std.specs.Prelude.{◌≡◌, ◌≢◌, ◌≤◌, ℕ, Bool, ◌||◌, ◌==◌, [], codes, Option, Some, None, Ok, IfSome, IsTrue}
 use Rattle.std.specs.Char.{is_ascii_alphanumeric}
 use Rattle.std.specs.List.{list_all}
 use Rattle.command_line.specs.Values.{AreReadAs, Given, IsFlagOf, IsNumberOf, IsOptionalNumberOf, IsReadAs, Text, all_lent, lent, needed_value, value_of, values_of}
@@ -9,6 +9,7 @@ use Rattle.command_line.specs.declared.moves_options.MovesOptions.{MovesOptions}
 use Rattle.command_line.specs.declared.office_options.FeedOptions.{FeedOptions}
 use Rattle.command_line.specs.declared.office_options.OfficeOptions.{OfficeOptions}
 use Rattle.command_line.specs.declared.office_options.ProblemOptions.{ProblemOptions}
+use Rattle.command_line.specs.declared.office_options.RunOptions.{RunOptions}
 use Rattle.command_line.specs.declared.office_options.SaveOptions.{SaveOptions}
 use Rattle.command_line.specs.declared.office_options.Start.{Start}
 use Rattle.command_line.specs.declared.office_options.Start.TheVariants as start
@@ -20,8 +21,10 @@ use Rattle.command_line.specs.declared.trace_options.Followed.TheVariants as fol
 use Rattle.command_line.specs.declared.trace_options.TraceOptions.{TraceOptions}
 use Rattle.command_line.specs.declared.why_options.Asked.{Asked}
 use Rattle.command_line.specs.declared.why_options.Asked.TheVariants.{Plan, Order, Wagon}
+use Rattle.command_line.specs.declared.why_options.When.{When}
+use Rattle.command_line.specs.declared.why_options.When.TheVariants.{At, Line}
 use Rattle.command_line.specs.declared.why_options.WhyOptions.{WhyOptions}
-use Rattle.line_engine.specs.Lines.{largest_line_limit}
+use Rattle.line_engine.specs.Lines.{largest_line_limit, max_input_lines}
 use Rattle.price_checker.specs.Limits.{LimitNumbers, max_entries, max_kept_problems}
 use Rattle.rail_codes.specs.ClassCode.{class_code_of}
 use Rattle.rail_codes.specs.Company.{company_of}
@@ -29,7 +32,7 @@ use Rattle.rail_codes.specs.Moment.{moment_of}
 use Rattle.rail_codes.specs.OrderId.{order_id_of}
 use Rattle.rail_codes.specs.WagonNumber.{wagon_number_of}
 
--- the most threads that work out distances
+-- the most threads that compute distances
 abbrev pub max_workers : ℕ
 max_workers = 64
 
@@ -37,11 +40,15 @@ max_workers = 64
 abbrev pub max_silent_hours : ℕ
 max_silent_hours = 100000
 
+-- the most pairs that `why --near` prints
+abbrev pub max_near : ℕ
+max_near = 1000
+
 -- the most bytes of a line
 pub record AreLineOptions (given : Given) (options : LineOptions) : Type 0 where
   pub limit : IsNumberOf (codes "line-bytes") largest_line_limit given options.limit
 
--- An office begins with the checkpoint in the file that `from` names, where one is given, else with the roster in that of `roster`.
+-- An office begins with the checkpoint in the file that `from` names, if one is given, else with the roster in that of `roster`.
 abbrev pub BeginsBy : Given → Start → Type 0
 BeginsBy given (start.Checkpoint path) = value_of (codes "from") given ≡ Some path.now
 BeginsBy given (start.Roster path) = (value_of (codes "from") given ≡ None) × (path.now ≡ needed_value (codes "roster") given)
@@ -58,10 +65,16 @@ pub record AreOfficeOptions (given : Given) (options : OfficeOptions) : Type 0 w
   pub limits : AreLimitsOf given options.limits
   pub workers : IsNumberOf (codes "workers") max_workers given options.workers
 
--- the same, and the files of commands in the order given
+-- the same, and the file that notes are written to, if there is one
+pub record AreRunOptions (given : Given) (options : RunOptions) : Type 0 where
+  pub office : AreOfficeOptions given options.office
+  pub notes : lent options.notes ≡ value_of (codes "notes") given
+
+-- the same as for an office, the files of commands in the order given, and the file that notes are written to, if there is one
 pub record AreFeedOptions (given : Given) (options : FeedOptions) : Type 0 where
   pub office : AreOfficeOptions given options.office
   pub files : all_lent options.files.items ≡ values_of (codes "file") given
+  pub notes : lent options.notes ≡ value_of (codes "notes") given
 
 -- the same as for an office, and the moment that `at` says
 pub record AreProblemOptions (given : Given) (options : ProblemOptions) : Type 0 where
@@ -127,11 +140,26 @@ IsAsked given (Wagon number) =
     (value_of (codes "order") given ≡ None) × IsReadAs wagon_number_of (value_of (codes "wagon") given) (Some number)
 IsAsked given Plan = (value_of (codes "order") given ≡ None) × (value_of (codes "wagon") given ≡ None)
 
--- what is asked, with names of places, whether JSON lines are printed, and whether bounds are printed alone
+-- which plan `why` is asked about: that of the last version at the moment that `at` says, else that of the line that `line` says
+abbrev pub IsWhen : Given → When → Type 0
+IsWhen given (At moment) = IsReadAs moment_of (value_of (codes "at") given) (Some moment)
+IsWhen given (Line number) = (value_of (codes "at") given ≡ None) × IsNumberOf (codes "line") max_input_lines given number
+
+-- A number of pairs is asked for of an order or a wagon alone: of the whole plan there is none.
+abbrev pub IsNearOf : Asked → (near : Option ℕ) → Type 0
+IsNearOf Plan near = near ≡ None
+IsNearOf asked near = Unit {0}
+
+-- what is asked of which plan, with names of places, how many pairs that fit are printed at most, whether JSON lines are printed, and
+-- whether bounds are printed alone
 pub record AreWhyOptions (given : Given) (options : WhyOptions) : Type 0 where
-  pub problem : AreProblemOptions given options.problem
+  pub office : AreOfficeOptions given options.office
+  pub when : IsWhen given options.when
   pub places : lent options.places ≡ value_of (codes "places") given
   pub asked : IsAsked given options.asked
+  pub near : IsOptionalNumberOf (codes "near") given options.near
+  pub near_range : IfSome options.near (λ pairs. (1 ≤ pairs) × (pairs ≤ max_near))
+  pub near_of_one : IsNearOf options.asked options.near
   pub json : IsFlagOf (codes "json") given options.json
   pub quick : IsFlagOf (codes "quick") given options.quick
 

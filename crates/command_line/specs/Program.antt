@@ -3,7 +3,7 @@ use Rattle.std.specs.Prelude.{false, true, List, [], ◌∷◌, ◌++◌, codes}
 use Rattle.clap.specs.Simple.{App, Shape, new_shape}
 use Rattle.clap.specs.Walk.{Rule}
 use Rattle.command_line.specs.Arguments.{flag, needed, needed_repeated, number, number_or, repeated, unnamed, unnamed_files, valued}
-use Rattle.command_line.specs.Options.{max_silent_hours, max_workers}
+use Rattle.command_line.specs.Options.{max_near, max_silent_hours, max_workers}
 use Rattle.command_line.specs.Values.{Text}
 use Rattle.line_engine.specs.Lines.{largest_line_limit, max_input_lines}
 use Rattle.price_checker.specs.Limits.{max_entries, max_kept_problems}
@@ -29,6 +29,9 @@ a_moment = needed (codes "at")
 abbrev pub some_places : Rule
 some_places = valued (codes "places")
 
+abbrev pub some_notes : Rule
+some_notes = valued (codes "notes")
+
 abbrev pub a_zone : Rule
 a_zone = valued (codes "zone")
 
@@ -45,6 +48,18 @@ of_moves =
     ∷ valued (codes "company")
     ∷ number max_silent_hours (codes "silent") ∷ []
 
+-- those of `why`
+abbrev pub of_why : List Rule
+of_why =
+    valued (codes "at")
+    ∷ number max_input_lines (codes "line")
+    ∷ some_places
+    ∷ valued (codes "order")
+    ∷ valued (codes "wagon")
+    ∷ number max_near (codes "near")
+    ∷ flag (codes "json")
+    ∷ flag (codes "quick") ∷ []
+
 -- a word with these arguments
 abbrev pub word : Text → List Rule → Shape
 word name arguments = record (new_shape name) { rules = arguments }
@@ -54,8 +69,8 @@ unfoldable pub words : List Shape
 words =
     word (codes "check") of_lines
     ∷ word (codes "solve") of_lines
-    ∷ word (codes "run") of_an_office
-    ∷ word (codes "feed") (of_an_office ++ unnamed_files (codes "file") ∷ [])
+    ∷ word (codes "run") (of_an_office ++ some_notes ∷ [])
+    ∷ word (codes "feed") (of_an_office ++ some_notes ∷ unnamed_files (codes "file") ∷ [])
     ∷ word (codes "moves") (of_an_office ++ a_moment ∷ of_a_state ++ of_moves)
     ∷ word (codes "fleet") (of_an_office ++ of_a_state)
     ∷ word (codes "orders") (of_an_office ++ of_a_state)
@@ -65,7 +80,7 @@ words =
     ∷ word (codes "plan") (of_an_office ++ a_moment ∷ some_places ∷ a_zone ∷ flag (codes "csv") ∷ [])
     ∷ word (codes "table") (of_an_office ++ a_moment ∷ [])
     ∷ word (codes "why")
-    (of_an_office ++ a_moment ∷ some_places ∷ valued (codes "order") ∷ valued (codes "wagon") ∷ flag (codes "json") ∷ flag (codes "quick") ∷ [])
+    (of_an_office ++ of_why)
     ∷ word (codes "review") (of_an_office ++ some_places ∷ flag (codes "json") ∷ [])
     ∷ word (codes "save")
     (of_an_office ++ number max_input_lines (codes "upto") ∷ valued (codes "with") ∷ repeated (codes "without") ∷ [])

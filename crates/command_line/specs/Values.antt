@@ -10,7 +10,7 @@ use Rattle.rail_codes.specs.declared.code_fault.CodeFault.{CodeFault}
 abbrev pub Text : Type 0
 Text = List ℕ
 
--- for each argument of a word its name and the values that were given to it, or those that it has where none is
+-- for each argument of a word its name and the values that were given to it, or those that it has if none is
 abbrev pub Given : Type 0
 Given = List Row
 
@@ -26,7 +26,7 @@ value_of name given = first_of name given
 unfoldable pub values_of : (name : Text) → Given → List Text
 values_of name given = unwrap_or (all_of name given) []
 
--- the value of an argument, as `clap` reads it where it is no text
+-- the value of an argument, as `clap` reads it if it is no text
 unfoldable pub read_value_of : (name : Text) → Given → Option Text
 read_value_of name given = one_of name given
 
@@ -41,7 +41,7 @@ lent = option_map (λ text. text.now)
 abbrev pub all_lent : List (Bor Text) → List Text
 all_lent = map (λ text. text.now)
 
--- what a text is read as, where there is one
+-- what a text is read as, if there is one
 abbrev pub IsReadAs : {C : Type 0} → (read : Text → Result C CodeFault) → Option Text → Option C → Type 0
 IsReadAs read text code = option_map read text ≡ option_map (λ c. Ok c) code
 
@@ -57,11 +57,11 @@ number_in text = digits_value 10 (without_leading_plus text)
 abbrev pub SaysNumber : Text → Type 0
 SaysNumber text = IsNumeral 10 (without_leading_plus text) × (number_in text < 2 ^ 64)
 
--- Where the value of an option says a whole number from 1 to `most`, it is this one. `clap` refuses other values.
+-- If the value of an option says a whole number from 1 to `most`, it is this one. `clap` refuses other values.
 pub record IsNumberOf (name : Text) (most : ℕ) (given : Given) (n : ℕ) : Type 0 where
   pub is : (text : Text) → read_value_of name given ≡ Some text → SaysNumber text → 1 ≤ number_in text → number_in text ≤ most → n ≡ number_in text
 
--- The same of an option that has no value where none is given: then there is no number.
+-- The same of an option that has no value if none is given: then there is no number.
 pub record IsOptionalNumberOf (name : Text) (given : Given) (n : Option ℕ) : Type 0 where
   pub is : (text : Text) → read_value_of name given ≡ Some text → SaysNumber text → n ≡ Some (number_in text)
   pub missing : read_value_of name given ≡ None → n ≡ None

@@ -2,7 +2,7 @@
 use Rattle.std.specs.Prelude.{◌≡◌, List, codes, Option, Some, None}
 use Rattle.clap.specs.Simple.{subcommand_of}
 use Rattle.command_line.specs.Explained.{IsExplained}
-use Rattle.command_line.specs.Options.{AreFeedOptions, AreLineOptions, AreMapOptions, AreMovesOptions, AreOfficeOptions, ArePlanOptions, AreProblemOptions, AreReviewOptions, AreSaveOptions, AreStateOptions, AreTraceOptions, AreWhyOptions}
+use Rattle.command_line.specs.Options.{AreFeedOptions, AreLineOptions, AreMapOptions, AreMovesOptions, ArePlanOptions, AreProblemOptions, AreReviewOptions, AreRunOptions, AreSaveOptions, AreStateOptions, AreTraceOptions, AreWhyOptions}
 use Rattle.command_line.specs.Program.{program}
 use Rattle.command_line.specs.Values.{Given, Text}
 use Rattle.command_line.specs.declared.words.Word.{Word}
@@ -13,7 +13,7 @@ use Rattle.line_engine.specs.Lines.{max_line_bytes}
 abbrev pub IsWordOf : (name : Text) → Given → Word → Type 0
 IsWordOf name given (asked.Check options) = (name ≡ codes "check") × AreLineOptions given options
 IsWordOf name given (asked.Solve options) = (name ≡ codes "solve") × AreLineOptions given options
-IsWordOf name given (asked.Run options) = (name ≡ codes "run") × AreOfficeOptions given options
+IsWordOf name given (asked.Run options) = (name ≡ codes "run") × AreRunOptions given options
 IsWordOf name given (asked.Feed options) = (name ≡ codes "feed") × AreFeedOptions given options
 IsWordOf name given (asked.Moves options) = (name ≡ codes "moves") × AreMovesOptions given options
 IsWordOf name given (asked.Fleet options) = (name ≡ codes "fleet") × AreStateOptions given options
@@ -27,7 +27,7 @@ IsWordOf name given (asked.Review options) = (name ≡ codes "review") × AreRev
 IsWordOf name given (asked.Save options) = (name ≡ codes "save") × AreSaveOptions given options
 IsWordOf name given (asked.Explain explained) = (name ≡ codes "explain") × IsExplained given explained
 
--- `check` with the limit that it has where none is given
+-- `check` with the limit that it has if none is given
 abbrev pub IsStandardCheck : Word → Type 0
 IsStandardCheck (asked.Check options) = options.limit ≡ max_line_bytes
 IsStandardCheck word = ⊥

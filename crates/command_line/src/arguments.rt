@@ -17,7 +17,7 @@ pub(crate) struct Argument {
     pub(crate) takes: Takes,
     /// What it is, on a line.
     pub(crate) help: &'static str,
-    /// What it is, where more is to be said.
+    /// What it is, if more is to be said.
     pub(crate) long_help: Option<&'static str>,
 }
 
@@ -36,7 +36,7 @@ pub(crate) enum Takes {
     NeededValues(&'static str),
     /// An option's number, from 1 to this one.
     Number(u64),
-    /// The same, and what it is where it isn't given.
+    /// The same, and what it is if it isn't given.
     NumberOr(u64, &'static str),
     /// A word's own value, which may be missing.
     Own(&'static str),

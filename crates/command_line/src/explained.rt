@@ -76,7 +76,7 @@ fn all_named(alloc: Global, name: &str) -> Result<Vec<&'static str>, AllocError>
     Ok(entries)
 }
 
-/// Adds the entry of the refusal of a number, where it has this name.
+/// Adds the entry of the refusal of a number, if it has this name.
 fn push_named(entries: &mut Vec<&'static str>, number: u32, name: &str) -> Result<(), AllocError>
     ensures { OnOk result (AreNamedBelow name.now number (all_lent entries.old.items) → AreNamedBelow name.now (number + 1) (all_lent entries.new.items)) }
 {
@@ -86,7 +86,7 @@ fn push_named(entries: &mut Vec<&'static str>, number: u32, name: &str) -> Resul
     Ok(())
 }
 
-/// The entry of the refusal of a number, where it has this name.
+/// The entry of the refusal of a number, if it has this name.
 fn named_entry(number: u32, name: &str) -> Option<&'static str>
     ensures { MatchOption result (¬ HasName number name.now) (λ entry. IsNamedEntry number name.now entry.now) }
 {

@@ -1,7 +1,8 @@
-//! The texts of help. No line is longer than 80 characters where help prints it.
+//! The texts of help. No line of help, as it is printed, is longer than 80 characters; `tools/scripts` tries that.
 
 use crate::arguments::{Argument, Group, Takes};
 use crate::moves_options::MAX_SILENT_HOURS;
+use crate::why_options::MAX_NEAR;
 use line_engine::{LARGEST_LINE_LIMIT, MAX_INPUT_LINES};
 use line_network::MAX_WORKERS;
 use price_checker::{MAX_ENTRIES, MAX_KEPT_PROBLEMS};
@@ -17,6 +18,8 @@ pub(crate) struct WordHelp {
     pub(crate) long_about: &'static str,
     /// How it is called.
     pub(crate) example: &'static str,
+    /// What usage lines say in place of clap's own line, if that would be too long.
+    pub(crate) usage: Option<&'static str>,
     /// What it takes.
     pub(crate) arguments: &'static [&'static [Argument]],
     /// Which of its options shut each other out.
@@ -42,10 +45,11 @@ pub(crate) const CHECK: WordHelp = WordHelp {
     about: "Checks plans and their prices, one JSON object a line",
     long_about: "Reads table lines from standard input, one JSON object a line: wagons, orders,\n\
      the cost of each allowed pair in kilometres, penalties, a plan and its prices.\n\
-     Replies `N optimal COST` where the prices prove the plan of line N least, else\n\
-     `N refused CODE` and details. Exits with 0, with 1 where a line was refused,\n\
-     with 2 where it could not run or stopped.",
+     Replies `N optimal COST` if the prices prove the plan of line N least, else\n\
+     `N refused CODE` and details. Exits with 0, with 1 if a line was refused, with\n\
+     2 if it could not run or stopped.",
     example: "Example:\n  wagons check < tables.jsonl",
+    usage: None,
     arguments: &[&[LINE_BYTES]],
     groups: &[],
 };
@@ -57,10 +61,10 @@ pub(crate) const SOLVE: WordHelp = WordHelp {
     long_about: "Reads cost tables from standard input, one JSON object a line: wagons, orders,\n\
      the cost of each allowed pair in kilometres, and penalties. Prints each with a\n\
      plan of the lowest cost and the prices that prove it, as JSON that `wagons\n\
-     check` reads; for a line that is refused it prints `line` and `refused`. Exits\n\
-     with 0, with 1 where a line was refused, with 2 where it could not run or\n\
-     stopped.",
+     check` reads. For a line that is refused it prints `line` and `refused`. Exits\n\
+     with 0, with 1 if a line was refused, with 2 if it could not run or stopped.",
     example: "Example:\n  wagons solve < problems.jsonl | wagons check",
+    usage: None,
     arguments: &[&[LINE_BYTES]],
     groups: &[],
 };
@@ -72,11 +76,16 @@ pub(crate) const RUN: WordHelp = WordHelp {
     long_about: "Reads the fleet and the network from files, then commands from standard input,\n\
      one JSON object a line: movement messages of the wagons, orders for wagons and\n\
      their withdrawals, `begin`, `plan`, `commit`, `network` and `sheet`. Answers\n\
-     each line at once; a reply begins with the number of its line. Exits with 0,\n\
-     with 1 where a line was refused, with 2 where it could not run or stopped.",
-    example: "Example:\n  \
-     wagons run --roster roster.csv --network network.csv < day.jsonl",
-    arguments: &[OFFICE],
+     each line at once; a reply begins with the number of its line. With `--notes`\n\
+     it also writes to a file what a person should hear of. Exits with 0, with 1 if\n\
+     a line was refused, with 2 if it could not run or stopped, or if the notes\n\
+     could not be written.",
+    example: "Examples:\n  \
+     wagons run --roster roster.csv --network network.csv < day.jsonl\n  \
+     wagons run --notes notes.jsonl --roster roster.csv \\\n    \
+     --network network.csv < day.jsonl",
+    usage: None,
+    arguments: &[OFFICE, &[RUN_NOTES]],
     groups: &[START],
 };
 
@@ -88,11 +97,16 @@ pub(crate) const FEED: WordHelp = WordHelp {
      once, each by a thread of its own; named pipes are files too. A `plan` line is\n\
      planned and committed, a `sheet` line is skipped. At the end prints for each\n\
      file how many lines were accepted, repeated and refused, or why it failed, and\n\
-     then the sheet. Exits with 0, with 1 where a line was refused, with 2 where a\n\
-     file failed or it could not run.",
+     then the sheet. With `--notes` it also writes to a file what a person should\n\
+     hear of. Exits with 0, with 1 if a line was refused, with 2 if a file failed or\n\
+     it could not run.",
     example: "Example:\n  \
      wagons feed --roster roster.csv --network network.csv north.jsonl south.jsonl",
-    arguments: &[OFFICE, &[FILES]],
+    usage: Some(
+        "wagons feed [OPTIONS] --network <FILE>\n       \
+     <--roster <FILE>|--from <FILE>> <FILE>...",
+    ),
+    arguments: &[OFFICE, &[FEED_NOTES, FILES]],
     groups: &[START],
 };
 
@@ -101,19 +115,23 @@ pub(crate) const MOVES: WordHelp = WordHelp {
     name: "moves",
     about: "Shows promised wagons and which are late: commands in, a table out",
     long_about: "Reads the fleet and the network from files, then commands from standard input\n\
-     as `run` does, without a reply. At the end prints a table of the promised wagons\n\
-     at a moment: where each is, to which order it goes, the kilometres and minutes\n\
-     that are left, its earliest arrival, the order's latest moment, and the minutes\n\
-     to spare or late; then the orders that are not withdrawn, where those that are\n\
-     short or past their latest moment are marked; with `--silent` also the wagons\n\
-     not heard from.\n\
-     Exits with 0, also where a line was refused, or with 2 where it could not run or\n\
+     as `run` does, without a reply. At the end prints a table of the promised\n\
+     wagons at a moment: where each is, to which order it goes, the kilometres and\n\
+     minutes left, its earliest arrival, the order's latest moment, and minutes to\n\
+     spare or late. The orders that are not withdrawn follow; those that are short\n\
+     or past their latest moment are marked. With `--silent` the wagons not heard\n\
+     from follow too.\n\
+     Exits with 0, even if a line was refused, or with 2 if it could not run or\n\
      stopped; then there is no table.",
     example: "Examples:\n  \
      wagons moves --at 2026-03-02T11:00:00Z --roster roster.csv \\\n    \
      --network network.csv --places places.csv < day.jsonl\n  \
      wagons moves --late --silent 24 --at 2026-03-02T11:00:00Z \\\n    \
      --roster roster.csv --network network.csv < day.jsonl",
+    usage: Some(
+        "wagons moves [OPTIONS] --network <FILE> --at <MOMENT>\n       \
+     <--roster <FILE>|--from <FILE>>",
+    ),
     arguments: &[OFFICE, &[MOVES_AT], STATE, MOVES_CHOICE],
     groups: &[START, PRINTED, ASKED],
 };
@@ -124,14 +142,15 @@ pub(crate) const FLEET: WordHelp = WordHelp {
     about: "Lists a fleet's wagons: commands in, a table out",
     long_about: "Reads the fleet and the network from files, then commands from standard input\n\
      as `run` does, without a reply. At the end prints a table of the wagons: each\n\
-     with its class, its load limit in kilograms, its status and place, the moment of\n\
-     its last message, whether it is held, and the order that it is promised to.\n\
-     Exits with 0, also where a line was refused, or with 2 where it could not run or\n\
+     with its class, its load limit in kilograms, its status and place, the moment\n\
+     of its last message, whether it is held, and the order that it is promised to.\n\
+     Exits with 0, even if a line was refused, or with 2 if it could not run or\n\
      stopped; then there is no table.",
     example: "Examples:\n  \
      wagons fleet --roster roster.csv --network network.csv < day.jsonl\n  \
      wagons fleet --csv --places places.csv --roster roster.csv \\\n    \
      --network network.csv < day.jsonl > fleet.csv",
+    usage: None,
     arguments: &[OFFICE, STATE],
     groups: &[START, PRINTED],
 };
@@ -143,14 +162,15 @@ pub(crate) const ORDERS: WordHelp = WordHelp {
     long_about: "Reads the fleet and the network from files, then commands from standard input\n\
      as `run` does, without a reply. At the end prints a table of the orders: each\n\
      with its place, the classes and the load that it asks for, its latest moment,\n\
-     its penalty, its state, how many wagons it wants and how many it misses, and\n\
-     the wagons that are promised to it or fill it.\n\
-     Exits with 0, also where a line was refused, or with 2 where it could not run or\n\
+     its penalty and its state. Each row also says how many wagons the order wants\n\
+     and misses, and which are promised to it or fill it.\n\
+     Exits with 0, even if a line was refused, or with 2 if it could not run or\n\
      stopped; then there is no table.",
     example: "Examples:\n  \
      wagons orders --roster roster.csv --network network.csv < day.jsonl\n  \
      wagons orders --json --zone Europe/Berlin --roster roster.csv \\\n    \
      --network network.csv < day.jsonl",
+    usage: None,
     arguments: &[OFFICE, STATE],
     groups: &[START, PRINTED],
 };
@@ -161,17 +181,21 @@ pub(crate) const TRACE: WordHelp = WordHelp {
     about: "Shows what happened to a wagon or an order: commands in, a table out",
     long_about: "Reads the fleet and the network from files, then commands from standard input\n\
      as `run` does, without a reply. At the end prints a table with a row for each\n\
-     line that changed or named the wagon or the order: the line's number, its entry\n\
-     or the refusal's number, what it said, who sent it and when, and what the office\n\
-     knew before and after: for a wagon its status, its place, whether it was held,\n\
-     and its order; for an order its state and its wagons.\n\
-     Exits with 0, also where a line was refused, or with 2 where it could not run or\n\
+     line that changed or named the wagon or the order. A row has the line's number,\n\
+     its entry or the refusal's number, what it said, who sent it and when, and what\n\
+     the office knew before and after. That is for a wagon its status, its place,\n\
+     whether it was held, and its order; for an order its state and its wagons.\n\
+     Exits with 0, even if a line was refused, or with 2 if it could not run or\n\
      stopped; then there is no table.",
     example: "Examples:\n  \
      wagons trace --wagon 318127710016 --roster roster.csv \\\n    \
      --network network.csv --places places.csv < day.jsonl\n  \
      wagons trace --json --order MALT-1 --roster roster.csv \\\n    \
      --network network.csv < day.jsonl",
+    usage: Some(
+        "wagons trace [OPTIONS] --network <FILE> <--roster <FILE>|--from <FILE>>\n       \
+     <--order <NAME>|--wagon <NUMBER>>",
+    ),
     arguments: &[OFFICE, STATE, &[TRACE_ORDER, TRACE_WAGON]],
     groups: &[START, PRINTED, FOLLOWED],
 };
@@ -182,16 +206,17 @@ pub(crate) const MAP: WordHelp = WordHelp {
     about: "Draws a fleet: commands in, a Graphviz graph out",
     long_about: "Reads the fleet and the network from files, then commands from standard input\n\
      as `run` does, without a reply. At the end prints the office as a graph in the\n\
-     DOT language, of which Graphviz makes a picture: places with their free, their\n\
-     promised and their other wagons and with what orders lack, lines with kilometres\n\
-     and minutes, and promised wagons as arrows.\n\
-     Exits with 0, also where a line was refused, or with 2 where it could not run or\n\
+     DOT language, of which Graphviz makes a picture. The graph has places with\n\
+     their free, promised and other wagons and with what orders lack, lines with\n\
+     kilometres and minutes, and promised wagons as arrows.\n\
+     Exits with 0, even if a line was refused, or with 2 if it could not run or\n\
      stopped; then there is no graph.",
     example: "Examples:\n  \
      wagons map --roster roster.csv --network network.csv < day.jsonl |\n    \
      neato -Tsvg > day.svg\n  \
      wagons map --busy --class Eanos --roster roster.csv --network network.csv \\\n    \
      < day.jsonl | neato -Tpdf > eanos.pdf",
+    usage: None,
     arguments: &[OFFICE, &[PLACES, BUSY, ORDER_ALONE, MAP_CLASS]],
     groups: &[START],
 };
@@ -203,13 +228,18 @@ pub(crate) const PLAN: WordHelp = WordHelp {
     long_about: "Reads the fleet and the network from files, then commands from standard input\n\
      as `run` does, without a reply. At the end plans the problem at a moment and\n\
      prints a table: each wagon that goes, from where to where, its kilometres and\n\
-     minutes, when it is there, and its order; then each order that misses wagons,\n\
-     with the penalty of each and why; then the sum. The office is not changed.\n\
-     Exits with 0, also where a line was refused, or with 2 where it could not run or\n\
+     minutes, when it is there, and its order. Each order that misses wagons\n\
+     follows, with the penalty of each and why, and then the sum. The office is not\n\
+     changed.\n\
+     Exits with 0, even if a line was refused, or with 2 if it could not run or\n\
      stopped; then there is no table.",
     example: "Example:\n  \
      wagons plan --at 2026-03-02T11:00:00Z --roster roster.csv \\\n    \
      --network network.csv --places places.csv < day.jsonl",
+    usage: Some(
+        "wagons plan [OPTIONS] --network <FILE> --at <MOMENT>\n       \
+     <--roster <FILE>|--from <FILE>>",
+    ),
     arguments: &[OFFICE, &[AT, PLACES, ZONE, CSV]],
     groups: &[START],
 };
@@ -220,13 +250,18 @@ pub(crate) const TABLE: WordHelp = WordHelp {
     about: "Prints a fleet's problem: commands in, a cost table out",
     long_about: "Reads the fleet and the network from files, then commands from standard input\n\
      as `run` does, without a reply. At the end prints the problem at a moment as a\n\
-     table line, which `wagons solve` reads: the free wagons, the waiting orders,\n\
-     the kilometres of each wagon that suits an order and is there in time, what\n\
-     each order lacks, and its penalty. Exits with 0, also where a line was refused,\n\
-     or with 2 where it could not run or stopped; then there is no table.",
+     table line, which `wagons solve` reads. It has the free wagons, the waiting\n\
+     orders, the kilometres of each wagon that suits an order and is there in time,\n\
+     what each order lacks, and its penalty.\n\
+     Exits with 0, even if a line was refused, or with 2 if it could not run or\n\
+     stopped; then there is no table.",
     example: "Example:\n  \
      wagons table --at 2026-03-02T11:00:00Z --roster roster.csv \\\n    \
      --network network.csv < day.jsonl | wagons solve",
+    usage: Some(
+        "wagons table [OPTIONS] --network <FILE> --at <MOMENT>\n       \
+     <--roster <FILE>|--from <FILE>>",
+    ),
     arguments: &[OFFICE, &[AT]],
     groups: &[START],
 };
@@ -236,19 +271,29 @@ pub(crate) const WHY: WordHelp = WordHelp {
     name: "why",
     about: "Says why a plan is as it is: commands in, reasons and costs out",
     long_about: "Reads the fleet and the network from files, then commands from standard input\n\
-     as `run` does, without a reply. At the end plans the problem at a moment and\n\
-     says for each order how many free wagons pass which test, and what one wagon\n\
-     more or less for it costs or saves; and for each wagon that goes, what the best\n\
-     plan without it costs more, in kilometres. With `--order` or `--wagon` it says\n\
-     which test each pair fails, and of the others what the best plan with that pair\n\
-     costs more. `--quick` gives bounds in place of exact numbers.\n\
-     Exits with 0, also where a line was refused, or with 2 where it could not run or\n\
+     as `run` does, without a reply. At the end plans the problem at a moment, or\n\
+     that of a plan line, a begin or a commit among them. For each order it says how\n\
+     many free wagons pass which test, and what one wagon more or less for it costs\n\
+     or saves. For each wagon that goes it says what the best plan without it costs\n\
+     more, in kilometres. With `--order` or `--wagon` it says which test each pair\n\
+     fails, and of the others what the best plan with that pair costs more.\n\
+     `--quick` gives bounds in place of exact numbers.\n\
+     Exits with 0, even if a line was refused, or with 2 if it could not run or\n\
      stopped; then nothing is said.",
-    example: "Example:\n  \
+    example: "Examples:\n  \
      wagons why --at 2026-03-02T11:00:00Z --roster roster.csv \\\n    \
+     --network network.csv < day.jsonl\n  \
+     wagons why --line 26 --order MALT-1 --near 3 --roster roster.csv \\\n    \
      --network network.csv < day.jsonl",
-    arguments: &[OFFICE, &[AT, PLACES, ORDER, WAGON, JSON, QUICK]],
-    groups: &[START, ASKED],
+    usage: Some(
+        "wagons why [OPTIONS] --network <FILE> <--roster <FILE>|--from <FILE>>\n       \
+     <--at <MOMENT>|--line <N>>",
+    ),
+    arguments: &[
+        OFFICE,
+        &[WHY_AT, LINE, PLACES, ORDER, WAGON, NEAR, JSON, QUICK],
+    ],
+    groups: &[START, WHEN, ASKED],
 };
 
 /// The help of `review`.
@@ -256,13 +301,15 @@ pub(crate) const REVIEW: WordHelp = WordHelp {
     name: "review",
     about: "Notes what passes in silence: commands in, notes out",
     long_about: "Reads the fleet and the network from files, then commands from standard input\n\
-     as `run` does, and in place of replies prints a note for what is seldom meant:\n\
-     an order whose place, class or load nothing fits or whose latest moment is past,\n\
-     an unknown member, a message a day ahead of those around it, a byte order mark,\n\
-     JSON over several lines, a last line without its end, a book nearly full. Exits\n\
-     with 0, with 1 where there is a note, with 2 where it could not run or stopped.",
+     as `run` does. In place of replies it prints notes on what is seldom meant: an\n\
+     order whose place, class or load nothing fits or whose latest moment is past,\n\
+     an unknown member, a message a day ahead of those around it. It also notes a\n\
+     byte order mark, JSON over several lines, a last line without its end, and a\n\
+     book that is nearly full. Exits with 0, with 1 if there is a note, with 2 if it\n\
+     could not run or stopped.",
     example: "Example:\n  \
      wagons review --roster roster.csv --network network.csv < day.jsonl",
+    usage: None,
     arguments: &[OFFICE, &[PLACES, NOTES]],
     groups: &[START, NAMED],
 };
@@ -275,12 +322,13 @@ pub(crate) const SAVE: WordHelp = WordHelp {
      as `run` does, without a reply. At the end prints the office as a checkpoint,\n\
      JSON lines from which a new journal goes on with `--from`: each wagon with its\n\
      hold and promise, each open order with its wagons, and the network in force.\n\
-     Exits with 0, also where a line was refused, or with 2 where it could not run or\n\
+     Exits with 0, even if a line was refused, or with 2 if it could not run or\n\
      stopped; then there is no checkpoint.",
     example: "Example:\n  \
      wagons save --roster roster.csv --network network.csv < day.jsonl \\\n    \
      > night.jsonl\n  \
      wagons run --from night.jsonl --network network.csv < next.jsonl",
+    usage: None,
     arguments: &[OFFICE, &[UPTO, WITH, WITHOUT]],
     groups: &[START],
 };
@@ -293,6 +341,7 @@ pub(crate) const EXPLAIN: WordHelp = WordHelp {
      usual cause and what to do about it. Without a code it says this of all\n\
      refusals.",
     example: "Examples:\n  wagons explain 82\n  wagons explain WagonChanged",
+    usage: None,
     arguments: &[&[CODE]],
     groups: &[],
 };
@@ -312,8 +361,8 @@ const LINE_BYTES: Argument = Argument {
     help: "Most bytes of a line, 1 to 67108864",
     long_help: Some(
         "The most bytes of a line, its line feed not counted, 1 to 67108864. A\n\
-     longer line stops the program. Where the line of a plan would be\n\
-     longer, `solve` refuses the table with 92",
+     longer line stops the program. If the line of a plan would be longer,\n\
+     `solve` refuses the table with 92",
     ),
 };
 
@@ -372,19 +421,19 @@ const KEPT: Argument = Argument {
     help: "Most problems kept for commits, 1 to 64",
     long_help: Some(
         "The most problems that are kept for commits, 1 to 64: a new one goes\n\
-     last, and the first is dropped where there are more; one that is kept\n\
+     last, and the first is dropped if there are more; one that is kept\n\
      already stays where it is. A commit of a dropped one is refused",
     ),
 };
 
-/// How many threads work out the distances.
+/// How many threads compute the distances.
 const WORKERS: Argument = Argument {
     name: "workers",
     takes: Takes::NumberOr(MAX_WORKERS as u64, "4"),
-    help: "Threads that work out distances, 1 to 64",
+    help: "Threads that compute distances, 1 to 64",
     long_help: Some(
-        "How many threads work out the distances before the first line is\n\
-     read, 1 to 64. The replies are the same for any number",
+        "How many threads compute the distances before the first line is read,\n\
+     1 to 64. The replies are the same for any number",
     ),
 };
 
@@ -394,9 +443,9 @@ const FILES: Argument = Argument {
     takes: Takes::Files,
     help: "Files of commands, one JSON object a line; 1 to 16",
     long_help: Some(
-        "Files of commands, one JSON object a line; 1 to 16. A file that can't be\n\
-     opened stops the program before it begins; one that fails while it is\n\
-     read doesn't stop the others",
+        "Files of commands, one JSON object a line; 1 to 16. A file that can't\n\
+     be opened stops the program before it begins; one that fails while it\n\
+     is read doesn't stop the others",
     ),
 };
 
@@ -415,10 +464,10 @@ const AT: Argument = Argument {
 const MOVES_AT: Argument = Argument {
     name: "at",
     takes: Takes::Needed("MOMENT"),
-    help: "The moment from which arrivals are reckoned",
+    help: "The moment from which arrivals are computed",
     long_help: Some(
         "The moment at which the office is looked at, from which arrivals are\n\
-     reckoned, as 2026-03-02T11:00:00Z",
+     computed, as 2026-03-02T11:00:00Z",
     ),
 };
 
@@ -473,7 +522,7 @@ const ORDER_ALONE: Argument = Argument {
 const MAP_CLASS: Argument = Argument {
     name: "class",
     takes: Takes::Value("CODE"),
-    help: "Only wagons of this class, with the orders that accept it",
+    help: "Only wagons of this class and orders that accept it",
     long_help: None,
 };
 
@@ -503,8 +552,8 @@ const WAGON: Argument = Argument {
 const NOTES: Argument = Argument {
     name: "json",
     takes: Takes::Nothing,
-    help: "Notes as JSON lines, with promises, deliveries and refusals too",
-    long_help: None,
+    help: "JSON lines, with promises, deliveries and refusals too",
+    long_help: Some("Notes as JSON lines, with promises, deliveries and refusals too"),
 };
 
 /// Whether JSON lines are printed.
@@ -568,8 +617,63 @@ const QUICK: Argument = Argument {
     help: "Bounds, without a plan for each number",
     long_help: Some(
         "Prints what other plans cost more, at least, by the plan's own\n\
-     prices; without it each number but `FURTHER` is exact, by a plan of\n\
-     its own",
+     prices; without it each number is exact, by a plan of its own",
+    ),
+};
+
+/// The moment of a plan that is explained.
+const WHY_AT: Argument = Argument {
+    name: "at",
+    takes: Takes::Value("MOMENT"),
+    help: "The moment at which the wagons may start",
+    long_help: Some(
+        "The moment of the problem, at which the wagons may start, as\n\
+     2026-03-02T11:00:00Z. Either this or `--line`",
+    ),
+};
+
+/// The line whose plan is explained.
+const LINE: Argument = Argument {
+    name: "line",
+    takes: Takes::Number(MAX_INPUT_LINES),
+    help: "The plan of line N: a plan, begin or accepted commit",
+    long_help: Some(
+        "The plan of line N, 1 to 1000000: a plan line, a begin, or a commit\n\
+     that is accepted. Later lines are not read. Either this or `--at`",
+    ),
+};
+
+/// How many pairs that fit are printed.
+const NEAR: Argument = Argument {
+    name: "near",
+    takes: Takes::Number(MAX_NEAR),
+    help: "Only the N best pairs that fit, 1 to 1000",
+    long_help: Some(
+        "With `--order` or `--wagon`: only the N pairs that fit and cost least\n\
+     more, 1 to 1000",
+    ),
+};
+
+/// The file that notes are written to.
+const RUN_NOTES: Argument = Argument {
+    name: "notes",
+    takes: Takes::Value("FILE"),
+    help: "Also appends notes to this file, as JSON lines",
+    long_help: Some(
+        "Also appends to this file a JSON line for each thing that a person\n\
+     should hear of, as `wagons review --json` prints it",
+    ),
+};
+
+/// The file that the notes of a feed are written to.
+const FEED_NOTES: Argument = Argument {
+    name: "notes",
+    takes: Takes::Value("FILE"),
+    help: "Also writes notes to this file, as JSON lines, once all\n\
+     files have ended",
+    long_help: Some(
+        "Also writes notes to this file, as JSON lines, once all files have\n\
+     ended, each with the number of the file and of the line",
     ),
 };
 
@@ -649,6 +753,13 @@ const PRINTED: Group = Group {
 const FOLLOWED: Group = Group {
     name: "followed",
     options: ["order", "wagon"],
+    required: true,
+};
+
+/// A plan is that of a moment, or of a line.
+const WHEN: Group = Group {
+    name: "when",
+    options: ["at", "line"],
     required: true,
 };
 

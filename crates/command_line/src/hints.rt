@@ -1,4 +1,4 @@
-//! What is said behind a fault of the arguments, where clap's own text doesn't say what is wanted.
+//! What is said behind a fault of the arguments, if clap's own text doesn't say what is wanted.
 
 use clap::Error;
 use clap::error::ErrorKind;
@@ -10,20 +10,22 @@ const FROM_INPUT: &str =
      `wagons check < tables.jsonl`";
 
 /// Each option that is a number, as faults name it, and what it must be.
-const RANGES: [(&str, &str); 6] = [
+const RANGES: [(&str, &str); 8] = [
     ("'--entries <N>'", "hint: a whole number from 1 to 1000000"),
     ("'--kept <N>'", "hint: a whole number from 1 to 64"),
     ("'--workers <N>'", "hint: a whole number from 1 to 64"),
     ("'--upto <N>'", "hint: a whole number from 1 to 1000000"),
     ("'--silent <N>'", "hint: a whole number from 1 to 100000"),
+    ("'--line <N>'", "hint: a whole number from 1 to 1000000"),
+    ("'--near <N>'", "hint: a whole number from 1 to 1000"),
     (
         "'--line-bytes <N>'",
         "hint: a whole number from 1 to 67108864",
     ),
 ];
 
-/// What is said behind a fault of the arguments: how a word reads a file, where a file's name was given to it; which numbers
-/// an option takes, where it was given none. Nothing where clap's text says it. `Err` only when out of memory.
+/// What is said behind a fault of the arguments: how a word reads a file, if a file's name was given to it; which numbers an
+/// option takes, if it was given none. Nothing if clap's text says it. `Err` only when out of memory.
 pub fn hint(alloc: Global, error: &Error) -> Result<Option<&'static str>, AllocError> {
     let text = format!(in alloc; "{error}")?;
     match error.kind() {

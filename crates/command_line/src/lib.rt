@@ -23,10 +23,12 @@ pub use hints::hint;
 pub use line_options::LineOptions;
 pub use map_options::MapOptions;
 pub use moves_options::{MAX_SILENT_HOURS, MovesOptions};
-pub use office_options::{FeedOptions, OfficeOptions, ProblemOptions, SaveOptions, Start};
+pub use office_options::{
+    FeedOptions, OfficeOptions, ProblemOptions, RunOptions, SaveOptions, Start,
+};
 pub use plan_options::PlanOptions;
 pub use review_options::ReviewOptions;
 pub use state_options::StateOptions;
 pub use trace_options::{Followed, TraceOptions};
-pub use why_options::{Asked, WhyOptions};
+pub use why_options::{Asked, MAX_NEAR, When, WhyOptions};
 pub use words::{Word, not_utf8, read_words};

@@ -16,7 +16,7 @@ pub struct LineOptions {
 }
 
 impl LineOptions {
-    /// The options where none is given.
+    /// The options if none is given.
     pub(crate) fn standard() -> LineOptions
         ensures { result.limit ≡ max_line_bytes }
     {

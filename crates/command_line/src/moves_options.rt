@@ -4,12 +4,11 @@ ghost use Rattle.command_line.specs.Options.{AreMovesOptions, max_silent_hours};
 ghost use Rattle.command_line.specs.Values.{IsOptionalNumberOf, given_in};
 
 use crate::office_options::ProblemOptions;
-use crate::values::{code_of, is_given, number_if_given, value_of};
+use crate::values::{code_of, is_given, number_if_given, out_of_range, value_of};
 use crate::zone::zone_of;
-use clap::error::ErrorKind;
-use clap::{ArgMatches, Command, Error};
+use clap::{ArgMatches, Error};
 use rail_codes::{Company, OrderId, WagonNumber};
-use std::alloc::{AllocError, Global};
+use std::alloc::Global;
 
 /// The most hours after which a wagon that was not heard from is shown.
 pub const MAX_SILENT_HOURS: u64 = 100_000;
@@ -20,7 +19,7 @@ const MOVES: &str = "wagons moves";
 /// What `moves` is asked to do.
 #[derive(Drop)]
 pub struct MovesOptions<'a> {
-    /// The office, and the moment from which arrivals are reckoned.
+    /// The office, and the moment from which arrivals are computed.
     pub problem: ProblemOptions<'a>,
     /// The file of the places' names.
     pub places: Option<&'a str>,
@@ -38,7 +37,7 @@ pub struct MovesOptions<'a> {
     pub order: Option<OrderId>,
     /// The company whose wagons are shown alone: those whose last accepted message it sent.
     pub company: Option<Company>,
-    /// After how many hours, 1 to 100,000, a wagon that was not heard from is shown; none where no such wagon is.
+    /// After how many hours, 1 to 100,000, a wagon that was not heard from is shown; none if no such wagon is.
     pub silent: Option<u64>,
 }
 
@@ -78,19 +77,10 @@ fn silent_of(alloc: Global, matches: &ArgMatches<'_>) -> Result<Option<u64>, Err
     match number_if_given(matches, "silent") {
         Some(hours) => {
             if hours < 1 || hours > MAX_SILENT_HOURS {
-                return Err(no_hours(alloc, hours)?);
+                return Err(out_of_range(alloc, MOVES, "--silent <N>", hours, MAX_SILENT_HOURS)?);
             }
             Ok(Some(hours))
         }
         None => Ok(None),
     }
-}
-
-/// The fault that a number of hours is out of its range.
-fn no_hours(alloc: Global, hours: u64) -> Result<Error, AllocError> {
-    let reason = format!(in alloc;
-        "invalid value '{hours}' for '--silent <N>': {hours} is not in 1..={MAX_SILENT_HOURS}"
-    )?;
-    let mut command = Command::new(alloc, "wagons").bin_name(MOVES)?;
-    command.error(ErrorKind::InvalidValue, reason.as_str())
 }

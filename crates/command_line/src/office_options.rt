@@ -1,7 +1,7 @@
 //! The options of the words that open an office: its files and limits.
 ghost use Rattle.std.specs.Prelude.{IfOk};
 ghost use Rattle.rail_codes.specs.WagonNumber.{wagon_number_of};
-ghost use Rattle.command_line.specs.Options.{AreFeedOptions, AreLimitsOf, AreOfficeOptions, AreProblemOptions, AreSaveOptions, BeginsBy};
+ghost use Rattle.command_line.specs.Options.{AreFeedOptions, AreLimitsOf, AreOfficeOptions, AreProblemOptions, AreRunOptions, AreSaveOptions, BeginsBy};
 ghost use Rattle.command_line.specs.Values.{AreReadAs, all_lent, given_in};
 
 use crate::values::{code_from, needed_value, number_if_given, number_of, value_of, values_of};
@@ -29,7 +29,7 @@ pub struct OfficeOptions<'a> {
     pub networks: Vec<&'a str>,
     /// How large the book may grow.
     pub limits: Limits,
-    /// How many threads work out the distances.
+    /// How many threads compute the distances.
     pub workers: usize,
 }
 
@@ -71,6 +71,31 @@ fn limits_of(matches: &ArgMatches<'_>) -> Limits
     Limits::new(entries, kept as u32).unwrap()
 }
 
+/// What `run` is asked to do.
+#[derive(Drop)]
+pub struct RunOptions<'a> {
+    /// What the office is opened with.
+    pub office: OfficeOptions<'a>,
+    /// The file that notes are written to.
+    pub notes: Option<&'a str>,
+}
+
+impl<'a> RunOptions<'a> {
+    /// The options that were given.
+    pub(crate) fn read(
+        alloc: Global,
+        matches: &ArgMatches<'a>,
+    ) -> Result<RunOptions<'a>, AllocError>
+        ensures { IfOk result (AreRunOptions (given_in matches.now)) }
+    {
+        let office = OfficeOptions::read(alloc, matches)?;
+        Ok(RunOptions {
+            office,
+            notes: value_of(matches, "notes"),
+        })
+    }
+}
+
 /// What `feed` is asked to do.
 #[derive(Drop)]
 pub struct FeedOptions<'a> {
@@ -78,6 +103,8 @@ pub struct FeedOptions<'a> {
     pub office: OfficeOptions<'a>,
     /// The files of commands, in their order.
     pub files: Vec<&'a str>,
+    /// The file that notes are written to.
+    pub notes: Option<&'a str>,
 }
 
 impl<'a> FeedOptions<'a> {
@@ -90,11 +117,16 @@ impl<'a> FeedOptions<'a> {
     {
         let office = OfficeOptions::read(alloc, matches)?;
         let files = values_of(alloc, matches, "file")?;
-        Ok(FeedOptions { office, files })
+        let notes = value_of(matches, "notes");
+        Ok(FeedOptions {
+            office,
+            files,
+            notes,
+        })
     }
 }
 
-/// What `table` and `why` are asked to do.
+/// What `table` is asked to do.
 #[derive(Drop)]
 pub struct ProblemOptions<'a> {
     /// What the office is opened with.
@@ -124,7 +156,7 @@ impl<'a> ProblemOptions<'a> {
 pub struct SaveOptions<'a> {
     /// What the office is opened with.
     pub office: OfficeOptions<'a>,
-    /// How many lines are read, 1 to 1,000,000; none where all are.
+    /// How many lines are read, 1 to 1,000,000; none if all are.
     pub upto: Option<u64>,
     /// The roster whose rows are added.
     pub with: Option<&'a str>,

@@ -23,8 +23,7 @@ pub(crate) fn code_from<C: FromText>(
             let reason = format!(in alloc;
                 "invalid value '{text}' for '{option}': `wagons explain {number}` says why"
             )?;
-            let mut command = Command::new(alloc, "wagons").bin_name(word)?;
-            Err(command.error(ErrorKind::InvalidValue, reason.as_str())?)
+            Err(fault_of_word(alloc, word, ErrorKind::InvalidValue, reason.as_str())?)
         }
     }
 }
@@ -45,7 +44,7 @@ pub(crate) fn code_of<C: FromText>(
     }
 }
 
-/// The value of an argument, where it has one; the first of several.
+/// The value of an argument, if it has one; the first of several.
 pub(crate) fn value_of<'a>(matches: &ArgMatches<'a>, name: &str) -> Option<&'a str>
     ensures { lent result ≡ value_of name.now (given_in matches.now) }
 {
@@ -94,9 +93,34 @@ pub(crate) fn number_of(matches: &ArgMatches<'_>, name: &str, most: u64) -> u64
     matches.get_one::<u64>(name).unwrap_or(most).clamp(1, most)
 }
 
-/// The number of an option, where it was given.
+/// The number of an option, if it was given.
 pub(crate) fn number_if_given(matches: &ArgMatches<'_>, name: &str) -> Option<u64>
     ensures { IsOptionalNumberOf name.now (given_in matches.now) result }
 {
     matches.get_one::<u64>(name)
+}
+
+/// The fault that the number of a word's option isn't from 1 to `most`.
+pub(crate) fn out_of_range(
+    alloc: Global,
+    word: &str,
+    option: &str,
+    number: u64,
+    most: u64,
+) -> Result<Error, AllocError> {
+    let reason = format!(in alloc;
+        "invalid value '{number}' for '{option}': {number} is not in 1..={most}"
+    )?;
+    fault_of_word(alloc, word, ErrorKind::InvalidValue, reason.as_str())
+}
+
+/// A fault of a word's arguments, of this kind and for this reason. Its usage is the word's name alone.
+pub(crate) fn fault_of_word(
+    alloc: Global,
+    word: &str,
+    kind: ErrorKind,
+    reason: &str,
+) -> Result<Error, AllocError> {
+    let mut command = Command::new(alloc, "wagons").bin_name(word)?;
+    command.error(kind, reason)
 }

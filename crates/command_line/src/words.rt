@@ -13,7 +13,7 @@ use crate::help::WordHelp;
 use crate::line_options::LineOptions;
 use crate::map_options::MapOptions;
 use crate::moves_options::MovesOptions;
-use crate::office_options::{FeedOptions, OfficeOptions, ProblemOptions, SaveOptions};
+use crate::office_options::{FeedOptions, ProblemOptions, RunOptions, SaveOptions};
 use crate::plan_options::PlanOptions;
 use crate::review_options::ReviewOptions;
 use crate::state_options::StateOptions;
@@ -43,9 +43,6 @@ const WORDS: [WordHelp; 15] = [
     help::EXPLAIN,
 ];
 
-/// The program's version.
-const VERSION: &str = "0.1.0";
-
 /// What the program is asked to do.
 #[derive(Drop)]
 pub enum Word<'a> {
@@ -54,7 +51,7 @@ pub enum Word<'a> {
     /// Plan the table lines of standard input.
     Solve(LineOptions),
     /// Bring the command lines of standard input to an office.
-    Run(OfficeOptions<'a>),
+    Run(RunOptions<'a>),
     /// Bring the command lines of files to an office, all at once.
     Feed(FeedOptions<'a>),
     /// Bring the command lines of standard input to an office, and print where its promised wagons are and what is late.
@@ -82,14 +79,18 @@ pub enum Word<'a> {
 }
 
 /// What the words ask for, the program's name first; without a word it is `Check`. Else the error is a request for help
-/// or the version, a fault of the arguments in clap's own text, or out of memory.
-pub fn read_words<'a, S: AsStr>(alloc: Global, words: &'a [S]) -> Result<Word<'a>, Error>
+/// or for this version, a fault of the arguments in clap's own text, or out of memory.
+pub fn read_words<'a, S: AsStr>(
+    alloc: Global,
+    version: &'a str,
+    words: &'a [S],
+) -> Result<Word<'a>, Error>
     ensures { IfOk result (IsAskedBy (map S.text words.entry.now)) }
 {
-    // The words are read twice, since clap promises what they give to each argument only where a command has no group: with
+    // The words are read twice, since clap promises what they give to each argument only if a command has no group: with
     // the groups, which refuse words, and then without them.
-    let _ = command_line(alloc)?.try_get_matches_from(words)?;
-    let matches = ungrouped_line(alloc)?.try_get_matches_from(words)?;
+    let _ = command_line(alloc, version)?.try_get_matches_from(words)?;
+    let matches = ungrouped_line(alloc, version)?.try_get_matches_from(words)?;
     read_matches(alloc, &matches)
 }
 
@@ -110,7 +111,7 @@ fn read_word<'a>(alloc: Global, name: &str, options: &ArgMatches<'a>) -> Result<
     match name {
         "check" => Ok(Word::Check(LineOptions::read(options))),
         "solve" => Ok(Word::Solve(LineOptions::read(options))),
-        "run" => Ok(Word::Run(OfficeOptions::read(alloc, options)?)),
+        "run" => Ok(Word::Run(RunOptions::read(alloc, options)?)),
         "feed" => Ok(Word::Feed(FeedOptions::read(alloc, options)?)),
         "moves" => Ok(Word::Moves(MovesOptions::read(alloc, options)?)),
         "fleet" => Ok(Word::Fleet(StateOptions::read(alloc, "wagons fleet", options)?)),
@@ -130,23 +131,23 @@ fn read_word<'a>(alloc: Global, name: &str, options: &ArgMatches<'a>) -> Result<
 /// The fault that there is no such word. `clap` has refused it before.
 fn no_word(alloc: Global, name: &str) -> Result<Error, AllocError> {
     let reason = format!(in alloc; "unrecognized subcommand '{name}'")?;
-    let mut command = command_line(alloc)?;
+    let mut command = command_line(alloc, "")?;
     command.error(ErrorKind::InvalidSubcommand, reason.as_str())
 }
 
 /// The fault that an argument is not UTF-8.
 pub fn not_utf8(alloc: Global) -> Result<Error, AllocError> {
-    let mut command = command_line(alloc)?;
+    let mut command = command_line(alloc, "")?;
     command.error(
         ErrorKind::InvalidValue,
         "invalid UTF-8 was detected in one or more arguments",
     )
 }
 
-/// The words that the program knows. Usage lines name it `wagons`, whatever its file is called.
-fn command_line<'a>(alloc: Global) -> Result<Command<'a>, AllocError> {
+/// The words that the program of this version knows. Usage lines name it `wagons`, whatever its file is called.
+fn command_line<'a>(alloc: Global, version: &'a str) -> Result<Command<'a>, AllocError> {
     let words = words();
-    let mut line = program(alloc)?;
+    let mut line = program(alloc, version)?;
     for help in &words {
         line = line.subcommand(word_command(alloc, *help)?)?;
     }
@@ -154,11 +155,11 @@ fn command_line<'a>(alloc: Global) -> Result<Command<'a>, AllocError> {
 }
 
 /// The same without the groups of their options.
-fn ungrouped_line<'a>(alloc: Global) -> Result<Command<'a>, AllocError>
+fn ungrouped_line<'a>(alloc: Global, version: &'a str) -> Result<Command<'a>, AllocError>
     ensures { IfOk result (λ line. app_of line ≡ program) }
 {
     let words = words();
-    let mut line = program(alloc)?;
+    let mut line = program(alloc, version)?;
     for help in &words {
         line = with_ungrouped_word(alloc, line, *help)?;
     }
@@ -184,14 +185,14 @@ fn with_ungrouped_word<'a>(
     line.subcommand(word)
 }
 
-/// The program, and no word.
-fn program<'a>(alloc: Global) -> Result<Command<'a>, AllocError>
+/// The program of this version, and no word.
+fn program<'a>(alloc: Global, version: &'a str) -> Result<Command<'a>, AllocError>
     ensures { IfOk result (λ program. app_of program ≡ without_words) }
 {
     let program = Command::new(alloc, "wagons").bin_name("wagons")?;
     Ok(
         program
-            .version(VERSION)
+            .version(version)
             .about(help::ABOUT)
             .after_help(help::EXAMPLES),
     )
@@ -200,7 +201,11 @@ fn program<'a>(alloc: Global) -> Result<Command<'a>, AllocError>
 /// A word with its help and what it takes.
 pub(crate) fn word_command<'a>(alloc: Global, help: WordHelp) -> Result<Command<'a>, AllocError> {
     let word = ungrouped_command(alloc, help)?;
-    with_groups(alloc, word, help.groups)
+    let word = with_groups(alloc, word, help.groups)?;
+    match help.usage {
+        Some(usage) => Ok(word.override_usage(usage)),
+        None => Ok(word),
+    }
 }
 
 /// The same without the groups of its options.

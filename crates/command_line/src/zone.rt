@@ -5,9 +5,9 @@ ghost use Rattle.std.specs.List.{list_all};
 ghost use Rattle.command_line.specs.Options.{IsZoneName, is_zone_character};
 ghost use Rattle.command_line.specs.Values.{given_in, lent, value_of};
 
-use crate::values::value_of;
+use crate::values::{fault_of_word, value_of};
 use clap::error::ErrorKind;
-use clap::{ArgMatches, Command, Error};
+use clap::{ArgMatches, Error};
 use std::alloc::{AllocError, Global};
 
 /// The time zone that was given to a word, by its name for the usage. A name that can't be one is a fault of the arguments.
@@ -57,6 +57,5 @@ fn no_zone(alloc: Global, word: &str, name: &str) -> Result<Error, AllocError> {
     let reason = format!(in alloc;
         "invalid value '{name}' for '--zone <ZONE>': a time zone is named as Europe/Berlin"
     )?;
-    let mut command = Command::new(alloc, "wagons").bin_name(word)?;
-    command.error(ErrorKind::InvalidValue, reason.as_str())
+    fault_of_word(alloc, word, ErrorKind::InvalidValue, reason.as_str())
 }
