@@ -1,6 +1,9 @@
 //! `wagons`: the fleet office on a command line.
 #![tactic(auto)]
 
+mod version;
+
+use crate::version::VERSION;
 use line_engine::StdDevice;
 use std::io::IsTerminal;
 use std::process::ExitCode;
@@ -15,7 +18,7 @@ fn main(rt: HostRuntime) -> ExitCode {
     let terminal = Terminal { input, is_terminal };
     let arguments = arguments_of(&rt);
     let mut output = StdDevice::new(io::writer(&rt));
-    ExitCode::from(run_program(&rt, arguments, terminal, &mut output))
+    ExitCode::from(run_program(&rt, VERSION, arguments, terminal, &mut output))
 }
 
 /// The program's arguments, its name first.

@@ -4,3 +4,6 @@ pub mod Faults
 pub mod FirstLineLemmas
 pub mod EntryLemmas
 pub mod OpenedFiles
+pub mod Projected
+pub mod NotedRuns
+pub mod Reasoned

@@ -5,8 +5,11 @@ pub mod Brought
 pub mod Laws
 pub mod Reviewed
 pub mod Noted
+pub mod NotedRun
+pub mod Moved
 pub mod FirstLines
 pub mod OfLast
+pub mod Reasoned
 pub mod Fed
 pub mod Explanation
 pub mod Traced

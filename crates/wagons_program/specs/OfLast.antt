@@ -1,26 +1,21 @@
--- What is printed of the version to which the lines of an input led: its problem, its plan, the reasons of that plan, its map, and
--- its checkpoint.
+-- What is printed of the version to which the lines of an input led: its problem, its plan, its map, and its checkpoint.
 use Rattle.std.specs.Prelude.{◌≡◌, ℕ, List, Option, Some, None, option_copied}
 use Rattle.command_line.specs.declared.map_options.MapOptions.{MapOptions}
-use Rattle.command_line.specs.declared.moves_options.MovesOptions.{MovesOptions}
 use Rattle.command_line.specs.declared.office_options.OfficeOptions.{OfficeOptions}
 use Rattle.command_line.specs.declared.office_options.ProblemOptions.{ProblemOptions}
 use Rattle.command_line.specs.declared.office_options.SaveOptions.{SaveOptions}
 use Rattle.command_line.specs.declared.plan_options.PlanOptions.{PlanOptions}
 use Rattle.command_line.specs.declared.state_options.StateOptions.{StateOptions}
-use Rattle.command_line.specs.declared.why_options.WhyOptions.{WhyOptions}
 use Rattle.commit_book.specs.Books.{BookValue}
 use Rattle.last_texts.specs.MapOfLast.{IsMapOfLast}
-use Rattle.last_texts.specs.MovesOfLast.{IsMovesTextOfLast}
 use Rattle.last_texts.specs.PlanOfLast.{IsPlanTextOfLast}
-use Rattle.last_texts.specs.ReasonsOfLast.{AreReasonsOfLast}
 use Rattle.last_texts.specs.SavedOfLast.{IsSaved, added_rows, last_state}
 use Rattle.last_texts.specs.StateOfLast.{AreOrdersOfLast, IsFleetOfLast}
 use Rattle.last_texts.specs.TableOfLast.{IsTableTextOfLast}
 use Rattle.last_texts.specs.ZoneClock.{AreZoneBytes}
 use Rattle.line_network.specs.Network.{NetworkValue}
 use Rattle.office_files.specs.InFile.{BytesAt, IsRosterIn}
-use Rattle.office_files.specs.PlacesFor.{AreNamesAt, ArePlacesAt}
+use Rattle.office_files.specs.PlacesFor.{ArePlacesAt}
 use Rattle.place_names.specs.declared.named_place.NamedPlace.{NamedPlace}
 use Rattle.wagons_and_orders.specs.declared.wagon_row.WagonRow.{WagonRow}
 use Rattle.wagons_program.specs.Brought.{IsBroughtTo}
@@ -54,11 +49,6 @@ abbrev pub IsPlanPrinted : BytesAt → PlanOptions → Streams → (status : ℕ
 IsPlanPrinted bytes_at options given status = IsShownPrinted bytes_at options.problem.office (option_copied options.places) (option_copied options.zone)
     (λ book places zone text. IsPlanTextOfLast book.setting book.state.history options places zone text) given status
 
--- the promised movements
-abbrev pub AreMovesPrinted : BytesAt → MovesOptions → Streams → (status : ℕ) → Type 0
-AreMovesPrinted bytes_at options given status = IsShownPrinted bytes_at options.problem.office (option_copied options.places) (option_copied options.zone)
-    (λ book places zone text. IsMovesTextOfLast book.setting book.state.history options places zone text) given status
-
 -- the wagons
 abbrev pub IsFleetPrinted : BytesAt → StateOptions → Streams → (status : ℕ) → Type 0
 IsFleetPrinted bytes_at options given status = IsShownPrinted bytes_at options.office (option_copied options.places) (option_copied options.zone)
@@ -68,11 +58,6 @@ IsFleetPrinted bytes_at options given status = IsShownPrinted bytes_at options.o
 abbrev pub AreOrdersPrinted : BytesAt → StateOptions → Streams → (status : ℕ) → Type 0
 AreOrdersPrinted bytes_at options given status = IsShownPrinted bytes_at options.office (option_copied options.places) (option_copied options.zone)
     (λ book places zone text. AreOrdersOfLast book.setting book.state.history options places zone text) given status
-
--- the reasons of a plan, with the names of places where they are asked for
-abbrev pub AreReasonsPrinted : BytesAt → WhyOptions → Streams → (status : ℕ) → Type 0
-AreReasonsPrinted bytes_at options given status = (names : Option (List NamedPlace)) × AreNamesAt bytes_at (option_copied options.places) names
-    × PrintsOfLast bytes_at options.problem.office (λ book text. AreReasonsOfLast book.setting book.state.history options names text) given status
 
 -- the map of what is chosen, with the names of places
 abbrev pub IsMapPrinted : BytesAt → MapOptions → Streams → (status : ℕ) → Type 0

@@ -10,11 +10,14 @@ use Rattle.table_lines.specs.Checking.{ToPlans}
 use Rattle.table_lines.specs.Solving.{ToTables}
 use Rattle.office_files.specs.InFile.{BytesAt}
 use Rattle.office_files.specs.declared.stop.Stop.{Stop}
-use Rattle.wagons_program.specs.Brought.{IsInputAnswered, IsInputBrought, IsInputStopped, IsNotBrought}
+use Rattle.wagons_program.specs.Brought.{IsInputAnswered, IsInputBrought, IsInputStopped}
 use Rattle.wagons_program.specs.Explanation.{IsExplained}
-use Rattle.wagons_program.specs.Fed.{IsFedPrinted}
-use Rattle.wagons_program.specs.OfLast.{AreMovesPrinted, AreOrdersPrinted, AreReasonsPrinted, IsFleetPrinted, IsMapPrinted, IsPlanPrinted, IsSavedPrinted, IsTablePrinted}
+use Rattle.wagons_program.specs.Fed.{IsFedPrinted, IsFedUndone}
+use Rattle.wagons_program.specs.OfLast.{AreOrdersPrinted, IsFleetPrinted, IsMapPrinted, IsPlanPrinted, IsSavedPrinted, IsTablePrinted}
+use Rattle.wagons_program.specs.Moved.{AreMovesPrinted}
 use Rattle.wagons_program.specs.Noted.{IsReviewDone, IsReviewUndone}
+use Rattle.wagons_program.specs.NotedRun.{IsRunUndone}
+use Rattle.wagons_program.specs.Reasoned.{AreReasonsPrinted}
 use Rattle.wagons_program.specs.Streams.{IsUnprinted, PrintsNothing, Streams}
 use Rattle.wagons_program.specs.Traced.{IsTracePrinted}
 
@@ -23,7 +26,7 @@ use Rattle.wagons_program.specs.Traced.{IsTracePrinted}
 abbrev pub IsDone : {F : Type 0} → BytesAt → (remaining : F → Option (List ℕ)) → (has_failed : F → Bool) → Word → Streams → (status : ℕ) → Type 0
 IsDone bytes_at remaining has_failed (word.Check options) given status = IsInputAnswered ToPlans options.limit tt given status
 IsDone bytes_at remaining has_failed (word.Solve options) given status = IsInputAnswered ToTables options.limit options.limit given status
-IsDone bytes_at remaining has_failed (word.Run options) given status = IsInputBrought bytes_at options given status
+IsDone bytes_at remaining has_failed (word.Run options) given status = IsInputBrought bytes_at options.office given status
 IsDone bytes_at remaining has_failed (word.Feed options) given status = IsFedPrinted bytes_at remaining has_failed options given status
 IsDone bytes_at remaining has_failed (word.Moves options) given status = AreMovesPrinted bytes_at options given status
 IsDone bytes_at remaining has_failed (word.Fleet options) given status = IsFleetPrinted bytes_at options given status
@@ -41,8 +44,8 @@ IsDone bytes_at remaining has_failed (word.Explain explained) given status = IsE
 abbrev pub IsUndone : BytesAt → Word → Streams → (why : Stop) → Type 0
 IsUndone bytes_at (word.Check options) given why = IsInputStopped ToPlans options.limit tt given why
 IsUndone bytes_at (word.Solve options) given why = IsInputStopped ToTables options.limit options.limit given why
-IsUndone bytes_at (word.Run options) given why = IsNotBrought bytes_at options given why
-IsUndone bytes_at (word.Feed options) given why = IsUnprinted given why
+IsUndone bytes_at (word.Run options) given why = IsRunUndone bytes_at options given why
+IsUndone bytes_at (word.Feed options) given why = IsFedUndone given why
 IsUndone bytes_at (word.Moves options) given why = IsUnprinted given why
 IsUndone bytes_at (word.Fleet options) given why = IsUnprinted given why
 IsUndone bytes_at (word.Orders options) given why = IsUnprinted given why

@@ -3,6 +3,8 @@
 
 mod bringing;
 mod check;
+mod crossing;
+mod early;
 mod explain;
 mod feed;
 mod first_lines;

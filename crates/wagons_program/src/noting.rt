@@ -54,7 +54,7 @@ fn note<R: FileSystem + Threads + Wait + AllocGlobal, I: Read + Drop, O: Write>(
 }
 
 /// Opens an office, and begins the notes of a journal that is brought to it.
-fn begin_journal<R: FileSystem + Threads + Wait + AllocGlobal>(
+pub(crate) fn begin_journal<R: FileSystem + Threads + Wait + AllocGlobal>(
     rt: &R,
     options: &OfficeOptions<'_>,
 ) -> Result<NotedJournal, Stopped>

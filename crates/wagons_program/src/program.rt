@@ -32,14 +32,21 @@ use std::io::{Read, Write};
 use std::sync::Wait;
 use std::thread::Threads;
 
-/// Does what the program's arguments ask for: what came of reading them, and standard input and output, are handed in. The status
+/// Does what the arguments of the program of this version ask for: what came of reading them, and standard input and output, are
+/// handed in. The status
 /// is 0, or 1 where a line was refused, or 2 where the program could not run or stopped; standard error says why then. It also
 /// says, once, that lines are read from a terminal, where they are. Where the arguments can't be read, nothing is printed.
 pub fn run_program<
     R: FileSystem + Eprint + Threads + Wait + AllocGlobal + Sync,
     I: Read + Drop,
     O: Write,
->(rt: &R, arguments: io::Result<Vec<String>>, input: Terminal<I>, output: &mut StdDevice<O>) -> u8
+>(
+    rt: &R,
+    version: &str,
+    arguments: io::Result<Vec<String>>,
+    input: Terminal<I>,
+    output: &mut StdDevice<O>,
+) -> u8
     requires { output.old.has_failed ≡ false }
     ensures read { IfOk arguments (λ words. AreEnded (R.bytes_at rt.now) ⟦<StdDevice<R::File> as Source>⟧.remaining ⟦<StdDevice<R::File> as Source>⟧.has_failed (map string_bytes words.items) (streams (I.remaining input.input) (O.contents output.old.device) (O.contents output.new.device)) result) }
     ensures unread { IfErr arguments (λ error. (result ≡ 2) × (output.new ≡ output.old)) }
@@ -47,7 +54,7 @@ pub fn run_program<
     match arguments {
         Ok(words) => {
             let input = TerminalInput::new(rt, input);
-            run_words(rt, words.as_slice(), input, output)
+            run_words(rt, version, words.as_slice(), input, output)
         }
         Err(error) => told(rt, refuse_arguments(rt, &error)),
     }
@@ -60,18 +67,18 @@ pub fn run_words<
     S: AsStr,
     I: Read + Drop,
     O: Write,
->(rt: &R, words: &[S], input: I, output: &mut StdDevice<O>) -> u8
+>(rt: &R, version: &str, words: &[S], input: I, output: &mut StdDevice<O>) -> u8
     requires { output.old.has_failed ≡ false }
     ensures { AreEnded (R.bytes_at rt.now) ⟦<StdDevice<R::File> as Source>⟧.remaining ⟦<StdDevice<R::File> as Source>⟧.has_failed (map S.text words.entry.now) (streams (I.remaining input) (O.contents output.old.device) (O.contents output.new.device)) result }
 {
-    match read_words(rt.alloc(), words) {
+    match read_words(rt.alloc(), version, words) {
         Ok(word) => told(rt, do_word(rt, &word, input, output)),
         Err(error) => told(rt, print_text(rt, &error, &mut output.device)),
     }
 }
 
 /// Does what a word asks for.
-fn do_word<R: FileSystem + Threads + Wait + AllocGlobal + Sync, I: Read + Drop, O: Write>(
+fn do_word<R: FileSystem + Eprint + Threads + Wait + AllocGlobal + Sync, I: Read + Drop, O: Write>(
     rt: &R,
     word: &Word<'_>,
     input: I,

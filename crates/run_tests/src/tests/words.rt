@@ -40,9 +40,10 @@ const CALLS: &[(&str, (u64, u32, usize))] = &[
 fn has_numbers(word: &Word<'_>, (entries, kept, workers): (u64, u32, usize)) -> bool {
     match word {
         Word::Run(options) => {
-            options.limits.entries() == entries
-                && options.limits.kept() == kept
-                && options.workers == workers
+            let office = &options.office;
+            office.limits.entries() == entries
+                && office.limits.kept() == kept
+                && office.workers == workers
         }
         _ => false,
     }
@@ -51,7 +52,7 @@ fn has_numbers(word: &Word<'_>, (entries, kept, workers): (u64, u32, usize)) -> 
 /// Whether a call asks for these numbers.
 fn asks(alloc: Global, call: &str, numbers: (u64, u32, usize)) -> Result<bool, AllocError> {
     let words: Vec<&str> = call.split_whitespace().collect(alloc)?;
-    match read_words(alloc, words.as_slice()) {
+    match read_words(alloc, "", words.as_slice()) {
         Ok(word) => Ok(has_numbers(&word, numbers)),
         Err(_) => Ok(false),
     }

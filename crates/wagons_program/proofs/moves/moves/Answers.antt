@@ -4,21 +4,16 @@ use Rattle.wagons_program.proofs.moves.moves.Goals as goal
 
 pub returns-clause-ok : goal.returns-clause-ok
 returns-clause-ok g c =
-    let shown = c.in_ok-book.ensures {u = tt} in
-    let (networks, refused, brought) = shown.brought in
-    let given = streams (g.I.Read.remaining c.args.input) (g.O.Write.contents c.args.output.now) (g.O.Write.contents c.write_whole.new.output) in (
-      c.in_ok-book.field-0.places,
-      shown.places,
-      c.in_ok-book.field-0.zone.bytes.items,
-      shown.bytes,
-      record {
-        networks = networks;
-        book = c.in_ok-book.field-0.book;
-        refused = refused;
-        brought = brought;
-        text = c.in_ok-text.field-0.items;
-        is_text = c.in_ok-text.ensures.moves;
-        printed = subst (λ (text : List ℕ). Prints given text) c.deref.ensures.value c.in_ok-write_whole.ensures.written;
-        status_is = refl;
-      },
-    )
+    let given = streams (g.I.Read.remaining c.args.input) (g.O.Write.contents c.args.output.now) (g.O.Write.contents c.write_whole.new.output) in
+    record {
+      named = c.in_ok-places.places;
+      are_named = c.in_ok-places.ensures;
+      zone = c.in_ok-zone.zone.bytes.items;
+      is_zone = c.in_ok-zone.ensures.bytes;
+      journal = c.in_ok-filled.filled;
+      of_input = c.in_ok-filled.ensures;
+      text = c.in_ok-text.field-0.items;
+      shown = c.in_ok-text.ensures.moves;
+      printed = subst (λ (text : List ℕ). Prints given text) c.deref.ensures.value c.in_ok-write_whole.ensures.written;
+      status_is = refl;
+    }
