@@ -116,6 +116,8 @@ def certificate(program: str, folder: str, journal: list[str]) -> str:
 
 
 def main() -> None:
+    if len(sys.argv) not in (3, 6):
+        sys.exit(__doc__)
     program, folder = sys.argv[1], sys.argv[2]
     wagons, places, orders = map(int, sys.argv[3:6]) if sys.argv[3:] else (1000, 150, 150)
     random.seed(1)

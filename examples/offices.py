@@ -59,6 +59,8 @@ def offices_of(line: str, records: list[dict[str, str]], wagons: dict[str, str |
 
 
 def main() -> int:
+    if len(sys.argv) != 4:
+        sys.exit(__doc__)
     offices, roster, folder = sys.argv[1:]
     with open(offices, encoding="utf-8", newline="") as file:
         records = list(csv.DictReader(file))

@@ -72,6 +72,8 @@ def order(id: str) -> tuple[int, int]:
 
 
 def main() -> int:
+    if len(sys.argv) not in (5, 6):
+        sys.exit(__doc__)
     server, name, company, path, *more = sys.argv[1:]
     stream = Stream(server, name, company, float(more[0]) if more else SECONDS)
     # A line ends with a line feed alone: of all other signs that end a line somewhere, JSON has some in its texts.

@@ -12,6 +12,9 @@ use std::thread::Threads;
 use std::{fs, io};
 use wagons_program::run_words;
 
+/// The version that the program is told. No script asks for it.
+const VERSION: &str = "0.0.0";
+
 fn main(rt: HostRuntime) -> Result<()> {
     let names = fs::read_to_string(&rt, "scripts.txt")?;
     for name in names.lines() {
@@ -76,5 +79,5 @@ fn status_over<H: Runtime, R: FileSystem + Eprint + Threads + Wait + AllocGlobal
 ) -> Result<u8> {
     let words: Vec<&str> = call.split_whitespace().collect(rt.alloc())?;
     let mut output = StdDevice::new(io::writer(host));
-    Ok(run_words(rt, words.as_slice(), input, &mut output))
+    Ok(run_words(rt, VERSION, words.as_slice(), input, &mut output))
 }
