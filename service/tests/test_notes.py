@@ -1,4 +1,5 @@
-"""Notes of the journal: what `GET /v1/notes` answers, beside the document that describes it and what `wagons review` prints."""
+"""Notes of the journal: what `GET /v1/notes` answers, beside the document that describes it and what `wagons review` prints; and
+who is told by `GET /events` that there are more."""
 
 import asyncio
 import json
@@ -6,14 +7,18 @@ import os
 import signal
 import subprocess
 import sys
+import time
+from collections.abc import Iterator
+from contextlib import contextmanager
 from pathlib import Path
 from typing import Any
 
+import jsonschema
 import pytest
 
 from conftest import Start
-from running import DAY, Service, line
-from test_railways import DISPATCHER, ONE, READER, TOKENS
+from running import DAY, Service, line, order
+from test_railways import DISPATCHER, ONE, READER, TOKENS, Events
 from test_state import LINES, answered
 from wagons_service.answers import Refusal
 from wagons_service.journal import MOST_LINE_BYTES, FileOfLines
@@ -75,6 +80,10 @@ def test_the_notes_of_the_day(start: Start) -> None:
     assert asked(service, "?since=24&limit=1") == (26, False, of_lines(25, 25))
     for since in 25, 26, 999_999:
         assert asked(service, f"?since={since}") == (26, False, [])
+    # The newest ones alone, whatever their lines.
+    assert asked(service, "?newest=10000") == asked(service, "?since=9&newest=20") == (26, False, NOTES)
+    assert asked(service, "?newest=7") == asked(service, "?since=10&newest=7") == (26, False, NOTES[-7:])
+    assert asked(service, "?since=19&newest=7") == (26, False, of_lines(20, 26)) and asked(service, "?since=25&newest=7") == (26, False, [])
     # None of this stands in the journal.
     assert service.journal == LINES
 
@@ -162,9 +171,86 @@ def test_who_may_ask_and_what(start: Start, tmp_path: Path) -> None:
     assert service.get("/v1/notes", ONE).status == 403
     for token in DISPATCHER, READER:
         assert json.loads(service.get("/v1/notes?since=24", token).body) == {"journal": 1, "line": 26, "more": False, "notes": NOTES[-1:]}
-    for query in "since=-1", "since=x", "since=", "since=1000001", "since=9999999999", "since=1.0", "since=%C2%B2", "limit=0", "limit=10001", "limit=x":
+    for query in "since=-1", "since=x", "since=", "since=1000001", "since=9999999999", "since=1.0", "since=%C2%B2", "limit=0", "limit=10001", "limit=x", "newest=0", "newest=10001", "newest=":
         answer = service.get(f"/v1/notes?{query}", READER)
         assert answer.status == 400 and answer.text.startswith(f"`{query.partition('=')[0]}` must be a number from "), (query, answer)
+    answer = service.get("/v1/notes?newest=1&limit=1", READER)
+    assert (answer.status, answer.text) == (400, "`newest` and `limit` shut each other out.\n")
+    assert service.get("/events?notes=0").status == 401 and service.get("/events?notes=0", ONE).status == 403
+    for query in "notes=", "notes=-1", "notes=x", "notes=1000001":
+        answer = service.get(f"/events?{query}", READER)
+        assert (answer.status, answer.text) == (400, "`notes` must be a number from 0 to 1,000,000.\n"), query
+
+
+@contextmanager
+def closing_all(*listeners: Events) -> Iterator[tuple[Events, ...]]:
+    """Ends listeners."""
+    try:
+        yield listeners
+    finally:
+        for events in listeners:
+            events.end()
+
+
+def told_of(service: Service, events: Events) -> int:
+    """The line up to which a listener is told that there are notes of the first journal."""
+    name, told = events.next()
+    document = json.loads(service.get("/v1/openapi.json", READER).body)
+    jsonschema.Draft202012Validator({"$ref": "#/components/schemas/NotesEvent", "components": document["components"]}).validate(told)
+    assert (name, told["journal"]) == ("notes", 1)
+    line_told: int = told["line"]
+    return line_told
+
+
+def test_listeners_are_told_of_notes(start: Start, tmp_path: Path) -> None:
+    (tmp_path / "tokens").write_text(TOKENS)
+    service = start(options=["--tokens", str(tmp_path / "tokens")]).until_running()
+    lines = LINES.splitlines()
+    service.post(lines[:15], DISPATCHER)
+    with closing_all(Events(service, READER, "?notes=0&from=1"), Events(service, DISPATCHER, "?notes=15"), Events(service, READER)) as (all_of_them, later, without):
+        assert told_of(service, all_of_them) == 15
+        # Who knows those of line 15 is told of later ones alone, as is everyone else from now on.
+        for text in lines[15:18]:
+            service.post([text], DISPATCHER)
+        assert told_of(service, all_of_them) == told_of(service, later) == 18
+        service.post(lines[18:], DISPATCHER)
+        assert told_of(service, all_of_them) == told_of(service, later) == 26
+        # Each of them is true when it is told, and lines without notes bring none.
+        service.post([order("A"), order("B", classes=["Zzz"])], DISPATCHER)
+        assert told_of(service, later) == 28
+        assert json.loads(service.get("/v1/notes?since=26", READER).body)["notes"] == [{"line": 28, "note": "class", "order": "B"}]
+        # One program prints them for all.
+        assert reviewer(service)
+        assert told_of(service, all_of_them) == 28
+        assert service.post(b"", DISPATCHER, path="/next").status == 200
+        assert all_of_them.next()[0] == later.next()[0] == without.next()[0] == "next"
+        # A line is told as ever, and who didn't ask for notes was told of nothing else.
+        assert [reply["number"] for reply in all_of_them.replies] == list(range(1, 29)) and [reply["number"] for reply in without.replies] == list(range(16, 29))
+    with closing_all(Events(service, READER, "?notes=28")) as (events,):
+        # The lines of the new journal are fewer.
+        service.post([line(kind="withdraw", order="SUGAR-1")], DISPATCHER)
+        with closing_all(Events(service, READER, "?notes=0")) as (again,):
+            assert again.next() == ("notes", {"journal": 2, "line": 1})
+    assert not any("told of" in told for told in service.log), service.log
+
+
+def test_listeners_where_there_are_no_notes(start: Start, tmp_path: Path, program: str) -> None:
+    """They are told of replies, and the program is tried again now and then, for all together."""
+    other, broken = tmp_path / "program", tmp_path / "broken"
+    broken.touch()
+    other.write_text(f'#!/bin/sh\nif [ "$1" = review ]; then echo once >> {tmp_path}/times; if [ -e {broken} ]; then echo "no notes" >&2; exit 2; fi; fi\n'
+                     f'exec {os.path.abspath(program)} "$@"\n')
+    other.chmod(0o755)
+    service = start(program=str(other)).until_running()
+    service.post(LINES)
+    with closing_all(*(Events(service, "", "?notes=0&from=1") for _ in range(5))) as listeners:
+        time.sleep(6)
+        assert len((tmp_path / "times").read_text().split()) in (1, 2, 3)
+        service.post([order("A", classes=["Zzz"])])
+        broken.unlink()
+        for events in listeners:
+            assert told_of(service, events) == 27 and [reply["number"] for reply in events.replies] == list(range(1, 28))
+    assert any("listeners aren't told of notes now: There are no notes now: no notes" in told for told in service.log)
 
 
 def test_old_notes_are_dropped(program: str, tmp_path: Path) -> None:
@@ -229,10 +315,12 @@ def test_notes_in_memory() -> None:
     for at in range(0, len(printed), 7):
         kept.take(printed[at:at + 7])
     # Nothing is told of lines that may have more notes.
-    assert kept.page(0, 9) == (0, False, [])
+    assert kept.page(0, 9) == kept.newest(0, 9) == (0, False, []) and kept.last == 0
     kept.line = 7
     assert kept.page(0, 9) == (7, False, [note(3), note(3), note(5)])
+    assert kept.newest(0, 9) == (7, False, [note(3), note(3), note(5)]) and kept.last == 5
     kept.line = 9
+    assert kept.newest(0, 4) == (9, False, [note(5)] + [note(8)] * 3) and kept.newest(5, 4) == (9, False, [note(8)] * 3) and kept.last == 8
     assert kept.page(0, 1) == kept.page(0, 2) == (4, True, [note(3), note(3)])
     assert kept.page(3, 3) == (7, True, [note(5)]) and kept.page(3, 4) == (9, False, [note(5)] + [note(8)] * 3)
     assert kept.page(5, 1) == (9, False, [note(8)] * 3) and kept.page(8, 1) == (9, False, [])

@@ -291,12 +291,19 @@ def test_names_and_zones_that_cannot_be_used(start: Start, tmp_path: Path) -> No
         assert words in "\n".join(service.log), service.log
 
 
+def command_of(pid: int) -> list[bytes]:
+    try:
+        return Path(f"/proc/{pid}/cmdline").read_bytes().split(b"\0")
+    except OSError:
+        return []  # It has ended.
+
+
 def the_page_s_own(service: Service, before: list[int]) -> int:
-    """The program that stays, once those that print once have ended."""
+    """The program that is asked for sheets."""
     for _ in range(600):
-        found = set(service.children) - set(before)
+        found = [pid for pid in set(service.children) - set(before) if b"run" in command_of(pid)]
         if len(found) == 1:
-            return found.pop()
+            return found[0]
         time.sleep(0.05)
     raise AssertionError(service.children)
 
@@ -326,7 +333,7 @@ def test_who_could_go(start: Start, browse: Browse) -> None:
     page.use('[data-key="why order SALT-1"]', lambda button: button.click())
     page.until_says("#reasons", "3181 2771 002-4: ")
     said = page.find("#reasons").text
-    assert "km, as planned" in said and "of class Eanos, and Habbins is wanted" in said
+    assert "km, as planned" in said and "Free wagons of other classes than Habbins: " in said
 
 
 def test_what_happened(start: Start, browse: Browse) -> None:

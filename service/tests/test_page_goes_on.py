@@ -20,7 +20,7 @@ TABS = 20
 LATE_EVENTS = """
 const fetchNow = window.fetch;
 window.fetch = async (address, ...rest) => {
-  if (address === "/events") await new Promise((done) => setTimeout(done, 2000));
+  if (address.startsWith("/events")) await new Promise((done) => setTimeout(done, 2000));
   return fetchNow(address, ...rest);
 };
 """

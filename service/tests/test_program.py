@@ -1,10 +1,14 @@
-"""How replies are cut out of what the program prints."""
+"""How replies are cut out of what the program prints, and what is left of a program that stops to read."""
 
+import asyncio
+import gc
 import random
 
 import pytest
 
-from wagons_service.program import NoReply, ReplyCutter
+from wagons_service.answers import Refusal
+from wagons_service.processes import run
+from wagons_service.program import Ended, NoReply, Program, ReplyCutter
 
 PRINTED = b"""1 accepted 1
 3 plan 1 2 1 465
@@ -77,3 +81,27 @@ def test_a_sheet_is_whole_when_the_program_has_done_its_lines() -> None:
 def test_other_text_is_no_reply(printed: bytes) -> None:
     with pytest.raises(NoReply):
         ReplyCutter().cut(printed)
+
+
+# More than a pipe holds.
+MUCH = b"x" * 4_000_000
+
+
+def test_a_program_that_stops_to_read(caplog: pytest.LogCaptureFixture) -> None:
+    """Its own words say why, and asyncio logs no exception of the pipe."""
+    async def work() -> None:
+        command = ["sh", "-c", "head -c 10 > /dev/null; echo enough >&2; exit 3"]
+        for _ in range(3):
+            with pytest.raises(Refusal, match="enough"):
+                await run(command, MUCH)
+            program = await Program.start(command, lambda _: None)
+            program.send(MUCH)
+            await program.drain()
+            assert await program.ended == Ended("enough", 3)
+        other = await Program.start(["sh", "-c", "echo no reply; exec sleep 600"], lambda _: None)
+        other.send(MUCH)
+        assert (await other.ended).words.startswith("the program printed what is no reply")
+
+    asyncio.run(work())
+    gc.collect()
+    assert caplog.text == ""

@@ -124,6 +124,18 @@ def test_the_wagons_that_wait_for_a_message(start: Start) -> None:
     assert (told["wagons"][0]["message"]["journal"], told["wagons"][0]["message"]["line"]) == (2, more.decode())
 
 
+def test_a_wrong_parameter_leaves_no_exception_behind(start: Start) -> None:
+    """The program ends before it has read the journal, which is more than a pipe holds."""
+    service = start().until_running()
+    service.post([b'{"x":"%b"}' % (b"y" * 1000)] * 2000)
+    for query in "wagon=318127710017", "silent=0", "silent=x", "wagon=318127710016&order=MALT-1":
+        answer = service.get(f"/v1/movements?{query}")
+        assert answer.status == 400 and answer.text.startswith("error: "), (query, answer)
+    # What nobody asked for is logged when it is swept away, at the latest at the end.
+    assert service.stop() == 0
+    assert not any(words in told for told in service.log for words in ("exception", "Traceback", "ERROR")), service.log
+
+
 def test_what_the_state_refuses(start: Start, tmp_path: Path) -> None:
     (tmp_path / "tokens").write_text("railway-1001-token railway 1001\nreader-s-long-token reader\n")
     service = start(options=["--tokens", str(tmp_path / "tokens")]).until_running()

@@ -72,6 +72,15 @@ def number_in(text: str | None, name: str, otherwise: int) -> int:
     return int(text)
 
 
+def count_in(text: str | None, name: str, least: int, most: int, otherwise: int) -> int:
+    """A number in a query."""
+    if text is None:
+        return otherwise
+    if not (text.isascii() and text.isdigit() and len(text) <= 9 and least <= int(text) <= most):
+        raise Refusal(400, f"`{name}` must be a number from {least} to {most:,}.")
+    return int(text)
+
+
 def with_lines(journal: Journal, first: int, last: int, sender: Sender) -> Iterator[tuple[int, bytes]]:
     """The replies to the lines of these numbers that the sender may see, each as JSON with its line."""
     records = journal.replies.read(first, last)

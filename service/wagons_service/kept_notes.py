@@ -69,3 +69,14 @@ class KeptNotes:
         if end == behind:
             return Page(self.line, False, self._texts[first:behind])
         return Page(self._numbers[end] - 1, True, self._texts[first:end])
+
+    def newest(self, since: int, most: int) -> Page:
+        """The newest notes of the lines after one, at most so many."""
+        first, behind = bisect_right(self._numbers, since), bisect_right(self._numbers, self.line)
+        return Page(self.line, False, self._texts[max(first, behind - most):behind])
+
+    @property
+    def last(self) -> int:
+        """The last covered line with a note that is kept, or 0."""
+        behind = bisect_right(self._numbers, self.line)
+        return self._numbers[behind - 1] if behind else 0

@@ -39,15 +39,34 @@ class NoteFollower:
         # One question at a time brings lines.
         self._turn = asyncio.Lock()
 
+    @property
+    def line(self) -> int:
+        """The last line that the notes cover."""
+        return self._notes.line
+
+    @property
+    def last(self) -> int:
+        """The last of these lines with a note, or 0."""
+        return self._notes.last
+
     async def page(self, since: int, most: int) -> Page:
         """Notes of the lines after one, at most so many, as `KeptNotes` has them. Lines that come from now on may be missing."""
+        await self.bring()
+        if since < self._notes.dropped:
+            raise Refusal(410, f"The notes up to line {self._notes.dropped} aren't kept any more; ask with since={self._notes.dropped}.")
+        return self._notes.page(since, most)
+
+    async def newest(self, since: int, most: int) -> Page:
+        """The newest notes of the lines after one, at most so many."""
+        await self.bring()
+        return self._notes.newest(since, most)
+
+    async def bring(self) -> None:
+        """Brings the notes of all lines that the journal has now."""
         async with self._turn:
             upto = self._lines.count
             if self._notes.line < upto:
                 await self._bring(upto)
-        if since < self._notes.dropped:
-            raise Refusal(410, f"The notes up to line {self._notes.dropped} aren't kept any more; ask with since={self._notes.dropped}.")
-        return self._notes.page(since, most)
 
     async def _bring(self, upto: int) -> None:
         """Brings the lines up to this one to the program, which is started where none runs, but not again where that was in vain."""

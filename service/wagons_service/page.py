@@ -17,7 +17,7 @@ from .server import COOKIE, Server, shown
 from .texts import TEXTS
 
 FILES = Path(__file__).parent / "page_files"
-STATIC = {name: "text/javascript" for name in ("events.js", "map.js", "page.js", "parts.js", "sheet.js", "table.js")} | {"page.css": "text/css"}
+STATIC = {name: "text/javascript" for name in ("events.js", "hints.js", "map.js", "notes.js", "page.js", "parts.js", "sheet.js", "table.js")} | {"page.css": "text/css"}
 # Tabs that have other files than these share no stream of events with those that have these.
 BUILD = hashlib.sha256(b"".join((FILES / name).read_bytes() for name in sorted(STATIC))).hexdigest()[:16]
 # What a reason is asked for, by the word of the query, and how it is written.

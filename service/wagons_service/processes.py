@@ -4,6 +4,7 @@ import asyncio
 from collections.abc import Sequence
 
 from .answers import Refusal
+from .pipes import until_closed
 
 SECONDS_TO_DRAW = 30
 # How the program begins to say that the problem doesn't have what it was asked about, and that an argument is none.
@@ -27,6 +28,8 @@ async def run(command: Sequence[str], given: bytes) -> bytes:
     except TimeoutError:
         process.kill()
         raise Refusal(503, f"{' '.join(command)} took over {SECONDS_TO_DRAW} seconds.") from None
+    finally:
+        await until_closed(process)
     if process.returncode:
         raise refusal_of(command, said, process.returncode)
     return printed

@@ -8,6 +8,8 @@ from contextlib import suppress
 from dataclasses import dataclass
 from typing import NamedTuple
 
+from .pipes import until_closed
+
 CHUNK = 1 << 18
 # How much of what the program says on standard error is kept.
 WORDS = 4096
@@ -207,8 +209,10 @@ class Program:
         except (NoReply, ValueError) as fault:
             self.kill()
             await self._process.wait()
+            await until_closed(self._process)
             return Ended(f"the program printed what is no reply, {fault}", status=2)
         status = await self._process.wait()
+        await until_closed(self._process)
         if status in DONE and (replies := self.cutter.end()).numbers:
             self._take(replies)
         said = await words

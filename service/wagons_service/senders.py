@@ -73,6 +73,11 @@ class Sender:
         """Whether all lines and the whole office may be seen."""
         return self.role is not Role.RAILWAY
 
+    def judge_notes(self) -> None:
+        """Raises `Forbidden` where the sender may not see notes."""
+        if not self.may_look:
+            raise Forbidden("A railway's token doesn't see notes; what changes for its wagons is told at /events.")
+
     def judge_role(self) -> None:
         """Raises `Forbidden` where the sender may send nothing at all."""
         if self.role is Role.READER:

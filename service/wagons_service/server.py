@@ -13,13 +13,14 @@ from urllib.parse import urlsplit
 
 from aiohttp import web
 
-from .answers import JSON_LINES, PAGE, Refusal, cut, number_in, page_end, sentence, with_lines
+from .answers import JSON_LINES, PAGE, Refusal, count_in, cut, number_in, page_end, sentence, with_lines
 from .bodies import Bodies, Body
 from .corrections import Corrections
 from .front import Front, Handler, Request
 from .gauges import gauges
 from .identifiers import Identifiers
 from .journal import MOST_LINES, Journal, Unreadable, is_blank
+from .note_news import NoteNews
 from .office import NotTaken, Office, Stopped
 from .pace import Pace
 from .railway_views import RailwayViews, Seen, events
@@ -61,6 +62,8 @@ class _Stream:
 
     response: web.StreamResponse
     sender: Sender
+    # The line behind which notes are told, where that was asked for.
+    since: int | None
     over: "asyncio.Future[None]"
 
     def end(self) -> None:
@@ -309,6 +312,8 @@ class Server:
 
     async def get_events(self, request: web.Request) -> web.StreamResponse:
         office = self.office
+        sender: Sender = request["sender"]
+        since = notes_since(request, sender)
         journal = number_in(request.query.get("journal"), "journal", office.journal.number)
         first = number_in(request.query.get("from"), "from", office.answered + 1)
         if last := request.headers.get("Last-Event-ID"):
@@ -319,7 +324,7 @@ class Server:
             "Content-Type": "text/event-stream", "Cache-Control": "no-store", "X-Accel-Buffering": "no", "Journal": str(office.journal.number)})
         await response.prepare(request)
         self.metrics.listening += 1
-        stream = _Stream(response, request["sender"], asyncio.get_running_loop().create_future())
+        stream = _Stream(response, sender, since, asyncio.get_running_loop().create_future())
         self._streams.add(stream)
         try:
             if journal == office.journal.number:
@@ -334,17 +339,36 @@ class Server:
         return response
 
     async def _tell_all(self, stream: _Stream, office: Office, first: int) -> None:
-        """Tells of replies and, to a railway, of its wagons."""
+        """Tells of replies and, to a railway, of its wagons; to others of notes, where they asked for that."""
         await stream.response.write(b"retry: 1000\n\n")
-        wagons = asyncio.create_task(self._tell_wagons(stream, office, stream.sender.company)) if stream.sender.company else None
+        beside = self._beside(stream, office)
         try:
             await self._tell(stream, office, first)
         finally:
-            if wagons:
-                wagons.cancel()
-                (fault,) = await asyncio.gather(wagons, return_exceptions=True)
+            for task in beside:
+                task.cancel()
+            for fault in await asyncio.gather(*beside, return_exceptions=True):
                 if isinstance(fault, Exception) and not isinstance(fault, ConnectionError):
-                    log.error("a railway wasn't told of its wagons: %r", fault)
+                    log.error("a listener wasn't told of its wagons or of notes: %r", fault)
+
+    def _beside(self, stream: _Stream, office: Office) -> list["asyncio.Task[None]"]:
+        """What tells of more than replies, until it is cancelled."""
+        told = []
+        if stream.sender.company:
+            told.append(self._tell_wagons(stream, office, stream.sender.company))
+        # Behind a new journal the stream ends at once.
+        if stream.since is not None and self.office is office:
+            told.append(self._tell_notes(stream, self.service.viewer.note_news, office.journal.number, stream.since))
+        return [asyncio.create_task(it) for it in told]
+
+    async def _tell_notes(self, stream: _Stream, news: NoteNews, journal: int, since: int) -> None:
+        """Tells each time up to which line there are notes, where lines have some behind what was told before."""
+        with suppress(Stopped):
+            while True:
+                since = await news.behind(since)
+                if stream.sender.has_expired:
+                    return
+                await stream.response.write(b'event: notes\ndata: {"journal": %d, "line": %d}\n\n' % (journal, since))
 
     async def _tell_wagons(self, stream: _Stream, office: Office, company: str) -> None:
         """Tells a railway of all its wagons, and then of what changes, until it is cancelled."""
@@ -486,6 +510,14 @@ def names_this_machine(host: str) -> bool:
         return is_loopback(urlsplit(f"//{host}").hostname or "")
     except ValueError:
         return False
+
+
+def notes_since(request: web.Request, sender: Sender) -> int | None:
+    """The line behind which a listener wants to be told of notes; `Forbidden` where it may not see them."""
+    if "notes" not in request.query:
+        return None
+    sender.judge_notes()
+    return count_in(request.query["notes"], "notes", 0, MOST_LINES, otherwise=0)
 
 
 def read_id(text: str) -> tuple[int, int]:

@@ -12,7 +12,7 @@ from typing import Any
 
 from aiohttp import web
 
-from .answers import Refusal, moment_in
+from .answers import Refusal, count_in, moment_in
 from .journal import MOST_LINES
 from .known_wagons import Stuck
 from .railway_views import given
@@ -129,23 +129,17 @@ class StateRoute:
     async def get_notes(self, request: web.Request) -> web.StreamResponse:
         """What a person should hear of in the lines of the present journal, each note as the program printed it."""
         sender: Sender = request["sender"]
-        if not sender.may_look:
-            raise Refusal(403, "A railway's token doesn't see notes; what changes for its wagons is told at /events.")
-        since = count_in(request.query.get("since"), "since", 0, MOST_LINES, otherwise=0)
-        limit = count_in(request.query.get("limit"), "limit", 1, MOST_NOTES_AN_ANSWER, otherwise=NOTES_AN_ANSWER)
-        journal = self._service.office.journal.number
-        line, more, notes = await self._service.viewer.notes.page(since, limit)
+        sender.judge_notes()
+        query = request.query
+        if "newest" in query and "limit" in query:
+            raise Refusal(400, "`newest` and `limit` shut each other out.")
+        since = count_in(query.get("since"), "since", 0, MOST_LINES, otherwise=0)
+        limit = count_in(query.get("limit"), "limit", 1, MOST_NOTES_AN_ANSWER, otherwise=NOTES_AN_ANSWER)
+        newest = count_in(query.get("newest"), "newest", 1, MOST_NOTES_AN_ANSWER, otherwise=0)
+        journal, notes_of = self._service.office.journal.number, self._service.viewer.notes
+        line, more, notes = await (notes_of.newest(since, newest) if newest else notes_of.page(since, limit))
         head = json.dumps({"journal": journal, "line": line, "more": more})
         return web.Response(body=b'%b, "notes": [%b]}' % (head[:-1].encode(), b", ".join(notes)), content_type="application/json")
-
-
-def count_in(text: str | None, name: str, least: int, most: int, otherwise: int) -> int:
-    """A number in a query."""
-    if text is None:
-        return otherwise
-    if not (text.isascii() and text.isdigit() and len(text) <= 9 and least <= int(text) <= most):
-        raise Refusal(400, f"`{name}` must be a number from {least} to {most:,}.")
-    return int(text)
 
 
 def stuck_row(standing: Standing, stuck: Stuck, sender: Sender) -> dict[str, Any]:

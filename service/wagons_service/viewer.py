@@ -18,8 +18,10 @@ from .journal import CHUNK
 from .layouts import Layout, Layouts
 from .network_map import NetworkMap, read_map
 from .note_follower import NoteFollower
+from .note_news import NoteNews
 from .office import Office
 from .options import Options
+from .pipes import until_closed
 from .processes import refusal_of, run, start
 from .program import DONE
 
@@ -47,6 +49,7 @@ class Viewer:
         begins_with = office.journal.checkpoint or options.start
         self._follower = Follower(self._lines, self._words("run"), begins_with, options.limits.answer_within)
         self.notes = NoteFollower(self._lines, [*self._words("review"), "--json"], options.limits.answer_within)
+        self.note_news = NoteNews(office, self.notes)
         # One sheet at a time, and one command over the journal, so that whoever looks doesn't take the machine from those who
         # send. A sheet waits for no command.
         self._sheet_turn = asyncio.Lock()
@@ -161,6 +164,7 @@ class Viewer:
         finally:
             if process.returncode is None:
                 process.kill()
+            await until_closed(process)
         if process.returncode not in DONE:
             raise refusal_of(command, said, process.returncode)
         return printed
@@ -180,6 +184,7 @@ class Viewer:
 
     def end(self) -> None:
         self._follower.end()
+        self.note_news.end()
         self.notes.end()
 
 

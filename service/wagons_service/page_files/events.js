@@ -1,5 +1,5 @@
 // Follows the office's events for all tabs of a browser, which have one stream together, and tells them that something
-// happened. What happened they ask for themselves. It runs in a shared worker; in a browser without them, in one of the tabs.
+// happened, or that there are notes. What it was they ask for themselves. It runs in a shared worker; in a browser without them, in one of the tabs.
 "use strict";
 
 {
@@ -10,33 +10,65 @@
   const ANSWER = 4000;
   const SIGN = 5000; // So often it is told again whether the stream is open.
   const WAIT = 250;
-  const BRACE = "{".charCodeAt(0); // Each event has one, and no sign.
+  const NOTES = "event: notes"; // Names the event in the line before its data.
+  const DATA = "data: {";
+  const ENOUGH = 20; // So much of a line says what it is.
+  const FORBIDDEN = 403;
 
   self.followEvents = async (tell) => {
     let stream = new AbortController();
     let heard = Date.now();
     let ticked = Date.now();
-    let telling = null;
+    const telling = {};
     let last = "lost";
     const become = (said, told = said) => {
       last = said;
       tell(told);
     };
 
+    const tellSoon = (said) => { telling[said] ??= setTimeout(() => { telling[said] = null; tell(said); }, WAIT); };
+
+    function reading() { // Tells what the lines of the stream say, which come in pieces.
+      const decoder = new TextDecoder();
+      let piece = "";
+      let said = "happened";
+      return (part) => {
+        const lines = (piece + decoder.decode(part, { stream: true })).split("\n");
+        piece = lines.pop().slice(0, ENOUGH);
+        for (const line of lines) {
+          if (line.startsWith(DATA)) tellSoon(said);
+          said = line === NOTES ? "noted" : "happened";
+        }
+      };
+    }
+
+    async function open() {
+      const late = setTimeout(() => stream.abort(), ANSWER);
+      const get = (path) => fetch(path, { credentials: "same-origin", cache: "no-store", signal: stream.signal });
+      try {
+        const answer = await get("/events?notes=0");
+        if (answer.status !== FORBIDDEN) return answer;
+        await answer.body?.cancel();
+        return await get("/events"); // Who may not read notes hears of the rest.
+      } finally {
+        clearTimeout(late);
+      }
+    }
+
     async function listen() {
       stream = new AbortController();
       heard = Date.now();
-      const late = setTimeout(() => stream.abort(), ANSWER);
-      const answer = await fetch("/events", { credentials: "same-origin", cache: "no-store", signal: stream.signal }).finally(() => clearTimeout(late));
+      const answer = await open();
       if (!answer.ok) {
         stream.abort(); // What is left of the answer nobody reads.
         return;
       }
       become("open", "opened"); // Something may have happened between two streams.
+      const read = reading();
       const reader = answer.body.getReader();
       for (let part = await reader.read(); !part.done; part = await reader.read()) {
         heard = Date.now();
-        if (part.value.includes(BRACE)) telling ??= setTimeout(() => { telling = null; tell("happened"); }, WAIT);
+        read(part.value);
       }
     }
 

@@ -4,7 +4,9 @@ import {
   NotAnswered, ask, askJson, button, byId, dayOf, doing, element, explained, keepingFocus, momentElement, momentText, nameOf, named, placeText, post,
   refusalText, say, send, setNames, setZone, text, wagonText, wordsOf, zone,
 } from "./parts.js";
+import { OrderHints } from "./hints.js";
 import { OfficeMap } from "./map.js";
+import { Notes } from "./notes.js";
 import { OPEN, addWants, isFree, movesOf, placesOf, readSheet } from "./sheet.js";
 import { Table } from "./table.js";
 
@@ -28,6 +30,8 @@ let movements = { journal: 0, line: -1, byWagon: new Map() }; // Of promised wag
 let askingMovements = null;
 let stuck = { journal: 0, refused: -1, line: 0, byWagon: new Map() }; // Wagons with refused messages behind the last accepted one.
 let askingStuck = null;
+const notes = new Notes((kind, id) => choose(kind, id));
+const orderHints = new OrderHints(byId("order-form"), () => ({ office, network, newest: newest() }));
 let plan = null;
 let refusals = [];
 let chosen = { kind: "", id: "" };
@@ -354,7 +358,7 @@ function whyMissing(reason) {
   if (!reason) return "";
   // The first test that no more wagons pass than the order gets.
   const test = TESTS.find((name) => reason[name] <= reason.gets);
-  const further = reason.further === "none" ? text("further_none") : reason.further === null ? "" : text("further", { km: reason.further });
+  const further = reason.further === null ? "" : typeof reason.further === "string" ? text(`further_${reason.further}`) : text("further", { km: reason.further });
   return (test ? text(`why_${test}`, { n: reason[test] }) : text("why_others")) + " " + further;
 }
 
@@ -501,6 +505,7 @@ function correct(wagon) {
 function orderHere(place) {
   showTab("new_order");
   byId("order-place").value = place;
+  orderHints.tell();
   byId("order-order").focus();
 }
 
@@ -550,8 +555,9 @@ function aboutStep(step, kind) { // What a line said, and what the office knew b
 
 function aboutPair(reason, kind) { // What is compared stands beside the test that fails.
   const test = ["fits", "class", "load", "way", "late", "costly"].find((name) => name in reason);
-  const other = kind === "order" ? link("wagon", reason[test], wagonText(reason[test])) : link("order", reason.order);
   const values = { ...reason, wants: [].concat(reason.wants ?? []).join(", "), arrival: momentText(reason.arrival ?? ""), latest: momentText(reason.latest ?? "") };
+  if (kind === "order" && test === "class") return element("span", [text("pairs_class", values)]); // one line counts them all
+  const other = kind === "order" ? link("wagon", reason[test], wagonText(reason[test])) : link("order", reason.order);
   return element("span", [other, ": ", text(test === "fits" && reason.planned ? "pair_planned" : `pair_${test}`, values)]);
 }
 
@@ -610,6 +616,9 @@ function showOfficeParts() { // What hasn't changed isn't shown again, so that w
     byId("late-count").textContent = tables.late.rows.length;
     tables.stuck.setRows(stuck.journal === office.journal ? [...stuck.byWagon.values()] : []);
     byId("stuck-count").textContent = tables.stuck.rows.length;
+    for (const name of ["late", "stuck"]) byId(name).classList.toggle("empty", !tables[name].rows.length);
+    notes.show();
+    orderHints.tell();
     plan?.tables?.forEach((table) => table.arrange());
     showChosen();
   });
@@ -653,6 +662,7 @@ function take(told) {
   if (isStuckOld() && !askingStuck) askingStuck = setTimeout(readStuck, 0);
   if (isOld() && !askingNetwork) askingNetwork = setTimeout(readNetwork, 0);
   if (hasRefused) readRefusals();
+  if (isNew || !isOpen) notes.askSoon(); // Else the stream of events says when there are more.
   if (!isNew && told.trouble && told.trouble !== trouble) say(told.trouble);
   trouble = told.trouble;
 }
@@ -701,7 +711,9 @@ function hear(said) {
   signed = Date.now();
   const wasOpen = isOpen;
   isOpen = said !== "lost";
-  if (said === "happened") refreshSoon(Math.max(0, askedAt + 1.5 * wait - Date.now())); // At once, where nobody has asked lately.
+  if (said === "opened") notes.askAnew();
+  if (said === "noted") notes.askSoon();
+  else if (said === "happened") refreshSoon(Math.max(0, askedAt + 1.5 * wait - Date.now())); // At once, where nobody has asked lately.
   else if (!isOpen || !wasOpen || said === "opened") refreshSoon(0);
 }
 
@@ -768,7 +780,10 @@ function start() {
   byId("order-form").addEventListener("submit", placeOrder);
   byId("message-form").addEventListener("submit", sendMessage);
   for (const [id, act] of [["map-nearer", () => map.zoom(1.5)], ["map-farther", () => map.zoom(1 / 1.5)], ["map-all", () => map.fit()]]) byId(id).addEventListener("click", act);
-  document.addEventListener("visibilitychange", () => refreshSoon(0));
+  document.addEventListener("visibilitychange", () => {
+    refreshSoon(0);
+    notes.look();
+  });
   addEventListener("online", () => refreshSoon(0));
   addEventListener("pagehide", leave);
   addEventListener("pageshow", (event) => event.persisted && connect());

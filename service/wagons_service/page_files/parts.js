@@ -4,6 +4,7 @@ const TEXTS = JSON.parse(document.getElementById("texts").textContent);
 
 export const byId = (id) => document.getElementById(id);
 export const text = (key, values = {}) => (TEXTS[key] ?? key).replace(/\{(\w+)\}/g, (whole, name) => String(values[name] ?? whole));
+export const textParts = (key, values) => (TEXTS[key] ?? key).split(/\{(\w+)\}/).map((part, place) => (place % 2 ? values[part] ?? `{${part}}` : part));
 export const named = (key, word) => TEXTS[key + word] ?? word;
 
 export function element(name, content = "", properties = {}) {

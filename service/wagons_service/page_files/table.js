@@ -2,15 +2,15 @@
 
 import { element, keepingFocus, saveCsv, text } from "./parts.js";
 
-const ROW = 30; // As the style sheet has it.
+const ROW = 30; // As the style sheet has it; a table may have higher ones.
 const MORE = 8; // So many rows are drawn above and below.
 const STEPS = { ArrowDown: 1, ArrowUp: -1 };
 
 export class Table {
   // A column has a `name`, `of`, which gives a row's value, by which it is sorted, and `shown`, what is seen of it: a text or an
   // element. `words` is the text where an element is seen. `key` gives what a row is known by; `choose` is told of the chosen one.
-  constructor(holder, { id, label, columns, key, choose = null, rowClass = () => "", none = "", sorted = "" }) {
-    Object.assign(this, { holder, columns, key, choose, rowClass, none });
+  constructor(holder, { id, label, columns, key, choose = null, rowClass = () => "", none = "", sorted = "", height = ROW }) {
+    Object.assign(this, { holder, columns, key, choose, rowClass, none, height });
     this.rows = [];
     this.view = [];
     this.sought = [];
@@ -29,6 +29,7 @@ export class Table {
     this.above = this.space();
     this.below = this.space();
     this.body = element("tbody", [this.above, this.below]);
+    this.body.style.setProperty("--row", `${this.height}px`);
     this.heads = element("tr", this.columns.map((column) => this.head(column)));
     this.table = element("table", [element("colgroup", this.columns.map((column) => {
       const col = element("col", []);
@@ -123,8 +124,8 @@ export class Table {
 
   draw() {
     if (!this.holder.clientHeight) return; // Nobody sees it now.
-    const most = Math.ceil(this.holder.clientHeight / ROW) + 2 * MORE;
-    const first = Math.max(0, Math.min(Math.floor(this.holder.scrollTop / ROW) - MORE, this.view.length - most));
+    const most = Math.ceil(this.holder.clientHeight / this.height) + 2 * MORE;
+    const first = Math.max(0, Math.min(Math.floor(this.holder.scrollTop / this.height) - MORE, this.view.length - most));
     const last = Math.min(this.view.length, first + most);
     const range = `${first} ${last}`;
     if (range === this.drawn) return;
@@ -132,8 +133,8 @@ export class Table {
     const before = this.made;
     this.made = new Map();
     const rows = this.view.slice(first, last).map((row, place) => this.row(row, first + place, before));
-    this.above.firstChild.style.height = `${first * ROW}px`;
-    this.below.firstChild.style.height = `${(this.view.length - last) * ROW}px`;
+    this.above.firstChild.style.height = `${first * this.height}px`;
+    this.below.firstChild.style.height = `${(this.view.length - last) * this.height}px`;
     const hadFocus = this.body.contains(document.activeElement);
     keepingFocus(() => this.put([this.above, ...rows, this.below]));
     this.markActive(first);
@@ -209,7 +210,7 @@ export class Table {
       this.pick(this.active);
       return;
     }
-    const page = Math.max(1, Math.floor(this.holder.clientHeight / ROW) - 2);
+    const page = Math.max(1, Math.floor(this.holder.clientHeight / this.height) - 2);
     const now = this.view.findIndex((row) => this.key(row) === this.active);
     const goal = { Home: 0, End: this.view.length - 1, PageDown: now + page, PageUp: now - page }[event.key] ?? (event.key in STEPS ? now + STEPS[event.key] : null);
     if (goal === null || !this.view.length) return;
@@ -219,8 +220,8 @@ export class Table {
 
   goTo(place) {
     this.active = this.key(this.view[place]);
-    const top = place * ROW;
-    const room = this.holder.clientHeight - this.heads.offsetHeight - ROW;
+    const top = place * this.height;
+    const room = this.holder.clientHeight - this.heads.offsetHeight - this.height;
     if (top < this.holder.scrollTop) this.holder.scrollTop = top;
     else if (top > this.holder.scrollTop + room) this.holder.scrollTop = top - room;
     this.drawn = "";
