@@ -37,7 +37,8 @@ build: prove
 $(BUILT): $(SOURCES)
 	@$(PROVE) wagons
 
-# Compares the manual of refusals with what `wagons explain` must print, and the picture of the crates with crates.txt; tries
+# Compares the manual of refusals with what `wagons explain` must print, the picture of the crates with crates.txt, and the
+# version with the sources that it names; tries
 # what this file says of sources, the completion for bash, and that the definitions of the claims are found; proves every crate
 # from nothing, tries the wrong bodies that must fail, runs every test and the programs on their stored files; then tries the
 # program that was built so on the pages' commands, by hostile use, in the benches at their smallest size, under the service,
@@ -46,6 +47,7 @@ test:
 	@tools/part --pace
 	@tools/try_pages
 	@tools/crate_map --check
+	@tools/version --check
 	@sed '1,/^\$$ wagons explain$$/d;$$d' crates/wagons_scripts/data/explain.script | cmp docs/REFUSALS.md -
 	@tools/try_make
 	@tools/try_completions
@@ -103,6 +105,7 @@ bench:
 	@bench/plan/run.sh
 	@bench/book/run.sh
 	@bench/save/run.py
+	@bench/notes/run.py
 	@bench/why/run.sh
 	@bench/service/run.py
 	@bench/page/run.py

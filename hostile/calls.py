@@ -26,7 +26,7 @@ from program import EACH, HERE, PROCESSES, SECONDS, Table
 
 ROOT = os.path.dirname(HERE)
 NAME = "hostile_calls"
-LIBRARIES = """last_texts traces journal_notes fault_texts checkpoint command_line csv_records faults office office_map plan_table text_tables plan_reasons
+LIBRARIES = """last_texts line_plans traces journal_notes fault_texts checkpoint command_line csv_records faults office office_map plan_table text_tables plan_reasons
 problem_table sessions assignment dispatch_sheet table_lines commit_book operating_db price_checker cost_table line_network
 line_engine fleet_rows wagons_and_orders place_names line_fields move_messages rail_codes test_samples""".split()
 # The request that is refused, and more requests than come before it. MANY stands in calls/trying.rs too.
@@ -71,6 +71,8 @@ PARTS = {
     "traces": Part("the trace of a wagon or an order", ["Trace::new", "trace_journal (the memory for its lines)", "trace_journal (a line)",
         "trace_text"]),
     "notes": Part("the notes of a journal", ["note_journal (the memory for its lines)", "note_journal (a line)"]),
+    "fills": Part("what a journal fills, and the plan of its last line", ["fill_journal (the memory for its lines)", "fill_journal (a line)",
+        "plan_lines (the memory for its lines)", "plan_lines (a line)", "PlanLines::last_plan"]),
     "feeds": Part("`feed` of one reader, and its report", ["feed", "feed (the memory for its lines)", "feed (a line)",
         "report_text"]),
 }

@@ -33,7 +33,7 @@ def checkpoint_of(state: office.Office) -> str:
     """The checkpoint of an office, as docs/FILES.md says it."""
     head: office.Fields = {"type": "checkpoint", "format": 1, "network": state.network}
     if state.wagons:
-        head["newest"] = office.moment_text(max(wagon.last for wagon in state.wagons.values()))
+        head["newest"] = office.moment_text(state.newest())
     lines = [head]
     for number, wagon in sorted(state.wagons.items()):
         row: office.Fields = {"type": "wagon", "wagon": number, "class": wagon.kind, "load": wagon.load, "status": wagon.status, "place": wagon.place}
@@ -68,10 +68,10 @@ def words_of(word: str, files: Files) -> list[str]:
 def fields_of(line: str) -> office.Fields:
     """The members of a line; none where it is no object."""
     try:
-        fields: office.Fields = json.loads(line)
-        return fields
+        fields = json.loads(line)
     except ValueError:
         return {}
+    return fields if isinstance(fields, dict) else {}
 
 
 def do(state: office.Office, line: str) -> None:

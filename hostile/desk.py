@@ -96,10 +96,11 @@ def movement(state: office.Office, wagon: office.Wagon, order: office.Order, at:
 def need(order: office.Order, at: int) -> Row:
     is_past = order.is_open() and order.fields["latest"] < at
     words = [word for word, holds in (("short", order.lack() > 0), ("past", is_past)) if holds]
-    state = " and ".join(words) or ("filled" if order.state() == "filled" else "promised")
+    filled = "filled late" if order.late else "filled"
+    state = " and ".join(words) or (filled if order.state() == "filled" else "promised")
     return row_of(
         MOVES, kind="order", order=order.name, to=order.fields["place"], latest=office.moment_text(order.fields["latest"]), wanted=order.wagons,
-        filled=len(order.filled), promised=len(order.promised), missing=order.lack(), penalty=order.fields["penalty"], state=state)
+        filled=len(order.filled), promised=len(order.promised), missing=order.lack(), penalty=order.fields["penalty"], late=order.late or None, state=state)
 
 
 def move_rows(state: office.Office, at: int, choice: Choice) -> list[Row]:
@@ -112,7 +113,7 @@ def move_rows(state: office.Office, at: int, choice: Choice) -> list[Row]:
         for wagon in wagons if choice.silent and not choice.order and wagon.last + 3600 * choice.silent <= at]
     if choice.late:
         movements = [row for row in movements if row["state"] != "in time"]
-        needs = [row for row in needs if row["state"] not in ("filled", "promised")]
+        needs = [row for row in needs if row["state"] not in ("filled", "filled late", "promised")]
     return movements + needs + silent
 
 
@@ -135,7 +136,7 @@ def cells_of(row: Row) -> list[str]:
     names = {
         "movement": "wagon class status place since order to km minutes arrival latest", "order": "order to latest wanted filled promised missing penalty",
         "silent": "wagon class status place since"}[cells["kind"]].split()
-    told = {"in time": f"{cells['spare']} min to spare", "late": f"late by {cells['late']} min", "silent": ""}.get(cells["state"], cells["state"])
+    told = {"in time": f"{cells['spare']} min to spare", "late": f"late by {cells['late']} min", "silent": "", "filled late": f"filled late by {cells['late']} min"}.get(cells["state"], cells["state"])
     return [cell for cell in [*(cells[name] for name in names), told] if cell]
 
 
@@ -145,11 +146,11 @@ def table_rows(text: str) -> list[list[str]]:
     return [re.split("  +", line.strip()) for line in text.splitlines() if line and not re.fullmatch(titles, line) and not line.startswith("movements of ")]
 
 
-def wrong(words: Sequence[str], given: bytes, rows: list[Row], names: Sequence[str]) -> str | None:
-    """What is wrong with what a word prints, in any of its forms."""
+def wrong(words: Sequence[str], given: bytes, rows: list[Row], names: Sequence[str], notes: list[bytes]) -> str | None:
+    """What is wrong with what a word prints, in any of its forms, and with its notes for people."""
     told = run([*words, "--json"], given)
-    if told.fault() or told.status or told.out.decode() != lines_of(rows):
-        return f"{words}: {told.out!r} {told.err!r} where {lines_of(rows)!r} is right"
+    if told.fault() or told.status or told.notes != notes or told.out.decode() != lines_of(rows):
+        return f"{words}: {told.out!r} {told.notes!r} {told.err!r} where {lines_of(rows)!r} and {notes!r} are right"
     sheet = run([*words, "--csv"], given)
     if list(csv.reader(io.StringIO(sheet.out.decode()))) != [list(names), *(list(texts(row).values()) for row in rows)]:
         return f"{words}: {sheet.out!r} where {rows!r} is right"
@@ -171,12 +172,12 @@ def judged(history: History, at: int, dice: random.Random) -> str | None:
     state = history.state
     given = "".join(line + "\n" for line in history.lines).encode()
     for word, rows in (("fleet", fleet_rows(state)), ("orders", order_rows(state))):
-        if fault := wrong(words_of(word, history.files), given, rows, TABLES[word]):
+        if fault := wrong(words_of(word, history.files), given, rows, TABLES[word], []):
             return fault
     for asked in traced(history, dice):
         option = "--wagon" if asked.isdigit() else "--order"
         rows, columns = traces.trace_rows(history, asked), traces.WAGON if asked.isdigit() else traces.ORDER
-        if fault := wrong([*words_of("trace", history.files), option, asked], given, rows, columns):
+        if fault := wrong([*words_of("trace", history.files), option, asked], given, rows, columns, []):
             return fault
     moment = max(at + 60 * dice.randint(-600, 600) + dice.choice([0, 0, 1, 59]), 946_684_800)
     choice = Choice(state, dice)
@@ -184,7 +185,7 @@ def judged(history: History, at: int, dice: random.Random) -> str | None:
     head = f"movements of version {state.length} at {office.moment_text(moment)}\n\n"
     if not run(words, given).out.decode().startswith(head):
         return f"{words}: its first line isn't {head!r}"
-    return wrong(words, given, move_rows(state, moment, choice), MOVES)
+    return wrong(words, given, move_rows(state, moment, choice), MOVES, state.early_notes(moment))
 
 
 def of_random(seed: int) -> str | None:

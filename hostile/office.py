@@ -4,6 +4,7 @@ It is slow and small, and shares nothing with the program, so that the two can b
 plan: `optima` tries all plans of a small problem.
 """
 
+import copy
 import datetime
 import heapq
 import itertools
@@ -392,6 +393,8 @@ class Order:
         self.wagons: int = fields["wagons"]
         self.promised: set[str] = set()
         self.filled: list[str] = []
+        # By how many minutes the last of its wagons came late, once it has all of them.
+        self.late = 0
 
     def lack(self) -> int:
         return 0 if self.withdrawn else self.wagons - len(self.promised) - len(self.filled)
@@ -405,6 +408,11 @@ class Order:
 
     def is_open(self) -> bool:
         return self.state() in ("waiting", "promised")
+
+    def is_overdue(self, newest: int) -> bool:
+        """Whether it is open, and its latest moment lies before the newest message of some wagon."""
+        latest: int = self.fields["latest"]
+        return self.is_open() and latest < newest
 
     def row(self) -> str:
         wagons = sorted(self.promised) + [f"{wagon}*" for wagon in self.filled]
@@ -447,6 +455,23 @@ class Office:
         if kind not in order["classes"] or order["load"] > load or distance is None:
             return None
         return distance[0] if max(ready, at) + 60 * distance[1] <= order["latest"] else None
+
+    def newest(self) -> int:
+        """The newest of all wagons' last messages; 0 where there is no wagon."""
+        return max((wagon.last for wagon in self.wagons.values()), default=0)
+
+    def early_notes(self, at: int) -> list[bytes]:
+        """What is said of a moment to look at that is before the newest message."""
+        if at >= self.newest():
+            return []
+        return [f"note: --at {moment_text(at)} is before the newest message, {moment_text(self.newest())}\n".encode()]
+
+    def resumed(self) -> "Office":
+        """The office of a run that begins with this one's checkpoint (docs/FILES.md): without closed orders, messages and problems."""
+        office = Office([], self.networks, self.entries, self.most_kept)
+        office.wagons, office.network = copy.deepcopy(self.wagons), self.network
+        office.orders = copy.deepcopy({name: order for name, order in self.orders.items() if order.is_open()})
+        return office
 
     def accept(self) -> str:
         self.length += 1
@@ -504,18 +529,20 @@ class Office:
         if here and place != wagon.place:
             raise Refused(33)
         if (kind, word) == ("delivery", "arrived_empty"):
-            status = self.deliver(wagon, place)
+            status = self.deliver(wagon, place, moment)
         if status == "empty":
             wagon.ready = moment
         wagon.status, wagon.place, wagon.last = status, place, moment
 
-    def deliver(self, wagon: Wagon, place: str) -> str:
+    def deliver(self, wagon: Wagon, place: str, moment: int) -> str:
         if not wagon.promise or self.orders[wagon.promise].fields["place"] != place:
             self.end_promise(wagon)
             return "empty"
         order = self.orders[wagon.promise]
         self.end_promise(wagon)
         order.filled.append(wagon.number)
+        if order.state() == "filled":
+            order.late = max(-(-(moment - order.fields["latest"]) // 60), 0)
         return "loading"
 
     def end_promise(self, wagon: Wagon) -> None:

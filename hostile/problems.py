@@ -22,9 +22,12 @@ from made_up import wagon_number  # noqa: E402
 
 # Plans with their costs, each as the order of each wagon, by its place in the table.
 Plans = list[tuple[int, tuple[int | None, ...]]]
+# A wagon and an order by their places in the table, and their line where they fail a test.
+Pair = tuple[tuple[int, int], str | None]
 
 HISTORIES = int(os.environ.get("HOSTILE_PROBLEMS", 1_000))
 MOST_PLANS = 20_000
+MOST_PENALTY = 1_000_000_000
 
 
 def table_of(state: office.Office, at: int) -> str:
@@ -39,8 +42,8 @@ def judged(history: History, at: int) -> str | None:
     given = "".join(line + "\n" for line in history.lines).encode()
     moment = office.moment_text(at)
     table = run([*words_of("table", history.files), "--at", moment], given)
-    if table.fault() or table.out.decode() != table_of(history.state, at):
-        return f"{table.out!r} {table.err!r} where {table_of(history.state, at)!r} is right"
+    if table.fault() or table.notes != history.state.early_notes(at) or table.out.decode() != table_of(history.state, at):
+        return f"{table.out!r} {table.notes!r} {table.err!r} where {table_of(history.state, at)!r} is right"
     plan = json.dumps({"type": "plan", "at": moment}).encode()
     planned = [line for line in run(words_of("run", history.files), given + plan + b"\n").out.decode().splitlines() if " plan " in line][-1]
     solved = run(["solve"], table.out)
@@ -151,7 +154,7 @@ def wrong_number(table: office.Fields, cost: int, orders: Sequence[Sequence[str]
 
 
 def broken_bound(table: office.Fields, plans: Plans, cost: int, orders: Sequence[tuple[int, int | None, str]], wagons: Sequence[tuple[int, int]]) -> str | None:
-    """A bound that a plan breaks; no price stands where numbers are exact."""
+    """A bound that a plan breaks; no price stands where numbers are exact. What further wagons of an order cost is exact then, too."""
     if least(plans) != cost:
         return f"cost {cost}, and {least(plans)} is the least"
     for j, (gets, price, further) in enumerate(orders):
@@ -159,12 +162,33 @@ def broken_bound(table: office.Fields, plans: Plans, cost: int, orders: Sequence
         if price is not None and (least(more) < cost + price or least(fewer) < cost - price):
             return f"the price {price} of {table['orders'][j]}"
         served = least([plan for plan in plans if plan[1].count(j) > gets])
-        if further == "none" and served < math.inf or further not in ("none", "-") and served < cost + int(further):
+        if further != "-" and not is_further(further, served - cost, price is None, table["penalties"][j]):
             return f"{further} for more of {table['orders'][j]}"
     for i, without in wagons:
         if least([plan for plan in plans if plan[1][i] is None]) < cost + without:
             return f"{without} without {table['wagons'][i]}"
     return None
+
+
+def is_further(said: str, more: float, is_exact: bool, penalty: int) -> bool:
+    """Whether the best plan that gives an order more wagons may cost so much more, by what is said of it."""
+    if said == "none":
+        return more == math.inf
+    if said == "over":
+        return is_exact and more >= MOST_PENALTY - penalty
+    return more == int(said) if is_exact else more >= int(said)
+
+
+def further_of(table: office.Fields, j: int, gets: int) -> str:
+    """What the best plan costs more that gives an order more wagons, by the plan of a table in which it wants one more than it gets,
+    at the highest penalty."""
+    lack, penalty = table["lacks"][j], table["penalties"][j]
+    changed = table | {name: [value if k == j else other for k, other in enumerate(table[name])]
+                       for name, value in (("lacks", gets + 1), ("penalties", MOST_PENALTY))}
+    solved = json.loads(run(["solve"], json.dumps(changed).encode() + b"\n").out)
+    served = sum(order == table["orders"][j] for _, order in solved["pairs"])
+    cost: int = solved["cost"]
+    return str(cost + penalty * (lack - gets - 1)) if served > gets else "none"
 
 
 def reasons(history: History, at: int) -> str | None:
@@ -177,9 +201,12 @@ def reasons_of(history: History, at: int, quick: list[str]) -> str | None:
     problem = office.Problem(state, at)
     given = "".join(line + "\n" for line in history.lines).encode()
     why = run([*words_of("why", history.files), "--at", office.moment_text(at), *quick], given)
-    if why.fault() or why.status == 2:
-        return f"{why.out!r} {why.err!r}"
-    rows = [row.split() for row in why.out.decode().splitlines()]
+    if why.fault() or why.status == 2 or why.notes != state.early_notes(at):
+        return f"{why.out!r} {why.notes!r} {why.err!r}"
+    lines = plain(why.out.decode(), bool(quick))
+    if lines is None:
+        return f"the headings of {why.out!r}"
+    rows = [row.split() for row in lines]
     orders = [row for row in rows if row[0] == "order"]
     wagons = [row for row in rows if row[0] == "wagon"]
     cost, go, stay, miss = map(int, rows[0][4:])
@@ -200,17 +227,48 @@ def reasons_of(history: History, at: int, quick: list[str]) -> str | None:
         return wrong
     plans = plans_of(problem.table)
     if plans is None:
-        return None
+        return None if quick else wrong_further(problem.table, cost, orders)
     served = [(int(row[3]), int(row[10]) if quick else None, row[-1]) for row in orders]
     return broken_bound(problem.table, plans, cost, served, stays)
 
 
+def wrong_further(table: office.Fields, cost: int, orders: Sequence[Sequence[str]]) -> str | None:
+    """What is wrong with what further wagons of each order cost, where all plans are too many to be tried."""
+    for j, row in enumerate(orders):
+        right = "-" if row[4] == "0" else further_of(table, j, int(row[3]))
+        if row[-1] != (str(int(right) - cost) if right.isdigit() else right):
+            return f"{row[-1]} for more of {table['orders'][j]}, and {right} is the least"
+    return None
+
+
 # One order or one wagon.
+
+# The words of each kind of line, as its heading has them.
+HEADINGS = {
+    "why": "why version free orders cost go stay miss", "order": "order name lacks gets misses class load way time cheaper more less further",
+    "quick order": "order name lacks gets misses class load way time cheaper price further", "wagon": "wagon number order km arrival without",
+    "stays": "stays number", "fits": "fits number name km more", "class": "class number name class classes", "count": "class count name classes",
+    "load": "load number name limit load", "way": "way number name from to", "late": "late number name arrival latest",
+    "costly": "costly number name km penalty"}
+TESTS = ["class", "load", "way", "late", "costly"]
+
+
+def plain(text: str, is_quick: bool) -> list[str] | None:
+    """The lines of a text without their headings; none where a heading isn't what it must be, before the first line of each kind."""
+    lines = [line for line in text.splitlines() if not line.startswith("#")]
+    headed: list[str] = []
+    for line, before in zip(lines, ["", *lines]):
+        word = line.split(" ")[0]
+        if word != before.split(" ")[0]:
+            kind = "count" if word == "class" and len(line.split(" ")) == 4 else "quick order" if word == "order" and is_quick else word
+            headed.append(f"# {HEADINGS[kind]}")
+        headed.append(line)
+    return lines if text == "".join(f"{line}\n" for line in headed) else None
 
 NAMES: dict[str, list[str]] = {
     "order": ["lacks", "gets", "misses", "class", "load", "way", "time", "cheaper", "more", "less", "further"],
     "quick order": ["lacks", "gets", "misses", "class", "load", "way", "time", "cheaper", "price", "further"],
-    "wagon": ["order", "km", "arrival", "without"], "stays": [], "fits": ["order", "km", "more"], "class": ["order", "has", "wants"],
+    "wagon": ["order", "km", "arrival", "without"], "stays": [], "fits": ["order", "km", "more"], "class": ["order", "has", "wants"], "count": ["order", "wants"],
     "load": ["order", "has", "wants"], "way": ["order", "from", "to"], "late": ["order", "arrival", "latest"],
     "costly": ["order", "km", "penalty"], "why": ["free", "orders", "cost", "go", "stay", "miss"],
 }
@@ -231,8 +289,9 @@ def member_of(word: str, name: str, value: str) -> object:
 def json_of(line: str) -> str:
     """The JSON line that says what a line of text says."""
     word, first, *values = line.split(" ")
-    said: dict[str, object] = {word: int(first) if word == "why" else first}
-    names = NAMES["quick order" if word == "order" and len(values) == 10 else word]
+    is_count = word == "class" and len(values) == 2
+    said: dict[str, object] = {word: int(first) if word == "why" or is_count else first}
+    names = NAMES["quick order" if word == "order" and len(values) == 10 else "count" if is_count else word]
     said |= {name: member_of(word, name, value) for name, value in zip(names, values)}
     if word == "fits":
         said["planned"] = values[3:] == ["planned"]
@@ -256,13 +315,21 @@ def failed_line(state: office.Office, wagon: office.Free, order: office.Order, a
     return f"costly {pair} {way[0]} {fields['penalty']}" if way[0] >= fields["penalty"] else None
 
 
-def wrong_pairs(table: office.Fields, lines: Sequence[str], pairs: Sequence[tuple[tuple[int, int], str | None]], plans: Plans | None, whole: Sequence[str],
+def failures_of(pairs: Sequence[Pair], is_order: bool) -> list[str]:
+    """The lines of pairs that fail a test, by the test. About an order, wagons of other classes are only counted."""
+    by_test = {word: [line for _, line in pairs if line and line.startswith(f"{word} ")] for word in TESTS}
+    if is_order and (others := by_test["class"]):
+        _, _, name, _, classes = others[0].split(" ")
+        by_test["class"] = [f"class {len(others)} {name} {classes}"]
+    return [line for word in TESTS for line in by_test[word]]
+
+
+def wrong_pairs(table: office.Fields, lines: Sequence[str], pairs: Sequence[Pair], failures: Sequence[str], plans: Plans | None, whole: Sequence[str],
                 is_quick: bool) -> str | None:
     """What is wrong with the lines of pairs, each with its line where it fails a test."""
-    failed = [line for _, line in pairs if line]
     fits = {f"{table['wagons'][i]} {table['orders'][j]}": (i, j) for (i, j), line in pairs if not line}
-    if lines[len(fits):] != failed:
-        return f"{lines!r} where {failed!r} is right"
+    if lines[len(fits):] != failures:
+        return f"{lines!r} where {failures!r} is right"
     cost, last = int(whole[0].split()[4]), -1
     for line in lines[:len(fits)]:
         word, number, name, km, more, *rest = line.split(" ")
@@ -291,18 +358,18 @@ def asked_of(history: History, at: int, quick: list[str]) -> str | None:
     table, waiting = problem.table, [order for order in state.orders.values() if order.lack()]
     given = "".join(line + "\n" for line in history.lines).encode()
     words = [*words_of("why", history.files), "--at", office.moment_text(at), *quick]
-    whole = run(words, given).out.decode().splitlines()
+    whole = plain(run(words, given).out.decode(), bool(quick)) or []
     plans = plans_of(table)
     failed = [[failed_line(state, wagon, order, at) for order in waiting] for wagon in problem.free]
     questions = [(["--order", order.name], [((i, j), failed[i][j]) for i in range(len(failed))]) for j, order in enumerate(waiting)]
     questions += [(["--wagon", wagon[0]], [((i, j), line) for j, line in enumerate(failed[i])]) for i, wagon in enumerate(problem.free)]
     for (option, name), pairs in questions:
         told = run([*words, option, name], given)
-        first, *lines = told.out.decode().splitlines() or [""]
+        first, *lines = plain(told.out.decode(), bool(quick)) or [""]
         heads = [row for row in whole if row.startswith(f"{option[2:]} {name} ")] or [f"stays {name}"]
-        if told.fault() or first != heads[0]:
-            return f"{told.out!r} {told.err!r}"
-        if wrong := wrong_pairs(table, lines, pairs, plans, whole, bool(quick)):
+        if told.fault() or told.notes != state.early_notes(at) or first != heads[0]:
+            return f"{told.out!r} {told.notes!r} {told.err!r}"
+        if wrong := wrong_pairs(table, lines, pairs, failures_of(pairs, option == "--order"), plans, whole, bool(quick)):
             return f"{option} {name}: {wrong}"
         if run([*words, option, name, "--json"], given).out.decode().splitlines() != [json_of(line) for line in (first, *lines)]:
             return f"{option} {name} --json"

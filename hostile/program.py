@@ -57,11 +57,20 @@ def written(text: bytes) -> Iterator[str]:
 TOLD = re.compile(rb"([ -~]|[\xC3-\xC8][\x80-\xBF])+\n")
 
 
+# What may stand on standard error before anything else, for people.
+NOTE = re.compile(rb"note: (--at \S+ is before the newest message, \S+|file \d+ moves wagon \d{12}, of which file \d+ had a message refused; .*)\n")
+
+
 class Outcome:
-    """What the program wrote and how it ended. `err` is the first line of standard error, which is for programs, `told` what
-    stands below it for people. `counts` are its requests for memory, watched reads, writes, and starts of threads."""
+    """What the program wrote and how it ended. `notes` are lines for people that come first on standard error, `err` is the
+    first line behind them, which is for programs, `told` what stands below it for people. `counts` are its requests for memory,
+    watched reads, writes, and starts of threads."""
 
     def __init__(self, status: int, out: bytes, err: bytes, counts: tuple[int, ...] = (), late: bool = False) -> None:
+        self.notes: list[bytes] = []
+        while err.startswith(b"note: "):
+            note, feed, err = err.partition(b"\n")
+            self.notes.append(note + feed)
         first, feed, self.told = err.partition(b"\n")
         self.status, self.out, self.err, self.counts, self.is_late = status, out, first + feed, counts, late
 
@@ -71,6 +80,8 @@ class Outcome:
             return "it ran too long"
         if self.status not in (0, 1, 2):
             return f"status {self.status}, {self.err[:200]!r}"
+        if not all(NOTE.fullmatch(note) for note in self.notes):
+            return f"notes {self.notes!r}"
         if self.status != 2 and self.err:
             return f"status {self.status} and {self.err[:200]!r}"
         if self.err.startswith(b"wagons: ") and not TOLD.fullmatch(self.told):

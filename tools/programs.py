@@ -33,6 +33,16 @@ def find(program: str, other: str) -> str:
     return path
 
 
+def timed(words: list[str], given: str, output: str = os.devnull) -> float:
+    """How long a program takes over a file of lines, in milliseconds. A line may be refused."""
+    with open(given, "rb") as lines, open(output, "wb") as out:
+        begun = time.perf_counter()
+        status = subprocess.run(words, stdin=lines, stdout=out, check=False).returncode
+        if status not in (0, 1):
+            raise SystemExit(f"{' '.join(words)} ended with status {status}")
+        return (time.perf_counter() - begun) * 1000
+
+
 def wagons() -> str:
     """The build of `wagons`: the one that WAGONS names, or the proved one."""
     return find("wagons", os.environ.get("WAGONS", ""))

@@ -7,19 +7,26 @@ import shutil
 import subprocess
 
 ROOT = os.path.dirname(os.path.dirname(os.path.abspath(__file__)))
+# What names the program's version.
+VERSION = "crates/wagons/src/version.rt"
 # The parts of a crate that a proof reads.
 PARTS = ("src", "specs", "proofs")
 # What a program's run on its stored files reads beside them.
 STORED = ("stdin", "stdout", "args", "status", "data")
 
 
-def version() -> str:
-    """The version, as the program's source has it."""
-    with open(f"{ROOT}/crates/command_line/src/words.rt", encoding="utf-8") as file:
-        found = re.search(r'^const VERSION: &str = "(.*)";$', file.read(), re.M)
+def long_version() -> str:
+    """What `wagons --version` prints behind the program's name, as the program's source has it."""
+    with open(f"{ROOT}/{VERSION}", encoding="utf-8") as file:
+        found = re.search(r'^pub\(crate\) const VERSION: &str = "(.*)";$', file.read(), re.M)
     if not found:
-        raise SystemExit("crates/command_line/src/words.rt names no VERSION")
+        raise SystemExit(f"{VERSION} names no VERSION")
     return found[1]
+
+
+def version() -> str:
+    """The number of the version."""
+    return long_version().partition(" ")[0]
 
 
 def lines_of_crates() -> dict[str, str]:

@@ -21,8 +21,8 @@ def content(script: str) -> str:
 
 
 def played() -> list[str]:
-    """The scripts that the proved program plays: those that don't give it /dev/stdin as a file."""
-    return [it for it in all_scripts() if not any(line.startswith("$ ") and "/dev/stdin" in line for line in content(it).splitlines())]
+    """The scripts that the proved program plays: those that give it none of its own streams as a file."""
+    return [it for it in all_scripts() if not any(line.startswith("$ ") and "/dev/std" in line for line in content(it).splitlines())]
 
 
 def stored() -> dict[str, str]:

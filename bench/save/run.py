@@ -12,7 +12,6 @@ import os
 import subprocess
 import sys
 import tempfile
-import time
 
 HERE = os.path.dirname(os.path.abspath(__file__))
 DAY = os.path.join(HERE, "..", "run", "day.py")
@@ -20,18 +19,8 @@ sys.path.append(os.path.join(HERE, "..", "..", "tools"))
 import programs  # noqa: E402
 
 
-def timed(words: list[str], given: str, output: str = os.devnull) -> float:
-    """How long a program takes over a file of lines, in milliseconds."""
-    with open(given, "rb") as lines, open(output, "wb") as out:
-        begun = time.perf_counter()
-        status = subprocess.run(words, stdin=lines, stdout=out, check=False).returncode
-        if status not in (0, 1):
-            raise SystemExit(f"bench/save: {' '.join(words)} ended with status {status}")
-        return (time.perf_counter() - begun) * 1000
-
-
 def least(turns: int, words: list[str], given: str) -> float:
-    return min(timed(words, given) for _ in range(turns))
+    return min(programs.timed(words, given) for _ in range(turns))
 
 
 def orders(folder: str) -> str:
@@ -65,13 +54,13 @@ def measure(messages: int, turns: int) -> None:
         replay = least(3, [wagons, "run", *by_roster], lines)
         save = least(3, [wagons, "save", *by_roster], lines)
         checkpoint = f"{folder}/checkpoint.jsonl"
-        timed([wagons, "save", *by_roster], lines, checkpoint)
+        programs.timed([wagons, "save", *by_roster], lines, checkpoint)
         with open(lines, encoding="utf-8") as file:
             count = sum(1 for _ in file)
         print(f"{count:,} lines: replayed in {replay:,.0f} ms, saved in {save:,.0f} ms ({save / replay:.2f}), {os.path.getsize(checkpoint):,} bytes")
         empty = f"{folder}/empty.jsonl"
         open(empty, "w", encoding="utf-8").close()
-        timed([wagons, "save", *by_roster], orders(folder), checkpoint)
+        programs.timed([wagons, "save", *by_roster], orders(folder), checkpoint)
         roster, start = least(turns, [wagons, "run", *by_roster], empty), least(turns, [wagons, "run", "--from", checkpoint, *network], empty)
         print(f"start with 1,000 wagons by a roster: {roster:.1f} ms; with 500 orders too by a checkpoint: {start:.1f} ms ({start - roster:+.1f} ms)")
         print(f"the checkpoint in place of replaying the long journal: {start / replay:.4f} of its time")

@@ -40,6 +40,7 @@ macro_rules! tried_fault {
 mod books;
 mod checkpoints;
 mod feeds;
+mod fills;
 mod lines;
 mod notes;
 mod plans;
@@ -104,6 +105,7 @@ fn part_done<T: Threads + Wait + Sync>(
         "reviews" => reviews::all(rt, alloc, requests),
         "traces" => traces::all(rt, alloc, requests),
         "notes" => notes::all(rt, alloc, requests),
+        "fills" => fills::all(rt, alloc, requests),
         "feeds" => feeds::all(rt, threads, alloc, requests),
         _ => unreachable!(),
     }

@@ -139,17 +139,28 @@ fn reasons(
 ) -> Option<()> {
     let counts = tried!(rt, "order_counts", order_counts(alloc, planned));
     must(counts.len() == planned.problem().orders().len());
-    for (style, numbers) in [(Style::Text, Numbers::Exact), (Style::Json, Numbers::Bounds)] {
+    for (style, numbers, near) in [
+        (Style::Text, Numbers::Exact, None),
+        (Style::Json, Numbers::Bounds, Some(1)),
+    ] {
         let text = tried!(rt, "why_text", why_text(alloc, style, numbers, 2, planned));
         say(rt, &text);
         let names = Some(named);
         let form = LineForm { style, names };
         for j in 0..planned.problem().orders().len() {
-            let text = tried!(rt, "order_text", order_text(alloc, &form, numbers, planned, j));
+            let text = tried!(
+                rt,
+                "order_text",
+                order_text(alloc, &form, numbers, near, planned, j)
+            );
             say(rt, &text);
         }
         for i in 0..planned.problem().wagons().len() {
-            let text = tried!(rt, "wagon_text", wagon_text(alloc, &form, numbers, planned, i));
+            let text = tried!(
+                rt,
+                "wagon_text",
+                wagon_text(alloc, &form, numbers, near, planned, i)
+            );
             say(rt, &text);
         }
     }

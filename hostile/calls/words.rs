@@ -6,12 +6,14 @@ use crate::samples::{PLACES, Sample};
 use crate::showing::{problem_moment, shown};
 use crate::trying::{must, prepared, say, say_refused};
 use command_line::{
-    Asked, MovesOptions, OfficeOptions, PlanOptions, ProblemOptions, Start, StateOptions, WhyOptions,
+    Asked, MovesOptions, OfficeOptions, PlanOptions, ProblemOptions, Start, StateOptions, When,
+    WhyOptions,
 };
 use commit_book::{Book, Limits};
 use fleet_rows::Roster;
+use journal_notes::NotedJournal;
 use last_texts::{
-    ZoneFile, last_fleet, last_map, last_moves, last_orders, last_plan_text, last_reasons, last_saved,
+    FilledJournal, ZoneFile, last_fleet, last_map, last_moves, last_orders, last_plan_text, last_reasons, last_saved,
     last_table, read_zone,
 };
 use line_network::{Network, read_lines};
@@ -58,6 +60,8 @@ struct Files<'a> {
     named: Places,
     added: Option<Roster>,
     zone: ZoneFile<'a>,
+    /// The same with a promise, and the first order filled an hour late.
+    filled: FilledJournal,
 }
 
 impl Files<'_> {
@@ -71,6 +75,18 @@ impl Files<'_> {
         for text in [NETWORK, LONGER] {
             all.push(read_lines(alloc, text.as_bytes()).ok()?).ok()?;
         }
+        let mut networks = Vec::new(alloc);
+        for text in [NETWORK, LONGER] {
+            networks
+                .push(read_lines(alloc, text.as_bytes()).ok()?)
+                .ok()?;
+        }
+        let journal = NotedJournal::new(alloc, book_with_promise(alloc, &sample)?, networks);
+        let mut filled = FilledJournal::new(alloc, journal);
+        filled
+            .late_fills
+            .insert(OrderId::read("O1").ok()?, 60)
+            .ok()?;
         Some(Files {
             books,
             promised: book_with_promise(alloc, &sample)?,
@@ -78,6 +94,7 @@ impl Files<'_> {
             named: Places::read_names(alloc, PLACES.as_bytes()).ok()?,
             added: Some(Roster::read_rows(alloc, ADDED.as_bytes()).ok()?),
             zone: read_zone(rt, None).ok()?,
+            filled,
         })
     }
 }
@@ -167,9 +184,11 @@ fn reasons(rt: &HostRuntime, alloc: Global, files: &mut Files<'_>) -> Option<()>
     ];
     for (k, one) in asked.iter().enumerate() {
         let options = WhyOptions {
-            problem: problem_options(alloc)?,
+            office: office_options(alloc)?,
+            when: When::At(problem_moment()),
             places: None,
             asked: *one,
+            near: None,
             json: k == 1,
             quick: k == 2,
         };
@@ -180,7 +199,7 @@ fn reasons(rt: &HostRuntime, alloc: Global, files: &mut Files<'_>) -> Option<()>
             alloc,
             "last_reasons (why)",
             book,
-            last_reasons(alloc, book, &options, names)
+            last_reasons(alloc, book, problem_moment(), &options, names)
         );
         say(rt, &text);
     }
@@ -250,7 +269,8 @@ const FORMS: [(bool, bool); 3] = [(false, false), (true, false), (false, true)];
 
 /// `moves`, in each form: a promised wagon, two orders, and the wagons that were not heard from for an hour.
 fn moved(rt: &HostRuntime, alloc: Global, files: &Files<'_>) -> Option<()> {
-    let (book, named, zone) = (&files.promised, &files.named, &files.zone);
+    let (filled, named, zone) = (&files.filled, &files.named, &files.zone);
+    let book = filled.journal.book();
     for (csv, json) in FORMS {
         let options = MovesOptions {
             problem: problem_options(alloc)?,
@@ -269,7 +289,7 @@ fn moved(rt: &HostRuntime, alloc: Global, files: &Files<'_>) -> Option<()> {
             alloc,
             "last_moves (moves)",
             book,
-            last_moves(alloc, book, &options, named, zone)
+            last_moves(alloc, filled, &options, named, zone)
         );
         say(rt, str::from_utf8(&text).unwrap());
     }
