@@ -1,7 +1,7 @@
 //! The orders that a journal fills, and the plan of its last line: where a line is refused memory the journal is partial, and one that
 //! is made again is the whole one.
 
-use crate::lines::{Page, run_lines_text};
+use crate::lines::{Page, lines_to_plan_text, run_lines_text};
 use crate::samples::Sample;
 use crate::trying::{must, prepared, say_refused_in};
 use commit_book::{Book, Limits};
@@ -9,12 +9,12 @@ use journal_notes::NotedJournal;
 use last_texts::{FilledJournal, fill_journal};
 use line_engine::{RunCount, RunFault};
 use line_network::read_lines;
-use line_plans::{LinePlan, PlanLines, plan_lines};
+use line_plans::{PlanLines, plan_lines};
 use std::alloc::{AllocError, Global};
 use test_samples::{LONGER, MemorySource, NETWORK};
 
 pub(crate) fn all(rt: &HostRuntime, alloc: Global, requests: u32) -> Option<()> {
-    let text = run_lines_text(alloc, None)?;
+    let (text, to_plan) = (run_lines_text(alloc, None)?, lines_to_plan_text(alloc)?);
     let mut page = Page::new(alloc)?;
     let sample = Sample::new(alloc)?;
     // Journals and lines of plans, two of each: one for what is partial.
@@ -26,10 +26,10 @@ pub(crate) fn all(rt: &HostRuntime, alloc: Global, requests: u32) -> Option<()> 
     prepared(rt, alloc, requests)?;
     let journal = filled(rt, alloc, &mut journals, &text, &mut page);
     must(println!(rt; "{}", journal.late_fills.len()).is_ok());
-    let mut lines = planned(rt, alloc, &mut plans, &text, &mut page);
+    let mut lines = planned(rt, alloc, &mut plans, &to_plan, &mut page);
     must(println!(rt; "{}", lines.last_line()).is_ok());
-    let plan = tried!(rt, "PlanLines::last_plan", lines.last_plan(alloc));
-    say_plan(rt, &plan);
+    let plan = tried!(rt, "PlanLines::last_plan", lines.last_plan(alloc)).unwrap();
+    must(println!(rt; "plan of {}", plan.version()).is_ok());
     Some(())
 }
 
@@ -117,12 +117,4 @@ fn bring(
 ) -> Result<RunCount, RunFault> {
     let mut reader = MemorySource::new(text.as_bytes(), usize::MAX);
     plan_lines(alloc, &mut reader, page, lines)
-}
-
-fn say_plan(rt: &HostRuntime, plan: &Option<LinePlan>) {
-    let said = match plan {
-        Some(plan) => println!(rt; "plan of {}", plan.version()),
-        None => println!(rt; "no plan"),
-    };
-    must(said.is_ok());
 }

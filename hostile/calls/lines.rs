@@ -66,6 +66,16 @@ impl Sink for Page {
     }
 }
 
+/// The calls of a book, and a plan line behind them.
+pub(crate) fn lines_to_plan_text(alloc: Global) -> Option<String> {
+    let mut lines = Vec::with_capacity(alloc, DAY.len() + 1).ok()?;
+    for (_name, line, _wanted) in DAY {
+        lines.push(line).ok()?;
+    }
+    lines.push(PLAN).ok()?;
+    joined(alloc, &lines, None)
+}
+
 /// The lines of `run`, the one of this number left blank.
 pub(crate) fn run_lines_text(alloc: Global, blank: Option<u64>) -> Option<String> {
     let mut lines = Vec::with_capacity(alloc, DAY.len() + 4).ok()?;
