@@ -2,7 +2,8 @@
 """Notes: of random journals, whole and from a checkpoint, and of the example day `review` and `review --json` print the notes of
 docs/REPORTS.md, byte for byte, as the model of office.py says them by the office before and after each line. `run --notes`
 answers as `run` does, and writes the notes of `review --json`; so does `feed --notes` of one file, with the file's number. Those of
-several files make and end the promises of the sheet. Where memory is refused for a line, the notes say so."""
+several files make and end the promises of the sheet. Where memory is refused for a line, the notes say so; those of a feed end there,
+and it says 94."""
 
 import copy
 import functools
@@ -363,13 +364,16 @@ def wrong_in_a_feed(options: Sequence[str], given: bytes, begin: Callable[[], of
     return None if notes == wanted else f"feed --notes: {difference(notes, wanted)}"
 
 
-def fed(options: Sequence[str], files: Sequence[bytes]) -> tuple[Outcome, bytes]:
+def fed(options: Sequence[str], files: Sequence[bytes], **refusals: int) -> tuple[Outcome, bytes]:
     """What `feed --notes` tells of these files, and the notes that it wrote."""
     with tempfile.TemporaryDirectory() as folder:
         for number, given in enumerate(files):
             with open(f"{folder}/{number}", "wb") as file:
                 file.write(given)
-        told = run(["feed", "--notes", f"{folder}/notes", *options, *(f"{folder}/{number}" for number in range(len(files)))], b"")
+        names = [f"{folder}/{number}" for number in range(len(files))]
+        told = run(["feed", "--notes", f"{folder}/notes", *options, *names], b"", **refusals)
+        if not os.path.exists(f"{folder}/notes"):
+            return told, b""
         with open(f"{folder}/notes", "rb") as file:
             return told, file.read()
 
@@ -508,6 +512,32 @@ def without_memory(refused: int) -> str | None:
     return None if told.status == 1 and told.out in outputs_of_the_day() else f"no line without its notes gives {told.out!r}"
 
 
+def day_of_a_feed() -> bytes:
+    """The lines of the example day, which begin with a message that the status table refuses: the first request that is made for a line
+    is then one for which no receipt is needed. A plan line of a feed commits its plan, so each is a begin here."""
+    wagon = next(iter(new_office(DAY_FILES).wagons.values()))
+    refused = {"type": "delivery", "company": "1009", "number": 1, "wagon": wagon.number, "place": wagon.place, "moment": "2026-03-02T00:00:00Z"}
+    return "".join(f"{line}\n" for line in [json.dumps(refused), *day_lines()]).replace('"type":"plan"', '"type":"begin"').encode()
+
+
+@functools.cache
+def notes_of_the_day() -> bytes:
+    return Notes(new_office(DAY_FILES)).of(day_of_a_feed()).replace('{"line":', '{"file":1,"line":').encode()
+
+
+def feed_without_memory(refused: int) -> str | None:
+    """A feed of the example day where the n-th request for memory is refused."""
+    told, notes = fed(words_of("feed", DAY_FILES)[1:], [day_of_a_feed()], refuse_from=refused, refuse_count=1)
+    wanted = notes_of_the_day()
+    if told.fault() or told.err in memory.STARTS:
+        return None if told.err in memory.STARTS and not told.out else f"{told.fault()} {told.err!r} {told.out!r}"
+    if told.err:
+        return None if told.err == b"wagons: 94\n" and wanted.startswith(notes) and told.out else f"{told.err!r} and {notes!r}"
+    # Where memory was refused for the lines of the file, none was read: the report says so.
+    right = b"" if told.status == 2 else wanted
+    return None if notes == right else f"the notes are {difference(notes, right)}"
+
+
 def main() -> None:
     table = Table()
     table.row("`review` of random journals, of the example day and of scripts, whole and from a checkpoint, as text and as JSON")
@@ -520,6 +550,9 @@ def main() -> None:
     with open(f"{DAY}/day.jsonl", "rb") as file:
         most = memory.requests([*words_of("review", DAY_FILES), "--json"], file.read()) + 5
     table.try_all("`review --json` of the example day: one request for memory refused", without_memory, range(1, most))
+    table.row("`feed --notes` of the example day: one request for memory refused")
+    whole, _ = fed(words_of("feed", DAY_FILES)[1:], [day_of_a_feed()], refuse_from=memory.ALL)
+    table.try_all("`feed --notes` of the example day: one request for memory refused", feed_without_memory, range(1, whole.counts[0] + 5))
     table.end()
 
 

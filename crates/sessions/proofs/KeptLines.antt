@@ -1,6 +1,7 @@
 -- What is kept of a book's notes, line by line.
 use Rattle.std.proofs.Common.{◌≡◌, ◌≢◌, ◌∙◌, ℕ, zero, suc, Bool, true, false, true≢false, List, [], ◌∷◌, ◌++◌, eqb, eqb-true, length, replicate, refl, sym, ap, subst}
 use Rattle.std.specs.Prelude.{Option, Some, None, Result, Ok, Err, IfOk, IsOk, OnOk, is_err, if◌then◌else◌, slice_get, slice_set, string_bytes}
+use Rattle.std.specs.Option.{ForSome}
 use Rattle.std.specs.declared.alloc.AllocError.{AllocError}
 use Rattle.std.proofs.Math.Logic.{∥∥₁_map}
 use Rattle.std.proofs.lemmas.Bool.{eqb-false}
@@ -128,6 +129,16 @@ module _ {V : Type 0} (items : V → List Note) (old mid new : KeptNotes) (from 
 
 pub kept_lost : (book now : BookValue) (kept : KeptNotes) → now.setting ≡ book.setting → AreKept book kept → AreKept now (record kept { is_lost = true })
 kept_lost book now kept setting are = record { networks = are.networks ∙ ap (λ s. s.networks) (sym setting); whole = λ whole. absurd (true≢false whole) }
+
+some_is : (old new : KeptNotes) → Some old ≡ Some new → old ≡ new
+some_is old new e = cc
+
+-- the same of the notes that a book may have
+pub notes_lost : (book : BookValue) (notes : Option KeptNotes) (old new : KeptNotes) → ForSome notes (λ kept. ∥ AreKept book kept ∥₁) → notes ≡ Some old → new ≡ record old { is_lost = true }
+    → ForSome (Some new) (λ kept. ∥ AreKept book kept ∥₁)
+notes_lost book notes old new all is made = λ kept same.
+    let lost : ∥ AreKept book (record old { is_lost = true }) ∥₁ = ∥∥₁_map (all old is) (kept_lost book book old refl) in
+    subst (λ (kept : KeptNotes). ∥ AreKept book kept ∥₁) (sym made ∙ some_is new kept same) lost
 
 -- ---- a begin
 

@@ -106,7 +106,7 @@ impl<L: BookLedger> CountedBook<L> {
         ensures parts { share.new.parts ≡ share.old.parts }
     {
         self.audit(share);
-        self.noted.book.answer_without_memory(event)
+        self.noted.answer_without_memory(event)
     }
 
     /// The same of a commit.
@@ -120,7 +120,12 @@ impl<L: BookLedger> CountedBook<L> {
         ensures parts { share.new.parts ≡ share.old.parts }
     {
         self.audit(share);
-        self.noted.book.commit_without_memory(commit)
+        self.noted.commit_without_memory(commit)
+    }
+
+    /// Says that notes are missing, where there are notes.
+    pub(crate) fn lose_notes(&mut self) {
+        self.noted.lose_notes();
     }
 
     /// The problem of the book's present version at a moment, which the book keeps. The seat's count is at most the

@@ -6,6 +6,7 @@ ghost use Rattle.line_fields.specs.declared.command.Command.TheVariants as comma
 ghost use Rattle.move_messages.specs.declared.event.Event.TheVariants as event;
 ghost use Rattle.sessions.specs.FedLines.{IsPlannedIn, IsPlansCommit, IsSubmitted, IsTakenIn, counted_of, is_refused, is_repeated, is_step, refused_as, wagon_of};
 ghost use Rattle.sessions.specs.PlannersCommit.{IsCommitOf};
+ghost use Rattle.sessions.specs.declared.feed_lines.Counted.TheVariants as counted;
 ghost use Rattle.sessions.specs.inner.FeedLines.{Adds, AreEventsFed, IsEventFed, IsFedBehind, IsLineBrought, IsOneMore, IsReadBrought, IsReadFed};
 ghost use Rattle.sessions.specs.inner.RefusedWagons.{AreNotedBy, IsNotedBehind};
 
@@ -14,7 +15,7 @@ use crate::planning::{Worked, work_with_table};
 use crate::{BookLedger, Seat, SharedBook};
 use commit_book::{MadeProblem, Refusal, Reply, Snap};
 use line_engine::{Outcome, ReplyText, Responder};
-use line_fields::{Command, read_line};
+use line_fields::{Command, LineFault, read_line};
 use line_network::Networks;
 use move_messages::{CommitText, Event, Message};
 use rail_codes::{Moment, WagonNumber};
@@ -161,11 +162,28 @@ impl<'a, W: Wait, L: BookLedger> FeedLines<'a, W, L> {
     {
         match read_line(alloc, line) {
             Ok(command) => self.bring(alloc, lines, command, more),
-            Err(_) => {
+            Err(fault) => {
                 self.submit_pending(alloc, lines);
+                self.lose_unread(&fault);
                 lines.file.count(Counted::Refused);
             }
         }
+    }
+
+    /// The notes of a line that isn't read are lost where memory was refused for it.
+    fn lose_unread(&self, fault: &LineFault) {
+        match fault {
+            LineFault::OutOfMemory => self.shared.lose_notes(self.rt),
+            _ => {}
+        }
+    }
+
+    /// What a line counts as for which memory was refused, so that its notes are lost.
+    fn without_memory(&self) -> Counted
+        ensures { result ≡ counted.Refused }
+    {
+        self.shared.lose_notes(self.rt);
+        Counted::Refused
     }
 
     /// The same of a command.
@@ -266,7 +284,7 @@ impl<'a, W: Wait, L: BookLedger> FeedLines<'a, W, L> {
             Command::Event(event) => self.submit(alloc, seat, line, event),
             Command::Begin(at) => match self.shared.begin(self.rt, alloc, seat, at) {
                 Ok(_) => Counted::Nowhere,
-                Err(_) => Counted::Refused,
+                Err(_) => self.without_memory(),
             },
             Command::Plan(at) => self.plan(alloc, networks, seat, line, at),
             Command::Sheet => Counted::Nowhere,
@@ -298,11 +316,11 @@ impl<'a, W: Wait, L: BookLedger> FeedLines<'a, W, L> {
         ensures { IsPlannedIn L.setting seat.old seat.new at result }
     {
         let Ok(snap) = self.shared.begin(self.rt, alloc, seat, at) else {
-            return Counted::Refused;
+            return self.without_memory();
         };
         match planned_commit(alloc, &snap, networks) {
             Some(planned) => self.commit(alloc, seat, line, planned),
-            None => Counted::Refused,
+            None => self.without_memory(),
         }
     }
 

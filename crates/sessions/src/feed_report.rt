@@ -25,7 +25,7 @@ pub struct FileCount<R> {
 #[derive(Drop)]
 pub struct FeedNotes {
     pub text: String,
-    /// Whether memory was refused for a note. None is there from then on.
+    /// Whether memory was refused for a line or its notes. None is there from then on.
     pub is_lost: bool,
 }
 

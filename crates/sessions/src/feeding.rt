@@ -86,8 +86,8 @@ pub fn feed<T: Threads + Wait + Sync, R: Source + Send + Drop>(
 }
 
 /// The same with notes of the lines, where these are the book's networks. Each line's notes are made while the book answers it, so
-/// that they are those of the book just before and after it. Where memory is refused for a note, the report says that notes are
-/// missing, and the lines are answered as without notes.
+/// that they are those of the book just before and after it. Where memory is refused for a line or its notes, the report says that
+/// notes are missing, and the lines are answered as without notes.
 pub fn feed_noted<T: Threads + Wait + Sync, R: Source + Send + Drop>(
     rt: &T,
     alloc: Global,

@@ -1,5 +1,5 @@
 //! The notes of a feed, while its lines are answered.
-ghost use Rattle.std.specs.Prelude.{◌≡◌, [], IfOk, IfSome, IsOk, OnOk, Some, string_bytes};
+ghost use Rattle.std.specs.Prelude.{◌≡◌, [], true, IfOk, IfSome, IsOk, OnOk, Some, string_bytes};
 ghost use Rattle.commit_book.specs.BookStep.{IsCall};
 ghost use Rattle.commit_book.specs.Books.{answer_of};
 ghost use Rattle.commit_book.specs.Made.{IsMadeAmong};
@@ -35,7 +35,7 @@ pub(crate) struct KeptNotes {
     /// The last two messages of each file, by its number; the first ones are of no file.
     heard: Vec<Heard>,
     text: String,
-    /// Whether memory was refused for a note. No note is added from then on.
+    /// Whether memory was refused for a line or its notes. No note is added from then on.
     is_lost: bool,
 }
 
@@ -72,6 +72,13 @@ impl KeptNotes {
             is_lost,
         } = self;
         FeedNotes { text, is_lost }
+    }
+
+    /// Says that memory was refused for a line.
+    pub(crate) fn lose(&mut self)
+        ensures { self.new ≡ record self.old { is_lost = true } }
+    {
+        self.is_lost = true;
     }
 
     /// Brings an event to a book, and adds its notes. With a commit may come what was made of a problem over the book's networks.

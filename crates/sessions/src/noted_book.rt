@@ -2,9 +2,10 @@
 ghost use Rattle.std.specs.Prelude.{◌≡◌, IfOk, IfSome};
 ghost use Rattle.std.specs.Option.{ForSome};
 ghost use Rattle.commit_book.specs.BookStep.{IsCall};
-ghost use Rattle.commit_book.specs.Books.{answer_of, begun_of};
+ghost use Rattle.commit_book.specs.Books.{IsNoEntry, answer_of, begun_of};
 ghost use Rattle.commit_book.specs.Made.{IsMadeAmong};
 ghost use Rattle.commit_book.specs.Snap.{snap_of};
+ghost use Rattle.commit_book.specs.declared.answer.Answer.TheVariants as answer;
 ghost use Rattle.commit_book.specs.declared.call.Call.TheVariants as call;
 ghost use Rattle.move_messages.specs.declared.event.Event.TheVariants as event;
 ghost use Rattle.sessions.specs.FeedReports.{AreNotesFor};
@@ -13,7 +14,7 @@ ghost use Rattle.sessions.specs.inner.KeptNotes.{AreKept};
 use crate::FeedNotes;
 use crate::kept_notes::{FileLine, KeptNotes};
 use commit_book::{Book, MadeProblem, Refusal, Reply, Snap};
-use move_messages::{Event, Message};
+use move_messages::{CommitText, Event, Message};
 use rail_codes::Moment;
 use std::alloc::{AllocError, Global};
 use std::sync::Arc;
@@ -61,6 +62,35 @@ impl NotedBook {
         match notes {
             None => book.message_near(message, index),
             Some(kept) => kept.enter_message(alloc, book, from, message, index),
+        }
+    }
+
+    /// What the call for an event is answered where no memory is to be had, which leaves the book as it is. Its notes are lost.
+    pub(crate) fn answer_without_memory(&mut self, event: &Event) -> Result<Reply, Refusal>
+        ensures call { IsCall self.old.book.setting self.old.book.state (call.Event event.now) (answer_of result) self.old.book.state }
+        ensures no_entry { IsNoEntry result }
+        ensures book { self.new.book ≡ self.old.book }
+    {
+        self.lose_notes();
+        self.book.answer_without_memory(event)
+    }
+
+    /// The same of a commit.
+    pub(crate) fn commit_without_memory(&mut self, commit: &CommitText) -> Refusal
+        ensures call { IsCall self.old.book.setting self.old.book.state (call.Event (event.Commit commit.now)) (answer.Refused result) self.old.book.state }
+        ensures book { self.new.book ≡ self.old.book }
+    {
+        self.lose_notes();
+        self.book.commit_without_memory(commit)
+    }
+
+    /// Says that notes are missing, where there are notes.
+    pub(crate) fn lose_notes(&mut self)
+        ensures { self.new.book ≡ self.old.book }
+    {
+        let NotedBook { book: _, notes } = self;
+        if let Some(kept) = notes {
+            kept.lose();
         }
     }
 

@@ -263,6 +263,11 @@ impl<L: BookLedger> SharedBook<L> {
         Ok(reply)
     }
 
+    /// Says that notes of the book's lines are missing, where there are notes. May wait.
+    pub(crate) fn lose_notes(&self, rt: &impl Wait) {
+        self.locked(rt).lose_notes();
+    }
+
     /// The book behind the lock. May wait.
     fn locked(&self, rt: &impl Wait) -> MutexGuard<'_, CountedBook<L>> {
         // Most calls are short, and to sleep and be woken takes long. A try takes the lock's cache line from the thread

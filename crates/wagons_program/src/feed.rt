@@ -79,7 +79,7 @@ fn feed_alone<R: FileSystem + Eprint + Threads + Wait + AllocGlobal + Sync, O: W
 }
 
 /// The same, and writes the notes of the lines to a file behind the report. `NotesFailed` (94) where they couldn't be written, or where
-/// memory was refused for one.
+/// memory was refused for a line or its notes.
 fn feed_with_notes<R: FileSystem + Eprint + Threads + Wait + AllocGlobal + Sync, O: Write>(
     rt: &R,
     path: &str,

@@ -33,7 +33,7 @@ pub record AreKeptAfter (book : BookValue) (kept : KeptNotes) : Type 0 where
   pub heard : AreHeard lines kept.heard.items
   pub watch : IsWatchOf (office_of book) kept.watch
 
--- What is kept of a book that runs on these networks. Where memory was refused for a note, nothing is known of the notes.
+-- What is kept of a book that runs on these networks. Where memory was refused for a line, nothing is known of the notes.
 pub record AreKept (book : BookValue) (kept : KeptNotes) : Type 0 where
   pub networks : kept.networks.items ≡ book.setting.networks
   pub whole : kept.is_lost ≡ false → AreKeptAfter book kept
