@@ -32,7 +32,7 @@ impl Model for BegunProblem {
 
 impl BegunProblem {
     /// A snapshot with what has the table of its problem over the network in force, one of these.
-    pub(crate) fn new(snap: Snap, made: Arc<MadeProblem>, networks: Arc<Networks>) -> BegunProblem
+    pub fn new(snap: Snap, made: Arc<MadeProblem>, networks: Arc<Networks>) -> BegunProblem
         requires { IsBegunProblem (record { snap = snap; networks = networks.value; table = made.value.timed.cells }) }
         ensures { result ≡ record { snap = snap; networks = networks.value; table = made.value.timed.cells } }
     {

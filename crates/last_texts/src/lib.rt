@@ -22,5 +22,5 @@ pub use save::last_saved;
 pub use state::{last_fleet, last_orders};
 pub use table::last_table;
 pub use trace::shown_trace;
-pub use why::{last_reasons, reasons_of_line};
+pub use why::{last_reasons, reasons_of_problem};
 pub use zone::{ZoneFile, read_zone};

@@ -4,8 +4,7 @@ ghost use Rattle.last_texts.specs.ReasonsOfLast.{AreNoReasonsOfLast, AreNoReason
 ghost use Rattle.office_files.specs.declared.stop.Stop.TheVariants.{OutOfMemory};
 
 use command_line::{Asked, WhyOptions};
-use commit_book::Book;
-use line_plans::LinePlan;
+use commit_book::{BegunProblem, Book};
 use office_files::Stop;
 use place_names::Places;
 use plan_reasons::{
@@ -30,26 +29,24 @@ pub fn last_reasons(
     ensures none { IfErr result (AreNoReasonsOfLast book.old.setting book.old.state.history at options.now) }
 {
     let begun = book.begin_with_table(alloc, at)?;
-    let (plan, prices) = assignment::plan(alloc, begun.cells())?;
-    let (problem, tables) = (begun.snap().problem(), begun.tables());
-    let planned = CertifiedPlan::new(problem, tables, begun.cells(), &plan, &prices);
-    answer(alloc, options, names, begun.snap().version(), &planned)
+    reasons_of_problem(alloc, &begun, options, names)
 }
 
-/// The same of the problem that a line of a journal is about. A commit's problem is planned anew: that plan costs the same.
-pub fn reasons_of_line(
+/// The same of a problem that was begun, as a line of a journal is about it. A commit's problem is planned anew: that plan costs the
+/// same.
+pub fn reasons_of_problem(
     alloc: Global,
-    line: &LinePlan,
+    begun: &BegunProblem,
     options: &WhyOptions<'_>,
     names: Option<&Places>,
 ) -> Result<String, Stop>
-    ensures reasons { IfOk result (λ text. AreReasonsOfPlan line.now options.now (option_copied names.entry) (string_bytes text)) }
-    ensures none { IfErr result (AreNoReasonsOfPlan line.now options.now) }
+    ensures reasons { IfOk result (λ text. AreReasonsOfPlan begun.now options.now (option_copied names.entry) (string_bytes text)) }
+    ensures none { IfErr result (AreNoReasonsOfPlan begun.now options.now) }
 {
-    let cells = line.cells();
+    let (cells, snap) = (begun.cells(), begun.snap());
     let (plan, prices) = assignment::plan(alloc, cells)?;
-    let planned = CertifiedPlan::new(line.problem(), line.tables(), cells, &plan, &prices);
-    answer(alloc, options, names, line.version(), &planned)
+    let planned = CertifiedPlan::new(snap.problem(), begun.tables(), cells, &plan, &prices);
+    answer(alloc, options, names, snap.version(), &planned)
 }
 
 /// The text that answers what is asked about a plan.

@@ -5,11 +5,10 @@ ghost use Rattle.line_engine.specs.Runs.{RunsOver};
 ghost use Rattle.line_plans.specs.PlanLines.{BeginsPlans, TakesLine, first_lines};
 ghost use Rattle.line_plans.specs.Plans.{IsPlanFor};
 
-use crate::line_plan::LinePlan;
 use crate::line_steps::bring_line;
 use crate::problem_key::ProblemKey;
 use crate::snapshot_book::SnapshotBook;
-use commit_book::{Book, Limits};
+use commit_book::{BegunProblem, Book, Limits};
 use line_engine::{
     LineLimit, Outcome, ReplyText, Responder, RunCount, RunFault, Sink, Source, run_replies,
 };
@@ -83,7 +82,7 @@ impl PlanLines {
     /// The problem that the last line is about, with its table over the network in force in its version. `None` where that line
     /// is no plan line, no begin and no commit that was accepted, and where this is partial. `Err` only when out of memory.
     /// Nothing changes.
-    pub fn last_plan(&mut self, alloc: Global) -> Result<Option<LinePlan>, AllocError>
+    pub fn last_plan(&mut self, alloc: Global) -> Result<Option<BegunProblem>, AllocError>
         ensures plan { IfOk result (IsPlanFor self.old.book self.old.problem) }
         ensures lines { self.new ≡ self.old }
     {

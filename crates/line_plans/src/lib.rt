@@ -7,7 +7,6 @@
 
 mod bringing;
 mod laws;
-mod line_plan;
 mod line_steps;
 mod problem_key;
 mod snapshot_book;
@@ -15,5 +14,4 @@ mod snapshots;
 
 pub use bringing::{BroughtLines, PlanLines, plan_lines};
 pub use laws::last_line_is_taken;
-pub use line_plan::LinePlan;
 pub use problem_key::ProblemKey;

@@ -7,10 +7,9 @@ ghost use Rattle.line_plans.specs.PlanLines.{BringsBegin};
 ghost use Rattle.line_plans.specs.Plans.{IsPlanAt, snap_at, which_of};
 ghost use Rattle.std.specs.Prelude.{Some};
 
-use crate::line_plan::LinePlan;
 use crate::problem_key::ProblemKey;
 use crate::snapshots::{copy_of, find_snap, remember};
-use commit_book::{Book, Limits, Refusal, Reply, Snap};
+use commit_book::{BegunProblem, Book, Limits, Refusal, Reply, Snap};
 use move_messages::Event;
 use rail_codes::Moment;
 use std::alloc::{AllocError, Global};
@@ -80,7 +79,11 @@ impl SnapshotBook {
     }
 
     /// A kept problem with its table. `Err` only when out of memory.
-    pub(crate) fn plan(&mut self, alloc: Global, key: ProblemKey) -> Result<LinePlan, AllocError>
+    pub(crate) fn plan(
+        &mut self,
+        alloc: Global,
+        key: ProblemKey,
+    ) -> Result<BegunProblem, AllocError>
         requires { is_kept self.old.state.kept (which_of key) ≡ true }
         ensures plan { IfOk result (IsPlanAt self.old key) }
         ensures book { self.new ≡ self.old }
@@ -88,7 +91,7 @@ impl SnapshotBook {
         let snap = self.snap(key)?;
         let table = self.book.kept_table(alloc, key.version, key.at)?.unwrap();
         let networks = Arc::try_clone(self.book.networks())?;
-        Ok(LinePlan::new(snap, table, networks))
+        Ok(BegunProblem::new(snap, table, networks))
     }
 
     /// The snapshot of a kept problem, of a version that the book has had.

@@ -14,9 +14,10 @@ use crate::opening::{leave_book, new_book};
 use crate::printing::{print_last, print_whole};
 use crate::status::{DONE, status_of_run};
 use command_line::{OfficeOptions, When, WhyOptions};
-use last_texts::{last_reasons, reasons_of_line};
+use commit_book::BegunProblem;
+use last_texts::{last_reasons, reasons_of_problem};
 use line_engine::{LineLimit, StdDevice};
-use line_plans::{LinePlan, PlanLines, plan_lines};
+use line_plans::{PlanLines, plan_lines};
 use office_files::{FileSystem, OfficeFiles, Stop, Stopped, read_files, read_names, told_of_lines};
 use place_names::Places;
 use rail_codes::Moment;
@@ -80,7 +81,7 @@ fn why_line<R: FileSystem + Threads + Wait + AllocGlobal, I: Read + Drop, O: Wri
     ensures err { IfErr result (λ stopped. IsUnprinted (streams (I.remaining input) (O.contents output.old) (O.contents output.new)) stopped.stop) }
 {
     let plan = plan_of_line(rt, &options.office, line, input)?;
-    let text = reasons_of_line(rt.alloc(), &plan, options, names)?;
+    let text = reasons_of_problem(rt.alloc(), &plan, options, names)?;
     print_whole(output, &text)?;
     Ok(DONE)
 }
@@ -91,7 +92,7 @@ fn plan_of_line<R: FileSystem + Threads + Wait + AllocGlobal, I: Read + Drop>(
     options: &OfficeOptions<'_>,
     line: u64,
     input: I,
-) -> Result<LinePlan, Stopped>
+) -> Result<BegunProblem, Stopped>
     ensures { IfOk result (IsPlanOfLine (R.bytes_at rt.now) options.now (I.remaining input) line) }
 {
     let mut lines = begin_lines(rt, options)?;
@@ -106,7 +107,7 @@ fn plan_of_line<R: FileSystem + Threads + Wait + AllocGlobal, I: Read + Drop>(
 }
 
 /// The problem that the last line is about, which must have this number. The book is left.
-fn plan_found(alloc: Global, lines: PlanLines, line: u64) -> Result<LinePlan, Stopped>
+fn plan_found(alloc: Global, lines: PlanLines, line: u64) -> Result<BegunProblem, Stopped>
     ensures { IfOk result (IsFound lines line) }
 {
     let mut lines = lines;
@@ -116,7 +117,7 @@ fn plan_found(alloc: Global, lines: PlanLines, line: u64) -> Result<LinePlan, St
 }
 
 /// The same, where the lines stay as they are.
-fn found_plan(alloc: Global, lines: &mut PlanLines, line: u64) -> Result<LinePlan, Stopped>
+fn found_plan(alloc: Global, lines: &mut PlanLines, line: u64) -> Result<BegunProblem, Stopped>
     ensures found { IfOk result (IsFound lines.old line) }
     ensures same { lines.new ≡ lines.old }
 {
