@@ -17,7 +17,7 @@ use Rattle.exact_costs.proofs.Idle.{idle_is_without}
 use Rattle.exact_costs.proofs.Lacks.{less_is_no_more, none_lacking, without_penalty_no_more}
 use Rattle.exact_costs.proofs.Pairs.{pair_is_free}
 
-pub certified_is_least : (t : Table) (n : ℕ) → IsCertifiedCost t n → IsLeastOver t IsAny n
+unfoldable pub certified_is_least : (t : Table) (n : ℕ) → IsCertifiedCost t n → IsLeastOver t IsAny n
 certified_is_least t n c = record {
   plan = c.pairs;
   of_table = c.certificate.plan;

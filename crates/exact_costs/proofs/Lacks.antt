@@ -7,7 +7,7 @@ use Rattle.std.proofs.lemmas.List.{get_or-set_other, get_or-set_same, length-set
 use Rattle.std.proofs.lemmas.List.Sums.{sum_by-cons}
 use Rattle.cost_table.specs.Table.{Table, cost_at, lack_at, order_count, penalty_at, wagon_count}
 use Rattle.cost_table.specs.TableLimits.{IsTable}
-use Rattle.cost_table.specs.Plan.{AllAllowed, IsPlan, cost_of, missed_cost, pair_cost, serves, sum_below}
+use Rattle.cost_table.specs.Plan.{AllAllowed, IsPlan, cost_of, missed_cost, pair_cost, serves, sum_below, uses}
 use Rattle.cost_table.proofs.Sums.{sum_below-le, sum_below-same}
 use Rattle.plan_bounds.specs.PricedPlan.{PricedPlan}
 use Rattle.plan_bounds.specs.Changes.{with_lack}
@@ -88,7 +88,7 @@ settled t j ps k legal l =
           record { both = omega (arith, one, other); no_more = omega (arith, other) }
     ]
 
-orders_stay : (t : Table) (j n : ℕ) → order_count (with_lack t j n) ≡ order_count t
+pub orders_stay : (t : Table) (j n : ℕ) → order_count (with_lack t j n) ≡ order_count t
 orders_stay t j n = length-set t.lacks j n
 
 -- so plans cost the same
@@ -150,6 +150,7 @@ record Unserved (t : Table) (j : ℕ) (ps : List (ℕ × ℕ)) : Type 0 where
   plan : IsPlan t rest
   none : serves j rest ≡ 0
   cheaper : cost_of t rest ≤ cost_of t ps
+  no_more : (k : ℕ) → uses k rest ≤ uses k ps
 
 unserve : (t : Table) (j : ℕ) (ps : List (ℕ × ℕ)) → j < order_count t → lack_at t j ≤ 1 → penalty_at t j ≡ 0 → IsPlan t ps → Unserved t j ps
 unserve t j ps l lacks free plan =
@@ -180,16 +181,19 @@ unserve t j ps l lacks free plan =
             };
             none = let here = serves-here j r.removed.pair rest r.order in let all = served j in let within = plan.within j l in omega (arith, here, all, within, lacks);
             cheaper = omega (arith, pairs, missed);
+            no_more = λ k. let used = r.removed.sums (λ (q : ℕ × ℕ). cond (q.0 == k) 1 0) in omega (arith, used);
           }
-      | inr none ↦ record { rest = ps; plan = plan; none = omega (arith, none); cheaper = omega arith }
+      | inr none ↦ record { rest = ps; plan = plan; none = omega (arith, none); cheaper = omega arith; no_more = λ k. omega arith }
     ]
+
+unserved : (t : Table) (j n : ℕ) → IsTable t → j < order_count t → lack_at t j ≡ 1 → (best : IsLeastOver (without_penalty t j) IsAny n) → Unserved (without_penalty t j) j best.plan
+unserved t j n legal l one best =
+    let count = legal.penalty_count in
+    unserve (without_penalty t j) j best.plan l (omega (arith, one)) (get_or-set_same t.penalties j 0 0 (omega (arith, l, count))) best.of_table
 
 pub none_lacking : (t : Table) (j n : ℕ) → IsTable t → j < order_count t → lack_at t j ≡ 1 → IsLeastOver (without_penalty t j) IsAny n → IsLeastOver (with_lack t j 0) IsAny n
 none_lacking t j n legal l one best =
-    let s = without_penalty t j in
-    let count = legal.penalty_count in
-    let free : penalty_at s j ≡ 0 = get_or-set_same t.penalties j 0 0 (omega (arith, l, count)) in
-    let un = unserve s j best.plan l (omega (arith, one)) free best.of_table in
+    let un = unserved t j n legal l one best in
     let least = best.least un.rest un.plan tt in
     let cheaper = un.cheaper in
     let costs = best.costs in
@@ -204,3 +208,9 @@ none_lacking t j n legal l one best =
           let same = cost_is t j other legal l in
           omega (arith, least, same);
     }
+
+-- and no wagon goes more often
+pub none_lacking_uses : (t : Table) (j n : ℕ) (legal : IsTable t) (l : j < order_count t) (one : lack_at t j ≡ 1) (best : IsLeastOver (without_penalty t j) IsAny n) (k : ℕ)
+    → uses k (none_lacking t j n legal l one best).plan ≤ uses k best.plan
+unfolding none_lacking
+none_lacking_uses t j n legal l one best k = (unserved t j n legal l one best).no_more k

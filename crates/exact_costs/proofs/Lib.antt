@@ -5,6 +5,7 @@ pub mod Idle
 pub mod Pairs
 pub mod Lacks
 pub mod Best
+pub mod OneLess
 pub mod ChangedTables
 pub mod Wanted
 pub mod MoreWagons

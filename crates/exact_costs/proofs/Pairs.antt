@@ -48,10 +48,10 @@ reordered_cost : (t : Table) (ps : List (ℕ × ℕ)) (r : Removed t ps) → cos
 reordered_cost t ps r = same_cost t (r.pair ∷ r.rest) ps (λ f. sum_by-cons f r.pair r.rest ∙ sym (r.sums f))
 
 -- a plan that has the pair, with the pair in front
-record InFront (t : Table) (i j : ℕ) (ps : List (ℕ × ℕ)) : Type 0 where
-  rest : List (ℕ × ℕ)
-  is_beside : IsBeside t i j rest
-  cost : cost_of t ((i, j) ∷ rest) ≡ cost_of t ps
+pub record InFront (t : Table) (i j : ℕ) (ps : List (ℕ × ℕ)) : Type 0 where
+  pub rest : List (ℕ × ℕ)
+  pub is_beside : IsBeside t i j rest
+  pub cost : cost_of t ((i, j) ∷ rest) ≡ cost_of t ps
 
 put_in_front : (t : Table) (i j : ℕ) (ps : List (ℕ × ℕ)) → IsPlan t ps → (r : Removed t ps) → r.pair ≡ (i, j) → InFront t i j ps
 put_in_front t i j ps plan r is = record {
@@ -60,7 +60,7 @@ put_in_front t i j ps plan r is = record {
   cost = ap (λ (q : ℕ × ℕ). cost_of t (q ∷ r.rest)) (sym is) ∙ reordered_cost t ps r;
 }
 
-in_front : (t : Table) (i j : ℕ) (ps : List (ℕ × ℕ)) → IsPlan t ps → HasPair i j ps → InFront t i j ps
+pub in_front : (t : Table) (i j : ℕ) (ps : List (ℕ × ℕ)) → IsPlan t ps → HasPair i j ps → InFront t i j ps
 in_front t i j ps plan has =
     let r = remove_pair t i j ps plan.allowed has in
     put_in_front t i j ps plan r.removed r.pair

@@ -1,3 +1,4 @@
 pub mod LeastCosts
 pub mod FurtherCosts
+pub mod OrderCosts
 pub mod inner

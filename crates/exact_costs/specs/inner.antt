@@ -2,3 +2,4 @@
 pub mod Changed
 pub mod Certified
 pub mod Further
+pub mod OneLess

@@ -6,7 +6,7 @@ ghost use Rattle.cost_table.specs.Table.{lack_at, order_count, wagon_count};
 ghost use Rattle.cost_table.specs.TableLimits.{IsRow, max_table_lack};
 ghost use Rattle.cost_table.specs.TableRows.{all_rows, costs_of};
 ghost use Rattle.plan_bounds.specs.Changes.{with_lack};
-ghost use Rattle.exact_costs.specs.inner.Changed.{with_costs, with_wanted, without_penalty};
+ghost use Rattle.exact_costs.specs.inner.Changed.{one_less, with_costs, with_wanted, without_penalty};
 
 use cost_table::{Cells, MAX_COST, TableRows};
 use std::alloc::{AllocError, Global};
@@ -77,6 +77,22 @@ pub(crate) fn without_penalty(alloc: Global, cells: &Cells, j: usize) -> Result<
     penalties[j] = 0;
     let lacks = lacks(alloc, cells)?;
     Ok(Cells::of_rows(rows, penalties, lacks))
+}
+
+/// The table where order `j` lacks one wagon less. Where it lacks one, the table is the same, and the wagon that it may miss costs
+/// nothing.
+pub(crate) fn one_less(alloc: Global, cells: &Cells, j: usize) -> Result<Cells, AllocError>
+    requires { j < order_count cells.now }
+    ensures { IfOk result (λ changed. changed ≡ one_less cells.now j) }
+{
+    // An order of a table lacks one wagon at least.
+    cells.for_the_prover();
+    let lack = cells.lack(j);
+    if lack == 1 {
+        without_penalty(alloc, cells, j)
+    } else {
+        with_lack(alloc, cells, j, lack - 1)
+    }
 }
 
 /// The same rows, which share the block of the others.

@@ -1,5 +1,5 @@
 //! What the best plans cost exactly.
-ghost use Rattle.std.specs.Prelude.{◌≡◌, ◌+◌, ◌-◌, ◌<◌, ◌≤◌, ◌↔◌, Some, false, IfOk, IfSome, IsSome, IsTrue, is_some, sum};
+ghost use Rattle.std.specs.Prelude.{◌≡◌, ◌+◌, ◌-◌, ◌<◌, ◌≤◌, ◌↔◌, Some, false, IfOk, IfSome, IsSome, IsTrue, OnSome, is_some, sum};
 ghost use Rattle.cost_table.specs.Plan.{IsAllowed, serves};
 ghost use Rattle.cost_table.specs.TableLimits.{max_cost};
 ghost use Rattle.cost_table.specs.Table.{cost_at, lack_at, order_count, wagon_count};
@@ -12,9 +12,10 @@ ghost use Rattle.exact_costs.specs.FurtherCosts.{IsFurther};
 ghost use Rattle.exact_costs.specs.inner.Certified.{IsNoMore, max_plan_cost};
 ghost use Rattle.exact_costs.specs.inner.Further.{HasNewPair};
 
-use crate::changed_table::{with_lack, with_row, with_wanted, without_penalty};
+use crate::changed_table::{one_less, with_lack, with_row, with_wanted};
 use crate::further::Further;
 use crate::least::{given, least_cost, least_plan};
+use crate::order_costs::OrderCosts;
 use cost_table::{Cells, MAX_COST, MAX_TABLE_LACK, Plan};
 use move_messages::MAX_ORDER_WAGONS;
 use plan_bounds::Bounds;
@@ -71,10 +72,28 @@ impl<'a> ExactCosts<'a> {
         ensures allowed { IfOk result (λ more. IsSome more ↔ IsAllowed self.now.table (i, j)) }
         ensures exact { IfOk result (λ more. IfSome more (BestCostsMore self.now (HasPair i j))) }
     {
-        match self.cells.cell(i, j) {
+        match self.cell(i, j) {
             Some(km) => Ok(Some(self.with_allowed(alloc, i, j, km)?)),
             None => Ok(None),
         }
+    }
+
+    /// The costs of many pairs of order `j`.
+    pub fn of_order(&self, alloc: Global, j: usize) -> Result<OrderCosts<'a>, AllocError>
+        requires { j < order_count self.now.table }
+        ensures priced { IfOk result (λ o. o.priced ≡ self.now) }
+        ensures order { IfOk result (λ o. o.order ≡ j) }
+    {
+        OrderCosts::new(alloc, self.cells, self.plan, self.prices, j)
+    }
+
+    /// The kilometres of a pair. `None` where it isn't allowed.
+    pub(crate) fn cell(&self, i: usize, j: usize) -> Option<u64>
+        ensures value { result ≡ cost_at self.now.table i j }
+        ensures in_range { OnSome result ((i < wagon_count self.now.table) × (j < order_count self.now.table)) }
+        ensures limit { IfSome result (λ km. km ≤ max_cost) }
+    {
+        self.cells.cell(i, j)
     }
 
     /// What the best plan costs more that has an allowed pair of so many kilometres.
@@ -166,7 +185,7 @@ impl<'a> ExactCosts<'a> {
     }
 
     /// The cost of the certified plan.
-    fn cost(&self) -> u64
+    pub(crate) fn cost(&self) -> u64
         ensures value { result ≡ certified_cost self.now }
         ensures limit { result ≤ max_plan_cost }
         ensures certified { IsCertified self.now }
@@ -185,12 +204,7 @@ fn cost_with_less(alloc: Global, cells: &Cells, j: usize) -> Result<u64, AllocEr
 {
     // An order of a table lacks one wagon at least.
     cells.for_the_prover();
-    let lack = cells.lack(j);
-    if lack == 1 {
-        let changed = without_penalty(alloc, cells, j)?;
-        return Ok(least_cost(alloc, &changed)?);
-    }
-    let changed = with_lack(alloc, cells, j, lack - 1)?;
+    let changed = one_less(alloc, cells, j)?;
     Ok(least_cost(alloc, &changed)?)
 }
 

@@ -8,6 +8,8 @@ mod changed_table;
 mod exact;
 mod further;
 mod least;
+mod order_costs;
 
 pub use exact::ExactCosts;
 pub use further::Further;
+pub use order_costs::OrderCosts;

@@ -1,5 +1,5 @@
 //! The lines of pairs.
-ghost use Rattle.std.specs.Prelude.{◌≡◌, ◌==◌, All, IfOk, OnOk, map, not, string_bytes};
+ghost use Rattle.std.specs.Prelude.{◌≡◌, ◌==◌, All, IfOk, IfSome, OnOk, map, not, string_bytes};
 ghost use Rattle.std.specs.List.{filter};
 ghost use Rattle.plan_reasons.specs.Pairs.{IsFailed};
 ghost use Rattle.plan_reasons.specs.PairLists.{
@@ -33,8 +33,9 @@ use crate::numbers::Numbers;
 use crate::pair_line::{failed_test, push_failed_line, push_fits_line};
 use crate::reasons::Test;
 use crate::style::Style;
-use crate::twins::more_beside;
+use crate::twins::{costs_of_order, more_beside};
 use cost_table::Cells;
+use exact_costs::OrderCosts;
 use std::alloc::{AllocError, Global};
 
 /// Adds the lines of the pairs that fail no test, by what plans with them cost more: all of them, or the first ones alone.
@@ -191,10 +192,27 @@ fn found(
     ensures pairs { IfOk result (λ found. map (λ fit. fit.pair) found.items ≡ fitting.now) }
     ensures fitting { IfOk result (λ found. All (IsFoundFit numbers planned.now) found.items) }
 {
+    let order = costs_of_order(alloc, numbers, planned, fitting)?;
+    found_by(alloc, numbers, planned, &order, fitting)
+}
+
+/// The same, by the costs of an order where they are there.
+fn found_by(
+    alloc: Global,
+    numbers: Numbers,
+    planned: &CertifiedPlan,
+    order: &Option<OrderCosts<'_>>,
+    fitting: &[(usize, usize)],
+) -> Result<Vec<Fit>, AllocError>
+    requires fitting { All (IsFitting planned.now) fitting.now }
+    requires order { IfSome order.now (λ costs. costs.priced ≡ planned.now.priced) }
+    ensures pairs { IfOk result (λ found. map (λ fit. fit.pair) found.items ≡ fitting.now) }
+    ensures fitting { IfOk result (λ found. All (IsFoundFit numbers planned.now) found.items) }
+{
     let mut found = Vec::with_capacity(alloc, fitting.len())?;
     for pair in fitting {
         let pair = *pair;
-        let more = more_beside(alloc, numbers, planned, &found, pair)?;
+        let more = more_beside(alloc, numbers, planned, order, &found, pair)?;
         found.push(Fit { pair, more })?;
     }
     Ok(found)

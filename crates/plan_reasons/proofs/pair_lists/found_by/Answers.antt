@@ -3,10 +3,10 @@ use Rattle.std.proofs.lemmas.List.{map-append, take_more}
 use Rattle.std.proofs.lemmas.List.Elements.{All-push}
 use Rattle.plan_reasons.specs.declared.fit.Fit.{Fit}
 use Rattle.plan_reasons.specs.inner.AddedPairs.{IsFoundFit}
-use Rattle.plan_reasons.proofs.pair_lists.found.Goals as goal
+use Rattle.plan_reasons.proofs.pair_lists.found_by.Goals as goal
 
 pub more_beside-requires-clause-fitting : goal.more_beside-requires-clause-fitting
-more_beside-requires-clause-fitting c = c.requires c.loop-pair.pair-index (0, 0) c.loop-pair-test.true
+more_beside-requires-clause-fitting c = c.requires.fitting c.loop-pair.pair-index (0, 0) c.loop-pair-test.true
 
 pub more_beside-requires-clause-found : goal.more_beside-requires-clause-found
 more_beside-requires-clause-found c = rw c.deref.ensures.value c.loop-pair.invariant.fitting
@@ -21,5 +21,5 @@ loop-pair-preserved c =
     let items = c.in_ok-push.ensures.items in
     let more : map pair_of (c.loop-pair.found.items ++ fit ∷ []) ≡ take (i + 1) pairs =
     map-append pair_of c.loop-pair.found.items (fit ∷ []) ∙ (ap (λ (ps : List (ℕ × ℕ)). ps ++ pair ∷ []) c.loop-pair.invariant.pairs ∙ sym (take_more pairs i (0, 0) c.loop-pair-test.true)) in
-    let all = All-push (IsFoundFit c.args.numbers c.args.planned.now) c.loop-pair.found.items fit c.loop-pair.invariant.fitting (c.requires i (0, 0) c.loop-pair-test.true, c.in_ok-more.ensures) in
+    let all = All-push (IsFoundFit c.args.numbers c.args.planned.now) c.loop-pair.found.items fit c.loop-pair.invariant.fitting (c.requires.fitting i (0, 0) c.loop-pair-test.true, c.in_ok-more.ensures) in
     rw items (record { pairs = more; fitting = all })
