@@ -199,7 +199,7 @@ pub fn enter(alloc: Global, book: &mut Book, event: &Event) -> Result<Reply, Ref
     ensures setting { book.new.setting ≡ book.old.setting }
 {
     match event {
-        Event::Message(message) => book.message(alloc, message),
+        Event::Message(message) => book.message_near(message, None),
         Event::Place(order) => book.place(alloc, order),
         Event::Withdraw(order) => book.withdraw(alloc, *order),
         Event::Commit(commit) => book.commit(alloc, commit),
