@@ -70,6 +70,7 @@ test:
 	@tools/part "beside each other: wrong bodies, many in one check; calls whose requests for memory are refused; and the short form of make hostile, Debian's packages, the benches at their smallest size and Redis Streams, one after the other"
 	@WAGONS= BENCH= TESTS=$(CURDIR)/crates/seat_tests/out/seat_tests_tests tools/side_by_side "nice tools/wrong_bodies --built" "nice hostile/run calls" "hostile/run --short && tools/try_deb && bench/smoke && service/stream_tests/run --kills 2"
 	@tools/part "all parts have passed"
+	@tools/part --table
 	@tail -n 1 out/test.log
 
 # Writes all that one must believe beside the kit, on one page each: out/claim.md of the headline, out/claim_run.md of what
