@@ -29,7 +29,7 @@ pub(crate) fn all(rt: &HostRuntime, alloc: Global, requests: u32) -> Option<()> 
     let mut lines = planned(rt, alloc, &mut plans, &to_plan, &mut page);
     must(println!(rt; "{}", lines.last_line()).is_ok());
     let plan = tried!(rt, "PlanLines::last_plan", lines.last_plan(alloc)).unwrap();
-    must(println!(rt; "plan of {}", plan.version()).is_ok());
+    must(println!(rt; "plan of {}", plan.snap().version()).is_ok());
     Some(())
 }
 
